@@ -1,0 +1,10 @@
+pub mod Board
+pub mod Counts
+pub mod Cpu
+pub mod Divider
+pub mod Earom
+pub mod Pokey
+pub mod Ranges
+pub mod Ticks
+pub mod Trail
+pub mod Vg

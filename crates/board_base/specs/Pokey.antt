@@ -1,0 +1,69 @@
+-- A POKEY, as a plain record (POKEY C012294 data sheet; what is this project's own profile is told where it is defined).
+use Rattle.std.specs.Prelude.{◌≡◌, ℕ, ◌<◌, ◌≤◌, List, length, replicate, All}
+
+-- the registers written, the interrupt status, the four polynomial registers, the two prescalers, and of each channel
+-- the pulses left, the tone bit and the level; the high-pass bits, the pot count and the pot targets
+pub record PokeyValue : Type 0 where
+  pub audf : List ℕ
+  pub audc : List ℕ
+  pub audctl : ℕ
+  pub skctl : ℕ
+  pub irqen : ℕ
+  pub irqst : ℕ
+  pub poly4 : ℕ
+  pub poly5 : ℕ
+  pub poly9 : ℕ
+  pub poly17 : ℕ
+  pub pre28 : ℕ
+  pub pre114 : ℕ
+  pub left : List ℕ
+  pub tone : ℕ
+  pub pass : ℕ
+  pub pot : ℕ
+  pub targets : List ℕ
+  pub last : List ℕ
+
+-- four channels, three requests, registers of 4, 5, 9 and 17 bits, prescalers by 28 and 114, a longest period of
+-- 65,542 pulses, levels of four bits, eight pots that count to 228
+pub record IsPokey (p : PokeyValue) : Type 0 where
+  pub audf : length p.audf ≡ 4
+  pub audc : length p.audc ≡ 4
+  pub irqen : p.irqen < 8
+  pub irqst : p.irqst < 8
+  pub poly4 : p.poly4 < 16
+  pub poly5 : p.poly5 < 32
+  pub poly9 : p.poly9 < 512
+  pub poly17 : p.poly17 < 131072
+  pub pre28 : p.pre28 < 28
+  pub pre114 : p.pre114 < 114
+  pub left : length p.left ≡ 4
+  pub pulses : All (λ left. (1 ≤ left) × (left ≤ 65542)) p.left
+  pub tone : p.tone < 16
+  pub pass : p.pass < 4
+  pub pot : p.pot ≤ 228
+  pub targets : length p.targets ≡ 8
+  pub last : length p.last ≡ 4
+  pub levels : All (λ level. level < 16) p.last
+
+-- all 0, but no request is standing, the polynomial registers are all ones, and one pulse is left of each channel
+abbrev pub pokey_at_power_on : PokeyValue
+pokey_at_power_on = record {
+  audf = replicate 4 0;
+  audc = replicate 4 0;
+  audctl = 0;
+  skctl = 0;
+  irqen = 0;
+  irqst = 7;
+  poly4 = 15;
+  poly5 = 31;
+  poly9 = 511;
+  poly17 = 131071;
+  pre28 = 0;
+  pre114 = 0;
+  left = replicate 4 1;
+  tone = 0;
+  pass = 0;
+  pot = 0;
+  targets = replicate 8 0;
+  last = replicate 4 0;
+}

@@ -1,0 +1,64 @@
+-- The vector generator, as a plain record. Its phases and scales are this project's own profile.
+use Rattle.std.specs.Prelude.{◌≡◌, ◌≢◌, ℕ, ◌<◌, ◌≤◌, ◌^◌, ℤ, pos, Bool, true, List, length, replicate, All}
+use Rattle.board_base.specs.Ranges.{IsWithin}
+
+-- whether it is halted, the phase of its next tick, where it reads, its return stack, what it draws with, the word
+-- under way, the beam, and the vector being drawn with the clocks that are left of it
+pub record VgValue : Type 0 where
+  pub halted : Bool
+  pub phase : ℕ
+  pub pc : ℕ
+  pub sp : ℕ
+  pub colour : ℕ
+  pub intensity : ℕ
+  pub lin : ℕ
+  pub bin : ℕ
+  pub pen : ℕ
+  pub bytes : List ℕ
+  pub stack : List ℕ
+  pub x : ℤ
+  pub y : ℤ
+  pub dx : ℤ
+  pub dy : ℤ
+  pub left : ℕ
+
+-- 8,192 words, a stack of four, and a vector of 1 to 8,192 clocks in the drawing phase alone
+pub record IsVg (v : VgValue) : Type 0 where
+  pub phase : v.phase < 6
+  pub pc : v.pc < 8192
+  pub sp : v.sp < 4
+  pub colour : v.colour < 8
+  pub intensity : v.intensity < 16
+  pub bin : v.bin < 8
+  pub pen : v.pen < 16
+  pub bytes : length v.bytes ≡ 4
+  pub stack : length v.stack ≡ 4
+  pub words : All (λ to. to < 8192) v.stack
+  pub x : IsWithin (2 ^ 30) v.x
+  pub y : IsWithin (2 ^ 30) v.y
+  pub dx : IsWithin (2 ^ 27) v.dx
+  pub dy : IsWithin (2 ^ 27) v.dy
+  pub drawing : v.phase ≡ 5 → 1 ≤ v.left
+  pub longest : v.left ≤ 8192
+  pub resting : v.phase ≢ 5 → v.left ≡ 0
+
+-- halted, all else 0
+abbrev pub vg_at_power_on : VgValue
+vg_at_power_on = record {
+  halted = true;
+  phase = 0;
+  pc = 0;
+  sp = 0;
+  colour = 0;
+  intensity = 0;
+  lin = 0;
+  bin = 0;
+  pen = 0;
+  bytes = replicate 4 0;
+  stack = replicate 4 0;
+  x = pos 0;
+  y = pos 0;
+  dx = pos 0;
+  dy = pos 0;
+  left = 0;
+}

@@ -1,0 +1,49 @@
+use std::marker::Model;
+
+/// The reset that the next opcode fetch takes.
+#[derive(Clone, Copy, Debug, PartialEq, Eq)]
+pub enum Pending {
+    Nothing,
+    Power,
+    Watchdog,
+}
+
+/// The interrupt divider and the watchdog. This project's own profile.
+///
+/// `phase` counts clocks up to 6,143, `dog` the wraps up to 7 since the watchdog was cleared.
+#[derive(Clone, Copy, Debug, PartialEq, Eq)]
+pub struct DividerState {
+    pub phase: u16,
+    pub irq: bool,
+    pub dog: u8,
+    pub pending: Pending,
+}
+
+impl Model for DividerState {
+    ghost use Rattle.board_base.specs.Divider.{DividerValue, IsDivider};
+
+    ghost Value = { DividerValue };
+
+    ghost view = { λ d. record { phase = d.phase; irq = d.irq; dog = d.dog; pending = d.pending } };
+
+    ghost invariant = { λ d. IsDivider (record { phase = d.phase; irq = d.irq; dog = d.dog; pending = d.pending }) };
+
+    ghost inverse = { λ d. record { phase = d.phase; irq = d.irq; dog = d.dog; pending = d.pending } };
+}
+
+impl DividerState {
+    ghost use Rattle.std.specs.Prelude.{◌≡◌};
+    ghost use Rattle.board_base.specs.Divider.{divider_at_power_on};
+
+    /// The divider at power-on.
+    pub fn power_on() -> DividerState
+        ensures { result ≡ divider_at_power_on }
+    {
+        DividerState {
+            phase: 0,
+            irq: false,
+            dog: 0,
+            pending: Pending::Power,
+        }
+    }
+}

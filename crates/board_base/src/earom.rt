@@ -1,0 +1,47 @@
+use std::marker::Model;
+
+/// The EAROM: its latches, and its 64 cells of a byte (ER2055 data sheet; the modes are this
+/// project's own profile).
+///
+/// `control` has the four lines clock, not-C1, C2 and select in bits 0 to 3; `hold` counts the
+/// clocks for which an erase or a write has been held, at most 1,512.
+#[derive(Clone, Copy, Debug, PartialEq, Eq)]
+pub struct EaromState {
+    pub addr: u8,
+    pub value: u8,
+    pub control: u8,
+    pub hold: u16,
+    pub out: u8,
+    pub cells: [u8; 64],
+}
+
+impl Model for EaromState {
+    ghost use Rattle.board_base.specs.Earom.{EaromValue, IsEarom};
+
+    ghost Value = { EaromValue };
+
+    ghost view = { λ e. record { addr = e.addr; value = e.value; control = e.control; hold = e.hold; out = e.out; cells = e.cells } };
+
+    ghost invariant = { λ e. IsEarom (record { addr = e.addr; value = e.value; control = e.control; hold = e.hold; out = e.out; cells = e.cells }) };
+
+    ghost inverse = { λ e. record { addr = e.addr; value = e.value; control = e.control; hold = e.hold; out = e.out; cells = e.cells } };
+}
+
+impl EaromState {
+    ghost use Rattle.std.specs.Prelude.{◌≡◌};
+    ghost use Rattle.board_base.specs.Earom.{earom_at_power_on};
+
+    /// The EAROM at power-on, with all cells erased.
+    pub fn power_on() -> EaromState
+        ensures { result ≡ earom_at_power_on }
+    {
+        EaromState {
+            addr: 0,
+            value: 0,
+            control: 0,
+            hold: 0,
+            out: 0xFF,
+            cells: [0xFF; 64],
+        }
+    }
+}

@@ -1,0 +1,129 @@
+use std::marker::Model;
+
+/// A POKEY (POKEY C012294 data sheet; joined channels, pots and the order within a tick are this
+/// project's own profile).
+///
+/// `audf`, `audc`, `left` and `last` have channels 1 to 4 in this order; `left` counts pulses to
+/// the next underflow, 1 to 65,542. Bit i - 1 of `tone` is channel i's; `pass` has the high-pass
+/// bits of channels 1 and 2. `irqst` has a 0 where a request stands.
+#[derive(Clone, Copy, Debug, PartialEq, Eq)]
+pub struct PokeyState {
+    pub audf: [u8; 4],
+    pub audc: [u8; 4],
+    pub audctl: u8,
+    pub skctl: u8,
+    pub irqen: u8,
+    pub irqst: u8,
+    pub poly4: u8,
+    pub poly5: u8,
+    pub poly9: u16,
+    pub poly17: u32,
+    pub pre28: u8,
+    pub pre114: u8,
+    pub left: [u32; 4],
+    pub tone: u8,
+    pub pass: u8,
+    pub pot: u8,
+    pub targets: [u8; 8],
+    pub last: [u8; 4],
+}
+
+impl Model for PokeyState {
+    ghost use Rattle.board_base.specs.Pokey.{PokeyValue, IsPokey};
+
+    ghost Value = { PokeyValue };
+
+    ghost view = { λ p. record {
+      audf = p.audf;
+      audc = p.audc;
+      audctl = p.audctl;
+      skctl = p.skctl;
+      irqen = p.irqen;
+      irqst = p.irqst;
+      poly4 = p.poly4;
+      poly5 = p.poly5;
+      poly9 = p.poly9;
+      poly17 = p.poly17;
+      pre28 = p.pre28;
+      pre114 = p.pre114;
+      left = p.left;
+      tone = p.tone;
+      pass = p.pass;
+      pot = p.pot;
+      targets = p.targets;
+      last = p.last;
+    } };
+
+    ghost invariant = { λ p. IsPokey (record {
+      audf = p.audf;
+      audc = p.audc;
+      audctl = p.audctl;
+      skctl = p.skctl;
+      irqen = p.irqen;
+      irqst = p.irqst;
+      poly4 = p.poly4;
+      poly5 = p.poly5;
+      poly9 = p.poly9;
+      poly17 = p.poly17;
+      pre28 = p.pre28;
+      pre114 = p.pre114;
+      left = p.left;
+      tone = p.tone;
+      pass = p.pass;
+      pot = p.pot;
+      targets = p.targets;
+      last = p.last;
+    }) };
+
+    ghost inverse = { λ p. record {
+      audf = p.audf;
+      audc = p.audc;
+      audctl = p.audctl;
+      skctl = p.skctl;
+      irqen = p.irqen;
+      irqst = p.irqst;
+      poly4 = p.poly4;
+      poly5 = p.poly5;
+      poly9 = p.poly9;
+      poly17 = p.poly17;
+      pre28 = p.pre28;
+      pre114 = p.pre114;
+      left = p.left;
+      tone = p.tone;
+      pass = p.pass;
+      pot = p.pot;
+      targets = p.targets;
+      last = p.last;
+    } };
+}
+
+impl PokeyState {
+    ghost use Rattle.std.specs.Prelude.{◌≡◌};
+    ghost use Rattle.board_base.specs.Pokey.{pokey_at_power_on};
+
+    /// A POKEY at power-on.
+    pub fn power_on() -> PokeyState
+        ensures { result ≡ pokey_at_power_on }
+    {
+        PokeyState {
+            audf: [0; 4],
+            audc: [0; 4],
+            audctl: 0,
+            skctl: 0,
+            irqen: 0,
+            irqst: 7,
+            poly4: 0xF,
+            poly5: 0x1F,
+            poly9: 0x1FF,
+            poly17: 0x1FFFF,
+            pre28: 0,
+            pre114: 0,
+            left: [1; 4],
+            tone: 0,
+            pass: 0,
+            pot: 0,
+            targets: [0; 8],
+            last: [0; 4],
+        }
+    }
+}

@@ -1,0 +1,30 @@
+/// What the log tells of one clock.
+///
+/// `Stroke` goes from the beam before to the beam after, with the colour 0 to 7 and the intensity
+/// 1 to 15; `Levels` has the four levels 0 to 15 of a POKEY; `clock` is the clock in which it came.
+#[derive(Clone, Copy, Debug, PartialEq, Eq)]
+pub enum Record {
+    Stroke {
+        clock: u64,
+        x0: i32,
+        y0: i32,
+        x1: i32,
+        y1: i32,
+        colour: u8,
+        intensity: u8,
+    },
+    Levels {
+        clock: u64,
+        l1: u8,
+        l2: u8,
+        l3: u8,
+        l4: u8,
+    },
+    Latch {
+        clock: u64,
+        value: u8,
+    },
+    WatchdogReset {
+        clock: u64,
+    },
+}

@@ -1,0 +1,118 @@
+use std::marker::Model;
+
+/// The vector generator. Its phases, scales and drawing times are this project's own profile.
+///
+/// `pc` and `stack` are word addresses below 8,192; `bytes` are those of the word under way; `left`
+/// is the number of drawing clocks that are left, in phase 5 alone. The beam `x`, `y` is within
+/// plus and minus 2^30, `dx` and `dy` within plus and minus 2^27.
+#[derive(Clone, Copy, Debug, PartialEq, Eq)]
+pub struct VgState {
+    pub halted: bool,
+    pub phase: u8,
+    pub pc: u16,
+    pub sp: u8,
+    pub colour: u8,
+    pub intensity: u8,
+    pub lin: u8,
+    pub bin: u8,
+    pub pen: u8,
+    pub bytes: [u8; 4],
+    pub stack: [u16; 4],
+    pub x: i32,
+    pub y: i32,
+    pub dx: i32,
+    pub dy: i32,
+    pub left: u16,
+}
+
+impl Model for VgState {
+    ghost use Rattle.board_base.specs.Vg.{VgValue, IsVg};
+
+    ghost Value = { VgValue };
+
+    ghost view = { λ v. record {
+      halted = v.halted;
+      phase = v.phase;
+      pc = v.pc;
+      sp = v.sp;
+      colour = v.colour;
+      intensity = v.intensity;
+      lin = v.lin;
+      bin = v.bin;
+      pen = v.pen;
+      bytes = v.bytes;
+      stack = v.stack;
+      x = v.x;
+      y = v.y;
+      dx = v.dx;
+      dy = v.dy;
+      left = v.left;
+    } };
+
+    ghost invariant = { λ v. IsVg (record {
+      halted = v.halted;
+      phase = v.phase;
+      pc = v.pc;
+      sp = v.sp;
+      colour = v.colour;
+      intensity = v.intensity;
+      lin = v.lin;
+      bin = v.bin;
+      pen = v.pen;
+      bytes = v.bytes;
+      stack = v.stack;
+      x = v.x;
+      y = v.y;
+      dx = v.dx;
+      dy = v.dy;
+      left = v.left;
+    }) };
+
+    ghost inverse = { λ v. record {
+      halted = v.halted;
+      phase = v.phase;
+      pc = v.pc;
+      sp = v.sp;
+      colour = v.colour;
+      intensity = v.intensity;
+      lin = v.lin;
+      bin = v.bin;
+      pen = v.pen;
+      bytes = v.bytes;
+      stack = v.stack;
+      x = v.x;
+      y = v.y;
+      dx = v.dx;
+      dy = v.dy;
+      left = v.left;
+    } };
+}
+
+impl VgState {
+    ghost use Rattle.std.specs.Prelude.{◌≡◌};
+    ghost use Rattle.board_base.specs.Vg.{vg_at_power_on};
+
+    /// The generator at power-on.
+    pub fn power_on() -> VgState
+        ensures { result ≡ vg_at_power_on }
+    {
+        VgState {
+            halted: true,
+            phase: 0,
+            pc: 0,
+            sp: 0,
+            colour: 0,
+            intensity: 0,
+            lin: 0,
+            bin: 0,
+            pen: 0,
+            bytes: [0; 4],
+            stack: [0; 4],
+            x: 0,
+            y: 0,
+            dx: 0,
+            dy: 0,
+            left: 0,
+        }
+    }
+}
