@@ -1,0 +1,5 @@
+pub mod ContentLaws
+pub mod CauseLaws
+pub mod KnownLaws
+pub mod PieceLaws
+pub mod TakesLaws

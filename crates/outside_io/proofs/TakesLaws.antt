@@ -1,0 +1,40 @@
+-- Laws of pieces that a sink took one after another, the last of them perhaps in part.
+use Rattle.std.proofs.Common.{◌≡◌, ℕ, ◌+◌, ◌<◌, List, [], ◌∷◌, ◌++◌, Option, length, take, drop, get_or, suc, zero, ap, sym, ◌∙◌, refl}
+use Rattle.std.proofs.Math.Seq.{take-append-add, split_at}
+use Rattle.std.proofs.lemmas.Grind.{flat_map-append}
+use Rattle.std.specs.List.{flat_map}
+use Rattle.outside_io.specs.Known.{grown}
+use Rattle.outside_io.proofs.KnownLaws.{grown-twice}
+
+-- a first part of the first piece is a first part of both
+take-longer : {A : Type 0} (first rest : List A) (k : ℕ) → (j : ℕ) × (take j (first ++ rest) ≡ take k first)
+take-longer first rest zero = (0, refl)
+take-longer [] rest (suc k) = (0, refl)
+take-longer (x ∷ first) rest (suc k) = let (j, same) = take-longer first rest k in (suc j, ap (λ l. x ∷ l) same)
+
+-- what was taken of the first piece is a part of both
+pub took_first : (out0 out1 : Option (List ℕ)) (first rest : List ℕ) → (k : ℕ) × (out1 ≡ grown out0 (take k first))
+    → (k : ℕ) × (out1 ≡ grown out0 (take k (first ++ rest)))
+took_first out0 out1 first rest (k, took) = let (j, same) = take-longer first rest k in (j, took ∙ ap (grown out0) (sym same))
+
+-- what was taken of the second piece, after the whole of the first, is a part of both
+pub took_then : (out0 out1 out2 : Option (List ℕ)) (first rest : List ℕ) → out1 ≡ grown out0 first → (k : ℕ) × (out2 ≡ grown out1 (take k rest))
+    → (k : ℕ) × (out2 ≡ grown out0 (take k (first ++ rest)))
+took_then out0 out1 out2 first rest whole (k, took) = (
+  length first + k,
+  took ∙ ap (λ out. grown out (take k rest)) whole ∙ grown-twice out0 first (take k rest) ∙ ap (grown out0) (sym (take-append-add first rest k)),
+)
+
+-- a list of pieces around one of them
+flat_map-around : {X : Type 0} (f : X → List ℕ) (xs : List X) (i : ℕ) (x : X) → i < length xs → x ≡ get_or xs i x
+    → flat_map f xs ≡ flat_map f (take i xs) ++ (f x ++ flat_map f (drop (suc i) xs))
+flat_map-around f xs i x inside here =
+    let parts : xs ≡ take i xs ++ x ∷ drop (suc i) xs = split_at xs i x inside ∙ ap (λ y. take i xs ++ y ∷ drop (suc i) xs) (sym here) in
+    ap (flat_map f) parts ∙ flat_map-append f (take i xs) (x ∷ drop (suc i) xs)
+
+-- In a loop over pieces: after the whole of those before, a part of this one is a part of them all.
+pub takes_part : {X : Type 0} (f : X → List ℕ) (xs : List X) (i : ℕ) (x : X) (out0 out1 out2 : Option (List ℕ)) → i < length xs → x ≡ get_or xs i x
+    → out1 ≡ grown out0 (flat_map f (take i xs)) → (k : ℕ) × (out2 ≡ grown out1 (take k (f x)))
+    → (k : ℕ) × (out2 ≡ grown out0 (take k (flat_map f xs)))
+takes_part f xs i x out0 out1 out2 inside here whole part =
+    rw (flat_map-around f xs i x inside here) (took_then out0 out1 out2 _ _ whole (took_first out1 out2 (f x) _ part))

@@ -1,0 +1,78 @@
+//! A shelf over the files of a runtime.
+ghost use Rattle.std.specs.Prelude.{◌≡◌, None};
+
+use crate::answers::{Failed, Loaded, ShelfFault};
+use crate::outside::Shelf;
+use crate::pieces::{read_opened, write_created};
+use std::fs;
+use std::marker::Model;
+use std::rt::Files;
+
+/// Files by their paths. It tells nothing of their content, and takes no memory but for what is
+/// loaded. A file that isn't found when it is opened to be loaded is an absence. Every other error
+/// of a call is a fault. Contracts see it as its two counts.
+#[derive(Drop)]
+pub struct FileShelf<'a, R: Files> {
+    rt: &'a R,
+    faults: u64,
+    absences: u64,
+}
+
+impl<'a, R: Files> Model for FileShelf<'a, R> {
+    ghost use Rattle.outside_io.specs.FileCounts.{FileCounts};
+
+    ghost Value = { FileCounts };
+
+    ghost view = { λ s. record { faults = s.faults; absences = s.absences } };
+}
+
+impl<'a, R: Files> FileShelf<'a, R> {
+    /// It takes no memory.
+    pub fn new(rt: &'a R) -> FileShelf<'a, R>
+        ensures { result ≡ record { faults = 0; absences = 0 } }
+    {
+        FileShelf {
+            rt,
+            faults: 0,
+            absences: 0,
+        }
+    }
+}
+
+impl<'a, R: Files> Shelf for FileShelf<'a, R> {
+    ghost files = { λ _. None };
+
+    ghost stores = { λ _. None };
+
+    ghost faults = { λ s. s.faults };
+
+    ghost absences = { λ s. s.absences };
+
+    /// A path to a folder, or one that may not be read, is a fault.
+    fn load(&mut self, name: &str, limit: usize, into: &mut Vec<u8>) -> Result<Loaded, ShelfFault> {
+        match read_opened(fs::open(self.rt, name), limit, into) {
+            Ok(Loaded::Found) => Ok(Loaded::Found),
+            Ok(Loaded::Absent) => {
+                self.absences = self.absences.saturating_add(1);
+                Ok(Loaded::Absent)
+            }
+            Err(ShelfFault::Failed) => {
+                self.faults = self.faults.saturating_add(1);
+                Err(ShelfFault::Failed)
+            }
+            Err(ShelfFault::OutOfMemory) => Err(ShelfFault::OutOfMemory),
+        }
+    }
+
+    /// What stood under the name is cut off first: after an `Err` a part of the bytes may stand
+    /// there.
+    fn store(&mut self, name: &str, bytes: &[u8]) -> Result<(), Failed> {
+        match write_created(fs::create(self.rt, name), bytes) {
+            Ok(()) => Ok(()),
+            Err(_) => {
+                self.faults = self.faults.saturating_add(1);
+                Err(Failed)
+            }
+        }
+    }
+}

@@ -1,0 +1,30 @@
+//! What stands between the program and the world outside: a shelf of files and a sink for bytes,
+//! with fakes of both in memory and adapters over real files and streams.
+#![tactic(auto)]
+
+pub mod answers;
+mod append;
+mod file_list;
+pub mod file_shelf;
+mod first_bytes;
+pub mod memory_shelf;
+pub mod memory_sink;
+pub mod outside;
+mod pieces;
+pub mod steady_shelf;
+pub mod steady_sink;
+pub mod stored;
+pub mod text_sink;
+
+pub use answers::{Failed, Loaded, ShelfFault, SinkFault};
+pub use file_shelf::FileShelf;
+pub use memory_shelf::MemoryShelf;
+pub use memory_sink::MemorySink;
+pub use outside::{Shelf, Sink};
+pub use steady_shelf::SteadyShelf;
+pub use steady_sink::SteadySink;
+pub use stored::Stored;
+pub use text_sink::TextSink;
+
+#[cfg(test)]
+mod tests;
