@@ -1,0 +1,44 @@
+use Rattle.std.proofs.Common.{◌≡◌, ℕ, ◌-◌, not, ◌+◌, ◌*◌, ◌/◌, ◌%◌, ◌<◌, nat_lt, arith, Bool, true, false, List, map, get_or, refl, ap, sym, ◌∙◌, zero-add}
+use Rattle.std.proofs.lemmas.List.FromFn.{get_or-map-range_with_len}
+use Rattle.std.specs.Int.{from_bool}
+use Rattle.std.specs.List.{range_with_len}
+use Rattle.cpu_alu.specs.Shifts.{left_by, right_by}
+
+-- two functions that agree in a table of the numbers below n agree at each of them
+pub same_by_table : {A : Type 0} (n : ℕ) (f g : ℕ → A) → map f (range_with_len 0 n) ≡ map g (range_with_len 0 n) → (m : ℕ) → m < n → f m ≡ g m
+same_by_table {A} n f g same m h =
+    sym (get_or-map-range_with_len f 0 n m m (f m) h (zero-add m))
+    ∙ ap (λ (xs : List A). get_or xs m (f m)) same
+    ∙ get_or-map-range_with_len g 0 n m m (f m) h (zero-add m)
+
+pub left_with_zero : (m : ℕ) → m < 256 → m * 2 % 256 ≡ left_by false m
+unfolding left_by
+left_with_zero = same_by_table 256 (λ m. m * 2 % 256) (left_by false) refl
+
+pub left_with_one : (m : ℕ) → m < 256 → m * 2 % 256 + 1 ≡ left_by true m
+unfolding left_by
+left_with_one = same_by_table 256 (λ m. m * 2 % 256 + 1) (left_by true) refl
+
+pub right_with_zero : (m : ℕ) → m < 256 → m / 2 ≡ right_by false m
+unfolding right_by
+right_with_zero = same_by_table 256 (λ m. m / 2) (right_by false) refl
+
+pub right_with_one : (m : ℕ) → m < 256 → m / 2 + 128 ≡ right_by true m
+unfolding right_by
+right_with_one = same_by_table 256 (λ m. m / 2 + 128) (right_by true) refl
+
+pub carried_sum : (r s : ℕ) (c : Bool) → r < 256 → r + from_bool c * 256 ≡ s → r ≡ s % 256
+carried_sum r s true h e = omega arith
+carried_sum r s false h e = omega arith
+
+pub carried_out : (r s : ℕ) (c : Bool) → r < 256 → r + from_bool c * 256 ≡ s → c ≡ nat_lt 255 s
+carried_out r s true h e = grind arith
+carried_out r s false h e = grind arith
+
+-- a difference with a borrow is the sum of the complement and a carry
+pub borrowed_difference : (r a m : ℕ) (b c : Bool) → r < 256 → a < 256 → m < 256 → r + m + from_bool (not c) ≡ a + from_bool b * 256
+    → (r ≡ (a + (255 - m) + from_bool c) % 256) × (not b ≡ nat_lt 255 (a + (255 - m) + from_bool c))
+borrowed_difference r a m true true hr ha hm e = (omega arith, grind arith)
+borrowed_difference r a m true false hr ha hm e = (omega arith, grind arith)
+borrowed_difference r a m false true hr ha hm e = (omega arith, grind arith)
+borrowed_difference r a m false false hr ha hm e = (omega arith, grind arith)

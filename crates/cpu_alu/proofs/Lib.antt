@@ -1,0 +1,5 @@
+pub mod Bytes
+pub mod CommonBits
+pub mod Modes
+pub mod StatusLemmas
+pub mod Sums

@@ -1,0 +1,7 @@
+pub mod Arithmetic
+pub mod Bits
+pub mod Decimal
+pub mod Flags
+pub mod Logic
+pub mod Meaning
+pub mod Shifts
