@@ -1,0 +1,57 @@
+-- The EAROM: its hold times, and its latches. After the ER2055 data sheet; the control bits, their polarity, the hold
+-- times and the AND of a write over a cell that isn't erased are this project's own profile.
+use Rattle.std.specs.Prelude.{ℕ, ◌+◌, ◌/◌, ◌%◌, ◌^◌, Bool, not, ◌&&◌, ◌==◌, nat_lt, if◌then◌else◌, slice_index, slice_set, bit_and}
+use Rattle.board_base.specs.Earom.{EaromValue}
+
+-- bit k of a number
+abbrev pub bit : ℕ → ℕ → Bool
+bit n k = n / 2 ^ k % 2 == 1
+
+-- the control lines
+abbrev pub clock_line : ℕ → Bool
+clock_line control = bit control 0
+
+abbrev pub not_c1_line : ℕ → Bool
+not_c1_line control = bit control 1
+
+abbrev pub c2_line : ℕ → Bool
+c2_line control = bit control 2
+
+abbrev pub select_line : ℕ → Bool
+select_line control = bit control 3
+
+-- an erase or a write is asked for
+abbrev pub is_held : ℕ → Bool
+is_held control = select_line control && not_c1_line control
+
+-- what the addressed cell becomes when the hold is complete: an erase sets all its bits, a write can only clear some
+abbrev pub written_cell : EaromValue → ℕ
+written_cell e = if c2_line e.control then 255 else bit_and (slice_index e.cells e.addr) e.value
+
+-- the hold is complete with its 1,512th clock
+abbrev pub completed : EaromValue → EaromValue
+completed e = record e { hold = 1512; cells = slice_set e.cells e.addr (written_cell e) }
+
+-- one clock more of a hold that isn't complete
+unfoldable pub held_on : EaromValue → EaromValue
+held_on e = if e.hold + 1 == 1512 then completed e else record e { hold = e.hold + 1 }
+
+-- one clock
+unfoldable pub earom_tick : EaromValue → EaromValue
+earom_tick e = if is_held e.control && nat_lt e.hold 1512 then held_on e else e
+
+-- the address and data latches are written, and the hold begins anew
+abbrev pub latched : ℕ → ℕ → EaromValue → EaromValue
+latched addr value e = record e { addr = addr; value = value; hold = 0 }
+
+-- the clock line falls while the cells are selected for reading
+abbrev pub reads_out : ℕ → ℕ → Bool
+reads_out old new = clock_line old && not (clock_line new) && select_line new && not (not_c1_line new)
+
+-- the control bits are written, the hold begins anew, and a read puts the addressed cell into the output latch
+unfoldable pub controlled : ℕ → EaromValue → EaromValue
+controlled value e = record e {
+  control = value % 16;
+  hold = 0;
+  out = if reads_out e.control (value % 16) then slice_index e.cells e.addr else e.out;
+}

@@ -1,0 +1,140 @@
+ghost use Rattle.std.specs.Prelude.{◌≡◌, ◌&&◌, ◌+◌, ◌<◌, min, nat_lt, nat_le};
+ghost use Rattle.board_base.specs.Earom.{earom_at_power_on};
+ghost use Rattle.board_base.specs.Ticks.{times};
+ghost use Rattle.earom_cells.specs.Tick.{bit, earom_tick, is_held, reads_out, completed, controlled, written_cell};
+
+use crate::unit::CellUnit;
+use board_base::{CallCount, Clocked, EaromState};
+use std::marker::Model;
+
+/// The clocks for which an erase or a write is held until it is done.
+const HOLD: u16 = 1512;
+
+/// An EAROM that moves any number of clocks at the same cost.
+#[derive(Drop)]
+pub struct Earom {
+    state: EaromState,
+    calls: CallCount,
+}
+
+impl Model for Earom {
+    ghost use Rattle.earom_cells.specs.Unit.{CountedEarom};
+
+    ghost Value = { CountedEarom };
+
+    ghost view = { λ e. record { device = e.state; calls = e.calls } };
+}
+
+impl Earom {
+    /// An EAROM at power-on, with all cells erased.
+    pub fn new() -> Earom
+        ensures device { result.device ≡ earom_at_power_on }
+        ensures calls { result.calls ≡ 0 }
+    {
+        Earom {
+            state: EaromState::power_on(),
+            calls: CallCount::new(),
+        }
+    }
+}
+
+impl Clocked for Earom {
+    ghost calls = { λ e. e.calls };
+
+    fn calls(&self) -> u64 {
+        self.calls.get()
+    }
+}
+
+/// Whether the line `k` is set.
+fn line(control: u8, k: u8) -> bool
+    requires { k < 4 }
+    ensures { result ≡ bit control k }
+{
+    control / (1 << k) % 2 == 1
+}
+
+/// Whether an erase or a write is asked for.
+fn holds(control: u8) -> bool
+    ensures { result ≡ is_held control }
+{
+    line(control, 3) && line(control, 1)
+}
+
+/// Whether a control write reads the addressed cell into the output latch.
+fn reads(old: u8, new: u8) -> bool
+    ensures { result ≡ reads_out old new }
+{
+    line(old, 0) && !line(new, 0) && line(new, 3) && !line(new, 1)
+}
+
+/// Erases the addressed cell, or writes it.
+fn complete(state: &mut EaromState)
+    ensures { state.new ≡ completed state.old }
+{
+    let cell = state.addr as usize;
+    state.cells[cell] = if line(state.control, 2) {
+        0xFF
+    } else {
+        state.cells[cell] & state.value
+    };
+    state.hold = HOLD;
+}
+
+/// `n` clocks: a hold goes on, and is complete once.
+#[tactic(auto, using(crate::proofs::Holds::moves), unfolding(crate::proofs::Holds::moved_by, crate::proofs::Holds::held_for))]
+fn advance_state(state: &mut EaromState, n: u64)
+    ensures { state.new ≡ times earom_tick n state.old }
+{
+    if !holds(state.control) || state.hold >= HOLD {
+        return;
+    }
+    if n < u64::from(HOLD - state.hold) {
+        state.hold += n as u16;
+    } else {
+        complete(state);
+    }
+}
+
+impl CellUnit for Earom {
+    ghost device = { λ e. e.device };
+
+    fn load(&mut self, state: &EaromState) {
+        self.state = *state;
+        self.calls.rise();
+    }
+
+    fn advance(&mut self, n: u64) {
+        advance_state(&mut self.state, n);
+        self.calls.rise();
+    }
+
+    fn latch(&mut self, addr: u8, value: u8) {
+        self.state = EaromState {
+            addr,
+            value,
+            hold: 0,
+            ..self.state
+        };
+        self.calls.rise();
+    }
+
+    #[tactic(auto, unfolding(crate::specs::Tick::controlled))]
+    fn control(&mut self, value: u8) {
+        let control = value % 16;
+        if reads(self.state.control, control) {
+            self.state.out = self.state.cells[self.state.addr as usize];
+        }
+        self.state.control = control;
+        self.state.hold = 0;
+        self.calls.rise();
+    }
+
+    fn output(&self) -> u8 {
+        self.state.out
+    }
+
+    fn state(&self) -> EaromState {
+        self.state
+    }
+}

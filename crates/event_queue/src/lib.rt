@@ -1,0 +1,9 @@
+//! The board's deadlines.
+#![tactic(auto)]
+
+pub mod deadlines;
+
+pub use deadlines::Deadlines;
+
+#[cfg(test)]
+mod tests;

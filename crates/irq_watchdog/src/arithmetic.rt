@@ -1,0 +1,138 @@
+ghost use Rattle.std.specs.Prelude.{◌≡◌, ◌+◌, ◌/◌, ◌%◌, ◌^◌, ◌<◌, ◌≤◌, nat_le, if◌then◌else◌};
+ghost use Rattle.board_base.specs.Divider.{divider_at_power_on};
+ghost use Rattle.board_base.specs.Ticks.{times};
+ghost use Rattle.irq_watchdog.specs.Tick.{divider_tick};
+
+use crate::unit::DividerUnit;
+use board_base::{CallCount, Clocked, DividerState, Pending};
+use std::marker::Model;
+
+/// A divider that moves any number of clocks at the same cost.
+#[derive(Drop)]
+pub struct Divider {
+    state: DividerState,
+    calls: CallCount,
+}
+
+impl Model for Divider {
+    ghost use Rattle.irq_watchdog.specs.Unit.{CountedDivider};
+
+    ghost Value = { CountedDivider };
+
+    ghost view = { λ d. record { device = d.state; calls = d.calls } };
+}
+
+impl Divider {
+    /// A divider at power-on.
+    pub fn new() -> Divider
+        ensures device { result.device ≡ divider_at_power_on }
+        ensures calls { result.calls ≡ 0 }
+    {
+        Divider {
+            state: DividerState::power_on(),
+            calls: CallCount::new(),
+        }
+    }
+}
+
+impl Clocked for Divider {
+    ghost calls = { λ d. d.calls };
+
+    fn calls(&self) -> u64 {
+        self.calls.get()
+    }
+}
+
+/// The phase after `n` clocks.
+#[tactic(auto, using(crate::proofs::Moves::rounds))]
+fn phase_after(phase: u16, n: u64) -> u16
+    requires { phase < 6144 }
+    ensures { result ≡ (phase + n) % 6144 }
+{
+    ((u64::from(phase) + n % 6144) % 6144) as u16
+}
+
+/// The wraps of `n` clocks from this phase: whole rounds of 6,144 first, and then the rest.
+#[tactic(auto, using(crate::proofs::Moves::rounds))]
+fn wraps_within(phase: u16, n: u64) -> u64
+    requires { phase < 6144 }
+    ensures value { result ≡ (phase + n) / 6144 }
+    ensures few { result ≤ 2 ^ 52 }
+{
+    n / 6144 + (u64::from(phase) + n % 6144) / 6144
+}
+
+/// The reset that is pending when the watchdog has counted this far.
+fn pending_after(pending: Pending, count: u64) -> Pending
+    ensures { result ≡ (if nat_le 8 count then Pending.Watchdog else pending) }
+{
+    if count >= 8 {
+        Pending::Watchdog
+    } else {
+        pending
+    }
+}
+
+/// The state after `n` clocks.
+#[tactic(auto, using(crate::proofs::Moves::moves), unfolding(crate::proofs::Moves::divided))]
+fn moved(state: DividerState, n: u64) -> DividerState
+    ensures { result ≡ times divider_tick n state }
+{
+    let wraps = wraps_within(state.phase, n);
+    let count = u64::from(state.dog) + wraps;
+    DividerState {
+        phase: phase_after(state.phase, n),
+        irq: state.irq || wraps >= 1,
+        dog: (count % 8) as u8,
+        pending: pending_after(state.pending, count),
+    }
+}
+
+impl DividerUnit for Divider {
+    ghost device = { λ d. d.device };
+
+    fn load(&mut self, state: &DividerState) {
+        self.state = *state;
+        self.calls.rise();
+    }
+
+    fn advance(&mut self, n: u64) {
+        self.state = moved(self.state, n);
+        self.calls.rise();
+    }
+
+    fn irq(&self) -> bool {
+        self.state.irq
+    }
+
+    fn pending(&self) -> Pending {
+        self.state.pending
+    }
+
+    fn quiet(&self) -> u64 {
+        6144 - u64::from(self.state.phase)
+    }
+
+    fn bit3k(&self) -> bool {
+        self.state.phase / 0x100 % 2 == 1
+    }
+
+    fn acknowledge(&mut self) {
+        self.state.irq = false;
+        self.calls.rise();
+    }
+
+    fn clear(&mut self) {
+        self.state.dog = 0;
+        self.calls.rise();
+    }
+
+    fn taken(&mut self) {
+        self.state.pending = Pending::Nothing;
+        self.calls.rise();
+    }
+
+    fn state(&self) -> DividerState {
+        self.state
+    }
+}
