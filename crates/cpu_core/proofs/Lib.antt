@@ -1,0 +1,6 @@
+pub mod CourseLemmas
+pub mod EndLemmas
+pub mod JamLemmas
+pub mod LengthLemmas
+pub mod PlaceLemmas
+pub mod ReplayLemmas

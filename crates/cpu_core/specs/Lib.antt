@@ -1,0 +1,7 @@
+pub mod Registers
+pub mod Course
+pub mod Operations
+pub mod Patterns
+pub mod Sequences
+pub mod Places
+pub mod Replays

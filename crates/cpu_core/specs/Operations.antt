@@ -1,0 +1,176 @@
+-- What the operations do to registers and bytes (MCS6500 Programming Manual, chapters 2 to 10);
+-- nothing here speaks of the bus.
+use Rattle.std.specs.Prelude.{◌≡◌, ◌+◌, ◌%◌, ℕ, Bool, true, false, not, bit_and, bit_or, bit_xor}
+use Rattle.cpu_table.specs.declared.instruction.Op.{Op}
+use Rattle.cpu_table.specs.declared.instruction.Op.TheVariants.{Adc, And, Asl, Bcc, Bcs, Beq, Bit, Bmi, Bne, Bpl, Brk, Bvc, Bvs, Clc, Cld, Cli, Clv, Cmp, Cpx, Cpy, Dec, Dex, Dey, Eor, Inc, Inx, Iny, Jmp, Jsr, Lda, Ldx, Ldy, Lsr, Nop, Ora, Pha, Php, Pla, Plp, Rol, Ror, Rti, Rts, Sbc, Sec, Sed, Sei, Sta, Stx, Sty, Tax, Tay, Tsx, Txa, Txs, Tya}
+use Rattle.cpu_alu.specs.Flags.{flags_of, byte_of}
+use Rattle.cpu_alu.specs.Arithmetic.{adc_of, sbc_of, compare_of}
+use Rattle.cpu_alu.specs.Shifts.{asl_of, lsr_of, rol_of, ror_of}
+use Rattle.cpu_alu.specs.Logic.{bit_of, nz_of}
+use Rattle.cpu_core.specs.declared.operations.Kind.{Kind}
+use Rattle.cpu_core.specs.declared.operations.Kind.TheVariants.{Load, Store, Modify, Alone, Branch, Jump, Call, Return, ReturnFromInterrupt, Push, Pull, Break}
+use Rattle.cpu_core.specs.Registers.{RegistersValue}
+
+-- the pattern of accesses that an operation follows
+unfoldable pub kind_of : Op → Kind
+kind_of Adc = Load
+kind_of And = Load
+kind_of Bit = Load
+kind_of Cmp = Load
+kind_of Cpx = Load
+kind_of Cpy = Load
+kind_of Eor = Load
+kind_of Lda = Load
+kind_of Ldx = Load
+kind_of Ldy = Load
+kind_of Ora = Load
+kind_of Sbc = Load
+kind_of Sta = Store
+kind_of Stx = Store
+kind_of Sty = Store
+kind_of Asl = Modify
+kind_of Dec = Modify
+kind_of Inc = Modify
+kind_of Lsr = Modify
+kind_of Rol = Modify
+kind_of Ror = Modify
+kind_of Bcc = Branch
+kind_of Bcs = Branch
+kind_of Beq = Branch
+kind_of Bmi = Branch
+kind_of Bne = Branch
+kind_of Bpl = Branch
+kind_of Bvc = Branch
+kind_of Bvs = Branch
+kind_of Jmp = Jump
+kind_of Jsr = Call
+kind_of Rts = Return
+kind_of Rti = ReturnFromInterrupt
+kind_of Pha = Push
+kind_of Php = Push
+kind_of Pla = Pull
+kind_of Plp = Pull
+kind_of Brk = Break
+kind_of Clc = Alone
+kind_of Cld = Alone
+kind_of Cli = Alone
+kind_of Clv = Alone
+kind_of Dex = Alone
+kind_of Dey = Alone
+kind_of Inx = Alone
+kind_of Iny = Alone
+kind_of Nop = Alone
+kind_of Sec = Alone
+kind_of Sed = Alone
+kind_of Sei = Alone
+kind_of Tax = Alone
+kind_of Tay = Alone
+kind_of Tsx = Alone
+kind_of Txa = Alone
+kind_of Txs = Alone
+kind_of Tya = Alone
+
+-- the byte v in A, in X or in Y, with N and Z after it
+abbrev pub into_a : ℕ → RegistersValue → RegistersValue
+into_a v r = record r { a = v; p = nz_of v r.p }
+
+abbrev pub into_x : ℕ → RegistersValue → RegistersValue
+into_x v r = record r { x = v; p = nz_of v r.p }
+
+abbrev pub into_y : ℕ → RegistersValue → RegistersValue
+into_y v r = record r { y = v; p = nz_of v r.p }
+
+-- the registers after an operation that reads the byte m
+unfoldable pub loaded : Op → ℕ → RegistersValue → RegistersValue
+loaded Adc m r = record r { a = (adc_of r.a m r.p).0; p = (adc_of r.a m r.p).1 }
+loaded And m r = into_a (bit_and r.a m) r
+loaded Bit m r = record r { p = bit_of r.a m r.p }
+loaded Cmp m r = record r { p = compare_of r.a m r.p }
+loaded Cpx m r = record r { p = compare_of r.x m r.p }
+loaded Cpy m r = record r { p = compare_of r.y m r.p }
+loaded Eor m r = into_a (bit_xor r.a m) r
+loaded Lda m r = into_a m r
+loaded Ldx m r = into_x m r
+loaded Ldy m r = into_y m r
+loaded Ora m r = into_a (bit_or r.a m) r
+loaded Sbc m r = record r { a = (sbc_of r.a m r.p).0; p = (sbc_of r.a m r.p).1 }
+loaded _ m r = r
+
+-- the byte that a store writes
+unfoldable pub stored : Op → RegistersValue → ℕ
+stored Stx r = r.x
+stored Sty r = r.y
+stored _ r = r.a
+
+-- the new byte and the new flags of an operation that changes the byte m
+unfoldable pub modified : Op → ℕ → ℕ → ℕ × ℕ
+modified Asl m p = asl_of m p
+modified Dec m p = ((m + 255) % 256, nz_of ((m + 255) % 256) p)
+modified Inc m p = ((m + 1) % 256, nz_of ((m + 1) % 256) p)
+modified Lsr m p = lsr_of m p
+modified Rol m p = rol_of m p
+modified Ror m p = ror_of m p
+modified _ m p = (m, p)
+
+-- the registers after an operation that needs no byte
+unfoldable pub done_alone : Op → RegistersValue → RegistersValue
+done_alone Clc r = record r { p = byte_of (record (flags_of r.p) { carry = false }) }
+done_alone Cld r = record r { p = byte_of (record (flags_of r.p) { decimal = false }) }
+done_alone Cli r = record r { p = byte_of (record (flags_of r.p) { interrupt = false }) }
+done_alone Clv r = record r { p = byte_of (record (flags_of r.p) { overflow = false }) }
+done_alone Sec r = record r { p = byte_of (record (flags_of r.p) { carry = true }) }
+done_alone Sed r = record r { p = byte_of (record (flags_of r.p) { decimal = true }) }
+done_alone Sei r = record r { p = byte_of (record (flags_of r.p) { interrupt = true }) }
+done_alone Dex r = into_x ((r.x + 255) % 256) r
+done_alone Dey r = into_y ((r.y + 255) % 256) r
+done_alone Inx r = into_x ((r.x + 1) % 256) r
+done_alone Iny r = into_y ((r.y + 1) % 256) r
+done_alone Tax r = into_x r.a r
+done_alone Tay r = into_y r.a r
+done_alone Tsx r = into_x r.s r
+done_alone Txa r = into_a r.x r
+done_alone Txs r = record r { s = r.x }
+done_alone Tya r = into_a r.y r
+done_alone _ r = r
+
+-- whether a branch is taken with these flags
+unfoldable pub is_taken : Op → ℕ → Bool
+is_taken Bcc p = not (flags_of p).carry
+is_taken Bcs p = (flags_of p).carry
+is_taken Beq p = (flags_of p).zero
+is_taken Bmi p = (flags_of p).negative
+is_taken Bne p = not (flags_of p).zero
+is_taken Bpl p = not (flags_of p).negative
+is_taken Bvc p = not (flags_of p).overflow
+is_taken Bvs p = (flags_of p).overflow
+is_taken _ p = false
+
+-- the flags as BRK and PHP push them: bits 4 and 5, which are clear in p, are set
+unfoldable pub flags_by_program : ℕ → ℕ
+flags_by_program p = p + 48
+
+-- the flags as an interrupt pushes them: of the two bits only bit 5 is set
+unfoldable pub flags_by_interrupt : ℕ → ℕ
+flags_by_interrupt p = p + 32
+
+-- the byte that PHA or PHP pushes
+unfoldable pub pushed : Op → RegistersValue → ℕ
+pushed Php r = flags_by_program r.p
+pushed _ r = r.a
+
+-- the flags that a byte from the stack gives: bits 4 and 5 are left out
+unfoldable pub pulled_flags : ℕ → ℕ
+pulled_flags m = byte_of (flags_of m)
+
+-- the registers after PLA or PLP has pulled the byte m
+unfoldable pub pulled : Op → ℕ → RegistersValue → RegistersValue
+pulled Plp m r = record r { p = pulled_flags m }
+pulled _ m r = into_a m r
+
+-- interrupts are masked: I is set
+abbrev pub IsMasked : ℕ → Type 0
+IsMasked p = (flags_of p).interrupt ≡ true
+
+-- the flags with I set
+unfoldable pub masked : ℕ → ℕ
+masked p = byte_of (record (flags_of p) { interrupt = true })

@@ -1,0 +1,33 @@
+ghost use Rattle.std.specs.Prelude.{◌≡◌, ◌+◌, ◌≤◌, ℕ};
+ghost use Rattle.cpu_core.specs.Course.{Access, read_of, write_of};
+
+/// What a processor reads and writes. Each call is one access and takes one clock.
+///
+/// The feed is what the caller lends to each access, so that a bus owns all its parts. `step` says
+/// what one access does and which byte a read gives, `fits` which feeds a bus takes, and `room` how
+/// many accesses it can still take.
+pub trait Bus {
+    type Feed;
+
+    ghost step: { Self.Feed → Access → Self → Self → Type 0 };
+
+    ghost fits: { Self.Feed → Self → Type 0 };
+
+    ghost room: { Self → ℕ };
+
+    /// Reads the byte at an address.
+    fn read(&mut self, feed: &Self::Feed, addr: u16) -> u8
+        requires fits { fits feed.now self.old }
+        requires room { 1 ≤ room self.old }
+        ensures step { step feed.now (read_of addr result) self.old self.new }
+        ensures fits { fits feed.now self.new }
+        ensures room { room self.old ≤ room self.new + 1 };
+
+    /// Writes a byte at an address.
+    fn write(&mut self, feed: &Self::Feed, addr: u16, value: u8)
+        requires fits { fits feed.now self.old }
+        requires room { 1 ≤ room self.old }
+        ensures step { step feed.now (write_of addr value) self.old self.new }
+        ensures fits { fits feed.now self.new }
+        ensures room { room self.old ≤ room self.new + 1 };
+}

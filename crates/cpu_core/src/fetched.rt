@@ -1,0 +1,9 @@
+/// What came of an instruction or a sequence.
+///
+/// `Jammed` holds the undocumented opcode that stopped the processor (this project's own profile;
+/// the MCS6500 Programming Manual leaves such opcodes open).
+#[derive(Clone, Copy, Debug, PartialEq, Eq)]
+pub enum Fetched {
+    Done,
+    Jammed(u8),
+}

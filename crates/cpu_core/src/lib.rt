@@ -1,0 +1,22 @@
+//! The 6502: its instructions, its interrupt and its reset, as accesses of a bus, one in each clock
+//! (MCS6500 Hardware Manual, appendix A).
+#![tactic(auto)]
+
+mod addressing;
+mod bus;
+mod fetched;
+mod middle;
+mod operations;
+mod patterns;
+mod pause;
+mod processor;
+mod registers;
+mod replay;
+mod seen;
+mod sequence;
+
+pub use bus::Bus;
+pub use fetched::Fetched;
+pub use middle::is_middle;
+pub use processor::Cpu;
+pub use sequence::clock_range;
