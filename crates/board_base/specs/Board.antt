@@ -22,8 +22,8 @@ pub record BoardValue : Type 0 where
   pub ram : List ℕ
   pub vram : List ℕ
 
--- a run ends at most 16 clocks past the greatest number of a tape, and its inside at that number; six bits of the
--- first port; two memories of 2 KB
+-- the clock may stand up to 16 past the greatest number of a tape, and inside a sequence at that number at most; six bits
+-- of the first port; two memories of 2 KB
 pub record IsBoard (b : BoardValue) : Type 0 where
   pub clock : b.clock ≤ 2 ^ 48 + 16
   pub middle : IsSome b.cpu.mid → b.clock ≤ 2 ^ 48

@@ -3,9 +3,9 @@ ghost use Rattle.cpu_core.specs.Course.{Access, read_of, write_of};
 
 /// What a processor reads and writes. Each call is one access and takes one clock.
 ///
-/// The feed is what the caller lends to each access, so that a bus owns all its parts. `step` says
-/// what one access does and which byte a read gives, `fits` which feeds a bus takes, and `room` how
-/// many accesses it can still take.
+/// A bus owns its parts; whatever else an access needs, as an input tape, is lent to it as the feed.
+/// `step` relates the bus before an access to the bus after it and to the byte, `fits` tells the
+/// feeds that may be lent, and `room` for how many more accesses the bus has room.
 pub trait Bus {
     type Feed;
 

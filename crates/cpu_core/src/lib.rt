@@ -19,4 +19,5 @@ pub use bus::Bus;
 pub use fetched::Fetched;
 pub use middle::is_middle;
 pub use processor::Cpu;
+pub use replay::Next;
 pub use sequence::clock_range;

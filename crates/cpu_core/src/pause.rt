@@ -16,7 +16,6 @@ use board_base::{CpuState, Mid, Sequence};
 use cpu_alu::Flags;
 
 /// What comes next in a sequence that began with these registers and has seen these bytes.
-
 pub(crate) fn next_access(start: Registers, sequence: Sequence, given: &[u8]) -> Next
     ensures next { result ≡ next_of start sequence given.now }
     ensures end { IfEnd result (λ e. (e.mid ≡ None) × IfSome e.jam (λ o. row_of o ≡ None)) }

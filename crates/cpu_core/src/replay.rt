@@ -5,9 +5,10 @@ use crate::bus::Bus;
 use board_base::CpuState;
 use std::marker::Model;
 
-/// What comes next in a sequence: an access, or its end with the processor after it.
-#[derive(Clone, Copy)]
-pub(crate) enum Next {
+/// What comes next in a sequence: the address of a read, the address and the byte of a write, or the
+/// processor after its end.
+#[derive(Clone, Copy, Debug, PartialEq, Eq)]
+pub enum Next {
     Read(u16),
     Write(u16, u8),
     End(CpuState),

@@ -60,17 +60,14 @@ fn the_3_khz_line_is_bit_8_of_the_phase(rt: HostRuntime) {
 fn one_by_one_is_the_same_as_in_slices(rt: HostRuntime) {
     let mut single = Divider::new();
     let mut sliced = Divider::new();
-    let mut done = 0;
     for cut in 1..41u64 {
         let clocks = 2500 + cut * 13 % 41;
         sliced.advance(clocks);
         for _ in 0..clocks {
             single.advance(1);
         }
-        done += clocks;
         assert_eq!(rt; single.state(), sliced.state());
     }
-    assert!(rt; done > 100_000);
 }
 
 #[test]

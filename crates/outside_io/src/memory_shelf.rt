@@ -51,8 +51,8 @@ impl Model for MemoryShelf {
 }
 
 impl MemoryShelf {
-    /// Takes the memory of `stores` stores, each of at most `room` bytes with its name. `fail` has
-    /// the numbers of the calls of `load` and `store` that fail, counted from 1.
+    /// An empty shelf with memory for `stores` stores of up to `room` bytes, names counted in. Of
+    /// its calls of `load` and `store`, the first being number 1, those in `fail` go wrong.
     pub fn new(
         alloc: Global,
         stores: usize,

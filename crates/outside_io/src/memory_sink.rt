@@ -60,7 +60,7 @@ impl Sink for MemorySink {
 
     ghost faults = { λ s. s.faults };
 
-    /// An empty piece is none of the numbered calls.
+    /// A piece with no bytes isn't counted as a call.
     fn write(&mut self, bytes: &[u8]) -> Result<(), SinkFault>
         ensures taken { Takes (Some self.old.bytes) (Some self.new.bytes) bytes.now result }
         ensures cause { HasCause self.old.faults self.new.faults result }

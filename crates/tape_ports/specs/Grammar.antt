@@ -1,0 +1,114 @@
+-- How the text of a tape is read. This project's own profile.
+use Rattle.std.specs.Prelude.{◌≡◌, ℕ, ◌+◌, ◌*◌, ◌^◌, ◌<◌, ◌≤◌, ◌==◌, ◌&&◌, List, [], ◌∷◌, length, Option, Some, None, Result, Ok, Err, nat_lt, nat_le, ok_or, option_and_then, option_map, bytes_eq, codes, if◌then◌else◌}
+use Rattle.std.specs.List.{list_all, onto_first, slice_split}
+use Rattle.std.specs.Char.{digit_value, is_ascii_digit, is_digit}
+use Rattle.std.specs.Str.Parse.{digits_value}
+use Rattle.tape_ports.specs.declared.entry.TapeEntry.{TapeEntry}
+use Rattle.tape_ports.specs.declared.fault.LineCause.{LineCause}
+use Rattle.tape_ports.specs.declared.fault.LineCause.TheVariants as cause
+use Rattle.tape_ports.specs.declared.fault.TapeFault.{TapeFault}
+use Rattle.tape_ports.specs.declared.fault.TapeFault.TheVariants.{TooLong, BadLine, OutOfMemory}
+use Rattle.tape_ports.specs.declared.line.Line.{Line}
+use Rattle.tape_ports.specs.declared.line.Line.TheVariants.{Entry, End}
+use Rattle.tape_ports.specs.Ports.{IsPort, port_of}
+use Rattle.tape_ports.specs.Tape.{TapeValue}
+
+-- the lines of a text: LF ends each, and may be missing after the last
+unfoldable pub lines_of : List ℕ → List (List ℕ)
+lines_of [] = []
+lines_of (byte ∷ text) = if byte == 10 then [] ∷ lines_of text else onto_first byte (lines_of text)
+
+-- the words of a line: it is parted at each of its spaces, so a word may be empty
+abbrev pub words_of : List ℕ → List (List ℕ)
+words_of line = slice_split (λ byte. byte == 32) line
+
+-- a clock is 1 to 15 decimal digits
+abbrev pub clock_of : List ℕ → Option ℕ
+clock_of word =
+    if nat_le 1 (length word) && nat_le (length word) 15 && list_all is_ascii_digit word then Some (digits_value 10 word) else None
+
+-- a hexadecimal digit of either case
+abbrev pub digit_of : ℕ → Option ℕ
+digit_of byte = if is_digit byte 16 then Some (digit_value byte) else None
+
+-- a value is two hexadecimal digits
+abbrev pub value_of : List ℕ → Option ℕ
+value_of (high ∷ low ∷ []) = option_and_then (λ h. option_map (λ l. 16 * h + l) (digit_of low)) (digit_of high)
+value_of _ = None
+
+infixl 10 ◌>>=◌
+-- the first fault, or what comes of the answer
+abbrev pub ◌>>=◌ : {A B : Type 0} → Result A LineCause → (A → Result B LineCause) → Result B LineCause
+(Ok x) >>= f = f x
+(Err c) >>= f = Err c
+
+-- a clock is at most 2^48, and not below that of the line before
+unfoldable pub clock_after : ℕ → ℕ → Result ℕ LineCause
+clock_after before clock =
+    if nat_lt (2 ^ 48) clock then Err cause.Clock else (if nat_lt clock before then Err cause.Falls else Ok clock)
+
+-- a line of two words is a clock and END
+unfoldable pub end_line : ℕ → List ℕ → List ℕ → Result Line LineCause
+end_line before clock word =
+    if bytes_eq word (codes "END")
+    then (do
+      given ← ok_or (clock_of clock) cause.Form
+      end ← clock_after before given
+      Ok (End end))
+    else Err cause.Form
+
+-- a line of three words is a clock, a port and a value
+unfoldable pub entry_line : ℕ → List ℕ → List ℕ → List ℕ → Result Line LineCause
+entry_line before clock name value =
+    if bytes_eq name (codes "END")
+    then Err cause.Form
+    else (do
+      given ← ok_or (clock_of clock) cause.Form
+      byte ← ok_or (value_of value) cause.Form
+      port ← ok_or (port_of name) cause.Port
+      at ← clock_after before given
+      Ok (Entry (record { clock = at; port = port; value = byte })))
+
+-- what a line tells, by its words and the clock of the line before, or its first fault
+abbrev pub line_of : ℕ → List (List ℕ) → Result Line LineCause
+line_of before (clock ∷ word ∷ []) = end_line before clock word
+line_of before (clock ∷ name ∷ value ∷ []) = entry_line before clock name value
+line_of before _ = Err cause.Form
+
+-- a good line's clock is at most 2^48 and not below that of the line before, and its port is one
+abbrev pub ComesAfter : ℕ → Line → Type 0
+ComesAfter before (Entry entry) = (before ≤ entry.clock) × (entry.clock ≤ 2 ^ 48) × IsPort entry.port
+ComesAfter before (End end) = (before ≤ end) × (end ≤ 2 ^ 48)
+
+-- the tape with an entry put before its others, or the fault
+abbrev pub with_first : TapeEntry → Result TapeValue (ℕ × LineCause) → Result TapeValue (ℕ × LineCause)
+with_first entry (Ok tape) = Ok (record { entries = entry ∷ tape.entries; end = tape.end })
+with_first entry (Err fault) = Err fault
+
+-- the END line with this number is the last
+abbrev pub ended : ℕ → ℕ → List (List ℕ) → Result TapeValue (ℕ × LineCause)
+ended number end [] = Ok (record { entries = []; end = end })
+ended number end (_ ∷ _) = Err (number + 1, cause.AfterEnd)
+
+-- what comes of a line with this number that tells an entry, an END clock, or its fault
+abbrev pub told : ℕ → Result Line LineCause → (TapeEntry → Result TapeValue (ℕ × LineCause)) → (ℕ → Result TapeValue (ℕ × LineCause)) → Result TapeValue (ℕ × LineCause)
+told number (Ok (Entry entry)) more last = more entry
+told number (Ok (End end)) more last = last end
+told number (Err fault) more last = Err (number, fault)
+
+-- the tape of the lines from this number on, after a line with the clock before, or the first fault with its line
+unfoldable pub tape_from : ℕ → ℕ → List (List ℕ) → Result TapeValue (ℕ × LineCause)
+tape_from number before [] = Err (number, cause.NoEnd)
+tape_from number before (line ∷ lines) =
+    told number (line_of before (words_of line)) (λ entry. with_first entry (tape_from (number + 1) entry.clock lines)) (λ end. ended number end lines)
+
+-- the one tape of a text, or its one fault with the number of its line, counted from 1
+abbrev pub tape_of : List ℕ → Result TapeValue (ℕ × LineCause)
+tape_of text = tape_from 1 0 (lines_of text)
+
+-- how a text is read: too long above 2^24 bytes, else its tape or its fault, unless memory runs out
+abbrev pub ReadsTape : List ℕ → Result TapeValue TapeFault → Type 0
+ReadsTape text (Ok tape) = (length text ≤ 16777216) × (tape_of text ≡ Ok tape)
+ReadsTape text (Err TooLong) = 16777216 < length text
+ReadsTape text (Err (BadLine line cause)) = (length text ≤ 16777216) × (tape_of text ≡ Err (line, cause))
+ReadsTape text (Err OutOfMemory) = length text ≤ 16777216

@@ -1,0 +1,4 @@
+pub mod Due
+pub mod Grammar
+pub mod Ports
+pub mod Tape
