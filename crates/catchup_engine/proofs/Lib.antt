@@ -1,0 +1,10 @@
+pub mod Behind
+pub mod Clocks
+pub mod Ends
+pub mod InOrder
+pub mod Phases
+pub mod Runs
+pub mod RunsOn
+pub mod Steps
+pub mod Turns
+pub mod Windows

@@ -1,0 +1,7 @@
+mod DigitLaws
+mod Each
+mod LineLaws
+pub mod LogLaws
+mod NextLaws
+mod SortLaws
+mod WriteLaws

@@ -1,0 +1,4 @@
+pub mod Lines
+pub mod LogText
+pub mod Trails
+pub mod Merging

@@ -1,0 +1,34 @@
+-- How the next record of four lists is found.
+use Rattle.std.specs.Prelude.{◌≡◌, ◌≢◌, ℕ, List, [], ◌∷◌, min}
+use Rattle.std.specs.Prelude.{Option, Some, None}
+use Rattle.std.specs.List.Sorted.{IsNonDecreasingBy}
+use Rattle.board_base.specs.declared.record.Record.{Record}
+use Rattle.log_text.specs.LogText.{clock_of}
+
+-- the clock of the first record
+abbrev pub first_clock : List Record → Option ℕ
+first_clock [] = None
+first_clock (first ∷ others) = Some (clock_of first)
+
+-- the lesser of the clocks that are there
+abbrev pub sooner_of : Option ℕ → Option ℕ → Option ℕ
+sooner_of None other = other
+sooner_of (Some clock) None = Some clock
+sooner_of (Some clock) (Some other) = Some (min clock other)
+
+-- the least of the first clocks of four lists
+abbrev pub earliest_of : List Record → List Record → List Record → List Record → Option ℕ
+earliest_of vector sound1 sound2 board =
+    sooner_of (first_clock vector) (sooner_of (first_clock sound1) (sooner_of (first_clock sound2) (first_clock board)))
+
+-- the first record is taken away where it came in this clock, else nothing is
+abbrev pub TakesAt : ℕ → List Record → List Record → Option Record → Type 0
+TakesAt clock before after None = (after ≡ before) × (first_clock before ≢ Some clock)
+TakesAt clock before after (Some record_taken) = (before ≡ record_taken ∷ after) × (clock_of record_taken ≡ clock)
+
+-- clocks don't fall in any of four lists
+pub record AreSorted (strokes levels1 levels2 others : List Record) : Type 0 where
+  pub vector : IsNonDecreasingBy clock_of strokes
+  pub sound1 : IsNonDecreasingBy clock_of levels1
+  pub sound2 : IsNonDecreasingBy clock_of levels2
+  pub board : IsNonDecreasingBy clock_of others

@@ -1,0 +1,16 @@
+//! The text of the log: a line for each record of the board, by clock, and the last lines.
+#![tactic(auto)]
+
+mod last;
+mod line;
+mod merge;
+mod merged;
+mod part;
+mod record_line;
+
+pub use last::{write_cost, write_end, write_jam};
+pub use merged::write_merged;
+pub use part::Part;
+
+#[cfg(test)]
+mod tests;

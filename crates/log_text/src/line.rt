@@ -1,0 +1,139 @@
+ghost use Rattle.std.specs.Prelude.{◌≡◌, ◌+◌, ◌<◌, ◌≤◌, [], ◌∷◌, ◌++◌, length, decimal, true};
+ghost use Rattle.std.specs.Fmt.{digit_glyph, signed_decimal};
+ghost use Rattle.log_text.specs.Lines.{hex_byte, hex_word};
+
+use arrayvec::ArrayVec;
+use std::marker::Model;
+
+/// Room for the bytes of the longest line, that of a stroke: a letter, three numbers of up to 20
+/// digits and four of up to 20 digits and a sign, each behind a blank, and LF.
+const LONGEST: usize = 153;
+
+/// A line of the log while it is put together.
+#[derive(Drop)]
+pub(crate) struct Line {
+    bytes: ArrayVec<u8, LONGEST>,
+}
+
+impl Model for Line {
+    ghost use Rattle.std.specs.Prelude.{ℕ, ◌≤◌, List, length};
+    ghost use Rattle.log_text.specs.declared.line.TheConstants.{LONGEST};
+
+    ghost Value = { List ℕ };
+
+    ghost view = { λ l. l.bytes.items };
+
+    ghost invariant = { λ l. length l.bytes.items ≤ LONGEST };
+}
+
+impl Line {
+    /// A line that begins with a letter and a number.
+    pub(crate) fn new(letter: u8, n: u64) -> Line
+        ensures text { result ≡ letter ∷ 32 ∷ decimal n }
+        ensures len { length result ≤ 22 }
+    {
+        let line = Line {
+            bytes: ArrayVec::new(),
+        };
+        line.byte(letter).number(n)
+    }
+
+    /// One byte more.
+    fn byte(mut self, byte: u8) -> Line
+        requires { length self < LONGEST }
+        ensures text { result ≡ self ++ byte ∷ [] }
+        ensures len { length result ≡ length self + 1 }
+    {
+        self.bytes.push(byte);
+        self
+    }
+
+    /// The decimal digits of a number, without leading zeros. It calls itself once for each digit.
+    #[tactic(auto, using(crate::proofs::DigitLaws::one_digit, crate::proofs::DigitLaws::more_digits, crate::proofs::DigitLaws::length_front))]
+    fn digits(self, n: u64) -> Line
+        requires { length self + length (decimal n) ≤ LONGEST }
+        ensures text { result ≡ self ++ decimal n }
+        ensures len { length result ≡ length self + length (decimal n) }
+    {
+        if n < 10 {
+            return self.byte(b'0' + n as u8);
+        }
+        self.digits(n / 10).byte(b'0' + (n % 10) as u8)
+    }
+
+    /// A blank and a number.
+    #[tactic(auto, using(crate::proofs::DigitLaws::length_digits))]
+    pub(crate) fn number(self, n: u64) -> Line
+        requires { length self + 21 ≤ LONGEST }
+        ensures text { result ≡ self ++ 32 ∷ decimal n }
+        ensures len { length result ≤ length self + 21 }
+    {
+        self.byte(b' ').digits(n)
+    }
+
+    /// A blank and a number, with `-` where it is negative.
+    #[tactic(auto, using(crate::proofs::DigitLaws::length_digits))]
+    pub(crate) fn signed(self, n: i32) -> Line
+        requires { length self + 22 ≤ LONGEST }
+        ensures text { result ≡ self ++ 32 ∷ signed_decimal n }
+        ensures len { length result ≤ length self + 22 }
+    {
+        let line = self.byte(b' ');
+        let line = if n < 0 { line.byte(b'-') } else { line };
+        line.digits(u64::from(n.unsigned_abs()))
+    }
+
+    /// Two hexadecimal digits.
+    fn hex(self, byte: u8) -> Line
+        requires { length self + 2 ≤ LONGEST }
+        ensures text { result ≡ self ++ hex_byte byte }
+        ensures len { length result ≡ length self + 2 }
+    {
+        self.byte(hex_digit(byte / 16)).byte(hex_digit(byte % 16))
+    }
+
+    /// A blank and a byte as two hexadecimal digits.
+    pub(crate) fn hex_byte(self, byte: u8) -> Line
+        requires { length self + 3 ≤ LONGEST }
+        ensures text { result ≡ self ++ 32 ∷ hex_byte byte }
+        ensures len { length result ≡ length self + 3 }
+    {
+        self.byte(b' ').hex(byte)
+    }
+
+    /// A blank and a word as four hexadecimal digits.
+    pub(crate) fn hex_word(self, word: u16) -> Line
+        requires { length self + 5 ≤ LONGEST }
+        ensures text { result ≡ self ++ 32 ∷ hex_word word }
+        ensures len { length result ≡ length self + 5 }
+    {
+        let [high, low] = word.to_be_bytes();
+        self.byte(b' ').hex(high).hex(low)
+    }
+
+    /// The bytes of the line with LF at its end.
+    pub(crate) fn end(self) -> Line
+        requires { length self < LONGEST }
+        ensures { result ≡ self ++ 10 ∷ [] }
+    {
+        self.byte(b'\n')
+    }
+
+    /// The bytes put together so far.
+    pub(crate) fn bytes(&self) -> &[u8]
+        ensures { result.now ≡ self.now }
+    {
+        self.bytes.as_slice()
+    }
+}
+
+/// A digit below 16, in capitals.
+fn hex_digit(digit: u8) -> u8
+    requires { digit < 16 }
+    ensures { result ≡ digit_glyph true digit }
+{
+    match digit {
+        0..=9 => b'0' + digit,
+        _ => b'A' + (digit - 10),
+    }
+}

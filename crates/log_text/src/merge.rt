@@ -1,0 +1,94 @@
+ghost use Rattle.std.specs.Prelude.{◌≡◌, length};
+ghost use Rattle.std.specs.Iterator.{YieldsFirst, item_count};
+ghost use Rattle.log_text.specs.LogText.{clock_of, merged};
+ghost use Rattle.log_text.specs.Merging.{first_clock, sooner_of, earliest_of, TakesAt, AreSorted};
+
+use crate::part::Part;
+use board_base::Record;
+
+/// The records of four trails by clock, within a clock in the order of the parts.
+#[derive(Clone, Copy)]
+pub(crate) struct Merge<'a> {
+    pub(crate) vector: &'a [Record],
+    pub(crate) sound1: &'a [Record],
+    pub(crate) sound2: &'a [Record],
+    pub(crate) board: &'a [Record],
+}
+
+/// The clock in which a record came.
+fn clock(record: &Record) -> u64
+    ensures { result ≡ clock_of «record».now }
+{
+    match *record {
+        Record::Stroke { clock, .. }
+        | Record::Levels { clock, .. }
+        | Record::Latch { clock, .. }
+        | Record::WatchdogReset { clock } => clock,
+    }
+}
+
+/// The clock of the first record.
+fn first(records: &[Record]) -> Option<u64>
+    ensures { result ≡ first_clock records.now }
+{
+    records.first().map(clock)
+}
+
+/// The lesser of the clocks that are there.
+fn sooner(first: Option<u64>, second: Option<u64>) -> Option<u64>
+    ensures { result ≡ sooner_of first second }
+{
+    match (first, second) {
+        (Some(first), Some(second)) => Some(first.min(second)),
+        (None, clock) | (clock, None) => clock,
+    }
+}
+
+/// Takes the first record where it came in this clock.
+fn take_at(records: &mut &[Record], at: u64) -> Option<Record>
+    ensures { TakesAt at records.old.now records.new.now result }
+{
+    let (record, others) = records.split_first()?;
+    if clock(record) != at {
+        return None;
+    }
+    *records = others;
+    Some(*record)
+}
+
+impl Merge<'_> {
+    /// The earliest clock of a record that is left.
+    fn earliest(&self) -> Option<u64>
+        ensures { result ≡ earliest_of self.now.vector.now self.now.sound1.now self.now.sound2.now self.now.board.now }
+    {
+        let board = sooner(first(self.sound2), first(self.board));
+        sooner(first(self.vector), sooner(first(self.sound1), board))
+    }
+}
+
+impl Iterator for Merge<'_> {
+    type Item = (Part, Record);
+
+    ghost can_next = { λ m. AreSorted m.vector.now m.sound1.now m.sound2.now m.board.now };
+
+    ghost next_gives = { YieldsFirst (λ m. merged m.vector.now m.sound1.now m.sound2.now m.board.now) };
+
+    ghost remaining = { item_count (λ m. merged m.vector.now m.sound1.now m.sound2.now m.board.now) };
+
+    fn next(&mut self) -> Option<(Part, Record)> {
+        let Some(clock) = self.earliest() else {
+            return None;
+        };
+        if let Some(record) = take_at(&mut self.vector, clock) {
+            return Some((Part::Generator, record));
+        }
+        if let Some(record) = take_at(&mut self.sound1, clock) {
+            return Some((Part::Pokey1, record));
+        }
+        if let Some(record) = take_at(&mut self.sound2, clock) {
+            return Some((Part::Pokey2, record));
+        }
+        let record = take_at(&mut self.board, clock)?;
+        Some((Part::Board, record))
+    }
+}

@@ -1,0 +1,37 @@
+ghost use Rattle.log_text.specs.LogText.{merged_text};
+ghost use Rattle.log_text.specs.Trails.{IsTrailOf};
+ghost use Rattle.outside_io.specs.Causes.{HasCause};
+ghost use Rattle.outside_io.specs.Sink.{Takes};
+
+use crate::merge::Merge;
+use crate::part::Part;
+use crate::record_line::record_line;
+use board_base::Trails;
+use outside_io::{Sink, SinkFault};
+
+/// Writes the lines of all records by clock, within a clock those of the generator, of POKEY 1, of
+/// POKEY 2 and of the board in this order. Each line is one write; it stops at the first that fails.
+pub fn write_merged<O: Sink>(trails: &Trails<'_>, out: &mut O) -> Result<(), SinkFault>
+    requires vector { IsTrailOf Part.Generator trails.now.vector.now.records }
+    requires sound1 { IsTrailOf Part.Pokey1 trails.now.sound1.now.records }
+    requires sound2 { IsTrailOf Part.Pokey2 trails.now.sound2.now.records }
+    requires board { IsTrailOf Part.Board trails.now.board.now.records }
+    ensures taken { Takes (O.taken out.old) (O.taken out.new)
+        (merged_text trails.now.vector.now.records trails.now.sound1.now.records
+        trails.now.sound2.now.records trails.now.board.now.records) result }
+    ensures cause { HasCause (O.faults out.old) (O.faults out.new) result }
+{
+    let merge = Merge {
+        vector: trails.vector.records(),
+        sound1: trails.sound1.records(),
+        sound2: trails.sound2.records(),
+        board: trails.board.records(),
+    };
+    for (part, record) in merge {
+        let line = record_line(part, record);
+        let Ok(()) = out.write(line.bytes()) else {
+            return Err(SinkFault);
+        };
+    }
+    Ok(())
+}
