@@ -1,0 +1,127 @@
+-- What a command writes, stores and answers, by its words and its files.
+use Rattle.std.specs.Prelude.{ℕ, ◌+◌, List, [], ◌++◌, length, take, codes, decimal, nat_lt, ◌==◌, Option, Some, None, Result, Ok, Err, if◌then◌else◌, is_some}
+use Rattle.tape_ports.specs.declared.fault.LineCause.{LineCause}
+use Rattle.tape_ports.specs.Tape.{TapeValue}
+use Rattle.tape_ports.specs.Grammar.{tape_of}
+use Rattle.board_base.specs.Board.{board_at_power_on}
+use Rattle.board_base.specs.Cpu.{cpu_at_power_on}
+use Rattle.outside_io.specs.Shelf.{Files}
+use Rattle.catchup_engine.specs.Wires.{wires_of}
+use Rattle.catchup_engine.specs.Lockstep.{Board}
+use Rattle.catchup_engine.specs.Run.{run_to}
+use Rattle.log_text.specs.LogText.{merged_text, end_text, jam_text}
+use Rattle.gravitar_program.specs.Causes.{line_cause_text}
+use Rattle.gravitar_program.specs.Events.{Event, sending}
+use Rattle.gravitar_program.specs.Words.{Names, command_of}
+
+pub record Outcome : Type 0 where
+  pub status : ℕ
+  pub note : List ℕ
+  pub events : List Event
+
+-- a command that was refused: nothing is written or stored
+abbrev pub refused : ℕ → List ℕ → Outcome
+refused status note = record { status = status; note = note; events = [] }
+
+-- the notes of the statuses
+abbrev pub usage_text : List ℕ
+usage_text = codes "gravitar: usage: run IMAGE TAPE, asm CPUSRC VGSRC OUT, debug IMAGE TAPE SCRIPT, show STATE, soak SEED\n"
+
+abbrev pub fault_text : List ℕ
+fault_text = codes "gravitar: outside fault\n"
+
+abbrev pub memory_text : List ℕ
+memory_text = codes "gravitar: no memory\n"
+
+abbrev pub unbuilt_text : List ℕ
+unbuilt_text = codes "gravitar: not built\n"
+
+abbrev pub note_text : List ℕ → List ℕ → List ℕ
+note_text name cause = codes "gravitar: " ++ (name ++ (codes ": " ++ (cause ++ codes "\n")))
+
+-- what comes next, where nothing was refused
+abbrev pub and_then : {A B : Type 0} → Result A Outcome → (A → Result B Outcome) → Result B Outcome
+and_then (Ok a) next = next a
+and_then (Err refusal) next = Err refusal
+
+-- a file's first bytes, one more than the limit at most
+abbrev pub first_bytes : List ℕ → ℕ → Option (List ℕ) → Result (List ℕ) Outcome
+first_bytes name limit None = Err (refused 5 (note_text name (codes "absent")))
+first_bytes name limit (Some bytes) = Ok (take (limit + 1) bytes)
+
+-- what a reader made of a file's bytes, or the cause of its refusal
+abbrev pub read_as : {A : Type 0} → List ℕ → Result A (List ℕ) → Result A Outcome
+read_as name (Ok value) = Ok value
+read_as name (Err cause) = Err (refused 4 (note_text name cause))
+
+-- an image is 43,008 bytes
+unfoldable pub image_read : List ℕ → Result (List ℕ) (List ℕ)
+image_read bytes = if length bytes == 43008 then Ok bytes else Err (codes "length " ++ decimal (length bytes))
+
+-- the tape of a text, or the cause of its refusal
+abbrev pub tape_or_cause : Result TapeValue (ℕ × LineCause) → Result TapeValue (List ℕ)
+tape_or_cause (Ok tape) = Ok tape
+tape_or_cause (Err fault) = Err (codes "line " ++ (decimal fault.0 ++ (codes ": " ++ line_cause_text fault.1)))
+
+unfoldable pub tape_read : List ℕ → Result TapeValue (List ℕ)
+tape_read bytes = if nat_lt 16777216 (length bytes) then Err (codes "too long") else tape_or_cause (tape_of bytes)
+
+unfoldable pub image_file : Files → List ℕ → Result (List ℕ) Outcome
+image_file files name = and_then (first_bytes name 43008 (files name)) (λ bytes. read_as name (image_read bytes))
+
+unfoldable pub tape_file : Files → List ℕ → Result TapeValue Outcome
+tape_file files name = and_then (first_bytes name 16777216 (files name)) (λ bytes. read_as name (tape_read bytes))
+
+-- a tape whose entries can't be applied yet
+abbrev pub built : TapeValue → Result TapeValue Outcome
+built tape = if nat_lt 0 (length tape.entries) then Err (refused 8 unbuilt_text) else Ok tape
+
+-- the files of a command, each read wholly before the next
+unfoldable pub both_files : Files → Names → Result (List ℕ × TapeValue) Outcome
+both_files files names =
+    and_then (image_file files names.image) (λ image.
+    and_then (tape_file files names.tape) (λ tape. and_then (built tape) (λ tape. Ok (image, tape))))
+
+-- the board at power-on over an image
+abbrev pub first_board : List ℕ → Board
+first_board image = record { cpu = cpu_at_power_on; wires = wires_of image board_at_power_on }
+
+-- the last line of a run
+abbrev pub last_text : Board → Option ℕ → List ℕ
+last_text b (Some opcode) = jam_text b.wires.clock b.cpu.pc opcode
+last_text b None = end_text b.wires.clock
+
+-- the log of a board's records
+unfoldable pub log_of : Board → List ℕ
+log_of b = merged_text b.wires.strokes b.wires.levels1 b.wires.levels2 b.wires.written
+
+-- the log of a run that has ended at this board, with its last line
+abbrev pub whole_text : Board → List ℕ
+whole_text b = log_of b ++ last_text b b.cpu.jam
+
+-- the board at the end of a run
+abbrev pub last_board : List ℕ × TapeValue → Board
+last_board parts = run_to parts.1.end (first_board parts.0)
+
+-- status 3 for a board that is jammed
+abbrev pub status_of_board : Board → ℕ
+status_of_board b = if is_some b.cpu.jam then 3 else 0
+
+abbrev pub outcome_at : Board → Outcome
+outcome_at b = record { status = status_of_board b; note = []; events = sending (whole_text b) }
+
+-- what is written and stored for the two files, or the refusal of one
+abbrev pub outcome_after : Result (List ℕ × TapeValue) Outcome → Outcome
+outcome_after (Ok parts) = outcome_at (last_board parts)
+outcome_after (Err refusal) = refusal
+
+unfoldable pub command_outcome : Names → Files → Outcome
+command_outcome names files = outcome_after (both_files files names)
+
+abbrev pub outcome_of_command : Option Names → Files → Outcome
+outcome_of_command None files = refused 2 usage_text
+outcome_of_command (Some names) files = command_outcome names files
+
+-- the outcome of these words over these files
+abbrev pub outcome_of : List (List ℕ) → Files → Outcome
+outcome_of words files = outcome_of_command (command_of words) files

@@ -1,0 +1,115 @@
+-- What the stages of a command promise.
+use Rattle.std.specs.Prelude.{◌≡◌, ℕ, ◌≤◌, List, [], Option, Result, Ok, Err, take, string_bytes, ◌⊎◌}
+use Rattle.outside_io.specs.Causes.{Rose, Raised}
+use Rattle.outside_io.specs.Known.{grown}
+use Rattle.outside_io.specs.Shelf.{Kept}
+use Rattle.gravitar_program.specs.declared.stop.Stop.{Stop}
+use Rattle.gravitar_program.specs.declared.stop.Stop.TheVariants.{Bad, Absent, Outside, NoMemory, NotBuilt}
+use Rattle.gravitar_program.specs.declared.stop.Ending.{Ending}
+use Rattle.gravitar_program.specs.declared.stop.Ending.TheVariants.{Done, Jammed}
+use Rattle.gravitar_program.specs.Events.{Did, DidFirst}
+use Rattle.gravitar_program.specs.Outcome.{Outcome, refused, fault_text, memory_text, unbuilt_text}
+
+-- the status of a command that stopped
+abbrev pub status_of : Stop → ℕ
+status_of (Bad note) = 4
+status_of (Absent note) = 5
+status_of Outside = 6
+status_of NoMemory = 7
+status_of NotBuilt = 8
+
+-- its note
+abbrev pub note_of : Stop → List ℕ
+note_of (Bad note) = string_bytes note
+note_of (Absent note) = string_bytes note
+note_of Outside = fault_text
+note_of NoMemory = memory_text
+note_of NotBuilt = unbuilt_text
+
+-- the status of a run that ended
+abbrev pub status_of_ending : Ending → ℕ
+status_of_ending Done = 0
+status_of_ending Jammed = 3
+
+-- a stage that writes nothing: its answer is the one that is defined over the files, or a fault or want of memory
+abbrev pub Refuses : {B : Type 0} → Result B Outcome → Stop → Type 0
+Refuses defined Outside = Unit {0}
+Refuses defined NoMemory = Unit {0}
+Refuses defined stop = defined ≡ Err (refused (status_of stop) (note_of stop))
+
+abbrev pub Gives : {A B : Type 0} → (A → B) → Result B Outcome → Result A Stop → Type 0
+Gives view defined (Ok a) = defined ≡ Ok (view a)
+Gives view defined (Err stop) = Refuses defined stop
+
+-- only an outside fault has raised the count, and it always has
+abbrev pub StopFaults : ℕ → ℕ → Stop → Type 0
+StopFaults before now Outside = Raised before now
+StopFaults before now _ = now ≡ before
+
+abbrev pub StageFaults : {A : Type 0} → ℕ → ℕ → Result A Stop → Type 0
+StageFaults before now (Ok _) = now ≡ before
+StageFaults before now (Err stop) = StopFaults before now stop
+
+-- absent comes only where the count of absences rose
+abbrev pub StopAbsences : ℕ → ℕ → Stop → Type 0
+StopAbsences before now (Absent _) = Raised before now
+StopAbsences before now _ = before ≤ now
+
+abbrev pub StageAbsences : {A : Type 0} → ℕ → ℕ → Result A Stop → Type 0
+StageAbsences before now (Ok _) = before ≤ now
+StageAbsences before now (Err stop) = StopAbsences before now stop
+
+-- what is defined, or a prefix of it before an outside fault
+abbrev pub StopEnds : Outcome → Option (List ℕ) → Option (List ℕ) → Option (List Kept) → Option (List Kept) → Stop → Type 0
+StopEnds outcome out0 out1 stores0 stores1 Outside = DidFirst outcome.events out0 out1 stores0 stores1
+StopEnds outcome out0 out1 stores0 stores1 NoMemory = Unit {0}
+StopEnds outcome out0 out1 stores0 stores1 stop = outcome ≡ refused (status_of stop) (note_of stop)
+
+-- the whole of a command
+abbrev pub Ends : Outcome → Option (List ℕ) → Option (List ℕ) → Option (List Kept) → Option (List Kept) → Result Ending Stop → Type 0
+Ends outcome out0 out1 stores0 stores1 (Ok ending) =
+    (outcome.status ≡ status_of_ending ending) × (outcome.note ≡ []) × Did outcome.events out0 out1 stores0 stores1
+Ends outcome out0 out1 stores0 stores1 (Err stop) = StopEnds outcome out0 out1 stores0 stores1 stop
+
+-- nothing was written or stored, but for a success and an outside fault
+abbrev pub StopQuiet : Option (List ℕ) → Option (List ℕ) → Option (List Kept) → Option (List Kept) → Stop → Type 0
+StopQuiet out0 out1 stores0 stores1 Outside = Unit {0}
+StopQuiet out0 out1 stores0 stores1 _ = (out1 ≡ out0) × (stores1 ≡ stores0)
+
+abbrev pub IsQuiet : {A : Type 0} → Option (List ℕ) → Option (List ℕ) → Option (List Kept) → Option (List Kept) → Result A Stop → Type 0
+IsQuiet out0 out1 stores0 stores1 (Ok _) = Unit {0}
+IsQuiet out0 out1 stores0 stores1 (Err stop) = StopQuiet out0 out1 stores0 stores1 stop
+
+-- an outside fault is one of the shelf or of the output, and nothing else has raised their counts
+abbrev pub EndFaults : {A : Type 0} → ℕ → ℕ → ℕ → ℕ → Result A Stop → Type 0
+EndFaults shelf0 shelf1 out0 out1 (Ok _) = (shelf1 ≡ shelf0) × (out1 ≡ out0)
+EndFaults shelf0 shelf1 out0 out1 (Err Outside) = (shelf0 ≤ shelf1) × (out0 ≤ out1) × (Rose shelf0 shelf1 ⊎ Rose out0 out1)
+EndFaults shelf0 shelf1 out0 out1 (Err _) = (shelf1 ≡ shelf0) × (out1 ≡ out0)
+
+-- the notes took all of a text, or a prefix of it where a write failed
+pub record Noted (notes0 notes1 : Option (List ℕ)) (faults0 faults1 : ℕ) (text : List ℕ) : Type 0 where
+  pub later : faults0 ≤ faults1
+  pub part : (k : ℕ) × (notes1 ≡ grown notes0 (take k text))
+  pub whole : ¬ Rose faults0 faults1 → notes1 ≡ grown notes0 text
+
+-- a bad file with this note, or want of memory for the note
+abbrev pub IsBadOrMemory : List ℕ → Stop → Type 0
+IsBadOrMemory text (Bad note) = string_bytes note ≡ text
+IsBadOrMemory text NoMemory = Unit {0}
+IsBadOrMemory text _ = ⊥
+
+-- a run that was begun stops for an outside fault or for want of memory alone
+abbrev pub IsRunStop : Stop → Type 0
+IsRunStop Outside = Unit {0}
+IsRunStop NoMemory = Unit {0}
+IsRunStop _ = ⊥
+
+abbrev pub RunStops : Result Ending Stop → Type 0
+RunStops (Ok _) = Unit {0}
+RunStops (Err stop) = IsRunStop stop
+
+-- what a run writes of its text: all, a first part before an outside fault, or nothing
+abbrev pub RunTakes : Option (List ℕ) → Option (List ℕ) → List ℕ → Result Ending Stop → Type 0
+RunTakes out0 out1 text (Ok _) = out1 ≡ grown out0 text
+RunTakes out0 out1 text (Err Outside) = (k : ℕ) × (out1 ≡ grown out0 (take k text))
+RunTakes out0 out1 text (Err _) = out1 ≡ out0

@@ -1,0 +1,68 @@
+//! The program `gravitar`: a command line's words, done on real files and streams.
+#![tactic(auto)]
+
+mod answer;
+mod cause;
+mod cause_text;
+mod load;
+mod program;
+mod run;
+mod steady;
+mod stop;
+#[cfg(test)]
+mod tests;
+mod words;
+
+use outside_io::{FileShelf, Sink, TextSink};
+pub use program::gravitar;
+use std::alloc::Global;
+use std::process::ExitCode;
+use std::{env, io};
+pub use steady::steady_status;
+pub use words::Words;
+
+/// Why a command line can't be taken.
+#[derive(Clone, Copy, Debug, PartialEq, Eq)]
+enum Unread {
+    NotText,
+    NoMemory,
+}
+
+/// The words of the process, without the program's name.
+fn process_words<R: env::Env + Alloc>(rt: &R, alloc: Global) -> Result<Words, Unread> {
+    let mut words = Words::new(alloc);
+    let args = match env::args(rt) {
+        Ok(args) => args,
+        Err(error) => {
+            return Err(match error.kind() {
+                io::ErrorKind::OutOfMemory => Unread::NoMemory,
+                _ => Unread::NotText,
+            });
+        }
+    };
+    for word in args.skip(1) {
+        if words.push(&word).is_err() {
+            return Err(Unread::NoMemory);
+        }
+    }
+    Ok(words)
+}
+
+fn main(rt: HostRuntime) -> ExitCode {
+    let mut notes = TextSink::new(rt.stderr());
+    match process_words(&rt, rt.alloc()) {
+        Ok(words) => {
+            let mut shelf = FileShelf::new(&rt);
+            let mut out = TextSink::new(rt.stdout());
+            ExitCode::from(gravitar(rt.alloc(), &words, &mut shelf, &mut out, &mut notes))
+        }
+        Err(Unread::NotText) => {
+            let _ = notes.write(program::USAGE);
+            ExitCode::from(2)
+        }
+        Err(Unread::NoMemory) => {
+            let _ = notes.write(b"gravitar: no memory\n");
+            ExitCode::from(7)
+        }
+    }
+}

@@ -1,0 +1,114 @@
+ghost use Rattle.std.specs.Prelude.{◌≡◌, ◌≢◌, ◌≤◌, ◌<◌, ◌↔◌, ◌⊎◌, [], ◌∷◌, IfSome, IfOk, Contains, None};
+ghost use Rattle.outside_io.specs.Causes.{Rose};
+ghost use Rattle.catchup_engine.specs.Run.{run_to};
+ghost use Rattle.gravitar_program.specs.Words.{command_of};
+ghost use Rattle.gravitar_program.specs.Events.{Did, DidFirst};
+ghost use Rattle.gravitar_program.specs.Outcome.{command_outcome, outcome_of, last_board, whole_text, status_of_board, usage_text, fault_text, memory_text};
+ghost use Rattle.gravitar_program.specs.Stages.{Ends, IsQuiet, EndFaults, StageFaults, StageAbsences, RunStops, RunTakes, Noted, status_of_ending};
+
+use crate::answer::{ending_status, note, status};
+use crate::load::{Parts, load_both};
+use crate::run::run_log;
+use crate::stop::{Ending, Stop};
+use crate::words::{Command, Words, read_command};
+use board_base::BoardState;
+use catchup_engine::Engine;
+use outside_io::{Shelf, Sink};
+use std::alloc::Global;
+
+/// The note on words of no form.
+pub const USAGE: &[u8] =
+    b"gravitar: usage: run IMAGE TAPE, asm CPUSRC VGSRC OUT, debug IMAGE TAPE SCRIPT, show STATE, soak SEED\n";
+
+/// Takes the memory of a run, and then runs it from power-on to the tape's end.
+fn run_parts<O: Sink>(alloc: Global, parts: &Parts, out: &mut O) -> Result<Ending, Stop>
+    requires { parts.now.tape.entries ≡ [] }
+    ensures text { RunTakes (O.taken out.old) (O.taken out.new) (whole_text (last_board (parts.now.image, parts.now.tape))) result }
+    ensures status { IfOk result (λ ending. status_of_ending ending ≡ status_of_board (last_board (parts.now.image, parts.now.tape))) }
+    ensures faults { StageFaults (O.faults out.old) (O.faults out.new) result }
+    ensures stops { RunStops result }
+{
+    let board = BoardState::power_on();
+    match Engine::new(alloc, &parts.image, &board) {
+        Err(_) => Err(Stop::NoMemory),
+        Ok(mut engine) => match run_log(&mut engine, &parts.tape, parts.tape.end(), out) {
+            Ok(ending) => Ok(ending),
+            Err(_) => Err(Stop::Outside),
+        },
+    }
+}
+
+/// Does a command.
+fn perform<S: Shelf, O: Sink>(
+    alloc: Global,
+    command: &Command<'_>,
+    shelf: &mut S,
+    out: &mut O,
+) -> Result<Ending, Stop>
+    ensures outcome { IfSome (S.files shelf.old) (λ files.
+        Ends (command_outcome (record { image = command.now.image.now; tape = command.now.tape.now }) files)
+        (O.taken out.old) (O.taken out.new) (S.stores shelf.old) (S.stores shelf.new) result) }
+    ensures quiet { IsQuiet (O.taken out.old) (O.taken out.new) (S.stores shelf.old) (S.stores shelf.new) result }
+    ensures stores { S.stores shelf.new ≡ S.stores shelf.old }
+    ensures faults { EndFaults (S.faults shelf.old) (S.faults shelf.new) (O.faults out.old) (O.faults out.new) result }
+    ensures absences { StageAbsences (S.absences shelf.old) (S.absences shelf.new) result }
+{
+    match load_both(alloc, command, shelf) {
+        Err(stop) => Err(stop),
+        Ok(parts) => run_parts(alloc, &parts, out),
+    }
+}
+
+/// What the program does for its words, with the text of its notes, and its status.
+///
+/// 0: done. 2: the words are of no form. 3: the board is jammed at the end. 4: a file is bad. 5: a
+/// file is absent. 6: a fault of the shelf or of the output. 7: no memory. 8: the tape has entries,
+/// which aren't applied yet. All memory is taken before the first clock and the first write; after
+/// a fault nothing is written. A failed write to the notes changes no status.
+pub fn gravitar<S: Shelf, O: Sink, N: Sink>(
+    alloc: Global,
+    words: &Words,
+    shelf: &mut S,
+    out: &mut O,
+    notes: &mut N,
+) -> u8
+    // Where the status is neither 6 nor 7, all is as defined.
+    ensures outcome { result ≢ 6 → result ≢ 7 → IfSome (S.files shelf.old) (λ files.
+        (result ≡ (outcome_of words.now files).status)
+        × Did (outcome_of words.now files).events (O.taken out.old) (O.taken out.new) (S.stores shelf.old) (S.stores shelf.new)) }
+
+    // After 6 the first part of what is defined was done, and nothing after it.
+    ensures stopped { result ≡ 6 → IfSome (S.files shelf.old) (λ files.
+        DidFirst (outcome_of words.now files).events (O.taken out.old) (O.taken out.new) (S.stores shelf.old) (S.stores shelf.new)) }
+
+    // Nothing was written, whether the files are told or not; and nothing is ever stored.
+    ensures quiet { Contains (2 ∷ 4 ∷ 5 ∷ 7 ∷ 8 ∷ []) result → O.taken out.new ≡ O.taken out.old }
+    ensures stores { S.stores shelf.new ≡ S.stores shelf.old }
+
+    ensures statuses { Contains (0 ∷ 2 ∷ 3 ∷ 4 ∷ 5 ∷ 6 ∷ 7 ∷ 8 ∷ []) result }
+    ensures usage { (result ≡ 2) ↔ (command_of words.now ≡ None) }
+    ensures absent { result ≡ 5 → Rose (S.absences shelf.old) (S.absences shelf.new) }
+    ensures fault { result ≡ 6 → Rose (S.faults shelf.old) (S.faults shelf.new) ⊎ Rose (O.faults out.old) (O.faults out.new) }
+    ensures shelf_fault { S.faults shelf.old < S.faults shelf.new → result ≡ 6 }
+    ensures out_fault { O.faults out.old < O.faults out.new → result ≡ 6 }
+    ensures later { (S.faults shelf.old ≤ S.faults shelf.new) × (O.faults out.old ≤ O.faults out.new) }
+
+    // The note, of which a failed write took a part.
+    ensures usage_note { result ≡ 2 → Noted (N.taken notes.old) (N.taken notes.new) (N.faults notes.old) (N.faults notes.new) usage_text }
+    ensures fault_note { result ≡ 6 → Noted (N.taken notes.old) (N.taken notes.new) (N.faults notes.old) (N.faults notes.new) fault_text }
+    ensures memory_note { result ≡ 7 → Noted (N.taken notes.old) (N.taken notes.new) (N.faults notes.old) (N.faults notes.new) memory_text }
+    ensures note { result ≢ 6 → result ≢ 7 → IfSome (S.files shelf.old) (λ files.
+        Noted (N.taken notes.old) (N.taken notes.new) (N.faults notes.old) (N.faults notes.new) (outcome_of words.now files).note) }
+{
+    let Some(command) = read_command(words) else {
+        let _ = notes.write(USAGE);
+        return 2;
+    };
+    match perform(alloc, &command, shelf, out) {
+        Ok(ending) => ending_status(ending),
+        Err(stop) => {
+            let _ = notes.write(note(&stop));
+            status(&stop)
+        }
+    }
+}

@@ -1,0 +1,16 @@
+/// Why a command stopped before its end, with its note where that names a file.
+#[derive(Debug, Drop)]
+pub enum Stop {
+    Bad(String),
+    Absent(String),
+    Outside,
+    NoMemory,
+    NotBuilt,
+}
+
+/// How a run ended: at its limit, or at an undocumented opcode.
+#[derive(Clone, Copy, Debug, PartialEq, Eq)]
+pub enum Ending {
+    Done,
+    Jammed,
+}
