@@ -19,7 +19,7 @@ carried_digit al = if nat_le 10 al then (al + 6) % 16 + 16 else al
 unfoldable pub corrected_sum : ℕ → ℕ
 corrected_sum s = if nat_le 160 s then s + 96 else s
 
--- the sum with both high parts taken as signed bytes
+-- the same sum where each high digit, at its place, counts as a signed byte does
 unfoldable pub signed_sum : ℕ → ℕ → ℕ → ℤ
 signed_sum a m al = cast_signed w8 (high_part a) +ℤ cast_signed w8 (high_part m) +ℤ pos al
 

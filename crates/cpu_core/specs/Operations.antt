@@ -3,6 +3,7 @@
 use Rattle.std.specs.Prelude.{◌≡◌, ◌+◌, ◌%◌, ℕ, Bool, true, false, not, bit_and, bit_or, bit_xor}
 use Rattle.cpu_table.specs.declared.instruction.Op.{Op}
 use Rattle.cpu_table.specs.declared.instruction.Op.TheVariants.{Adc, And, Asl, Bcc, Bcs, Beq, Bit, Bmi, Bne, Bpl, Brk, Bvc, Bvs, Clc, Cld, Cli, Clv, Cmp, Cpx, Cpy, Dec, Dex, Dey, Eor, Inc, Inx, Iny, Jmp, Jsr, Lda, Ldx, Ldy, Lsr, Nop, Ora, Pha, Php, Pla, Plp, Rol, Ror, Rti, Rts, Sbc, Sec, Sed, Sei, Sta, Stx, Sty, Tax, Tay, Tsx, Txa, Txs, Tya}
+use Rattle.cpu_alu.specs.declared.flags.Flags.{Flags}
 use Rattle.cpu_alu.specs.Flags.{flags_of, byte_of}
 use Rattle.cpu_alu.specs.Arithmetic.{adc_of, sbc_of, compare_of}
 use Rattle.cpu_alu.specs.Shifts.{asl_of, lsr_of, rol_of, ror_of}
@@ -112,15 +113,30 @@ modified Rol m p = rol_of m p
 modified Ror m p = ror_of m p
 modified _ m p = (m, p)
 
+-- the flags after an operation that sets or clears one of them
+unfoldable pub flag_changed : Op → Flags → Flags
+flag_changed Clc f = record f { carry = false }
+flag_changed Cld f = record f { decimal = false }
+flag_changed Cli f = record f { interrupt = false }
+flag_changed Clv f = record f { overflow = false }
+flag_changed Sec f = record f { carry = true }
+flag_changed Sed f = record f { decimal = true }
+flag_changed Sei f = record f { interrupt = true }
+flag_changed _ f = f
+
+-- the registers with these flags changed
+abbrev pub into_p : Op → RegistersValue → RegistersValue
+into_p op r = record r { p = byte_of (flag_changed op (flags_of r.p)) }
+
 -- the registers after an operation that needs no byte
 unfoldable pub done_alone : Op → RegistersValue → RegistersValue
-done_alone Clc r = record r { p = byte_of (record (flags_of r.p) { carry = false }) }
-done_alone Cld r = record r { p = byte_of (record (flags_of r.p) { decimal = false }) }
-done_alone Cli r = record r { p = byte_of (record (flags_of r.p) { interrupt = false }) }
-done_alone Clv r = record r { p = byte_of (record (flags_of r.p) { overflow = false }) }
-done_alone Sec r = record r { p = byte_of (record (flags_of r.p) { carry = true }) }
-done_alone Sed r = record r { p = byte_of (record (flags_of r.p) { decimal = true }) }
-done_alone Sei r = record r { p = byte_of (record (flags_of r.p) { interrupt = true }) }
+done_alone Clc r = into_p Clc r
+done_alone Cld r = into_p Cld r
+done_alone Cli r = into_p Cli r
+done_alone Clv r = into_p Clv r
+done_alone Sec r = into_p Sec r
+done_alone Sed r = into_p Sed r
+done_alone Sei r = into_p Sei r
 done_alone Dex r = into_x ((r.x + 255) % 256) r
 done_alone Dey r = into_y ((r.y + 255) % 256) r
 done_alone Inx r = into_x ((r.x + 1) % 256) r

@@ -1,6 +1,6 @@
 ghost use Rattle.std.specs.Prelude.{◌≡◌, ◌/◌, ◌%◌};
 ghost use Rattle.cpu_alu.specs.Arithmetic.{adc_of, sbc_of};
-ghost use Rattle.cpu_core.specs.Operations.{IsMasked, into_a, into_x, into_y, kind_of, loaded, stored, modified, done_alone, is_taken, flags_by_program, flags_by_interrupt, pushed, pulled_flags, pulled, masked};
+ghost use Rattle.cpu_core.specs.Operations.{IsMasked, into_a, into_x, into_y, kind_of, loaded, stored, modified, flag_changed, done_alone, is_taken, flags_by_program, flags_by_interrupt, pushed, pulled_flags, pulled, masked};
 
 use crate::registers::Registers;
 use cpu_alu::Flags;
@@ -152,48 +152,34 @@ pub(crate) fn modify(r: &mut Registers, op: Op, byte: u8) -> u8
     changed
 }
 
+/// The flags after an operation that sets or clears one of them.
+#[tactic(auto, unfolding(crate::specs::Operations::flag_changed))]
+fn change_flag(flags: Flags, op: Op) -> Flags
+    ensures { result ≡ flag_changed op flags }
+{
+    let mut flags = flags;
+    match op {
+        Op::Clc => flags.carry = false,
+        Op::Cld => flags.decimal = false,
+        Op::Cli => flags.interrupt = false,
+        Op::Clv => flags.overflow = false,
+        Op::Sec => flags.carry = true,
+        Op::Sed => flags.decimal = true,
+        Op::Sei => flags.interrupt = true,
+        _ => {}
+    }
+    flags
+}
+
 /// Does an operation that needs no byte.
 #[tactic(auto, unfolding(crate::specs::Operations::done_alone))]
 pub(crate) fn work_alone(r: &mut Registers, op: Op)
     ensures { r.new ≡ done_alone op r.old }
 {
-    let flags = Flags::from_byte(r.p);
     match op {
-        Op::Clc => r.p = Flags {
-            carry: false,
-            ..flags
+        Op::Clc | Op::Cld | Op::Cli | Op::Clv | Op::Sec | Op::Sed | Op::Sei => {
+            r.p = change_flag(Flags::from_byte(r.p), op).to_byte()
         }
-        .to_byte(),
-        Op::Cld => r.p = Flags {
-            decimal: false,
-            ..flags
-        }
-        .to_byte(),
-        Op::Cli => r.p = Flags {
-            interrupt: false,
-            ..flags
-        }
-        .to_byte(),
-        Op::Clv => r.p = Flags {
-            overflow: false,
-            ..flags
-        }
-        .to_byte(),
-        Op::Sec => r.p = Flags {
-            carry: true,
-            ..flags
-        }
-        .to_byte(),
-        Op::Sed => r.p = Flags {
-            decimal: true,
-            ..flags
-        }
-        .to_byte(),
-        Op::Sei => r.p = Flags {
-            interrupt: true,
-            ..flags
-        }
-        .to_byte(),
         Op::Dex => set_x(r, r.x.wrapping_add(255)),
         Op::Dey => set_y(r, r.y.wrapping_add(255)),
         Op::Inx => set_x(r, r.x.wrapping_add(1)),
