@@ -1,5 +1,5 @@
--- The EAROM: its hold times, and its latches. After the ER2055 data sheet; the control bits, their polarity, the hold
--- times and the AND of a write over a cell that isn't erased are this project's own profile.
+-- The EAROM's latches, and the hold that an erase or a write takes (after the ER2055 data sheet). Which control bit is
+-- which line, how long a hold lasts, and that a write can only clear bits are this project's own profile.
 use Rattle.std.specs.Prelude.{ℕ, ◌+◌, ◌/◌, ◌%◌, ◌^◌, Bool, not, ◌&&◌, ◌==◌, nat_lt, if◌then◌else◌, slice_index, slice_set, bit_and}
 use Rattle.board_base.specs.Earom.{EaromValue}
 

@@ -8,7 +8,7 @@ use std::alloc::Global;
 use std::marker::Model;
 
 /// The bytes of an image: 14,336 of vector ROM, then 28,672 of program ROM.
-const LEN: usize = 43008;
+pub const IMAGE_LEN: usize = 43_008;
 
 /// The board's two ROMs: 43,008 bytes, the vector ROM from 2800 to 5FFF and then the program ROM
 /// from 9000 to FFFF.
@@ -52,7 +52,7 @@ impl Image {
     pub fn read(alloc: Global, bytes: &[u8]) -> Result<Image, ImageFault>
         ensures { ReadsImage bytes.now result }
     {
-        if bytes.len() != LEN {
+        if bytes.len() != IMAGE_LEN {
             return Err(ImageFault::Length(bytes.len()));
         }
         match Vec::from_slice(alloc, bytes) {
@@ -65,7 +65,7 @@ impl Image {
     pub fn blank(alloc: Global) -> Result<Image, OutOfMemory>
         ensures { IfOk result (λ image. image ≡ replicate 43008 0) }
     {
-        let bytes = zeros(alloc, LEN)?;
+        let bytes = zeros(alloc, IMAGE_LEN)?;
         Ok(Image { bytes })
     }
 

@@ -5,7 +5,7 @@ pub mod fault;
 pub mod image;
 
 pub use fault::ImageFault;
-pub use image::Image;
+pub use image::{IMAGE_LEN, Image};
 
 #[cfg(test)]
 mod tests;

@@ -8,7 +8,7 @@ pub mod tape;
 
 pub use entry::{Port, TapeEntry};
 pub use fault::{LineCause, TapeFault};
-pub use tape::Tape;
+pub use tape::{TAPE_LIMIT, Tape};
 
 #[cfg(test)]
 mod tests;

@@ -8,7 +8,7 @@ use std::alloc::Global;
 use std::marker::Model;
 
 /// The most bytes that a tape's text has.
-const LIMIT: usize = 16_777_216;
+pub const TAPE_LIMIT: usize = 16_777_216;
 
 /// The bytes that a run sets at the ports, each with its clock, and the clock at which the run ends.
 /// This project's own profile.
@@ -41,7 +41,7 @@ impl Tape {
     pub fn read(alloc: Global, bytes: &[u8]) -> Result<Tape, TapeFault>
         ensures { ReadsTape bytes.now result }
     {
-        if bytes.len() > LIMIT {
+        if bytes.len() > TAPE_LIMIT {
             return Err(TapeFault::TooLong);
         }
         let mut entries = Vec::new(alloc);
