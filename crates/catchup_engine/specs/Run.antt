@@ -14,7 +14,7 @@ is_jammed b = is_some b.cpu.jam
 abbrev pub is_at_boundary : Board → Bool
 is_at_boundary b = is_none b.cpu.mid
 
--- a run to a limit is over where the board is jammed, or stands at a boundary with the clock at the limit or past it
+-- a run to a limit ends with a jam, and else at the first boundary that isn't before the limit
 abbrev pub is_over : ℕ → Board → Bool
 is_over limit b = is_jammed b || (is_at_boundary b && nat_le limit b.wires.clock)
 

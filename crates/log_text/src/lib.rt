@@ -9,7 +9,7 @@ mod part;
 mod record_line;
 
 pub use last::{write_cost, write_end, write_jam};
-pub use merged::write_merged;
+pub use merged::{one_log, write_merged};
 pub use part::Part;
 
 #[cfg(test)]

@@ -1,4 +1,5 @@
-ghost use Rattle.log_text.specs.LogText.{merged_text};
+ghost use Rattle.std.specs.Prelude.{List};
+ghost use Rattle.log_text.specs.LogText.{PartRecord, IsInOrder, MergedIsOneLog, merged_text};
 ghost use Rattle.log_text.specs.Trails.{IsTrailOf};
 ghost use Rattle.outside_io.specs.Causes.{HasCause};
 ghost use Rattle.outside_io.specs.Sink.{Takes};
@@ -9,8 +10,9 @@ use crate::record_line::record_line;
 use board_base::Trails;
 use outside_io::{Sink, SinkFault};
 
-/// Writes the lines of all records by clock, within a clock those of the generator, of POKEY 1, of
-/// POKEY 2 and of the board in this order. Each line is one write; it stops at the first that fails.
+/// Writes a line for each record, earlier clocks first. Lines of one clock come as the parts move in
+/// it: generator, POKEY 1, POKEY 2, and then what the rest of the board recorded. Each line is one
+/// write, and the first that fails is the last.
 pub fn write_merged<O: Sink>(trails: &Trails<'_>, out: &mut O) -> Result<(), SinkFault>
     requires vector { IsTrailOf Part.Generator trails.now.vector.now.records }
     requires sound1 { IsTrailOf Part.Pokey1 trails.now.sound1.now.records }
@@ -35,3 +37,10 @@ pub fn write_merged<O: Sink>(trails: &Trails<'_>, out: &mut O) -> Result<(), Sin
     }
     Ok(())
 }
+
+/// The lines of four trails are those of the one list whose records they share out. It tells a law,
+/// and does nothing.
+#[tactic(auto, using(crate::proofs::LogLaws::merged_is_one_log))]
+pub fn one_log()
+    ensures { (records : List PartRecord) → IsInOrder records → MergedIsOneLog records }
+{}

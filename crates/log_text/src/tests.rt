@@ -128,6 +128,32 @@ fn levels(clock: u64, l1: u8) -> Record {
     }
 }
 
+fn latch(clock: u64, value: u8) -> Record {
+    Record::Latch { clock, value }
+}
+
+/// Strokes with the least and the greatest numbers, and with small ones of both signs.
+const EXTREME_STROKES: [Record; 2] = [
+    Record::Stroke {
+        clock: 0,
+        x0: -1,
+        y0: 9,
+        x1: 10,
+        y1: -10,
+        colour: 7,
+        intensity: 1,
+    },
+    Record::Stroke {
+        clock: u64::MAX,
+        x0: i32::MIN,
+        y0: i32::MAX,
+        x1: i32::MIN,
+        y1: i32::MIN,
+        colour: 255,
+        intensity: 255,
+    },
+];
+
 const NONE: Lists<'static> = Lists {
     vector: &[],
     sound1: &[],
@@ -135,81 +161,60 @@ const NONE: Lists<'static> = Lists {
     board: &[],
 };
 
+/// Writes the lists of four trails, and compares the text.
+fn check(alloc: Global, rt: &impl Abort, lists: Lists<'_>, text: &[u8]) -> Result<(), OutOfMemory> {
+    let mut out = MemorySink::new(alloc, 400, &[])?;
+    assert_eq!(rt; write(alloc, rt, lists, &mut out)?, Ok(()));
+    assert_eq!(rt; out.bytes(), text);
+    Ok(())
+}
+
 #[test]
 fn records_are_told_by_clock_and_part(rt: HostRuntime) -> Result<(), Fail> {
-    let vector = [stroke(7, 1), stroke(7, 2), stroke(9, 3)];
-    let sound1 = [levels(3, 5), levels(7, 0), levels(8, 1)];
-    let sound2 = [levels(7, 2), levels(9, 3)];
-    let board = [
-        Record::Latch { clock: 2, value: 5 },
-        Record::Latch {
-            clock: 7,
-            value: 18,
-        },
-        Record::WatchdogReset { clock: 7 },
-        Record::WatchdogReset { clock: 8 },
-    ];
-    let rows: [(Lists<'_>, &[u8]); 4] = [
-        (NONE, b""),
-        (
-            Lists {
-                vector: &vector,
-                sound1: &sound1,
-                sound2: &sound2,
-                board: &board,
-            },
-            b"L 2 05\nA 3 5 0 0 0\nS 7 0 0 1 0 0 14\nS 7 0 0 2 0 0 14\nA 7 0 0 0 0\nB 7 2 0 0 0\nL 7 12\nW 7\nA 8 1 0 0 0\nW 8\nS 9 0 0 3 0 0 14\nB 9 3 0 0 0\n",
-        ),
-        (
-            Lists {
-                vector: &[stroke(39, 65536)],
-                board: &[Record::Latch {
-                    clock: 28,
-                    value: 0x20,
-                }],
-                ..NONE
-            },
-            b"L 28 20\nS 39 0 0 65536 0 0 14\n",
-        ),
-        (
-            Lists {
-                vector: &[stroke(41028, -134217728)],
-                board: &[Record::WatchdogReset { clock: 49151 }],
-                ..NONE
-            },
-            b"S 41028 0 0 -134217728 0 0 14\nW 49151\n",
-        ),
-    ];
-    for (lists, text) in rows {
-        let mut out = MemorySink::new(rt.alloc(), 400, &[])?;
-        assert_eq!(rt; write(rt.alloc(), &rt, lists, &mut out)?, Ok(()));
-        assert_eq!(rt; out.bytes(), text);
-    }
+    let lists = Lists {
+        vector: &[stroke(7, 1), stroke(7, 2), stroke(9, 3)],
+        sound1: &[levels(3, 5), levels(7, 0), levels(8, 1)],
+        sound2: &[levels(7, 2), levels(9, 3)],
+        board: &[
+            latch(2, 5),
+            latch(7, 18),
+            Record::WatchdogReset { clock: 7 },
+            Record::WatchdogReset { clock: 8 },
+        ],
+    };
+    let text =
+        b"L 2 05\nA 3 5 0 0 0\nS 7 0 0 1 0 0 14\nS 7 0 0 2 0 0 14\nA 7 0 0 0 0\nB 7 2 0 0 0\nL 7 12\nW 7\nA 8 1 0 0 0\nW 8\nS 9 0 0 3 0 0 14\nB 9 3 0 0 0\n";
+    check(rt.alloc(), &rt, lists, text)?;
+    check(rt.alloc(), &rt, NONE, b"")?;
+    Ok(())
+}
+
+#[test]
+fn a_latch_write_comes_before_a_later_stroke(rt: HostRuntime) -> Result<(), Fail> {
+    let lists = Lists {
+        vector: &[stroke(39, 65536)],
+        board: &[latch(28, 0x20)],
+        ..NONE
+    };
+    let text = b"L 28 20\nS 39 0 0 65536 0 0 14\n";
+    check(rt.alloc(), &rt, lists, text)?;
+    Ok(())
+}
+
+#[test]
+fn a_stroke_comes_before_a_later_reset(rt: HostRuntime) -> Result<(), Fail> {
+    let lists = Lists {
+        vector: &[stroke(41028, -134217728)],
+        board: &[Record::WatchdogReset { clock: 49151 }],
+        ..NONE
+    };
+    let text = b"S 41028 0 0 -134217728 0 0 14\nW 49151\n";
+    check(rt.alloc(), &rt, lists, text)?;
     Ok(())
 }
 
 #[test]
 fn each_line_is_written_with_its_least_and_greatest_numbers(rt: HostRuntime) -> Result<(), Fail> {
-    let vector = [
-        Record::Stroke {
-            clock: 0,
-            x0: -1,
-            y0: 9,
-            x1: 10,
-            y1: -10,
-            colour: 7,
-            intensity: 1,
-        },
-        Record::Stroke {
-            clock: u64::MAX,
-            x0: i32::MIN,
-            y0: i32::MAX,
-            x1: i32::MIN,
-            y1: i32::MIN,
-            colour: 255,
-            intensity: 255,
-        },
-    ];
     let sound = [Record::Levels {
         clock: u64::MAX,
         l1: 255,
@@ -217,36 +222,37 @@ fn each_line_is_written_with_its_least_and_greatest_numbers(rt: HostRuntime) -> 
         l3: 0,
         l4: 10,
     }];
-    let board = [
-        Record::Latch { clock: 0, value: 0 },
-        Record::Latch {
-            clock: 100,
-            value: 0xAF,
-        },
-        Record::Latch {
-            clock: u64::MAX,
-            value: 0xFF,
-        },
-        Record::WatchdogReset { clock: u64::MAX },
-    ];
     let lists = Lists {
-        vector: &vector,
+        vector: &EXTREME_STROKES,
         sound1: &sound,
         sound2: &sound,
-        board: &board,
+        board: &[
+            latch(0, 0),
+            latch(100, 0xAF),
+            latch(u64::MAX, 0xFF),
+            Record::WatchdogReset { clock: u64::MAX },
+        ],
     };
+    let text =
+        b"S 0 -1 9 10 -10 7 1\nL 0 00\nL 100 AF\nS 18446744073709551615 -2147483648 2147483647 -2147483648 -2147483648 255 255\nA 18446744073709551615 255 15 0 10\nB 18446744073709551615 255 15 0 10\nL 18446744073709551615 FF\nW 18446744073709551615\n";
+    check(rt.alloc(), &rt, lists, text)?;
+    Ok(())
+}
+
+#[test]
+fn the_last_lines_are_written_with_their_least_and_greatest_numbers(
+    rt: HostRuntime,
+) -> Result<(), Fail> {
     let mut out = MemorySink::new(rt.alloc(), 400, &[])?;
-    assert_eq!(rt; write(rt.alloc(), &rt, lists, &mut out)?, Ok(()));
     write_end(u64::MAX, &mut out)?;
     write_end(0, &mut out)?;
     write_jam(8, 0x9000, 0x02, &mut out)?;
     write_jam(u64::MAX, 0x00FA, 0xF2, &mut out)?;
     write_cost(0, &mut out)?;
     write_cost(u64::MAX, &mut out)?;
-    assert_eq!(rt;
-        out.bytes(),
-        b"S 0 -1 9 10 -10 7 1\nL 0 00\nL 100 AF\nS 18446744073709551615 -2147483648 2147483647 -2147483648 -2147483648 255 255\nA 18446744073709551615 255 15 0 10\nB 18446744073709551615 255 15 0 10\nL 18446744073709551615 FF\nW 18446744073709551615\nE 18446744073709551615\nE 0\nX 8 9000 02\nX 18446744073709551615 00FA F2\nC 0\nC 18446744073709551615\n".as_slice()
-    );
+    let text =
+        b"E 18446744073709551615\nE 0\nX 8 9000 02\nX 18446744073709551615 00FA F2\nC 0\nC 18446744073709551615\n";
+    assert_eq!(rt; out.bytes(), text.as_slice());
     Ok(())
 }
 
