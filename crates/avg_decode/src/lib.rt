@@ -1,0 +1,12 @@
+//! The words of the vector generator: what each does, and how it is spelled.
+#![tactic(auto)]
+
+mod bits;
+mod decoding;
+mod word;
+
+pub use decoding::{second, spell, word_kind};
+pub use word::VgWord;
+
+#[cfg(test)]
+mod tests;

@@ -1,0 +1,3 @@
+pub mod Leap
+pub mod Tick
+pub mod Unit

@@ -1,0 +1,82 @@
+ghost use Rattle.std.specs.Prelude.{◌≡◌, ◌≤◌, ◌^◌, ◌==◌, [], if◌then◌else◌};
+ghost use Rattle.board_base.specs.Ranges.{IsWithin};
+ghost use Rattle.board_base.specs.Trail.{Extended};
+ghost use Rattle.avg_device.specs.Tick.{beam_x, beam_y, drawn, ended, stroke_at, strokes_at};
+
+use avg_draw::move_beam;
+use board_base::{Record, Trail, VgState};
+
+/// The beam after the vector under way.
+#[tactic(auto, using(crate::proofs::Lines::passed))]
+fn beam_after(state: &VgState) -> (i32, i32)
+    ensures x { result.0 ≡ beam_x state.now }
+    ensures y { result.1 ≡ beam_y state.now }
+    ensures x_within { IsWithin (2 ^ 30) result.0 }
+    ensures y_within { IsWithin (2 ^ 30) result.1 }
+{
+    (move_beam(state.x, state.dx), move_beam(state.y, state.dy))
+}
+
+/// The stroke of a vector that ends in this clock.
+#[tactic(auto, using(crate::proofs::Lines::passed), unfolding(crate::specs::Tick::stroke_at))]
+fn stroke(state: &VgState, clock: u64) -> Record
+    ensures { result ≡ stroke_at clock state.now }
+{
+    let (x1, y1) = beam_after(state);
+    Record::Stroke {
+        clock,
+        x0: state.x,
+        y0: state.y,
+        x1,
+        y1,
+        colour: state.colour,
+        intensity: state.pen,
+    }
+}
+
+/// Records the stroke of a vector that ends in this clock, where it is drawn at all.
+#[tactic(auto, using(crate::proofs::Lines::none), unfolding(crate::specs::Tick::strokes_at))]
+fn record_stroke(state: &VgState, clock: u64, trail: &mut Trail)
+    requires { 1 ≤ trail.old.spare }
+    ensures { Extended trail.old trail.new (strokes_at clock state.now) }
+{
+    if state.pen != 0 {
+        trail.push(stroke(state, clock));
+    }
+}
+
+/// Moves the beam by a vector that ends in this clock.
+#[tactic(auto, using(crate::proofs::Lines::passed), unfolding(crate::specs::Tick::ended))]
+pub(crate) fn end(state: &mut VgState, clock: u64, trail: &mut Trail)
+    requires { 1 ≤ trail.old.spare }
+    ensures state { state.new ≡ ended state.old }
+    ensures records { Extended trail.old trail.new (strokes_at clock state.old) }
+{
+    record_stroke(state, clock, trail);
+    let (x, y) = beam_after(state);
+    *state = VgState {
+        phase: 0,
+        x,
+        y,
+        dx: 0,
+        dy: 0,
+        pen: 0,
+        left: 0,
+        ..*state
+    };
+}
+
+/// Phase 5: draws for one clock.
+#[tactic(auto, using(crate::proofs::Lines::none), unfolding(crate::specs::Tick::drawn))]
+pub(crate) fn draw(state: &mut VgState, clock: u64, trail: &mut Trail)
+    requires phase { state.old.phase ≡ 5 }
+    requires room { 1 ≤ trail.old.spare }
+    ensures state { state.new ≡ drawn state.old }
+    ensures records { Extended trail.old trail.new (if state.old.left == 1 then strokes_at clock state.old else []) }
+{
+    if state.left == 1 {
+        end(state, clock, trail);
+    } else {
+        state.left -= 1;
+    }
+}

@@ -1,0 +1,20 @@
+//! The vector generator: one that moves clock by clock, and one that moves by whole words, draws
+//! and halts.
+#![tactic(auto)]
+
+mod control;
+mod draw;
+mod execute;
+mod fast;
+mod fetch;
+mod leap;
+mod plain;
+mod tick;
+mod unit;
+
+pub use fast::FastVg;
+pub use plain::PlainVg;
+pub use unit::VectorUnit;
+
+#[cfg(test)]
+mod tests;

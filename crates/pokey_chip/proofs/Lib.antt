@@ -1,0 +1,9 @@
+pub mod BitLemmas
+pub mod RecordLemmas
+pub mod PotLemmas
+pub mod KeptLaws
+pub mod PulseLaws
+pub mod CalmLaws
+pub mod CrossLaws
+pub mod RequestLaws
+pub mod FastLaws

@@ -1,0 +1,53 @@
+-- The records of clocks one after another.
+use Rattle.std.proofs.Common.{◌≡◌, ℕ, ◌+◌, ◌-◌, ◌≤◌, Bool, true, false, nat_eq, if◌then◌else◌, List, [], ◌∷◌, ◌++◌, length, slice_index, ap, ◌∙◌, arith}
+use Rattle.std.specs.Cmp.Lexicographic.{pointwise}
+use Rattle.board_base.proofs.ExtendedLaws.{Extended-none, Extended-more}
+use Rattle.board_base.proofs.TickLaws.{made-more, made-next, made-zero, length-made, ticks-times}
+use Rattle.board_base.specs.declared.record.Record.TheVariants.{Levels}
+use Rattle.board_base.specs.Pokey.{PokeyValue}
+use Rattle.board_base.specs.Ticks.{times}
+use Rattle.board_base.specs.Trail.{TrailValue, Extended}
+use Rattle.pokey_chip.specs.Tick.{change, levels_made, pokey_gives, pokey_tick}
+
+pub ruleset unchanged = Extended-none
+
+-- one clock more
+pub levels-more : (from n : ℕ) (p : PokeyValue)
+    → levels_made from (n + 1) p ≡ levels_made from n p ++ pokey_gives (from + n) (times pokey_tick n p)
+levels-more from n p =
+    made-more (λ _. pokey_tick) pokey_gives from n p
+    ∙ ap (λ q. levels_made from n p ++ pokey_gives (from + n) q) (ticks-times pokey_tick from n p)
+
+-- a trail after one clock more
+pub extended-more : {a b c : TrailValue} (from n : ℕ) (p : PokeyValue) → Extended a b (levels_made from n p)
+    → Extended b c (pokey_gives (from + n) (times pokey_tick n p)) → Extended a c (levels_made from (n + 1) p)
+extended-more {a} {b} {c} from n p first next = rw (levels-more from n p) (Extended-more first next)
+
+pub levels-zero : (from : ℕ) (p : PokeyValue) → levels_made from 0 p ≡ []
+levels-zero from p = made-zero (λ _. pokey_tick) pokey_gives from p
+
+one-change : (clock : ℕ) (before now : List ℕ) → length (change clock before now) ≤ 1
+unfolding change
+one-change clock before now = at_most (pointwise nat_eq now before)
+  where
+    at_most : (b : Bool) → length (if b then [] else (Levels clock (slice_index now 0) (slice_index now 1) (slice_index now 2) (slice_index now 3) ∷ [])) ≤ 1
+    at_most true = omega arith
+    at_most false = omega arith
+
+gives-one : (clock : ℕ) (p : PokeyValue) → length (pokey_gives clock p) ≤ 1
+unfolding pokey_gives
+gives-one clock p = one-change clock p.last (pokey_tick p).last
+
+-- n clocks give n records at most
+pub length-levels : (from n : ℕ) (p : PokeyValue) → length (levels_made from n p) ≤ n
+length-levels from n p = length-made (λ _. pokey_tick) pokey_gives from n p gives-one
+
+-- one clock more, for a POKEY that lags behind a clock
+pub levels-next : (from to : ℕ) (p : PokeyValue) → from ≤ to
+    → levels_made from (to + 1 - from) p ≡ levels_made from (to - from) p ++ pokey_gives to (times pokey_tick (to - from) p)
+levels-next from to p h =
+    made-next (λ _. pokey_tick) pokey_gives from to p h
+    ∙ ap (λ q. levels_made from (to - from) p ++ pokey_gives to q) (ticks-times pokey_tick from (to - from) p)
+
+-- for a POKEY that lags behind a clock
+pub ruleset lagging = (levels-next, length-levels)

@@ -1,0 +1,270 @@
+-- When a request is made.
+use Rattle.std.proofs.Common.{◌≡◌, ◌≢◌, ℕ, ◌+◌, ◌-◌, ◌<◌, ◌≤◌, min, Bool, true, false, not, ◌&&◌, nat_le, ◌⊎◌, inl, inr, if◌then◌else◌, ◌==◌, zero, suc, refl, add-zero, add-suc, sym, ap, ◌∙◌, arith, Option, Some, None, MatchOption, IfSome}
+use Rattle.std.proofs.lemmas.Bool.Decides.{nat_tests}
+use Rattle.std.proofs.lemmas.Bool.{cases_lt}
+use Rattle.std.proofs.lemmas.List.Elements.{All-get_or}
+use Rattle.std.specs.Int.{from_bool}
+use Rattle.board_base.specs.Pokey.{PokeyValue, IsPokey}
+use Rattle.board_base.specs.Ticks.{ticks, times}
+use Rattle.pokey_chip.specs.declared.channel.Channel.{Channel}
+use Rattle.pokey_chip.specs.declared.channel.Channel.TheVariants.{First, Second, Third, Fourth}
+use Rattle.pokey_chip.specs.Channels.{is_bit}
+use Rattle.pokey_chip.specs.Pulses.{has_pulse, pulses_of, asks, IsCalm, AreCalm, IsSilent, AreSilent, FirstFails, sooner_of}
+use Rattle.pokey_chip.specs.Tick.{all_turned, base_pulses, clocked, counted_down, counted_on, left_of, pokey_tick, pot_counted, requested, turned, underflows, with_bit}
+use Rattle.pokey_chip.specs.Quiet.{requests_after, IsEverQuiet, IsQuietBefore}
+use Rattle.pokey_chip.proofs.KeptLaws.{kept}
+use Rattle.pokey_chip.proofs.CalmLaws.{calm-before, calm-now, calm-then, left-fallen, no-underflow, has-spare}
+
+-- IRQST with the requests of channels 1, 2 and 4 made or not
+unfoldable made_of : Bool → Bool → Bool → ℕ → ℕ
+made_of a b d irqst =
+    let first = if a then with_bit irqst 0 false else irqst in
+    let second = if b then with_bit first 1 false else first in
+    if d then with_bit second 2 false else second
+
+nested : (underflow enabled : Bool) (x r : ℕ) → (if underflow then (if enabled then x else r) else r) ≡ (if underflow && enabled then x else r)
+nested true enabled x r = refl
+nested false enabled x r = refl
+
+same-choice : (underflow : Bool) (r : ℕ) → (if underflow then r else r) ≡ r
+same-choice true r = refl
+same-choice false r = refl
+
+-- whether a channel makes a request in a clock
+abbrev calls : PokeyValue → Channel → Bool
+calls p c = underflows (base_pulses p) p c && asks p c
+
+irqst-tick : (p : PokeyValue) → (pokey_tick p).irqst ≡ made_of (calls p First) (calls p Second) (calls p Fourth) p.irqst
+unfolding pokey_tick all_turned turned counted_on counted_down pot_counted clocked requested made_of
+irqst-tick p =
+    rw (
+      same-choice (underflows (base_pulses p) p Third),
+      nested (underflows (base_pulses p) p First) (is_bit p.irqen 0),
+      nested (underflows (base_pulses p) p Second) (is_bit p.irqen 1),
+      nested (underflows (base_pulses p) p Fourth) (is_bit p.irqen 2),
+    ) refl
+
+-- with no request before, one stands exactly where one was made
+made-none : (irqst : ℕ) → made_of false false false irqst ≡ irqst
+unfolding made_of
+made-none irqst = refl
+
+made-back : (a b d : Bool) → made_of a b d 7 ≡ 7 → (a ≡ false) × (b ≡ false) × (d ≡ false)
+unfolding made_of with_bit
+made-back false false false e = (refl, refl, refl)
+made-back true false false e = absurd (omega arith)
+made-back false true false e = absurd (omega arith)
+made-back true true false e = absurd (omega arith)
+made-back false false true e = absurd (omega arith)
+made-back true false true e = absurd (omega arith)
+made-back false true true e = absurd (omega arith)
+made-back true true true e = absurd (omega arith)
+
+both : (u a : Bool) → (a ≡ true → u ≡ false) → (u && a) ≡ false
+both u true h = rw (h refl) refl
+both true false h = refl
+both false false h = refl
+
+only : (u a : Bool) → (u && a) ≡ false → a ≡ true → u ≡ false
+only false a e f = refl
+only true true e f = e
+only true false e f = cc
+
+-- a channel that asks for nothing, or has a pulse to spare, makes no request
+quiet-call : (c : Channel) (p : PokeyValue) → (asks p c ≡ true → from_bool (has_pulse c p) < left_of c p) → calls p c ≡ false
+quiet-call c p spare = both (underflows (base_pulses p) p c) (asks p c) (λ asked. no-underflow c p (spare asked))
+
+-- and if it makes none and asks for one, it has a pulse to spare
+spare-call : (c : Channel) (p : PokeyValue) → 0 < left_of c p → calls p c ≡ false → asks p c ≡ true → from_bool (has_pulse c p) < left_of c p
+spare-call c p some none asked = has-spare c p some (only (underflows (base_pulses p) p c) (asks p c) none asked)
+
+asks-kept : (c : Channel) (n : ℕ) (p : PokeyValue) → asks (times pokey_tick n p) c ≡ asks p c
+asks-kept First n p = rw (kept n p).irqen_kept refl
+asks-kept Second n p = rw (kept n p).irqen_kept refl
+asks-kept Third n p = refl
+asks-kept Fourth n p = rw (kept n p).irqen_kept refl
+
+-- a clock without a request keeps IRQST
+tick-quiet : (p : PokeyValue) → calls p First ≡ false → calls p Second ≡ false → calls p Fourth ≡ false → (pokey_tick p).irqst ≡ p.irqst
+tick-quiet p a b d = irqst-tick p ∙ rw (a, b, d) (made-none p.irqst)
+
+tick-back : (p : PokeyValue) → p.irqst ≡ 7 → (pokey_tick p).irqst ≡ 7 → (calls p First ≡ false) × (calls p Second ≡ false) × (calls p Fourth ≡ false)
+tick-back p before now =
+    made-back (calls p First) (calls p Second) (calls p Fourth)
+    (ap (made_of (calls p First) (calls p Second) (calls p Fourth)) (sym before) ∙ sym (irqst-tick p) ∙ now)
+
+module _ (c : Channel) (n : ℕ) (p : PokeyValue) where
+  silent-before : IsSilent p c (suc n) → IsSilent p c n
+  silent-before silent = λ asked. calm-before c n p (silent asked)
+
+  silent-now : IsSilent p c (suc n) → calls (times pokey_tick n p) c ≡ false
+  silent-now silent =
+      quiet-call c (times pokey_tick n p)
+      (λ asked. let calm : IsCalm p c (suc n) = silent (sym (asks-kept c n p) ∙ asked) in
+      calm-now c n p (left-fallen c n p (calm-before c n p calm)) calm)
+
+  still-some : IsCalm p c n → 0 < left_of c (times pokey_tick n p)
+  still-some calm = omega (arith, left-fallen c n p calm)
+
+  silent-then : IsSilent p c n → calls (times pokey_tick n p) c ≡ false → IsSilent p c (suc n)
+  silent-then silent none =
+      λ asked. let calm : IsCalm p c n = silent asked in
+      calm-then c n p (left-fallen c n p calm)
+      (spare-call c (times pokey_tick n p) (still-some calm) none (asks-kept c n p ∙ asked))
+
+module _ (p : PokeyValue) (at_rest : p.irqst ≡ 7) where
+  -- no request stands after n clocks in which none is made
+  pub quiet-after : (n : ℕ) → AreSilent p n → requests_after n p ≡ 7
+  unfolding ticks
+  quiet-after zero silent = at_rest
+  quiet-after (suc n) silent =
+      tick-quiet (times pokey_tick n p) (silent-now First n p silent.0) (silent-now Second n p silent.1) (silent-now Fourth n p silent.2)
+      ∙ quiet-after n (silent-before First n p silent.0, silent-before Second n p silent.1, silent-before Fourth n p silent.2)
+
+  -- and where none stands after one clock more, none was made in it
+  pub silent-after : (n : ℕ) → AreSilent p n → requests_after (suc n) p ≡ 7 → AreSilent p (suc n)
+  unfolding ticks
+  silent-after n silent now =
+      let none : (calls (times pokey_tick n p) First ≡ false) × (calls (times pokey_tick n p) Second ≡ false) × (calls (times pokey_tick n p) Fourth ≡ false)
+      = tick-back (times pokey_tick n p) (quiet-after n silent) now in
+      (silent-then First n p silent.0 none.0, silent-then Second n p silent.1 none.1, silent-then Fourth n p silent.2 none.2)
+
+FirstFails-both : (P Q : ℕ → Type 0) (m n : ℕ) → (m < n) ⊎ (n ≤ m) → FirstFails P (Some m) → FirstFails Q (Some n)
+    → FirstFails (λ k. P k × Q k) (Some (min m n))
+FirstFails-both P Q m n (inl h) f g =
+    let e : min m n ≡ m = omega arith in
+    rw e (λ b. f.0 b.0, λ k below. (f.1 k below, g.1 k (omega arith)))
+FirstFails-both P Q m n (inr h) f g =
+    let e : min m n ≡ n = omega arith in
+    rw e (λ b. g.0 b.1, λ k below. (f.1 k (omega arith), g.1 k below))
+
+-- the first clock at which one of two facts fails
+pub FirstFails-sooner : (P Q : ℕ → Type 0) (a b : Option ℕ) → FirstFails P a → FirstFails Q b → FirstFails (λ k. P k × Q k) (sooner_of a b)
+unfolding sooner_of
+FirstFails-sooner P Q None None f g = λ k. (f k, g k)
+FirstFails-sooner P Q None (Some n) f g = (λ e. g.0 e.1, λ k h. (f k, g.1 k h))
+FirstFails-sooner P Q (Some m) None f g = (λ e. f.0 e.0, λ k h. (f.1 k h, g k))
+FirstFails-sooner P Q (Some m) (Some n) f g = FirstFails-both P Q m n (cases_lt m n) f g
+
+-- a fact that comes to the same
+pub FirstFails-same : (P Q : ℕ → Type 0) (a : Option ℕ) → ((k : ℕ) → P k → Q k) → ((k : ℕ) → Q k → P k) → FirstFails P a → FirstFails Q a
+FirstFails-same P Q None to back f = λ k. to k (f k)
+FirstFails-same P Q (Some n) to back f = (λ e. f.0 (back n e), λ k h. to k (f.1 k h))
+
+abbrev IsLeft : ℕ → Type 0
+IsLeft left = (1 ≤ left) × (left ≤ 65542)
+
+some-left : (c : Channel) (p : PokeyValue) → IsPokey p → 1 ≤ left_of c p
+some-left First p h = (All-get_or IsLeft p.left 0 0 (omega arith) h.pulses).0
+some-left Second p h = (All-get_or IsLeft p.left 1 0 (omega arith) h.pulses).0
+some-left Third p h = (All-get_or IsLeft p.left 2 0 (omega arith) h.pulses).0
+some-left Fourth p h = (All-get_or IsLeft p.left 3 0 (omega arith) h.pulses).0
+
+silent-at-first : (p : PokeyValue) → IsPokey p → AreSilent p 0
+unfolding pulses_of
+silent-at-first p h = (λ _. some-left First p h, λ _. some-left Second p h, λ _. some-left Fourth p h)
+
+-- the first clock with a request is the answer
+pub quiet-answer : (p : PokeyValue) → IsPokey p → p.irqst ≡ 7 → (r : Option ℕ) → FirstFails (AreSilent p) r
+    → MatchOption r (IsEverQuiet p) (IsQuietBefore p)
+quiet-answer p h at_rest None f = λ n. quiet-after p at_rest n (f n)
+quiet-answer p h at_rest (Some zero) f = absurd (f.0 (silent-at-first p h))
+quiet-answer p h at_rest (Some (suc n)) f = record {
+  stands = λ e. let here : n < suc n = omega arith in f.0 (silent-after p at_rest n (f.1 n here) e);
+  before = λ k below. quiet-after p at_rest k (f.1 k below);
+}
+
+-- a request that stands is there at once
+pub quiet-now : (p : PokeyValue) → p.irqst ≢ 7 → IsQuietBefore p 0
+unfolding ticks
+quiet-now p stands = record { stands = stands; before = λ k below. absurd (omega arith) }
+
+-- the soonest of four channels' underflows
+pub next-of-four : (p : PokeyValue) (a b c d : Option ℕ) → FirstFails (IsCalm p First) a → FirstFails (IsCalm p Second) b
+    → FirstFails (IsCalm p Third) c → FirstFails (IsCalm p Fourth) d → FirstFails (AreCalm p) (sooner_of (sooner_of a b) (sooner_of c d))
+next-of-four p a b c d f g h i =
+    FirstFails-same (λ k. (IsCalm p First k × IsCalm p Second k) × (IsCalm p Third k × IsCalm p Fourth k)) (AreCalm p)
+    (sooner_of (sooner_of a b) (sooner_of c d))
+    (λ k e. (e.0.0, e.0.1, e.1.0, e.1.1)) (λ k e. ((e.0, e.1), (e.2, e.3)))
+    (FirstFails-sooner (λ k. IsCalm p First k × IsCalm p Second k) (λ k. IsCalm p Third k × IsCalm p Fourth k) (sooner_of a b) (sooner_of c d)
+    (FirstFails-sooner (IsCalm p First) (IsCalm p Second) a b f g)
+    (FirstFails-sooner (IsCalm p Third) (IsCalm p Fourth) c d h i))
+
+-- the soonest of three channels' requests
+pub next-of-three : (p : PokeyValue) (a b d : Option ℕ) → FirstFails (IsSilent p First) a → FirstFails (IsSilent p Second) b
+    → FirstFails (IsSilent p Fourth) d → FirstFails (AreSilent p) (sooner_of a (sooner_of b d))
+next-of-three p a b d f g i =
+    FirstFails-same (λ k. IsSilent p First k × (IsSilent p Second k × IsSilent p Fourth k)) (AreSilent p)
+    (sooner_of a (sooner_of b d))
+    (λ k e. (e.0, e.1.0, e.1.1)) (λ k e. (e.0, (e.1, e.2)))
+    (FirstFails-sooner (IsSilent p First) (λ k. IsSilent p Second k × IsSilent p Fourth k) a (sooner_of b d) f
+    (FirstFails-sooner (IsSilent p Second) (IsSilent p Fourth) b d g i))
+
+-- none of two clocks is the present one
+pub later-sooner : (a b : Option ℕ) → IfSome a (λ n. 1 ≤ n) → IfSome b (λ n. 1 ≤ n) → IfSome (sooner_of a b) (λ n. 1 ≤ n)
+unfolding sooner_of
+later-sooner None b f g = g
+later-sooner (Some m) None f g = f
+later-sooner (Some m) (Some n) f g = omega arith
+
+-- a request that stands goes on: IRQST doesn't rise by itself
+lowered : (n k : ℕ) → with_bit n k false ≤ n
+unfolding with_bit
+lowered n k = omega arith
+
+lowered-if : (b : Bool) (n k : ℕ) → (if b then with_bit n k false else n) ≤ n
+lowered-if true n k = lowered n k
+lowered-if false n k = omega arith
+
+made-lowers : (a b d : Bool) (irqst : ℕ) → made_of a b d irqst ≤ irqst
+unfolding made_of
+made-lowers a b d irqst =
+    let first : ℕ = if a then with_bit irqst 0 false else irqst in
+    let second : ℕ = if b then with_bit first 1 false else first in
+    omega (arith, lowered-if a irqst 0, lowered-if b first 1, lowered-if d second 2)
+
+pub never-rises : (a b : ℕ) (p : PokeyValue) → requests_after (a + b) p ≤ requests_after a p
+unfolding ticks
+never-rises a zero p = rw add-zero (omega arith)
+never-rises a (suc b) p =
+    rw add-suc
+    (omega (
+      arith,
+      never-rises a b p,
+      irqst-tick (times pokey_tick (a + b) p),
+      made-lowers (calls (times pokey_tick (a + b) p) First) (calls (times pokey_tick (a + b) p) Second) (calls (times pokey_tick (a + b) p) Fourth) (times pokey_tick (a + b) p).irqst,
+    ))
+
+from-start : (n : ℕ) (p : PokeyValue) → requests_after n p ≤ p.irqst
+unfolding ticks
+from-start n p = let e : 0 + n ≡ n = omega arith in rw e at (never-rises 0 n p)
+
+-- a test of a number that is 7, and of one that is below it
+quiet-test : (irqst n lag : ℕ) → irqst ≡ 7 → lag < n → (irqst == 7) ≡ not (nat_le n lag)
+quiet-test irqst n lag e h = grind (arith, nat_tests)
+
+loud-test : (irqst n lag : ℕ) → irqst < 7 → n ≤ lag → (irqst == 7) ≡ not (nat_le n lag)
+loud-test irqst n lag e h = grind (arith, nat_tests)
+
+below-seven : (start at now : ℕ) → start < 8 → at ≤ start → at ≢ 7 → now ≤ at → now < 7
+below-seven start at now a b c d = omega arith
+
+-- whether a clock comes within so many
+abbrev pub comes_within : ℕ → Option ℕ → Bool
+comes_within lag None = false
+comes_within lag (Some n) = nat_le n lag
+
+-- a POKEY that lags has a request exactly where its answer is not above the lag
+pub requests-within : (p : PokeyValue) → p.irqst < 8 → (r : Option ℕ) → MatchOption r (IsEverQuiet p) (IsQuietBefore p)
+    → (lag : ℕ) → (requests_after lag p == 7) ≡ not (comes_within lag r)
+requests-within p small None quiet lag = rw (quiet lag) refl
+requests-within p small (Some n) quiet lag = within (cases_lt lag n)
+  where
+    within : (lag < n) ⊎ (n ≤ lag) → (requests_after lag p == 7) ≡ not (nat_le n lag)
+    within (inl h) = quiet-test (requests_after lag p) n lag (quiet.before lag h) h
+    within (inr h) =
+        let e : n + (lag - n) ≡ lag = omega arith in
+        let now : requests_after lag p ≤ requests_after n p = rw e at (never-rises n (lag - n) p) in
+        loud-test (requests_after lag p) n lag (below-seven p.irqst (requests_after n p) (requests_after lag p) small (from-start n p) quiet.stands now) h
+
+pub ruleset requests = (quiet-answer, quiet-now)

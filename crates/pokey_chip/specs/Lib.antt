@@ -1,0 +1,7 @@
+pub mod Channels
+pub mod Paces
+pub mod Pulses
+pub mod Quiet
+pub mod Registers
+pub mod Tick
+pub mod Unit

@@ -1,0 +1,382 @@
+use crate::{FastPokey, PlainPokey, SoundUnit};
+use board_base::{Clocked, OutOfMemory, PokeyState, Record, Trail};
+use std::alloc::Global;
+use std::process::Abort;
+use std::test::Fail;
+
+/// A register write after the tick of a clock.
+#[derive(Clone, Copy)]
+struct Write {
+    clock: u32,
+    reg: u8,
+    value: u8,
+}
+
+fn after(clock: u32, reg: u8, value: u8) -> Write {
+    Write { clock, reg, value }
+}
+
+fn levels(clock: u64, l1: u8, l2: u8) -> Record {
+    Record::Levels {
+        clock,
+        l1,
+        l2,
+        l3: 0,
+        l4: 0,
+    }
+}
+
+/// Does the clocks from `from` up to `to`, and appends their records.
+fn move_to<P: SoundUnit>(
+    alloc: Global,
+    unit: &mut P,
+    from: u32,
+    to: u32,
+    records: &mut Vec<Record>,
+) -> Result<(), OutOfMemory> {
+    let n = to.saturating_sub(from);
+    let mut trail = Trail::new(alloc, n as usize)?;
+    unit.advance(u64::from(from), u64::from(n), &mut trail);
+    for record in trail.records() {
+        records.push(*record)?;
+    }
+    Ok(())
+}
+
+/// The records of a POKEY with these writes, up to the clock `end`.
+fn played<P: SoundUnit>(
+    alloc: Global,
+    unit: &mut P,
+    writes: &[Write],
+    end: u32,
+) -> Result<Vec<Record>, OutOfMemory> {
+    let mut records = Vec::new(alloc);
+    let mut at = 0;
+    for write in writes {
+        let next = write.clock.saturating_add(1);
+        move_to(alloc, unit, at, next, &mut records)?;
+        unit.write(write.reg % 16, write.value);
+        at = next;
+    }
+    move_to(alloc, unit, at, end, &mut records)?;
+    Ok(records)
+}
+
+/// Both POKEYs give these records.
+fn assert_records(
+    rt: &impl Abort,
+    alloc: Global,
+    writes: &[Write],
+    end: u32,
+    expected: &[Record],
+) -> Result<(), OutOfMemory> {
+    let plain = played(alloc, &mut PlainPokey::new(), writes, end)?;
+    assert_eq!(rt; plain.as_slice(), expected);
+    let fast = played(alloc, &mut FastPokey::new(), writes, end)?;
+    assert_eq!(rt; fast.as_slice(), expected);
+    Ok(())
+}
+
+#[test]
+fn a_channel_on_the_chip_clock_has_audf_and_4_pulses(rt: HostRuntime) -> Result<(), Fail> {
+    let writes = [after(12, 1, 0xA5), after(18, 8, 0x40)];
+    let expected = [levels(19, 5, 0), levels(23, 0, 0), levels(27, 5, 0)];
+    assert_records(&rt, rt.alloc(), &writes, 29, &expected)?;
+    Ok(())
+}
+
+#[test]
+fn a_joined_pair_on_the_chip_clock_has_65_542_pulses(rt: HostRuntime) -> Result<(), Fail> {
+    let writes = [
+        after(12, 0, 0xFF),
+        after(16, 2, 0xFF),
+        after(22, 3, 0xA5),
+        after(28, 8, 0x50),
+        after(32, 9, 0x50),
+    ];
+    let expected = [levels(29, 0, 5), levels(33, 0, 0), levels(65_574, 0, 5)];
+    assert_records(&rt, rt.alloc(), &writes, 65_603, &expected)?;
+    Ok(())
+}
+
+#[test]
+fn a_volume_alone_is_a_level_and_is_recorded_once(rt: HostRuntime) -> Result<(), Fail> {
+    let writes = [after(12, 1, 0x15), after(16, 1, 0x15)];
+    assert_records(&rt, rt.alloc(), &writes, 20, &[levels(13, 5, 0)])?;
+    Ok(())
+}
+
+fn assert_random<P: SoundUnit>(
+    rt: &impl Abort,
+    alloc: Global,
+    mut unit: P,
+) -> Result<(), OutOfMemory> {
+    let mut records = Vec::new(alloc);
+    unit.write(0xF, 3);
+    move_to(alloc, &mut unit, 0, 12, &mut records)?;
+    assert_eq!(rt; unit.read(0xA), 0x1F);
+    move_to(alloc, &mut unit, 12, 20, &mut records)?;
+    assert_eq!(rt; unit.read(0xA), 0x00);
+    assert_eq!(rt; unit.calls(), 3);
+    Ok(())
+}
+
+#[test]
+fn random_after_12_and_20_shifts(rt: HostRuntime) -> Result<(), Fail> {
+    assert_eq!(rt;
+        (PlainPokey::new().calls(), FastPokey::new().calls()),
+        (0, 0)
+    );
+    assert_random(&rt, rt.alloc(), PlainPokey::new())?;
+    assert_random(&rt, rt.alloc(), FastPokey::new())?;
+    Ok(())
+}
+
+/// A POKEY in which no two registers are alike.
+fn busy() -> PokeyState {
+    PokeyState {
+        audf: [1, 2, 3, 4],
+        audc: [5, 6, 7, 8],
+        audctl: 0x15,
+        skctl: 7,
+        irqen: 2,
+        irqst: 5,
+        poly9: 0x0F1,
+        poly17: 0x1ABCD,
+        left: [9, 10, 11, 12],
+        tone: 0xB,
+        pass: 3,
+        pot: 100,
+        targets: [0, 50, 100, 101, 228, 255, 100, 99],
+        ..PokeyState::power_on()
+    }
+}
+
+fn assert_reads<P: SoundUnit>(rt: &impl Abort, mut unit: P) {
+    unit.load(&busy());
+    let bytes = [
+        0, 50, 100, 100, 100, 100, 100, 99, 0x38, 0xFF, 0xCD, 0xFF, 0xFF, 0xFF, 0xFD, 0xFF,
+    ];
+    for (reg, byte) in bytes.iter().enumerate() {
+        assert_eq!(rt; unit.read(reg as u8), *byte, "register {reg}");
+    }
+    unit.write(0x8, 0x95);
+    assert_eq!(rt; unit.read(0xA), 0xF1);
+    assert_eq!(rt;
+        unit.state(),
+        PokeyState {
+            audctl: 0x95,
+            ..busy()
+        }
+    );
+}
+
+#[test]
+fn reads_of_all_registers(rt: HostRuntime) {
+    assert_reads(&rt, PlainPokey::new());
+    assert_reads(&rt, FastPokey::new());
+}
+
+/// What a write of 3D to each register leaves of `busy`. AUDCTL 15 joins channels 1 and 2 on the
+/// base clock.
+fn written(reg: u8) -> PokeyState {
+    let busy = busy();
+    match reg {
+        0x0 => PokeyState {
+            audf: [0x3D, 2, 3, 4],
+            ..busy
+        },
+        0x1 => PokeyState {
+            audc: [0x3D, 6, 7, 8],
+            ..busy
+        },
+        0x2 => PokeyState {
+            audf: [1, 0x3D, 3, 4],
+            ..busy
+        },
+        0x3 => PokeyState {
+            audc: [5, 0x3D, 7, 8],
+            ..busy
+        },
+        0x4 => PokeyState {
+            audf: [1, 2, 0x3D, 4],
+            ..busy
+        },
+        0x5 => PokeyState {
+            audc: [5, 6, 0x3D, 8],
+            ..busy
+        },
+        0x6 => PokeyState {
+            audf: [1, 2, 3, 0x3D],
+            ..busy
+        },
+        0x7 => PokeyState {
+            audc: [5, 6, 7, 0x3D],
+            ..busy
+        },
+        0x8 => PokeyState {
+            audctl: 0x3D,
+            ..busy
+        },
+        0x9 => PokeyState {
+            left: [2, 514, 4, 5],
+            tone: 0,
+            ..busy
+        },
+        0xB => PokeyState { pot: 0, ..busy },
+        0xE => PokeyState {
+            irqen: 5,
+            irqst: 7,
+            ..busy
+        },
+        0xF => PokeyState {
+            skctl: 0x3D,
+            ..busy
+        },
+        _ => busy,
+    }
+}
+
+fn assert_writes<P: SoundUnit>(rt: &impl Abort, mut unit: P) {
+    for reg in 0..16u8 {
+        unit.load(&busy());
+        unit.write(reg, 0x3D);
+        assert_eq!(rt; unit.state(), written(reg), "register {reg}");
+    }
+    unit.load(&busy());
+    unit.set_pot(7, 0x3D);
+    assert_eq!(rt;
+        unit.state().targets,
+        [0, 50, 100, 101, 228, 255, 100, 0x3D]
+    );
+}
+
+#[test]
+fn writes_of_all_registers(rt: HostRuntime) {
+    assert_writes(&rt, PlainPokey::new());
+    assert_writes(&rt, FastPokey::new());
+}
+
+/// One of 60 states: each bit of AUDCTL, joined pairs on both clocks, with the registers held and
+/// running, and slow and fast pot scans.
+fn sample(k: u8) -> PokeyState {
+    let controls = [
+        0x00, 0x01, 0x02, 0x04, 0x08, 0x10, 0x20, 0x40, 0x80, 0x18, 0x50, 0x28, 0x78, 0x79, 0x66,
+    ];
+    let scans = [0, 3, 4, 7];
+    PokeyState {
+        audf: [k % 7, k % 3, k % 60, 1],
+        audc: [0xA5, k, 0xCF, 0x2F],
+        audctl: controls[k as usize % 15],
+        skctl: scans[k as usize / 15 % 4],
+        irqen: k % 8,
+        pre28: k % 28,
+        pre114: k % 114,
+        left: [1, 2, 1 + u32::from(k), 3],
+        tone: k % 16,
+        targets: [1, 2, 3, 4, 200, 228, 229, 255],
+        ..PokeyState::power_on()
+    }
+}
+
+/// A POKEY moved as a whole and one moved in three parts are the same, with the same records.
+fn assert_same(
+    rt: &impl Abort,
+    alloc: Global,
+    k: u8,
+    first: u32,
+    second: u32,
+) -> Result<(), OutOfMemory> {
+    let mut plain = PlainPokey::new();
+    let mut plain_records = Vec::new(alloc);
+    plain.load(&sample(k));
+    move_to(alloc, &mut plain, 0, 2000, &mut plain_records)?;
+    let mut fast = FastPokey::new();
+    let mut fast_records = Vec::new(alloc);
+    fast.load(&sample(k));
+    move_to(alloc, &mut fast, 0, first, &mut fast_records)?;
+    move_to(alloc, &mut fast, first, second, &mut fast_records)?;
+    move_to(alloc, &mut fast, second, 2000, &mut fast_records)?;
+    assert_eq!(rt; fast.state(), plain.state(), "state {k}");
+    assert_eq!(rt;
+        fast_records.as_slice(),
+        plain_records.as_slice(),
+        "state {k}"
+    );
+    Ok(())
+}
+
+#[test]
+fn both_pokeys_are_the_same_however_a_move_is_split(rt: HostRuntime) -> Result<(), Fail> {
+    for k in 0..60u8 {
+        for part in 0..21u32 {
+            assert_same(&rt, rt.alloc(), k, 0, 97 * part)?;
+            assert_same(&rt, rt.alloc(), k, 41 * part, 97 * part)?;
+        }
+    }
+    Ok(())
+}
+
+/// The clocks after which a request stands, of 20,000 done one by one.
+fn counted(alloc: Global, state: &PokeyState) -> Result<Option<u64>, OutOfMemory> {
+    let mut trail = Trail::new(alloc, 1)?;
+    let mut unit = PlainPokey::new();
+    unit.load(state);
+    for clock in 0..20_000u64 {
+        if unit.state().irqst != 7 {
+            return Ok(Some(clock));
+        }
+        unit.advance(clock, 1, &mut trail);
+        trail.clear();
+    }
+    Ok(None)
+}
+
+#[test]
+fn quiet_is_what_clocks_one_by_one_give(rt: HostRuntime) -> Result<(), Fail> {
+    let mut plain = PlainPokey::new();
+    let mut fast = FastPokey::new();
+    for k in 0..60u8 {
+        let state = sample(k);
+        let expected = counted(rt.alloc(), &state)?;
+        plain.load(&state);
+        fast.load(&state);
+        assert_eq!(rt;
+            (plain.quiet(), fast.quiet()),
+            (expected, expected),
+            "state {k}"
+        );
+    }
+    Ok(())
+}
+
+fn assert_quiet<P: SoundUnit>(rt: &impl Abort, mut unit: P) {
+    assert_eq!(rt; unit.quiet(), None);
+    unit.write(0x8, 0x40);
+    assert_eq!(rt; unit.quiet(), None);
+    unit.write(0xE, 1);
+    assert_eq!(rt; unit.quiet(), Some(1));
+    unit.load(&busy());
+    assert_eq!(rt; unit.quiet(), Some(0));
+}
+
+#[test]
+fn quiet_of_a_channel_on_the_chip_clock_and_of_a_request_that_stands(rt: HostRuntime) {
+    assert_quiet(&rt, PlainPokey::new());
+    assert_quiet(&rt, FastPokey::new());
+}
+
+#[test]
+fn a_pokey_at_rest_is_moved_at_once(rt: HostRuntime) -> Result<(), Fail> {
+    let mut trail = Trail::new(rt.alloc(), 6000)?;
+    let mut unit = FastPokey::new();
+    for k in 0..20_000_000u64 {
+        unit.advance(6000 * k, 6000, &mut trail);
+        trail.clear();
+    }
+    assert_eq!(rt;
+        (unit.state(), unit.calls()),
+        (PokeyState::power_on(), 20_000_000)
+    );
+    Ok(())
+}

@@ -1,0 +1,373 @@
+ghost use Rattle.std.specs.Prelude.{◌≡◌, ◌+◌, ◌-◌, ◌^◌, ◌<◌, ◌≤◌, All};
+ghost use Rattle.board_base.specs.Trail.{Extended};
+ghost use Rattle.pokey_poly.specs.Shift.{width_of};
+ghost use Rattle.pokey_timer.specs.Prescaler.{pulsed};
+ghost use Rattle.pokey_chip.specs.Tick.{all_turned, base_pulses, change, clocked, counted_down, counted_on, filtered, is_held, is_pulsed, left_after, level, levels_of, line_pulses, long_register, new_tone, passed, pokey_gives, pokey_tick, pot_counted, pots_rise, prescaled, request, requested, rolled, signal, toned, tone_of, turned, underflows};
+
+use crate::bits::{clear_bit, is_set, put_bit, put_pass};
+use crate::channel::Channel;
+use board_base::{PokeyState, Record, Trail};
+use pokey_poly::Poly;
+
+/// Whether the polynomial registers and the prescalers are held.
+pub(crate) fn holds(skctl: u8) -> bool
+    ensures { result ≡ is_held skctl }
+{
+    skctl % 4 == 0
+}
+
+/// The register with all its bits set.
+fn all_ones(poly: Poly) -> u32
+    ensures { result ≡ 2 ^ width_of poly - 1 }
+{
+    match poly {
+        Poly::Four => 0xF,
+        Poly::Five => 0x1F,
+        Poly::Nine => 0x1FF,
+        Poly::Seventeen => 0x1FFFF,
+    }
+}
+
+/// A polynomial register one clock later.
+fn roll(held: bool, poly: Poly, r: u32) -> u32
+    requires { r < 2 ^ width_of poly }
+    ensures value { result ≡ rolled held poly r }
+    ensures fits { result < 2 ^ width_of poly }
+{
+    if held { all_ones(poly) } else { poly.shift(r) }
+}
+
+/// A prescaler one clock later.
+#[tactic(auto, unfolding(pokey_timer::specs::Prescaler::counted))]
+fn prescale(held: bool, period: u8, count: u8) -> u8
+    requires { count < period }
+    ensures value { result ≡ prescaled held period count }
+    ensures fits { result < period }
+{
+    if held || count + 1 == period {
+        0
+    } else {
+        count + 1
+    }
+}
+
+/// The first step of a clock: the polynomial registers and the prescalers.
+#[tactic(auto, unfolding(crate::specs::Tick::clocked))]
+fn clock_registers(state: &mut PokeyState)
+    ensures { state.new ≡ clocked state.old }
+{
+    let held = holds(state.skctl);
+    state.poly4 = roll(held, Poly::Four, u32::from(state.poly4)) as u8;
+    state.poly5 = roll(held, Poly::Five, u32::from(state.poly5)) as u8;
+    state.poly9 = roll(held, Poly::Nine, u32::from(state.poly9)) as u16;
+    state.poly17 = roll(held, Poly::Seventeen, state.poly17);
+    state.pre28 = prescale(held, 28, state.pre28);
+    state.pre114 = prescale(held, 114, state.pre114);
+}
+
+/// Whether a prescaler that isn't held pulses in the next clock.
+#[tactic(auto, unfolding(pokey_timer::specs::Prescaler::pulsed))]
+fn wraps(count: u8, period: u8) -> bool
+    requires { count < period }
+    ensures { result ≡ pulsed period count }
+{
+    count + 1 == period
+}
+
+/// Whether the prescaler by 114 pulses in the next clock.
+fn line_pulse(state: &PokeyState) -> bool
+    ensures { result ≡ line_pulses state.now }
+{
+    !holds(state.skctl) && wraps(state.pre114, 114)
+}
+
+/// Whether the base clock pulses in the next clock.
+fn base_pulse(state: &PokeyState) -> bool
+    ensures { result ≡ base_pulses state.now }
+{
+    if holds(state.skctl) {
+        false
+    } else if is_set(state.audctl, 0) {
+        wraps(state.pre114, 114)
+    } else {
+        wraps(state.pre28, 28)
+    }
+}
+
+/// Whether the pots are counted in the next clock.
+fn pot_scan(state: &PokeyState) -> bool
+    ensures { result ≡ pots_rise state.now }
+{
+    is_set(state.skctl, 2) || line_pulse(state)
+}
+
+/// The second step of a clock: the pot count.
+#[tactic(auto, unfolding(crate::specs::Tick::pot_counted))]
+fn count_pot(state: &mut PokeyState, rise: bool)
+    ensures { state.new ≡ pot_counted rise state.old }
+{
+    if rise && state.pot < 228 {
+        state.pot += 1;
+    }
+}
+
+/// Whether a channel gets a pulse, in a clock in which the base clock pulses or doesn't.
+fn gets_pulse(base: bool, audctl: u8, channel: Channel) -> bool
+    ensures { result ≡ is_pulsed base audctl channel }
+{
+    !channel.stands_still(audctl) && (channel.is_on_chip_clock(audctl) || base)
+}
+
+/// Whether a channel underflows in the next clock.
+fn ends(state: &PokeyState, base: bool, channel: Channel) -> bool
+    ensures { result ≡ underflows base state.now channel }
+{
+    gets_pulse(base, state.audctl, channel) && state.left[channel.index()] <= 1
+}
+
+/// The pulses left of a channel after the next clock.
+#[tactic(auto, unfolding(crate::specs::Tick::left_after))]
+fn remaining(state: &PokeyState, base: bool, channel: Channel) -> u32
+    ensures value { result ≡ left_after base state.now channel }
+    ensures low { 1 ≤ result }
+    ensures high { result ≤ 65542 }
+{
+    let left = state.left[channel.index()];
+    if !gets_pulse(base, state.audctl, channel) {
+        left
+    } else if left <= 1 {
+        channel.period(&state.audf, state.audctl)
+    } else {
+        left - 1
+    }
+}
+
+/// The third step of a clock: each channel counts its pulses.
+#[tactic(auto, unfolding(crate::specs::Tick::counted_down))]
+fn count_down(state: &mut PokeyState, base: bool)
+    ensures { state.new ≡ counted_down base state.old }
+{
+    state.left = [
+        remaining(state, base, Channel::First),
+        remaining(state, base, Channel::Second),
+        remaining(state, base, Channel::Third),
+        remaining(state, base, Channel::Fourth),
+    ];
+}
+
+/// IRQST with the request `k` made, where it is enabled.
+fn request_made(state: &PokeyState, k: u32) -> u8
+    requires { k < 3 }
+    ensures value { result ≡ request k state.now }
+    ensures fits { result < 8 }
+{
+    let irqst = state.irqst;
+    if is_set(state.irqen, k) {
+        clear_bit(irqst, k)
+    } else {
+        irqst
+    }
+}
+
+/// IRQST after an underflow.
+#[tactic(auto, unfolding(crate::specs::Tick::requested))]
+fn requests(state: &PokeyState, channel: Channel) -> u8
+    ensures value { result ≡ requested channel state.now }
+    ensures fits { result < 8 }
+{
+    match channel {
+        Channel::First => request_made(state, 0),
+        Channel::Second => request_made(state, 1),
+        Channel::Third => state.irqst,
+        Channel::Fourth => request_made(state, 2),
+    }
+}
+
+/// The long register.
+pub(crate) fn long(state: &PokeyState) -> u32
+    ensures value { result ≡ long_register state.now }
+    ensures fits { result < 131072 }
+{
+    if is_set(state.audctl, 7) {
+        u32::from(state.poly9)
+    } else {
+        state.poly17
+    }
+}
+
+/// The tone bit of a channel.
+fn tone_bit(state: &PokeyState, channel: Channel) -> bool
+    ensures { result ≡ tone_of channel state.now }
+{
+    is_set(state.tone, channel.index() as u32)
+}
+
+/// The tone bit of a channel after an underflow, with the channel's AUDC.
+fn next_tone(state: &PokeyState, audc: u8, channel: Channel) -> bool
+    ensures { result ≡ new_tone audc channel state.now }
+{
+    if !is_set(audc, 7) && !is_set(state.poly5, 0) {
+        tone_bit(state, channel)
+    } else if is_set(audc, 5) {
+        !tone_bit(state, channel)
+    } else if is_set(audc, 6) {
+        is_set(state.poly4, 0)
+    } else {
+        long(state) % 2 == 1
+    }
+}
+
+/// The tone bits after an underflow.
+#[tactic(auto, unfolding(crate::specs::Tick::toned))]
+fn tones(state: &PokeyState, channel: Channel) -> u8
+    ensures value { result ≡ toned channel state.now }
+    ensures fits { result < 16 }
+{
+    let k = channel.index();
+    let bit = next_tone(state, state.audc[k], channel);
+    put_bit(state.tone, k as u32, bit)
+}
+
+/// The high-pass bits after an underflow.
+#[tactic(auto, unfolding(crate::specs::Tick::passed))]
+fn passes(state: &PokeyState, channel: Channel) -> u8
+    ensures value { result ≡ passed channel state.now }
+    ensures fits { result < 4 }
+{
+    match channel {
+        Channel::First | Channel::Second => state.pass,
+        Channel::Third => put_pass(state.pass, 0, tone_bit(state, Channel::First)),
+        Channel::Fourth => put_pass(state.pass, 1, tone_bit(state, Channel::Second)),
+    }
+}
+
+/// The fourth step of a clock, a channel's turn: what its underflow does.
+#[tactic(auto, unfolding(crate::specs::Tick::turned))]
+fn turn(state: &mut PokeyState, underflow: bool, channel: Channel)
+    ensures { state.new ≡ turned underflow channel state.old }
+{
+    if underflow {
+        let irqst = requests(state, channel);
+        let tone = tones(state, channel);
+        let pass = passes(state, channel);
+        *state = PokeyState {
+            irqst,
+            tone,
+            pass,
+            ..*state
+        };
+    }
+}
+
+/// The fourth step of a clock: the four channels in order, after what `before` tells.
+#[tactic(auto, unfolding(crate::specs::Tick::all_turned))]
+fn turn_all(before: &PokeyState, state: &mut PokeyState)
+    ensures { state.new ≡ all_turned before.now state.old }
+{
+    let base = base_pulse(before);
+    turn(state, ends(before, base, Channel::First), Channel::First);
+    turn(state, ends(before, base, Channel::Second), Channel::Second);
+    turn(state, ends(before, base, Channel::Third), Channel::Third);
+    turn(state, ends(before, base, Channel::Fourth), Channel::Fourth);
+}
+
+/// A tone bit after a high-pass filter.
+fn filter(on: bool, bit: bool, tone: bool) -> bool
+    ensures { result ≡ filtered on bit tone }
+{
+    if on && bit { !tone } else { tone }
+}
+
+/// A channel's signal.
+#[tactic(auto, unfolding(crate::specs::Tick::signal))]
+fn signal_of(state: &PokeyState, channel: Channel) -> bool
+    ensures { result ≡ signal state.now channel }
+{
+    let tone = tone_bit(state, channel);
+    match channel {
+        Channel::First => filter(is_set(state.audctl, 2), is_set(state.pass, 0), tone),
+        Channel::Second => filter(is_set(state.audctl, 1), is_set(state.pass, 1), tone),
+        Channel::Third | Channel::Fourth => tone,
+    }
+}
+
+/// The level of a channel.
+fn volume(state: &PokeyState, channel: Channel) -> u8
+    ensures value { result ≡ level state.now channel }
+    ensures fits { result < 16 }
+{
+    let audc = state.audc[channel.index()];
+    if is_set(audc, 4) || signal_of(state, channel) {
+        audc % 16
+    } else {
+        0
+    }
+}
+
+/// The four levels.
+#[tactic(auto, unfolding(crate::specs::Tick::levels_of))]
+fn levels(state: &PokeyState) -> [u8; 4]
+    ensures value { result ≡ levels_of state.now }
+    ensures fits { All (λ level. level < 16) result }
+{
+    [
+        volume(state, Channel::First),
+        volume(state, Channel::Second),
+        volume(state, Channel::Third),
+        volume(state, Channel::Fourth),
+    ]
+}
+
+/// The first three steps of a clock.
+#[tactic(auto, unfolding(crate::specs::Tick::counted_on))]
+fn count_on(state: &mut PokeyState)
+    ensures { state.new ≡ counted_on state.old }
+{
+    let base = base_pulse(state);
+    let scan = pot_scan(state);
+    clock_registers(state);
+    count_pot(state, scan);
+    count_down(state, base);
+}
+
+/// One clock.
+#[tactic(auto, unfolding(crate::specs::Tick::pokey_tick))]
+fn tick(state: &mut PokeyState)
+    ensures { state.new ≡ pokey_tick state.old }
+{
+    let before = *state;
+    count_on(state);
+    turn_all(&before, state);
+    state.last = levels(state);
+}
+
+/// Records the levels of a clock where they changed.
+#[tactic(auto, using(crate::proofs::RecordLemmas::unchanged), unfolding(crate::specs::Tick::change))]
+fn record_change(before: &[u8; 4], now: &[u8; 4], clock: u64, trail: &mut Trail)
+    requires { 1 ≤ trail.old.spare }
+    ensures records { Extended trail.old trail.new (change clock before.now now.now) }
+    ensures few { trail.old.spare ≤ trail.new.spare + 1 }
+{
+    if *now != *before {
+        trail.push(Record::Levels {
+            clock,
+            l1: now[0],
+            l2: now[1],
+            l3: now[2],
+            l4: now[3],
+        });
+    }
+}
+
+/// One clock with its record.
+#[tactic(auto, unfolding(crate::specs::Tick::pokey_gives))]
+pub(crate) fn tick_into(state: &mut PokeyState, clock: u64, trail: &mut Trail)
+    requires { 1 ≤ trail.old.spare }
+    ensures state { state.new ≡ pokey_tick state.old }
+    ensures records { Extended trail.old trail.new (pokey_gives clock state.old) }
+    ensures few { trail.old.spare ≤ trail.new.spare + 1 }
+{
+    let before = state.last;
+    tick(state);
+    record_change(&before, &state.last, clock, trail);
+}

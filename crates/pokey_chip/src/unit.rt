@@ -1,0 +1,58 @@
+ghost use Rattle.std.specs.Prelude.{◌≡◌, ◌+◌, ◌^◌, ◌<◌, ◌≤◌, MatchOption};
+ghost use Rattle.board_base.specs.Counts.{Counted};
+ghost use Rattle.board_base.specs.Ticks.{times};
+ghost use Rattle.board_base.specs.Trail.{Extended};
+ghost use Rattle.pokey_chip.specs.Quiet.{IsEverQuiet, IsQuietBefore};
+ghost use Rattle.pokey_chip.specs.Registers.{pot_set, register_read, register_written};
+ghost use Rattle.pokey_chip.specs.Tick.{levels_made, pokey_tick};
+
+use board_base::{Clocked, PokeyState, Trail};
+
+/// A POKEY (C012294 data sheet; the pots, joined pairs and the order within a clock are this
+/// project's own profile).
+pub trait SoundUnit: Clocked {
+    ghost use Rattle.board_base.specs.Pokey.{PokeyValue};
+
+    /// The POKEY as it stands.
+    ghost device: { Self → PokeyValue };
+
+    /// Takes on a state.
+    fn load(&mut self, state: &PokeyState)
+        ensures state { device self.new ≡ state.now }
+        ensures counted { Counted (Self.calls self.old) (Self.calls self.new) };
+
+    /// Does `n` clocks, the first of them `from`, and records the levels in each clock that changes
+    /// them.
+    fn advance(&mut self, from: u64, n: u64, trail: &mut Trail)
+        requires room { n ≤ trail.old.spare }
+        requires clocks { from + n ≤ 2 ^ 49 }
+        ensures state { device self.new ≡ times pokey_tick n (device self.old) }
+        ensures records { Extended trail.old trail.new (levels_made from n (device self.old)) }
+        ensures counted { Counted (Self.calls self.old) (Self.calls self.new) };
+
+    /// The byte that a register gives. A read changes nothing.
+    fn read(&self, reg: u8) -> u8
+        requires { reg < 16 }
+        ensures { result ≡ register_read reg (device self.now) };
+
+    /// Writes a register.
+    fn write(&mut self, reg: u8, value: u8)
+        requires { reg < 16 }
+        ensures state { device self.new ≡ register_written reg value (device self.old) }
+        ensures counted { Counted (Self.calls self.old) (Self.calls self.new) };
+
+    /// Sets the target of a pot.
+    fn set_pot(&mut self, which: u8, value: u8)
+        requires { which < 8 }
+        ensures state { device self.new ≡ pot_set which value (device self.old) }
+        ensures counted { Counted (Self.calls self.old) (Self.calls self.new) };
+
+    /// The clocks up to and with the first after which a request stands (IRQST isn't all ones), while
+    /// no register is written; 0 where one stands already.
+    fn quiet(&self) -> Option<u64>
+        ensures { MatchOption result (IsEverQuiet (device self.now)) (λ n. IsQuietBefore (device self.now) n) };
+
+    /// The state as it stands.
+    fn state(&self) -> PokeyState
+        ensures { result ≡ device self.now };
+}

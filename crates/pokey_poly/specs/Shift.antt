@@ -1,0 +1,39 @@
+-- The polynomial registers of the POKEY (C012294 data sheet; the bit order is this project's own
+-- profile). Bit 0 of a register is its lowest and its output.
+use Rattle.std.specs.Prelude.{ℕ, ◌+◌, ◌*◌, ◌/◌, ◌%◌, zero, suc, bit_xor, List, [], ◌∷◌, ◌++◌, drop}
+use Rattle.std.specs.Int.{bit_at}
+use Rattle.pokey_poly.specs.declared.poly.Poly.{Poly}
+use Rattle.pokey_poly.specs.declared.poly.Poly.TheVariants.{Four, Five, Nine, Seventeen}
+
+-- how many bits a register has
+abbrev pub width_of : Poly → ℕ
+width_of Four = 4
+width_of Five = 5
+width_of Nine = 9
+width_of Seventeen = 17
+
+-- the bit that goes with bit 0 into the new top bit
+abbrev pub tap_of : Poly → ℕ
+tap_of Four = 1
+tap_of Five = 2
+tap_of Nine = 4
+tap_of Seventeen = 5
+
+-- the bits of a number at this width, the lowest first
+unfoldable pub bits : ℕ → ℕ → List ℕ
+bits zero r = []
+bits (suc width) r = r % 2 ∷ bits width (r / 2)
+
+-- the number with these bits, the lowest first
+unfoldable pub number : List ℕ → ℕ
+number [] = 0
+number (lowest ∷ higher) = lowest + 2 * number higher
+
+-- a register whose bits move down by one place: bit 0 goes, and the exclusive or of the tap and bit
+-- 0 comes in at the top
+unfoldable pub moved : ℕ → ℕ → ℕ → ℕ
+moved width tap r = number (drop 1 (bits width r) ++ bit_xor (bit_at r tap) (bit_at r 0) ∷ [])
+
+-- one shift of a register
+unfoldable pub shifted : Poly → ℕ → ℕ
+shifted poly r = moved (width_of poly) (tap_of poly) r
