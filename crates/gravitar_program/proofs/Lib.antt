@@ -1,3 +1,4 @@
 pub mod EventLaws
+pub mod OneListLaws
 pub mod RunTexts
 pub mod StageLaws

@@ -61,7 +61,7 @@ by_clock-made (Stroke clock x0 y0 x1 y1 colour intensity ∷ records) from to m 
 by_clock-made (Levels clock l1 l2 l3 l4 ∷ records) from to m = absurd m
 
 -- the text of the board's records alone
-board_text : List Record → List ℕ
+unfoldable pub board_text : List Record → List ℕ
 board_text records = log_text (from_part Board records)
 
 merged_text-made : (records : List Record) (from to : ℕ) → MadeBetween from records to → merged_text [] [] [] records ≡ board_text records
@@ -75,7 +75,7 @@ board_text-append (x ∷ xs) ys =
     ap (λ text. record_text Board x ++ text) (board_text-append xs ys) ∙ sym (append_assoc (record_text Board x) (board_text xs) (board_text ys))
 
 -- the log of a board whose own trail alone has records
-log_of-in_order : (from : ℕ) (b : lockstep.Board) → IsInOrder from b → log_of b ≡ board_text b.wires.written
+pub log_of-in_order : (from : ℕ) (b : lockstep.Board) → IsInOrder from b → log_of b ≡ board_text b.wires.written
 unfolding log_of
 log_of-in_order from b h =
     rw (h.strokes, h.levels1, h.levels2) (merged_text-made b.wires.written from b.wires.clock h.written)
@@ -83,7 +83,7 @@ log_of-in_order from b h =
 placed-fresh : (b : lockstep.Board) → b.cpu.mid ≡ None → IsPlaced b
 placed-fresh b boundary = rw boundary tt
 
-in_order-fresh : (b : lockstep.Board) → HasNoRecords b → IsInOrder b.wires.clock b
+pub in_order-fresh : (b : lockstep.Board) → HasNoRecords b → IsInOrder b.wires.clock b
 in_order-fresh b h = record {
   written = subst (λ (records : List Record). MadeBetween b.wires.clock records b.wires.clock) (sym h.written) (omega arith);
   strokes = h.strokes;

@@ -3,6 +3,12 @@ ghost use Rattle.gravitar_program.specs.Stages.{status_of, note_of, status_of_en
 
 use crate::stop::{Ending, Stop};
 
+/// The note on a fault of the shelf or of the output.
+pub const OUTSIDE_FAULT: &[u8] = b"gravitar: outside fault\n";
+
+/// The note on want of memory.
+pub const NO_MEMORY: &[u8] = b"gravitar: no memory\n";
+
 /// The status of a command that stopped.
 pub fn status(stop: &Stop) -> u8
     ensures { result ≡ status_of stop.now }
@@ -22,8 +28,8 @@ pub fn note(stop: &Stop) -> &[u8]
 {
     match stop {
         Stop::Bad(note) | Stop::Absent(note) => note.as_bytes(),
-        Stop::Outside => b"gravitar: outside fault\n",
-        Stop::NoMemory => b"gravitar: no memory\n",
+        Stop::Outside => OUTSIDE_FAULT,
+        Stop::NoMemory => NO_MEMORY,
         Stop::NotBuilt => b"gravitar: not built\n",
     }
 }

@@ -7,14 +7,9 @@ use crate::cause::Cause;
 use crate::stop::Stop;
 use crate::words::Command;
 use outside_io::{Loaded, Shelf, ShelfFault};
-use rom_image::{Image, ImageFault};
+use rom_image::{IMAGE_LEN, Image, ImageFault};
 use std::alloc::Global;
-use tape_ports::{Tape, TapeFault};
-
-/// The most bytes of an image file and of a tape.
-const IMAGE_LIMIT: usize = 43_008;
-
-const TAPE_LIMIT: usize = 16_777_216;
+use tape_ports::{TAPE_LIMIT, Tape, TapeFault};
 
 /// A note on a file, or want of memory for it.
 fn note_on(alloc: Global, name: &str, cause: Cause) -> Result<String, Stop>
@@ -94,7 +89,7 @@ fn load_image<S: Shelf>(alloc: Global, name: &str, shelf: &mut S) -> Result<Imag
     ensures faults { StageFaults (S.faults shelf.old) (S.faults shelf.new) result }
     ensures absences { StageAbsences (S.absences shelf.old) (S.absences shelf.new) result }
 {
-    let bytes = fetch(alloc, name, IMAGE_LIMIT, shelf)?;
+    let bytes = fetch(alloc, name, IMAGE_LEN, shelf)?;
     read_image(alloc, name, &bytes)
 }
 

@@ -15,6 +15,7 @@ mod words;
 
 use outside_io::{FileShelf, Sink, TextSink};
 pub use program::gravitar;
+pub use run::log_is_one_list;
 use std::alloc::Global;
 use std::process::ExitCode;
 use std::{env, io};
@@ -61,7 +62,7 @@ fn main(rt: HostRuntime) -> ExitCode {
             ExitCode::from(2)
         }
         Err(Unread::NoMemory) => {
-            let _ = notes.write(b"gravitar: no memory\n");
+            let _ = notes.write(answer::NO_MEMORY);
             ExitCode::from(7)
         }
     }

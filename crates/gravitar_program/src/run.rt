@@ -1,4 +1,6 @@
-ghost use Rattle.std.specs.Prelude.{◌≡◌, ◌≤◌, ◌<◌, ◌^◌, [], IfOk, Ok};
+ghost use Rattle.std.specs.Prelude.{◌≡◌, ◌≤◌, ◌<◌, ◌^◌, ℕ, [], IfOk, Ok};
+ghost use Rattle.catchup_engine.specs.Lockstep.{Board};
+ghost use Rattle.gravitar_program.specs.OneList.{LogIsOneList};
 ghost use Rattle.outside_io.specs.Causes.{HasCause};
 ghost use Rattle.outside_io.specs.Sink.{Takes};
 ghost use Rattle.catchup_engine.specs.EngineValue.{cleared};
@@ -97,3 +99,10 @@ pub fn run_log<O: Sink>(
         }
     }
 }
+
+/// The log of a run from a board without records is the text of the one list of its records, as the
+/// board makes them one clock at a time. It tells a law, and does nothing.
+#[tactic(auto, using(crate::proofs::OneListLaws::one_list_laws))]
+pub fn log_is_one_list()
+    ensures { (limit : ℕ) (b : Board) → LogIsOneList limit b }
+{}

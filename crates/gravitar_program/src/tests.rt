@@ -65,22 +65,18 @@ fn words_of(alloc: Global, texts: &[&str]) -> Result<Words, Fail> {
     Ok(words)
 }
 
-/// Runs a program at 9000, with what else stands in the image at an address, over a tape, and compares
-/// the text and the status.
-fn check<R: Abort>(
+/// Runs an image over a tape, and compares the text and the status.
+fn check_image<R: Abort + Alloc<A = Global>>(
     rt: &R,
-    alloc: Global,
-    program: &[u8],
-    at: u16,
-    more: &[u8],
+    image: &[u8],
     tape: &str,
     text: &str,
     status: u8,
 ) -> Result<(), Fail> {
+    let alloc = rt.alloc();
     let words = words_of(alloc, &["run", "i", "t"])?;
-    let image = image_of(alloc, program, at, more)?;
     let mut shelf = MemoryShelf::new(alloc, 0, 0, &[])?;
-    shelf.put("i", &image)?;
+    shelf.put("i", image)?;
     shelf.put("t", tape.as_bytes())?;
     let mut out = MemorySink::new(alloc, 1000, &[])?;
     let mut notes = MemorySink::new(alloc, 1000, &[])?;
@@ -91,112 +87,58 @@ fn check<R: Abort>(
     Ok(())
 }
 
+/// Runs a program at 9000 over a tape, and compares the text and the status.
+fn check<R: Abort + Alloc<A = Global>>(
+    rt: &R,
+    program: &[u8],
+    tape: &str,
+    text: &str,
+    status: u8,
+) -> Result<(), Fail> {
+    let image = image_of(rt.alloc(), program, 0xA000, &[])?;
+    check_image(rt, &image, tape, text, status)
+}
+
 #[test]
-fn rows_have_their_text_and_status(rt: HostRuntime) -> Result<(), Fail> {
-    check(
-        &rt,
-        rt.alloc(),
-        LATCH,
-        0xA000,
-        &[],
-        "20 END\n",
-        "L 12 05\nE 22\n",
-        0,
-    )?;
-    check(&rt, rt.alloc(), LATCH, 0xA000, &[], "0 END\n", "E 0\n", 0)?;
-    check(&rt, rt.alloc(), LATCH, 0xA000, &[], "8 END\n", "E 9\n", 0)?;
-    check(
-        &rt,
-        rt.alloc(),
-        &[0x02],
-        0xA000,
-        &[],
-        "100 END\n",
-        "X 8 9000 02\n",
-        3,
-    )?;
-    check(
-        &rt,
-        rt.alloc(),
-        PAGE_CROSSED,
-        0xA000,
-        &[],
-        "18 END\n",
-        "L 17 FF\nE 18\n",
-        0,
-    )?;
-    check(
-        &rt,
-        rt.alloc(),
-        PAGE_KEPT,
-        0xA000,
-        &[],
-        "18 END\n",
-        "L 16 FF\nE 20\n",
-        0,
-    )?;
-    check(
-        &rt,
-        rt.alloc(),
-        &[0xEE, 0x00, 0x88],
-        0xA000,
-        &[],
-        "13 END\n",
-        "L 11 FF\nL 12 00\nE 13\n",
-        0,
-    )?;
-    check(
-        &rt,
-        rt.alloc(),
-        SUM,
-        0xA000,
-        &[],
-        "19 END\n",
-        "L 18 04\nE 19\n",
-        0,
-    )?;
-    check(
-        &rt,
-        rt.alloc(),
-        DIFFERENCE,
-        0xA000,
-        &[],
-        "19 END\n",
-        "L 18 87\nE 19\n",
-        0,
-    )?;
-    check(
-        &rt,
-        rt.alloc(),
-        &[0x00],
-        0x9100,
-        &[0x68, 0x8D, 0x00, 0x88],
-        "22 END\n",
-        "L 21 34\nE 22\n",
-        0,
-    )?;
-    check(
-        &rt,
-        rt.alloc(),
-        &[0x4C, 0xFD, 0x90],
-        0x90FD,
-        BRANCH,
-        "18 END\n",
-        "L 17 00\nE 18\n",
-        0,
-    )?;
-    check(
-        &rt,
-        rt.alloc(),
-        LATCH,
-        0xA000,
-        &[],
-        "1 IN0 00\n8 END\n",
-        "",
-        8,
-    )?;
-    check(&rt, rt.alloc(), LATCH, 0xA000, &[], "0x END\n", "", 4)?;
-    check(&rt, rt.alloc(), LATCH, 0xA000, &[], "", "", 4)?;
+fn a_latch_write_and_the_end_are_told(rt: HostRuntime) -> Result<(), Fail> {
+    check(&rt, LATCH, "20 END\n", "L 12 05\nE 22\n", 0)?;
+    check(&rt, LATCH, "0 END\n", "E 0\n", 0)?;
+    check(&rt, LATCH, "8 END\n", "E 9\n", 0)?;
+    check(&rt, &[0x02], "100 END\n", "X 8 9000 02\n", 3)?;
+    Ok(())
+}
+
+#[test]
+fn each_access_of_an_instruction_takes_its_clock(rt: HostRuntime) -> Result<(), Fail> {
+    let modify = &[0xEE, 0x00, 0x88];
+    check(&rt, PAGE_CROSSED, "18 END\n", "L 17 FF\nE 18\n", 0)?;
+    check(&rt, PAGE_KEPT, "18 END\n", "L 16 FF\nE 20\n", 0)?;
+    check(&rt, modify, "13 END\n", "L 11 FF\nL 12 00\nE 13\n", 0)?;
+    Ok(())
+}
+
+#[test]
+fn decimal_sums_and_differences_are_told(rt: HostRuntime) -> Result<(), Fail> {
+    check(&rt, SUM, "19 END\n", "L 18 04\nE 19\n", 0)?;
+    check(&rt, DIFFERENCE, "19 END\n", "L 18 87\nE 19\n", 0)?;
+    Ok(())
+}
+
+#[test]
+fn a_break_and_a_branch_go_where_they_lead(rt: HostRuntime) -> Result<(), Fail> {
+    let pull = &[0x68, 0x8D, 0x00, 0x88];
+    let broken = image_of(rt.alloc(), &[0x00], 0x9100, pull)?;
+    check_image(&rt, &broken, "22 END\n", "L 21 34\nE 22\n", 0)?;
+    let branched = image_of(rt.alloc(), &[0x4C, 0xFD, 0x90], 0x90FD, BRANCH)?;
+    check_image(&rt, &branched, "18 END\n", "L 17 00\nE 18\n", 0)?;
+    Ok(())
+}
+
+#[test]
+fn a_bad_tape_and_one_with_entries_write_nothing(rt: HostRuntime) -> Result<(), Fail> {
+    check(&rt, LATCH, "1 IN0 00\n8 END\n", "", 8)?;
+    check(&rt, LATCH, "0x END\n", "", 4)?;
+    check(&rt, LATCH, "", "", 4)?;
     Ok(())
 }
 
@@ -217,13 +159,13 @@ fn a_run_over_several_windows_is_one_log(rt: HostRuntime) -> Result<(), Fail> {
 }
 
 /// Runs words over a shelf of good and bad files, and compares the status and the note.
-fn check_note<R: Abort>(
+fn check_note<R: Abort + Alloc<A = Global>>(
     rt: &R,
-    alloc: Global,
     texts: &[&str],
     status: u8,
     note: &str,
 ) -> Result<(), Fail> {
+    let alloc = rt.alloc();
     let words = words_of(alloc, texts)?;
     let image = image_of(alloc, LATCH, 0xA000, &[])?;
     let mut shelf = MemoryShelf::new(alloc, 0, 0, &[])?;
@@ -243,84 +185,50 @@ fn check_note<R: Abort>(
     Ok(())
 }
 
+/// Runs words that are no command.
+fn check_usage<R: Abort + Alloc<A = Global>>(rt: &R, texts: &[&str]) -> Result<(), Fail> {
+    check_note(rt, texts, 2, USAGE)
+}
+
+/// Runs an image over a tape, one of which isn't good.
+fn check_files<R: Abort + Alloc<A = Global>>(
+    rt: &R,
+    image: &str,
+    tape: &str,
+    status: u8,
+    note: &str,
+) -> Result<(), Fail> {
+    check_note(rt, &["run", image, tape], status, note)
+}
+
 #[test]
-fn notes_name_what_is_wrong(rt: HostRuntime) -> Result<(), Fail> {
-    check_note(&rt, rt.alloc(), &[], 2, USAGE)?;
-    check_note(&rt, rt.alloc(), &["run", "i"], 2, USAGE)?;
-    check_note(
-        &rt,
-        rt.alloc(),
-        &["run", "i", "t", "--until", "5", "--until", "6"],
-        2,
-        USAGE,
-    )?;
-    check_note(
-        &rt,
-        rt.alloc(),
-        &["run", "i", "t", "--cuts", "5,4"],
-        2,
-        USAGE,
-    )?;
-    check_note(&rt, rt.alloc(), &["run", "i", "--cost"], 2, USAGE)?;
-    check_note(&rt, rt.alloc(), &["run", "", "t"], 2, USAGE)?;
-    check_note(&rt, rt.alloc(), &["Run", "i", "t"], 2, USAGE)?;
-    check_note(&rt, rt.alloc(), &["show", "s"], 2, USAGE)?;
-    check_note(
-        &rt,
-        rt.alloc(),
-        &["run", "short", "t"],
-        4,
-        "gravitar: short: length 43007\n",
-    )?;
-    check_note(
-        &rt,
-        rt.alloc(),
-        &["run", "i", "port"],
-        4,
-        "gravitar: port: line 1: port\n",
-    )?;
-    check_note(
-        &rt,
-        rt.alloc(),
-        &["run", "i", "falls"],
-        4,
-        "gravitar: falls: line 2: falls\n",
-    )?;
-    check_note(
-        &rt,
-        rt.alloc(),
-        &["run", "i", "after"],
-        4,
-        "gravitar: after: line 2: after end\n",
-    )?;
-    check_note(
-        &rt,
-        rt.alloc(),
-        &["run", "i", "none"],
-        5,
-        "gravitar: none: absent\n",
-    )?;
-    check_note(
-        &rt,
-        rt.alloc(),
-        &["run", "-x", "none"],
-        5,
-        "gravitar: -x: absent\n",
-    )?;
-    check_note(
-        &rt,
-        rt.alloc(),
-        &["run", "short", "none"],
-        4,
-        "gravitar: short: length 43007\n",
-    )?;
-    check_note(
-        &rt,
-        rt.alloc(),
-        &["run", "i", "set"],
-        8,
-        "gravitar: not built\n",
-    )?;
+fn words_of_no_form_get_the_usage(rt: HostRuntime) -> Result<(), Fail> {
+    check_usage(&rt, &[])?;
+    check_usage(&rt, &["run", "i"])?;
+    check_usage(&rt, &["run", "i", "t", "--until", "5", "--until", "6"])?;
+    check_usage(&rt, &["run", "i", "t", "--cuts", "5,4"])?;
+    check_usage(&rt, &["run", "i", "--cost"])?;
+    check_usage(&rt, &["run", "", "t"])?;
+    check_usage(&rt, &["Run", "i", "t"])?;
+    check_usage(&rt, &["show", "s"])?;
+    Ok(())
+}
+
+#[test]
+fn a_bad_file_is_named_with_its_cause(rt: HostRuntime) -> Result<(), Fail> {
+    check_files(&rt, "short", "t", 4, "gravitar: short: length 43007\n")?;
+    check_files(&rt, "short", "no", 4, "gravitar: short: length 43007\n")?;
+    check_files(&rt, "i", "port", 4, "gravitar: port: line 1: port\n")?;
+    check_files(&rt, "i", "falls", 4, "gravitar: falls: line 2: falls\n")?;
+    check_files(&rt, "i", "after", 4, "gravitar: after: line 2: after end\n")?;
+    Ok(())
+}
+
+#[test]
+fn an_absent_file_and_an_unbuilt_tape_are_told(rt: HostRuntime) -> Result<(), Fail> {
+    check_files(&rt, "i", "no", 5, "gravitar: no: absent\n")?;
+    check_files(&rt, "-x", "no", 5, "gravitar: -x: absent\n")?;
+    check_files(&rt, "i", "set", 8, "gravitar: not built\n")?;
     Ok(())
 }
 
