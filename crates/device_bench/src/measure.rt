@@ -1,0 +1,94 @@
+ghost use Rattle.std.specs.Prelude.{◌^◌, ◌≤◌};
+
+use crate::picture::draw;
+use crate::shifts::{Registers, bare_shifts};
+use crate::sound::play;
+use crate::tally::Tally;
+use avg_device::VectorUnit;
+use board_base::{OutOfMemory, VectorMemory};
+use pokey_chip::SoundUnit;
+use std::alloc::Global;
+use std::io;
+use std::time::{CpuClock, Duration};
+
+/// Why there is no measure.
+#[derive(Debug, Drop)]
+pub enum Fault {
+    Usage,
+    OutOfMemory,
+    Io(io::Error),
+}
+
+impl From<OutOfMemory> for Fault {
+    ghost use Rattle.std.specs.Prelude.{◌≡◌};
+    ghost use Rattle.device_bench.specs.declared.measure.Fault.TheVariants.{OutOfMemory};
+
+    ghost from_gives = { λ _ fault. fault ≡ OutOfMemory };
+
+    fn from(_: OutOfMemory) -> Fault {
+        Fault::OutOfMemory
+    }
+}
+
+impl From<io::Error> for Fault {
+    ghost use Rattle.std.specs.Prelude.{◌≡◌};
+    ghost use Rattle.device_bench.specs.declared.measure.Fault.TheVariants.{Io};
+
+    ghost from_gives = { λ error fault. fault ≡ Io error };
+
+    fn from(error: io::Error) -> Fault {
+        Fault::Io(error)
+    }
+}
+
+/// What came of some work, and the nanoseconds of processor time that it took.
+#[derive(Clone, Copy, Debug)]
+pub struct Timed<T> {
+    pub outcome: T,
+    pub nanos: u64,
+}
+
+/// The nanoseconds of processor time that this thread has had since `start`.
+fn nanos_since<C: CpuClock>(clock: &C, start: Duration) -> io::Result<u64> {
+    let spent = clock.thread_cpu_time()?.saturating_sub(start);
+    Ok(u64::try_from(spent.as_nanos()).unwrap_or(u64::MAX))
+}
+
+/// Times a generator that draws for this many clocks.
+pub fn timed_drawing<C: CpuClock, V: VectorUnit>(
+    clock: &C,
+    alloc: Global,
+    mut unit: V,
+    memory: &VectorMemory,
+    clocks: u64,
+) -> Result<Timed<Tally>, Fault>
+    requires { clocks ≤ 2 ^ 48 }
+{
+    let start = clock.thread_cpu_time()?;
+    let outcome = draw(alloc, &mut unit, memory, clocks)?;
+    let nanos = nanos_since(clock, start)?;
+    Ok(Timed { outcome, nanos })
+}
+
+/// Times a POKEY that plays for this many clocks.
+pub fn timed_playing<C: CpuClock, S: SoundUnit>(
+    clock: &C,
+    alloc: Global,
+    mut unit: S,
+    clocks: u64,
+) -> Result<Timed<Tally>, Fault>
+    requires { clocks ≤ 2 ^ 48 }
+{
+    let start = clock.thread_cpu_time()?;
+    let outcome = play(alloc, &mut unit, clocks)?;
+    let nanos = nanos_since(clock, start)?;
+    Ok(Timed { outcome, nanos })
+}
+
+/// Times the four polynomial registers alone.
+pub fn timed_shifts<C: CpuClock>(clock: &C, clocks: u64) -> Result<Timed<Registers>, Fault> {
+    let start = clock.thread_cpu_time()?;
+    let outcome = bare_shifts(clocks);
+    let nanos = nanos_since(clock, start)?;
+    Ok(Timed { outcome, nanos })
+}
