@@ -1,0 +1,6 @@
+pub mod Covering
+pub mod Digits
+pub mod Numbering
+pub mod Parting
+pub mod Passing
+pub mod Standing

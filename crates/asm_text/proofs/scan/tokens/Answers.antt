@@ -1,0 +1,57 @@
+-- Each line takes the tokens one line on.
+use Rattle.std.proofs.Common.{◌≡◌, ◌+◌, ◌-◌, ◌∙◌, length, length-append, sym, ap, arith}
+use Rattle.std.proofs.lemmas.Grind.{common_steps}
+use Rattle.std.proofs.lemmas.Result.{err_from_is_err_and}
+use Rattle.asm_text.specs.Lines.{lines_of}
+use Rattle.asm_text.specs.Tokens.{onto, tokens_from}
+use Rattle.asm_text.proofs.Passing.{bad_line, line_passed, all_read, tokens_of-short}
+use Rattle.asm_text.proofs.Covering.{text_accounted}
+use Rattle.asm_text.proofs.Numbering.{text_numbered}
+use Rattle.asm_text.proofs.Standing.{StandIn-each, text_spans}
+use Rattle.asm_text.proofs.scan.tokens.Goals as goal
+
+pub lines-preserved : goal.lines-preserved
+lines-preserved c =
+    let whole = ap length c.read_line.ensures.whole in
+    let parts = length-append c.read_line.result.0.now c.read_line.result.1.now in
+    let next : length c.args.text.now - length c.lines.rest.now + length c.read_line.result.0.now ≡ length c.args.text.now - length c.read_line.result.1.now = omega (arith, whole, parts) in
+    record {
+      within = omega (arith, whole, parts);
+      line = omega (arith, whole, parts);
+      tokens =
+          sym (ap (λ place. onto c.push_line.new.tokens.items (tokens_from (c.lines.line + 1) place (lines_of c.read_line.result.1.now))) next)
+          ∙ sym (line_passed c.lines.tokens.items c.lines.line (length c.args.text.now - length c.lines.rest.now) _ _ _ c.read_line.ensures.lines c.push_line.new.tokens.items c.in_ok-push_line.ensures.tokens)
+          ∙ c.lines.invariant.tokens;
+    }
+
+pub returns-in_err-push_line-clause-tokens : goal.returns-in_err-push_line-clause-tokens
+returns-in_err-push_line-clause-tokens c =
+    let p = err_from_is_err_and c.from_residual.result c.from_residual.ensures.1 in
+    let same = tokens_of-short c.args.text.now c.if-text-gt-TEXT_LIMIT.false in
+    rw (p.1, p.2, same, ← c.lines.invariant.tokens)
+    (bad_line c.lines.tokens.items c.lines.line (length c.args.text.now - length c.lines.rest.now) _ _ _ c.read_line.ensures.lines c.in_err-push_line.field-0.0 c.in_err-push_line.ensures.tokens)
+
+pub returns-clause-tokens : goal.returns-clause-tokens
+returns-clause-tokens c =
+    let none : length c.lines.rest.now ≡ 0 = grind (arith, common_steps) in
+    tokens_of-short c.args.text.now c.if-text-gt-TEXT_LIMIT.false ∙ all_read _ _ _ _ _ c.lines.invariant.tokens none
+
+pub returns-clause-spans : goal.returns-clause-spans
+returns-clause-spans c =
+    let none : length c.lines.rest.now ≡ 0 = grind (arith, common_steps) in
+    text_spans c.args.text.now _ (sym (all_read _ _ _ _ _ c.lines.invariant.tokens none))
+
+pub returns-clause-lines : goal.returns-clause-lines
+returns-clause-lines c =
+    let none : length c.lines.rest.now ≡ 0 = grind (arith, common_steps) in
+    text_numbered c.args.text.now _ (sym (all_read _ _ _ _ _ c.lines.invariant.tokens none))
+
+pub returns-clause-each : goal.returns-clause-each
+returns-clause-each c =
+    let none : length c.lines.rest.now ≡ 0 = grind (arith, common_steps) in
+    StandIn-each c.args.text.now 0 (length c.args.text.now) _ (text_spans c.args.text.now _ (sym (all_read _ _ _ _ _ c.lines.invariant.tokens none)))
+
+pub returns-clause-all : goal.returns-clause-all
+returns-clause-all c =
+    let none : length c.lines.rest.now ≡ 0 = grind (arith, common_steps) in
+    text_accounted c.args.text.now _ (sym (all_read _ _ _ _ _ c.lines.invariant.tokens none))

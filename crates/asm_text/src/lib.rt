@@ -1,0 +1,21 @@
+//! The tokens of an assembler's source, and what both assemblers answer.
+#![tactic(auto)]
+
+pub mod fault;
+mod line;
+pub mod listing;
+pub mod numeral;
+mod piece;
+pub mod scan;
+pub mod token;
+
+pub use fault::{AsmCause, AsmFault};
+pub use line::read_line;
+pub use listing::{Listing, ListingLine};
+pub use numeral::number;
+pub use piece::is_register;
+pub use scan::{TEXT_LIMIT, push_line, tokens};
+pub use token::{Kind, Token};
+
+#[cfg(test)]
+mod tests;

@@ -1,0 +1,102 @@
+ghost use Rattle.std.specs.Prelude.{◌≡◌, ◌<◌, ◌∷◌, ◌++◌, length};
+ghost use Rattle.asm_text.specs.Pieces.{is_blank, is_dotted_name, is_mark, is_name, is_number_start, is_register, joins, kind_of, pieces_of};
+
+use crate::fault::AsmCause;
+use crate::numeral::number;
+use crate::token::Kind;
+
+/// Whether a byte belongs to the piece of the byte directly before it.
+#[tactic(auto, unfolding(crate::specs::Pieces::joins))]
+fn joins(before: u8, byte: u8) -> bool
+    ensures { result ≡ joins before byte }
+{
+    let in_word = byte.is_ascii_alphanumeric() || byte == b'_';
+    let takes_word = before.is_ascii_alphanumeric() || matches!(before, b'_' | b'$' | b'%' | b'.');
+    (takes_word && in_word) || (before == b'\r' && byte == b'\n')
+}
+
+/// The first piece of a line's code, and what stands after it.
+#[tactic(auto, using(crate::proofs::Parting::pieces))]
+pub fn split_piece(code: &[u8]) -> (&[u8], &[u8])
+    requires { 0 < length code.now }
+    ensures pieces { pieces_of code.now ≡ result.0.now ∷ pieces_of result.1.now }
+    ensures whole { code.now ≡ result.0.now ++ result.1.now }
+    ensures some { 0 < length result.0.now }
+{
+    let mut end = 1;
+    'piece: while end < code.len() && joins(code[end - 1], code[end]) {
+        end += 1;
+    }
+    code.split_at(end)
+}
+
+/// Whether a piece is a blank.
+fn is_blank(piece: &[u8]) -> bool
+    ensures { result ≡ is_blank piece.now }
+{
+    matches!(piece, b" " | b"\t" | b"\n" | b"\r\n")
+}
+
+/// Whether a piece is one of the punctuation marks.
+fn is_mark(piece: &[u8]) -> bool
+    ensures { result ≡ is_mark piece.now }
+{
+    matches!(
+        piece,
+        [b':' | b'=' | b'#' | b'(' | b')' | b',' | b'<' | b'>' | b'+' | b'-']
+    )
+}
+
+/// Whether a word is `a`, `x` or `y` of either case, which are no names.
+pub fn is_register(word: &[u8]) -> bool
+    ensures { result ≡ is_register word.now }
+{
+    matches!(word, [b'a' | b'A' | b'x' | b'X' | b'y' | b'Y'])
+}
+
+/// Whether a piece begins as a name does and isn't too long for one.
+fn is_name(piece: &[u8]) -> bool
+    ensures { result ≡ is_name piece.now }
+{
+    match piece {
+        [first, ..] => (first.is_ascii_alphabetic() || *first == b'_') && piece.len() <= 32,
+        [] => false,
+    }
+}
+
+/// Whether a piece is a `.` with a name directly after it.
+fn is_dotted_name(piece: &[u8]) -> bool
+    ensures { result ≡ is_dotted_name piece.now }
+{
+    match piece {
+        [b'.', name @ ..] => is_name(name) && !is_register(name),
+        _ => false,
+    }
+}
+
+/// Whether a piece begins as a number does.
+fn is_number_start(piece: &[u8]) -> bool
+    ensures { result ≡ is_number_start piece.now }
+{
+    matches!(piece, [b'0'..=b'9' | b'$' | b'%', ..])
+}
+
+/// The kind of a piece, none for a blank, or what is wrong with it.
+#[tactic(auto, unfolding(crate::specs::Pieces::kind_of))]
+pub fn read_kind(piece: &[u8]) -> Result<Option<Kind>, AsmCause>
+    ensures { result ≡ kind_of piece.now }
+{
+    if is_blank(piece) {
+        Ok(None)
+    } else if is_mark(piece) {
+        Ok(Some(Kind::Punctuation))
+    } else if is_name(piece) || is_dotted_name(piece) {
+        Ok(Some(Kind::Name))
+    } else if !is_number_start(piece) {
+        Err(AsmCause::BadToken)
+    } else if number(piece).is_some() {
+        Ok(Some(Kind::Number))
+    } else {
+        Err(AsmCause::BadNumber)
+    }
+}
