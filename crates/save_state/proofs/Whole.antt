@@ -1,0 +1,215 @@
+-- The parts of a file, as fields that stand one after another.
+use Rattle.std.proofs.Common.{◌≡◌, ℕ, ◌+◌, ◌==◌, ◌<◌, ◌^◌, Bool, true, false, cond, List, [], ◌∷◌, ◌++◌, drop, Option, Some, None, Ok, refl, sym, ap, ◌∙◌, arith}
+use Rattle.std.specs.List.{concat, slice_index}
+use Rattle.std.proofs.lemmas.List.{get_or-drop, drop-drop}
+use Rattle.std.proofs.lemmas.Nat.{from_le_bytes-to_le_bytes_2}
+use Rattle.std.specs.Option.{is_some}
+use Rattle.std.specs.Int.{w16}
+use Rattle.board_base.specs.Cpu.{CpuValue}
+use Rattle.save_state.specs.Fields.{Field, byte_to, count_to, number_to}
+use Rattle.save_state.specs.StateBytes.{head_fields, register_fields, jam_fields, port_fields, divider_fields, middle_of_version, zero_fields, halted_fields, pen_fields, stack_fields, beam_fields, tone_fields, pulse_fields, level_fields, last_fields, earom_fields, memory_fields, middle_at, processor_of, processor_pieces, head_pieces, register_pieces, jam_pieces, processor_fields, vg_fields, pokey_fields, back_fields, middle_part_fields, fields, last_clock, undocumented, eight_fields, no_place_fields, place_fields, middle_fields}
+use Rattle.save_state.specs.Reading.{next, read_all, processor_at, middle_after, vg_at, pokey_at, back_at, board_at}
+use Rattle.save_state.proofs.Laws.{join, read_rest, read_spelled, widths, rest_ports, rest_divider}
+
+rest_head : (bytes : List ℕ) (ps : List (List ℕ)) (rest : List ℕ) → read_all head_fields bytes ≡ Ok (ps, rest) → rest ≡ drop 4 bytes
+unfolding widths head_fields
+rest_head bytes ps rest e = read_rest head_fields bytes ps rest e
+
+rest_registers : (last : ℕ) (bytes : List ℕ) (ps : List (List ℕ)) (rest : List ℕ) → read_all (register_fields last) bytes ≡ Ok (ps, rest) → rest ≡ drop 15 bytes
+unfolding widths register_fields
+rest_registers last bytes ps rest e = read_rest (register_fields last) bytes ps rest e
+
+rest_halted : (bytes : List ℕ) (ps : List (List ℕ)) (rest : List ℕ) → read_all halted_fields bytes ≡ Ok (ps, rest) → rest ≡ drop 1 bytes
+unfolding widths halted_fields
+rest_halted bytes ps rest e = read_rest halted_fields bytes ps rest e
+
+pub processor_is : (version last : ℕ) (file : List ℕ) → processor_at version last file ≡ read_all (processor_fields last (slice_index file 19)) file
+unfolding processor_at processor_fields
+processor_is version last file =
+    join head_fields (register_fields last ++ jam_fields (slice_index file 19)) file (read_all head_fields file)
+    (λ registers. next (read_all (register_fields last) registers) (λ jam. read_all (jam_fields (slice_index jam 0)) jam)) refl
+    (λ ps rest e. join (register_fields last) (jam_fields (slice_index file 19)) rest (read_all (register_fields last) rest)
+    (λ jam. read_all (jam_fields (slice_index jam 0)) jam) refl
+    (λ ps2 rest2 e2.
+    let at : slice_index rest2 0 ≡ slice_index file 19 =
+    ap (λ (x : List ℕ). slice_index x 0) (rest_registers last rest ps2 rest2 e2 ∙ ap (λ (x : List ℕ). drop 15 x) (rest_head file ps rest e))
+    ∙ get_or-drop 15 (drop 4 file) 0 0 ∙ get_or-drop 4 file 15 0 in
+    ap (λ (n : ℕ). read_all (jam_fields n) rest2) at))
+
+pub vg_is : (bytes : List ℕ) → vg_at bytes ≡ read_all (vg_fields (slice_index (drop 1 bytes) 0)) bytes
+unfolding vg_at vg_fields
+vg_is bytes =
+    join halted_fields (pen_fields ++ (stack_fields ++ beam_fields (slice_index (drop 1 bytes) 0))) bytes (read_all halted_fields bytes)
+    (λ pen. next (read_all pen_fields pen) (λ stack. next (read_all stack_fields stack) (λ beam. read_all (beam_fields (slice_index pen 0)) beam))) refl
+    (λ ps rest e. join pen_fields (stack_fields ++ beam_fields (slice_index (drop 1 bytes) 0)) rest (read_all pen_fields rest)
+    (λ stack. next (read_all stack_fields stack) (λ beam. read_all (beam_fields (slice_index rest 0)) beam)) refl
+    (λ ps2 rest2 e2. join stack_fields (beam_fields (slice_index (drop 1 bytes) 0)) rest2 (read_all stack_fields rest2)
+    (λ beam. read_all (beam_fields (slice_index rest 0)) beam) refl
+    (λ ps3 rest3 e3. ap (λ (x : List ℕ). read_all (beam_fields (slice_index x 0)) rest3) (rest_halted bytes ps rest e))))
+
+pub pokey_is : (bytes : List ℕ) → pokey_at bytes ≡ read_all pokey_fields bytes
+unfolding pokey_at pokey_fields
+pokey_is bytes =
+    join tone_fields (pulse_fields ++ (level_fields ++ last_fields)) bytes (read_all tone_fields bytes)
+    (λ pulses. next (read_all pulse_fields pulses) (λ levels. next (read_all level_fields levels) (λ last. read_all last_fields last))) refl
+    (λ ps rest e. join pulse_fields (level_fields ++ last_fields) rest (read_all pulse_fields rest)
+    (λ levels. next (read_all level_fields levels) (λ last. read_all last_fields last)) refl
+    (λ ps2 rest2 e2. join level_fields last_fields rest2 (read_all level_fields rest2) (λ last. read_all last_fields last) refl (λ ps3 rest3 e3. refl)))
+
+pub back_is : (bytes : List ℕ) → back_at bytes ≡ read_all (back_fields (slice_index (drop 1 bytes) 0)) bytes
+unfolding back_at back_fields
+back_is bytes =
+    join (vg_fields (slice_index (drop 1 bytes) 0)) (pokey_fields ++ (pokey_fields ++ (earom_fields ++ memory_fields))) bytes (vg_at bytes)
+    (λ one. next (pokey_at one) (λ two. next (pokey_at two) (λ earom. next (read_all earom_fields earom) (λ memory. read_all memory_fields memory)))) (vg_is bytes)
+    (λ ps rest e. join pokey_fields (pokey_fields ++ (earom_fields ++ memory_fields)) rest (pokey_at rest)
+    (λ two. next (pokey_at two) (λ earom. next (read_all earom_fields earom) (λ memory. read_all memory_fields memory))) (pokey_is rest)
+    (λ ps2 rest2 e2. join pokey_fields (earom_fields ++ memory_fields) rest2 (pokey_at rest2)
+    (λ earom. next (read_all earom_fields earom) (λ memory. read_all memory_fields memory)) (pokey_is rest2)
+    (λ ps3 rest3 e3. join earom_fields memory_fields rest3 (read_all earom_fields rest3) (λ memory. read_all memory_fields memory) refl (λ ps4 rest4 e4. refl))))
+
+pub middle_is : (version : ℕ) (jammed inside : Bool) (bytes : List ℕ)
+    → middle_after version jammed inside bytes ≡ read_all (middle_part_fields version jammed (slice_index (drop 5 (drop 4 bytes)) 0) inside) bytes
+unfolding middle_after middle_part_fields
+middle_is version jammed inside bytes =
+    let at : ℕ = slice_index (drop 5 (drop 4 bytes)) 0 in
+    join port_fields (divider_fields ++ (middle_of_version version jammed at inside ++ zero_fields)) bytes (read_all port_fields bytes)
+    (λ divider. next (read_all divider_fields divider) (λ middle. next (read_all (middle_of_version version jammed (slice_index middle 0) inside) middle) (λ zeros. read_all zero_fields zeros))) refl
+    (λ ps rest e. join divider_fields (middle_of_version version jammed at inside ++ zero_fields) rest (read_all divider_fields rest)
+    (λ middle. next (read_all (middle_of_version version jammed (slice_index middle 0) inside) middle) (λ zeros. read_all zero_fields zeros)) refl
+    (λ ps2 rest2 e2.
+    let here : slice_index rest2 0 ≡ at = ap (λ (x : List ℕ). slice_index x 0) (rest_divider rest ps2 rest2 e2 ∙ ap (λ (x : List ℕ). drop 5 x) (rest_ports bytes ps rest e)) in
+    join (middle_of_version version jammed at inside) zero_fields rest2 (read_all (middle_of_version version jammed (slice_index rest2 0) inside) rest2)
+    (λ zeros. read_all zero_fields zeros) (ap (λ (n : ℕ). read_all (middle_of_version version jammed n inside) rest2) here) (λ ps3 rest3 e3. refl)))
+
+-- what the front of a file tells of its processor
+abbrev cells : ℕ → ℕ → CpuValue → Option ℕ → List ℕ → List ℕ
+cells version clock c jam rest = concat (head_pieces version ++ register_pieces clock c ++ jam_pieces jam) ++ rest
+
+abbrev made : CpuValue → Option ℕ → ℕ → List ℕ → CpuValue
+made c jam pc place = record c { pc = pc; jam = jam; mid = Some (middle_at place) }
+
+told_jam : (version clock : ℕ) (c : CpuValue) (jam : Option ℕ) (rest : List ℕ) → c.pc < 2 ^ 16 → processor_of (cells version clock c jam rest) ≡ made c jam c.pc (drop 5 (drop 4 rest))
+told_jam version clock c None rest small =
+    ap (λ (pc : ℕ). made c None pc (drop 9 rest)) (from_le_bytes-to_le_bytes_2 c.pc small) ∙ ap (λ (x : List ℕ). made c None c.pc x) (sym (drop-drop 5 4 rest))
+told_jam version clock c (Some o) rest small =
+    ap (λ (pc : ℕ). made c (Some o) pc (drop 9 rest)) (from_le_bytes-to_le_bytes_2 c.pc small) ∙ ap (λ (x : List ℕ). made c (Some o) c.pc x) (sym (drop-drop 5 4 rest))
+
+told_jammed : (version clock : ℕ) (c : CpuValue) (jam : Option ℕ) (rest : List ℕ) → (slice_index (cells version clock c jam rest) 19 == 1) ≡ is_some jam
+told_jammed version clock c None rest = refl
+told_jammed version clock c (Some o) rest = refl
+
+told_place : (version clock : ℕ) (c : CpuValue) (jam : Option ℕ) (rest : List ℕ) → slice_index (cells version clock c jam rest) 30 ≡ slice_index (drop 5 (drop 4 rest)) 0
+told_place version clock c None rest = sym (get_or-drop 5 (drop 4 rest) 0 0 ∙ get_or-drop 4 rest 5 0)
+told_place version clock c (Some o) rest = sym (get_or-drop 5 (drop 4 rest) 0 0 ∙ get_or-drop 4 rest 5 0)
+
+pub spelled_front : (version last clock : ℕ) (c : CpuValue) (file rest : List ℕ) → processor_at version last file ≡ Ok (processor_pieces version clock c, rest) → file ≡ cells version clock c c.jam rest
+spelled_front version last clock c file rest e =
+    read_spelled (processor_fields last (slice_index file 19)) file (processor_pieces version clock c) rest (sym (processor_is version last file) ∙ e)
+
+pub tells_processor : (version last clock : ℕ) (c : CpuValue) (file rest : List ℕ) → c.pc < 2 ^ 16 → processor_at version last file ≡ Ok (processor_pieces version clock c, rest)
+    → processor_of file ≡ record c { mid = Some (middle_at (drop 5 (drop 4 rest))) }
+tells_processor version last clock c file rest small e = ap processor_of (spelled_front version last clock c file rest e) ∙ told_jam version clock c c.jam rest small
+
+pub tells_jammed : (version last clock : ℕ) (c : CpuValue) (file rest : List ℕ) → processor_at version last file ≡ Ok (processor_pieces version clock c, rest) → (slice_index file 19 == 1) ≡ is_some c.jam
+tells_jammed version last clock c file rest e = ap (λ (x : List ℕ). slice_index x 19 == 1) (spelled_front version last clock c file rest e) ∙ told_jammed version clock c c.jam rest
+
+pub tells_place : (version last clock : ℕ) (c : CpuValue) (file rest : List ℕ) → processor_at version last file ≡ Ok (processor_pieces version clock c, rest) → slice_index file 30 ≡ slice_index (drop 5 (drop 4 rest)) 0
+tells_place version last clock c file rest e = ap (λ (x : List ℕ). slice_index x 30) (spelled_front version last clock c file rest e) ∙ told_place version clock c c.jam rest
+
+opcode_width : (b : Bool) → (cond b undocumented (byte_to 0)).width ≡ 1
+unfolding undocumented
+opcode_width true = refl
+opcode_width false = refl
+
+rest_processor : (last jammed : ℕ) (bytes : List ℕ) (ps : List (List ℕ)) (rest : List ℕ) → read_all (processor_fields last jammed) bytes ≡ Ok (ps, rest) → rest ≡ drop 21 bytes
+unfolding widths processor_fields head_fields register_fields jam_fields
+rest_processor last jammed bytes ps rest e =
+    read_rest (processor_fields last jammed) bytes ps rest e
+    ∙ ap (λ (w : ℕ). drop (1 + (3 + (8 + (2 + (1 + (1 + (1 + (1 + (1 + (1 + (w + 0))))))))))) bytes) (opcode_width (jammed == 1))
+
+middle_width : (a b jammed inside : Bool) → widths (port_fields ++ (divider_fields ++ (cond a eight_fields (byte_to (cond jammed 0 3) ∷ cond b no_place_fields (place_fields inside)) ++ zero_fields))) ≡ 23
+unfolding widths port_fields divider_fields eight_fields no_place_fields place_fields zero_fields
+middle_width true b jammed inside = refl
+middle_width false true jammed inside = refl
+middle_width false false jammed inside = refl
+
+rest_middle : (version : ℕ) (jammed : Bool) (sequence : ℕ) (inside : Bool) (bytes : List ℕ) (ps : List (List ℕ)) (rest : List ℕ)
+    → read_all (middle_part_fields version jammed sequence inside) bytes ≡ Ok (ps, rest) → rest ≡ drop 23 bytes
+unfolding middle_part_fields middle_fields
+rest_middle version jammed sequence inside bytes ps rest e =
+    read_rest (middle_part_fields version jammed sequence inside) bytes ps rest e
+    ∙ ap (λ (w : ℕ). drop w bytes) (middle_width (version == 1) (sequence == 0) jammed inside)
+
+-- a file is read as all its fields
+pub board_is : (version : ℕ) (inside : Bool) (file : List ℕ) → board_at version inside file ≡ read_all (fields version file inside) file
+unfolding board_at fields
+board_is version inside file =
+    let last : ℕ = last_clock version (slice_index file 30) in
+    let jammed : Bool = slice_index file 19 == 1 in
+    join (processor_fields last (slice_index file 19)) (middle_part_fields version jammed (slice_index file 30) inside ++ back_fields (slice_index file 45)) file
+    (processor_at version last file)
+    (λ middle. next (middle_after version jammed inside middle) (λ back. back_at back))
+    (processor_is version last file)
+    (λ ps rest e.
+    let after : rest ≡ drop 21 file = rest_processor last (slice_index file 19) file ps rest e in
+    let sequence : slice_index (drop 5 (drop 4 rest)) 0 ≡ slice_index file 30 =
+    get_or-drop 5 (drop 4 rest) 0 0 ∙ get_or-drop 4 rest 5 0 ∙ ap (λ (x : List ℕ). slice_index x 9) after ∙ get_or-drop 21 file 9 0 in
+    join (middle_part_fields version jammed (slice_index file 30) inside) (back_fields (slice_index file 45)) rest
+    (middle_after version jammed inside rest) (λ back. back_at back)
+    (middle_is version jammed inside rest ∙ ap (λ (n : ℕ). read_all (middle_part_fields version jammed n inside) rest) sequence)
+    (λ ps2 rest2 e2.
+    let later : rest2 ≡ drop 23 rest = rest_middle version jammed (slice_index file 30) inside rest ps2 rest2 e2 in
+    let phase : slice_index (drop 1 rest2) 0 ≡ slice_index file 45 =
+    get_or-drop 1 rest2 0 0 ∙ ap (λ (x : List ℕ). slice_index x 1) later ∙ get_or-drop 23 rest 1 0 ∙ ap (λ (x : List ℕ). slice_index x 24) after ∙ get_or-drop 21 file 24 0 in
+    back_is rest2 ∙ ap (λ (n : ℕ). read_all (back_fields n) rest2) phase))
+
+widths-append : (fs gs : List Field) → widths (fs ++ gs) ≡ widths fs + widths gs
+unfolding widths
+widths-append [] gs = omega arith
+widths-append (f ∷ fs) gs = rw (widths-append fs gs) (omega arith)
+
+left_width : (b : Bool) → (cond b (count_to w16 8192) (number_to w16 0)).width ≡ 2
+left_width true = refl
+left_width false = refl
+
+processor_width : (last jammed : ℕ) → widths (processor_fields last jammed) ≡ 21
+unfolding widths processor_fields head_fields register_fields jam_fields
+processor_width last jammed = ap (λ (w : ℕ). 1 + (3 + (8 + (2 + (1 + (1 + (1 + (1 + (1 + (1 + (w + 0))))))))))) (opcode_width (jammed == 1))
+
+middle_part_width : (version : ℕ) (jammed : Bool) (sequence : ℕ) (inside : Bool) → widths (middle_part_fields version jammed sequence inside) ≡ 23
+unfolding middle_part_fields middle_fields
+middle_part_width version jammed sequence inside = middle_width (version == 1) (sequence == 0) jammed inside
+
+beam_width : (phase : ℕ) → widths (beam_fields phase) ≡ 18
+unfolding widths beam_fields
+beam_width phase = ap (λ (w : ℕ). 4 + (4 + (4 + (4 + (w + 0))))) (left_width (phase == 5))
+
+vg_width : (phase : ℕ) → widths (vg_fields phase) ≡ 40
+unfolding widths vg_fields halted_fields pen_fields stack_fields
+vg_width phase = omega (arith, beam_width phase)
+
+pokey_width : widths pokey_fields ≡ 53
+unfolding widths pokey_fields tone_fields pulse_fields level_fields last_fields
+pokey_width = refl
+
+end_width : widths (earom_fields ++ memory_fields) ≡ 4166
+unfolding widths earom_fields memory_fields
+end_width = refl
+
+back_width : (phase : ℕ) → widths (back_fields phase) ≡ 4312
+unfolding back_fields
+back_width phase =
+    rw (widths-append (vg_fields phase) (pokey_fields ++ (pokey_fields ++ (earom_fields ++ memory_fields))), widths-append pokey_fields (pokey_fields ++ (earom_fields ++ memory_fields)), widths-append pokey_fields (earom_fields ++ memory_fields))
+    (omega (arith, vg_width phase, pokey_width, end_width))
+
+pub all_width : (version : ℕ) (file : List ℕ) (inside : Bool) → widths (fields version file inside) ≡ 4356
+unfolding fields
+all_width version file inside =
+    let last : ℕ = last_clock version (slice_index file 30) in
+    let jammed : Bool = slice_index file 19 == 1 in
+    let p : List Field = processor_fields last (slice_index file 19) in
+    let m : List Field = middle_part_fields version jammed (slice_index file 30) inside in
+    let b : List Field = back_fields (slice_index file 45) in
+    let e : widths (p ++ (m ++ b)) ≡ widths p + widths (m ++ b) = widths-append p (m ++ b) in
+    let f : widths (m ++ b) ≡ widths m + widths b = widths-append m b in
+    omega (arith, e, f, processor_width last (slice_index file 19), middle_part_width version jammed (slice_index file 30) inside, back_width (slice_index file 45))

@@ -1,0 +1,23 @@
+//! The bytes of a saved board.
+#![tactic(auto)]
+
+mod fault;
+mod fields;
+mod read_cpu;
+mod read_devices;
+mod read_middle;
+mod read_pokey;
+mod read_vg;
+mod reading;
+mod writer;
+mod writing;
+
+pub use fault::StateFault;
+pub use reading::read;
+pub use writing::write;
+
+/// The number of bytes of a saved board.
+pub const STATE_LEN: usize = 4356;
+
+#[cfg(test)]
+mod tests;

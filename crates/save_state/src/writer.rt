@@ -1,0 +1,51 @@
+ghost use Rattle.std.specs.Prelude.{◌≡◌, ◌+◌, ◌≤◌, ◌++◌, length, take};
+ghost use Rattle.save_state.specs.Fields.{word, quad, long, signed};
+
+use crate::STATE_LEN;
+
+/// Writes a piece from the offset `at` on, and tells the offset after it.
+pub fn put(out: &mut [u8; STATE_LEN], at: usize, piece: &[u8]) -> usize
+    requires { at + length piece.now ≤ 4356 }
+    ensures bytes { take result out.new ≡ take at out.old ++ piece.now }
+    ensures at { result ≡ at + length piece.now }
+{
+    let end = at + piece.len();
+    out[at..end].copy_from_slice(piece);
+    end
+}
+
+/// Writes a number of 16 bits, low byte first.
+pub fn put_word(out: &mut [u8; STATE_LEN], at: usize, number: u16) -> usize
+    requires { at + 2 ≤ 4356 }
+    ensures bytes { take result out.new ≡ take at out.old ++ word number }
+    ensures at { result ≡ at + 2 }
+{
+    put(out, at, &number.to_le_bytes())
+}
+
+/// Writes a number of 32 bits, low byte first.
+pub fn put_quad(out: &mut [u8; STATE_LEN], at: usize, number: u32) -> usize
+    requires { at + 4 ≤ 4356 }
+    ensures bytes { take result out.new ≡ take at out.old ++ quad number }
+    ensures at { result ≡ at + 4 }
+{
+    put(out, at, &number.to_le_bytes())
+}
+
+/// Writes a number of 64 bits, low byte first.
+pub fn put_long(out: &mut [u8; STATE_LEN], at: usize, number: u64) -> usize
+    requires { at + 8 ≤ 4356 }
+    ensures bytes { take result out.new ≡ take at out.old ++ long number }
+    ensures at { result ≡ at + 8 }
+{
+    put(out, at, &number.to_le_bytes())
+}
+
+/// Writes a signed number of 32 bits, low byte first.
+pub fn put_signed(out: &mut [u8; STATE_LEN], at: usize, number: i32) -> usize
+    requires { at + 4 ≤ 4356 }
+    ensures bytes { take result out.new ≡ take at out.old ++ signed number }
+    ensures at { result ≡ at + 4 }
+{
+    put(out, at, &number.to_le_bytes())
+}
