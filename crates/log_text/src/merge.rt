@@ -16,7 +16,7 @@ pub(crate) struct Merge<'a> {
 }
 
 /// The clock in which a record came.
-fn clock(record: &Record) -> u64
+pub(crate) fn clock(record: &Record) -> u64
     ensures { result ≡ clock_of «record».now }
 {
     match *record {

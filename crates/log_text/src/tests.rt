@@ -3,6 +3,7 @@ ghost use Rattle.std.specs.List.Sorted.{IsNonDecreasingBy};
 ghost use Rattle.log_text.specs.LogText.{clock_of};
 ghost use Rattle.log_text.specs.Trails.{Makes, IsTrailOf};
 
+use crate::merge::clock;
 use crate::{Part, write_cost, write_end, write_jam, write_merged};
 use board_base::{OutOfMemory, Record, Trail, Trails};
 use outside_io::{MemorySink, SinkFault};
@@ -28,17 +29,6 @@ fn filled(alloc: Global, records: &[Record]) -> Result<Trail, OutOfMemory>
         trail.push(*r);
     }
     Ok(trail)
-}
-
-fn clock(r: &Record) -> u64
-    ensures { result ≡ clock_of r.now }
-{
-    match *r {
-        Record::Stroke { clock, .. }
-        | Record::Levels { clock, .. }
-        | Record::Latch { clock, .. }
-        | Record::WatchdogReset { clock } => clock,
-    }
 }
 
 fn rises(records: &[Record]) -> bool
@@ -293,6 +283,11 @@ fn a_failed_write_ends_the_text(rt: HostRuntime) -> Result<(), Fail> {
         );
         assert_eq!(rt; out.bytes(), text, "at write {fails}");
     }
+    Ok(())
+}
+
+#[test]
+fn a_failed_write_of_a_last_line_is_told(rt: HostRuntime) -> Result<(), Fail> {
     let mut out = MemorySink::new(rt.alloc(), 400, &[1, 2, 3])?;
     assert_eq!(rt; write_end(22, &mut out), Err(SinkFault));
     assert_eq!(rt; write_jam(8, 0x9000, 2, &mut out), Err(SinkFault));

@@ -180,61 +180,30 @@ fn reads_of_all_registers(rt: HostRuntime) {
 /// What a write of 3D to each register leaves of `busy`. AUDCTL 15 joins channels 1 and 2 on the
 /// base clock.
 fn written(reg: u8) -> PokeyState {
-    let busy = busy();
+    let mut state = busy();
     match reg {
-        0x0 => PokeyState {
-            audf: [0x3D, 2, 3, 4],
-            ..busy
-        },
-        0x1 => PokeyState {
-            audc: [0x3D, 6, 7, 8],
-            ..busy
-        },
-        0x2 => PokeyState {
-            audf: [1, 0x3D, 3, 4],
-            ..busy
-        },
-        0x3 => PokeyState {
-            audc: [5, 0x3D, 7, 8],
-            ..busy
-        },
-        0x4 => PokeyState {
-            audf: [1, 2, 0x3D, 4],
-            ..busy
-        },
-        0x5 => PokeyState {
-            audc: [5, 6, 0x3D, 8],
-            ..busy
-        },
-        0x6 => PokeyState {
-            audf: [1, 2, 3, 0x3D],
-            ..busy
-        },
-        0x7 => PokeyState {
-            audc: [5, 6, 7, 0x3D],
-            ..busy
-        },
-        0x8 => PokeyState {
-            audctl: 0x3D,
-            ..busy
-        },
-        0x9 => PokeyState {
-            left: [2, 514, 4, 5],
-            tone: 0,
-            ..busy
-        },
-        0xB => PokeyState { pot: 0, ..busy },
-        0xE => PokeyState {
-            irqen: 5,
-            irqst: 7,
-            ..busy
-        },
-        0xF => PokeyState {
-            skctl: 0x3D,
-            ..busy
-        },
-        _ => busy,
+        0x0 => state.audf[0] = 0x3D,
+        0x1 => state.audc[0] = 0x3D,
+        0x2 => state.audf[1] = 0x3D,
+        0x3 => state.audc[1] = 0x3D,
+        0x4 => state.audf[2] = 0x3D,
+        0x5 => state.audc[2] = 0x3D,
+        0x6 => state.audf[3] = 0x3D,
+        0x7 => state.audc[3] = 0x3D,
+        0x8 => state.audctl = 0x3D,
+        0x9 => {
+            state.left = [2, 514, 4, 5];
+            state.tone = 0;
+        }
+        0xB => state.pot = 0,
+        0xE => {
+            state.irqen = 5;
+            state.irqst = 7;
+        }
+        0xF => state.skctl = 0x3D,
+        _ => {}
     }
+    state
 }
 
 fn assert_writes<P: SoundUnit>(rt: &impl Abort, mut unit: P) {
