@@ -1,5 +1,7 @@
 -- The whole board, as a plain record. The map, the ports and the power-on values are this project's own profile.
-use Rattle.std.specs.Prelude.{◌≡◌, ℕ, ◌+◌, ◌<◌, ◌≤◌, ◌^◌, List, length, replicate, IsSome}
+use Rattle.std.specs.Prelude.{◌≡◌, ℕ, ◌+◌, ◌<◌, ◌≤◌, List, length, replicate, IsSome}
+use Rattle.board_base.specs.declared.board.TheConstants.{RAM_LEN, CLOCK_LIMIT}
+use Rattle.board_base.specs.declared.vector_memory.TheConstants.{VECTOR_RAM_LEN}
 use Rattle.board_base.specs.Cpu.{CpuValue, cpu_at_power_on}
 use Rattle.board_base.specs.Divider.{DividerValue, divider_at_power_on}
 use Rattle.board_base.specs.Earom.{EaromValue, earom_at_power_on}
@@ -23,13 +25,13 @@ pub record BoardValue : Type 0 where
   pub vram : List ℕ
 
 -- the clock may stand up to 16 past the greatest number of a tape, and inside a sequence at that number at most; six bits
--- of the first port; two memories of 2 KB
+-- of the first port; two memories in their lengths
 pub record IsBoard (b : BoardValue) : Type 0 where
-  pub clock : b.clock ≤ 2 ^ 48 + 16
-  pub middle : IsSome b.cpu.mid → b.clock ≤ 2 ^ 48
+  pub clock : b.clock ≤ CLOCK_LIMIT + 16
+  pub middle : IsSome b.cpu.mid → b.clock ≤ CLOCK_LIMIT
   pub in0 : b.in0 < 64
-  pub ram : length b.ram ≡ 2048
-  pub vram : length b.vram ≡ 2048
+  pub ram : length b.ram ≡ RAM_LEN
+  pub vram : length b.vram ≡ VECTOR_RAM_LEN
 
 -- all memory is 0, no input of the ports is active, each device is as at its own power-on, and no clock is done
 abbrev pub board_at_power_on : BoardValue
@@ -45,6 +47,6 @@ board_at_power_on = record {
   sound1 = pokey_at_power_on;
   sound2 = pokey_at_power_on;
   earom = earom_at_power_on;
-  ram = replicate 2048 0;
-  vram = replicate 2048 0;
+  ram = replicate RAM_LEN 0;
+  vram = replicate VECTOR_RAM_LEN 0;
 }

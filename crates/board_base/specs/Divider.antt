@@ -1,5 +1,6 @@
 -- The interrupt divider and the watchdog, as a plain record. This project's own profile.
 use Rattle.std.specs.Prelude.{ℕ, ◌<◌, Bool, false}
+use Rattle.board_base.specs.declared.divider.TheConstants.{DIVIDER_PERIOD}
 use Rattle.board_base.specs.declared.divider.Pending.{Pending}
 use Rattle.board_base.specs.declared.divider.Pending.TheVariants.{Power}
 
@@ -10,9 +11,9 @@ pub record DividerValue : Type 0 where
   pub dog : ℕ
   pub pending : Pending
 
--- a wrap comes each 6,144 clocks, and the watchdog counts to 8
+-- a wrap comes each time a whole period is done, and the watchdog counts to 8
 pub record IsDivider (d : DividerValue) : Type 0 where
-  pub phase : d.phase < 6144
+  pub phase : d.phase < DIVIDER_PERIOD
   pub dog : d.dog < 8
 
 -- at power-on a power reset is pending

@@ -1,10 +1,14 @@
 pub mod Board
+pub mod BoardFields
 pub mod Counts
 pub mod Cpu
 pub mod Divider
 pub mod Earom
 pub mod Pokey
+pub mod PokeyFields
 pub mod Ranges
+pub mod Records
 pub mod Ticks
 pub mod Trail
 pub mod Vg
+pub mod VgFields

@@ -2,13 +2,20 @@ use crate::cpu::CpuState;
 use crate::divider::DividerState;
 use crate::earom::EaromState;
 use crate::pokey::PokeyState;
+use crate::vector_memory::VECTOR_RAM_LEN;
 use crate::vg::VgState;
 use std::marker::Model;
 
+/// The bytes of the RAM, from address 0000.
+pub const RAM_LEN: usize = 2048;
+
+/// The greatest clock of a tape and of a word of the command line, 2^48.
+pub const CLOCK_LIMIT: u64 = 281_474_976_710_656;
+
 /// The whole board between two clocks.
 ///
-/// `clock` is the number of clocks done, at most 2^48 + 16, and at most 2^48 inside a sequence.
-/// `in0` has bits 0 to 5 alone; `out` is the output latch; `ram` and `vram` are the 2,048 bytes
+/// `clock` is the number of clocks done, at most `CLOCK_LIMIT` + 16, and at most `CLOCK_LIMIT` inside
+/// a sequence. `in0` has bits 0 to 5 alone; `out` is the output latch; `ram` and `vram` are the bytes
 /// from 0000 and from 2000.
 #[derive(Debug, PartialEq, Eq, Drop)]
 pub struct BoardState {
@@ -23,8 +30,8 @@ pub struct BoardState {
     pub sound1: PokeyState,
     pub sound2: PokeyState,
     pub earom: EaromState,
-    pub ram: [u8; 2048],
-    pub vram: [u8; 2048],
+    pub ram: [u8; RAM_LEN],
+    pub vram: [u8; VECTOR_RAM_LEN],
 }
 
 impl Model for BoardState {
@@ -32,53 +39,13 @@ impl Model for BoardState {
 
     ghost Value = { BoardValue };
 
-    ghost view = { λ b. record {
-      clock = b.clock;
-      cpu = b.cpu;
-      out = b.out;
-      in0 = b.in0;
-      in3 = b.in3;
-      in4 = b.in4;
-      divider = b.divider;
-      vg = b.vg;
-      sound1 = b.sound1;
-      sound2 = b.sound2;
-      earom = b.earom;
-      ram = b.ram;
-      vram = b.vram;
-    } };
+    ghost use Rattle.board_base.specs.BoardFields.{board_view, board_fields};
 
-    ghost invariant = { λ b. IsBoard (record {
-      clock = b.clock;
-      cpu = b.cpu;
-      out = b.out;
-      in0 = b.in0;
-      in3 = b.in3;
-      in4 = b.in4;
-      divider = b.divider;
-      vg = b.vg;
-      sound1 = b.sound1;
-      sound2 = b.sound2;
-      earom = b.earom;
-      ram = b.ram;
-      vram = b.vram;
-    }) };
+    ghost view = { board_view };
 
-    ghost inverse = { λ b. record {
-      clock = b.clock;
-      cpu = b.cpu;
-      out = b.out;
-      in0 = b.in0;
-      in3 = b.in3;
-      in4 = b.in4;
-      divider = b.divider;
-      vg = b.vg;
-      sound1 = b.sound1;
-      sound2 = b.sound2;
-      earom = b.earom;
-      ram = b.ram;
-      vram = b.vram;
-    } };
+    ghost invariant = { λ b. IsBoard (board_view b) };
+
+    ghost inverse = { board_fields };
 }
 
 impl BoardState {
@@ -101,8 +68,8 @@ impl BoardState {
             sound1: PokeyState::power_on(),
             sound2: PokeyState::power_on(),
             earom: EaromState::power_on(),
-            ram: [0; 2048],
-            vram: [0; 2048],
+            ram: [0; RAM_LEN],
+            vram: [0; VECTOR_RAM_LEN],
         }
     }
 }

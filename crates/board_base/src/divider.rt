@@ -1,5 +1,8 @@
 use std::marker::Model;
 
+/// The clocks from a wrap of the divider to the next.
+pub const DIVIDER_PERIOD: u16 = 6144;
+
 /// The reset that the next opcode fetch takes.
 #[derive(Clone, Copy, Debug, PartialEq, Eq)]
 pub enum Pending {
@@ -10,7 +13,7 @@ pub enum Pending {
 
 /// The interrupt divider and the watchdog. This project's own profile.
 ///
-/// `phase` counts clocks up to 6,143, `dog` the wraps up to 7 since the watchdog was cleared.
+/// `phase` counts the clocks since the last wrap, so it is below `DIVIDER_PERIOD`; `dog` the wraps up to 7 since the watchdog was cleared.
 #[derive(Clone, Copy, Debug, PartialEq, Eq)]
 pub struct DividerState {
     pub phase: u16,

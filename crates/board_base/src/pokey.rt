@@ -33,68 +33,13 @@ impl Model for PokeyState {
 
     ghost Value = { PokeyValue };
 
-    ghost view = { λ p. record {
-      audf = p.audf;
-      audc = p.audc;
-      audctl = p.audctl;
-      skctl = p.skctl;
-      irqen = p.irqen;
-      irqst = p.irqst;
-      poly4 = p.poly4;
-      poly5 = p.poly5;
-      poly9 = p.poly9;
-      poly17 = p.poly17;
-      pre28 = p.pre28;
-      pre114 = p.pre114;
-      left = p.left;
-      tone = p.tone;
-      pass = p.pass;
-      pot = p.pot;
-      targets = p.targets;
-      last = p.last;
-    } };
+    ghost use Rattle.board_base.specs.PokeyFields.{pokey_view, pokey_fields};
 
-    ghost invariant = { λ p. IsPokey (record {
-      audf = p.audf;
-      audc = p.audc;
-      audctl = p.audctl;
-      skctl = p.skctl;
-      irqen = p.irqen;
-      irqst = p.irqst;
-      poly4 = p.poly4;
-      poly5 = p.poly5;
-      poly9 = p.poly9;
-      poly17 = p.poly17;
-      pre28 = p.pre28;
-      pre114 = p.pre114;
-      left = p.left;
-      tone = p.tone;
-      pass = p.pass;
-      pot = p.pot;
-      targets = p.targets;
-      last = p.last;
-    }) };
+    ghost view = { pokey_view };
 
-    ghost inverse = { λ p. record {
-      audf = p.audf;
-      audc = p.audc;
-      audctl = p.audctl;
-      skctl = p.skctl;
-      irqen = p.irqen;
-      irqst = p.irqst;
-      poly4 = p.poly4;
-      poly5 = p.poly5;
-      poly9 = p.poly9;
-      poly17 = p.poly17;
-      pre28 = p.pre28;
-      pre114 = p.pre114;
-      left = p.left;
-      tone = p.tone;
-      pass = p.pass;
-      pot = p.pot;
-      targets = p.targets;
-      last = p.last;
-    } };
+    ghost invariant = { λ p. IsPokey (pokey_view p) };
+
+    ghost inverse = { pokey_fields };
 }
 
 impl PokeyState {

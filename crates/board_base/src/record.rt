@@ -28,3 +28,20 @@ pub enum Record {
         clock: u64,
     },
 }
+
+impl Record {
+    ghost use Rattle.std.specs.Prelude.{◌≡◌};
+    ghost use Rattle.board_base.specs.Records.{clock_of};
+
+    /// The clock in which it came.
+    pub fn clock(&self) -> u64
+        ensures { result ≡ clock_of self.now }
+    {
+        match *self {
+            Record::Stroke { clock, .. }
+            | Record::Levels { clock, .. }
+            | Record::Latch { clock, .. }
+            | Record::WatchdogReset { clock } => clock,
+        }
+    }
+}

@@ -30,62 +30,13 @@ impl Model for VgState {
 
     ghost Value = { VgValue };
 
-    ghost view = { λ v. record {
-      halted = v.halted;
-      phase = v.phase;
-      pc = v.pc;
-      sp = v.sp;
-      colour = v.colour;
-      intensity = v.intensity;
-      lin = v.lin;
-      bin = v.bin;
-      pen = v.pen;
-      bytes = v.bytes;
-      stack = v.stack;
-      x = v.x;
-      y = v.y;
-      dx = v.dx;
-      dy = v.dy;
-      left = v.left;
-    } };
+    ghost use Rattle.board_base.specs.VgFields.{vg_view, vg_fields};
 
-    ghost invariant = { λ v. IsVg (record {
-      halted = v.halted;
-      phase = v.phase;
-      pc = v.pc;
-      sp = v.sp;
-      colour = v.colour;
-      intensity = v.intensity;
-      lin = v.lin;
-      bin = v.bin;
-      pen = v.pen;
-      bytes = v.bytes;
-      stack = v.stack;
-      x = v.x;
-      y = v.y;
-      dx = v.dx;
-      dy = v.dy;
-      left = v.left;
-    }) };
+    ghost view = { vg_view };
 
-    ghost inverse = { λ v. record {
-      halted = v.halted;
-      phase = v.phase;
-      pc = v.pc;
-      sp = v.sp;
-      colour = v.colour;
-      intensity = v.intensity;
-      lin = v.lin;
-      bin = v.bin;
-      pen = v.pen;
-      bytes = v.bytes;
-      stack = v.stack;
-      x = v.x;
-      y = v.y;
-      dx = v.dx;
-      dy = v.dy;
-      left = v.left;
-    } };
+    ghost invariant = { λ v. IsVg (vg_view v) };
+
+    ghost inverse = { vg_fields };
 }
 
 impl VgState {

@@ -1,8 +1,6 @@
 -- Laws of pieces that a sink took one after another, the last of them perhaps in part.
-use Rattle.std.proofs.Common.{◌≡◌, ℕ, ◌+◌, ◌<◌, List, [], ◌∷◌, ◌++◌, Option, length, take, drop, get_or, suc, zero, ap, sym, ◌∙◌, refl}
-use Rattle.std.proofs.Math.Seq.{take-append-add, split_at}
-use Rattle.std.proofs.lemmas.Grind.{flat_map-append}
-use Rattle.std.specs.List.{flat_map}
+use Rattle.std.proofs.Common.{◌≡◌, ℕ, ◌+◌, List, [], ◌∷◌, ◌++◌, Option, length, take, suc, zero, ap, sym, ◌∙◌, refl}
+use Rattle.std.proofs.Math.Seq.{take-append-add}
 use Rattle.outside_io.specs.Known.{grown}
 use Rattle.outside_io.proofs.KnownLaws.{grown-twice}
 
@@ -24,17 +22,3 @@ took_then out0 out1 out2 first rest whole (k, took) = (
   length first + k,
   took ∙ ap (λ out. grown out (take k rest)) whole ∙ grown-twice out0 first (take k rest) ∙ ap (grown out0) (sym (take-append-add first rest k)),
 )
-
--- a list of pieces around one of them
-flat_map-around : {X : Type 0} (f : X → List ℕ) (xs : List X) (i : ℕ) (x : X) → i < length xs → x ≡ get_or xs i x
-    → flat_map f xs ≡ flat_map f (take i xs) ++ (f x ++ flat_map f (drop (suc i) xs))
-flat_map-around f xs i x inside here =
-    let parts : xs ≡ take i xs ++ x ∷ drop (suc i) xs = split_at xs i x inside ∙ ap (λ y. take i xs ++ y ∷ drop (suc i) xs) (sym here) in
-    ap (flat_map f) parts ∙ flat_map-append f (take i xs) (x ∷ drop (suc i) xs)
-
--- In a loop over pieces: after the whole of those before, a part of this one is a part of them all.
-pub takes_part : {X : Type 0} (f : X → List ℕ) (xs : List X) (i : ℕ) (x : X) (out0 out1 out2 : Option (List ℕ)) → i < length xs → x ≡ get_or xs i x
-    → out1 ≡ grown out0 (flat_map f (take i xs)) → (k : ℕ) × (out2 ≡ grown out1 (take k (f x)))
-    → (k : ℕ) × (out2 ≡ grown out0 (take k (flat_map f xs)))
-takes_part f xs i x out0 out1 out2 inside here whole part =
-    rw (flat_map-around f xs i x inside here) (took_then out0 out1 out2 _ _ whole (took_first out1 out2 (f x) _ part))

@@ -2,10 +2,10 @@
 use Rattle.std.specs.Prelude.{ℕ, Bool, true, false, List, Some, None}
 use Rattle.std.specs.Prelude.{Option}
 use Rattle.std.specs.Prelude.{Result, Ok}
+use Rattle.board_base.specs.Counts.{one_more}
 use Rattle.outside_io.specs.declared.answers.Loaded.{Loaded}
 use Rattle.outside_io.specs.declared.answers.Loaded.TheVariants.{Absent}
 use Rattle.outside_io.specs.declared.answers.ShelfFault.{ShelfFault}
-use Rattle.outside_io.specs.Causes.{counted}
 use Rattle.outside_io.specs.Content.{content_of}
 use Rattle.outside_io.specs.Shelf.{Files, Kept}
 
@@ -22,5 +22,5 @@ told_files false files = Some (content_of files)
 
 -- the shelf after a load, which counts an absence and changes nothing else
 abbrev pub after_steady_load : SteadyValue → Result Loaded ShelfFault → SteadyValue
-after_steady_load shelf (Ok Absent) = record shelf { absences = counted shelf.absences }
+after_steady_load shelf (Ok Absent) = record shelf { absences = one_more shelf.absences }
 after_steady_load shelf _ = shelf

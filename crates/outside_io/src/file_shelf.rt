@@ -1,5 +1,9 @@
 //! A shelf over the files of a runtime.
-ghost use Rattle.std.specs.Prelude.{◌≡◌, None};
+ghost use Rattle.std.specs.Prelude.{◌≡◌, ◌≤◌, [], ◌∷◌, Some, OnOk, OnErr, IfSome};
+ghost use Rattle.outside_io.specs.Causes.{HasCause};
+ghost use Rattle.outside_io.specs.FileCounts.{untold_files, untold_stores, after_file_load, after_file_store};
+ghost use Rattle.outside_io.specs.Known.{grown};
+ghost use Rattle.outside_io.specs.Shelf.{Loads, LoadFaults, LoadAbsences, KeepsOthers};
 
 use crate::answers::{Failed, Loaded, ShelfFault};
 use crate::outside::Shelf;
@@ -40,16 +44,22 @@ impl<'a, R: Files> FileShelf<'a, R> {
 }
 
 impl<'a, R: Files> Shelf for FileShelf<'a, R> {
-    ghost files = { λ _. None };
+    ghost files = { λ _. untold_files };
 
-    ghost stores = { λ _. None };
+    ghost stores = { λ _. untold_stores };
 
     ghost faults = { λ s. s.faults };
 
     ghost absences = { λ s. s.absences };
 
     /// A path to a folder, or one that may not be read, is a fault.
-    fn load(&mut self, name: &str, limit: usize, into: &mut Vec<u8>) -> Result<Loaded, ShelfFault> {
+    fn load(&mut self, name: &str, limit: usize, into: &mut Vec<u8>) -> Result<Loaded, ShelfFault>
+        requires { into.old.items ≡ [] }
+        ensures content { Loads untold_files name.now limit result into.new.items }
+        ensures cause { LoadFaults self.old.faults self.new.faults result }
+        ensures absences { LoadAbsences self.old.absences self.new.absences result }
+        ensures after { self.new ≡ after_file_load self.old result }
+    {
         match read_opened(fs::open(self.rt, name), limit, into) {
             Ok(Loaded::Found) => Ok(Loaded::Found),
             Ok(Loaded::Absent) => {
@@ -66,7 +76,15 @@ impl<'a, R: Files> Shelf for FileShelf<'a, R> {
 
     /// What stood under the name is cut off first: after an `Err` a part of the bytes may stand
     /// there.
-    fn store(&mut self, name: &str, bytes: &[u8]) -> Result<(), Failed> {
+    fn store(&mut self, name: &str, bytes: &[u8]) -> Result<(), Failed>
+        ensures stored { OnOk result (untold_stores ≡ grown untold_stores ((name.now, bytes.now) ∷ [])) }
+        ensures not_stored { OnErr result (untold_stores ≡ untold_stores) }
+        ensures file { OnOk result (IfSome untold_files (λ now. now name.now ≡ Some bytes.now)) }
+        ensures others { KeepsOthers untold_files untold_files name.now }
+        ensures cause { HasCause self.old.faults self.new.faults result }
+        ensures absences { self.old.absences ≤ self.new.absences }
+        ensures after { self.new ≡ after_file_store self.old result }
+    {
         match write_created(fs::create(self.rt, name), bytes) {
             Ok(()) => Ok(()),
             Err(_) => {

@@ -1,7 +1,7 @@
 //! A sink over a stream.
 ghost use Rattle.std.specs.Prelude.{◌≡◌, ℕ, [], take, OnOk, OnErr, IsOk, None};
 ghost use Rattle.std.specs.Io.KnownBytes.{Appends};
-ghost use Rattle.outside_io.specs.Causes.{HasCause};
+ghost use Rattle.outside_io.specs.Causes.{HasCause, faults_after};
 ghost use Rattle.outside_io.specs.Sink.{Takes};
 
 use crate::answers::SinkFault;
@@ -46,6 +46,7 @@ impl<W: Write + Drop> Sink for TextSink<W> {
         ensures taken { Takes None None bytes.now result }
         ensures cause { HasCause self.old.1 self.new.1 result }
         ensures empty { bytes.now ≡ [] → IsOk result }
+        ensures counted { self.new.1 ≡ faults_after self.old.1 result }
         ensures passed { OnOk result (Appends (W.contents self.old.0) (W.contents self.new.0) bytes.now) }
         ensures part { OnErr result ((k : ℕ) × Appends (W.contents self.old.0) (W.contents self.new.0) (take k bytes.now)) }
     {
