@@ -1,4 +1,3 @@
-mod DigitLaws
 mod Each
 mod LineLaws
 pub mod LogLaws

@@ -5,7 +5,7 @@ use Rattle.std.specs.Fmt.{decimal, signed_decimal}
 use Rattle.std.proofs.lemmas.Int.{to_z-of_z}
 use Rattle.board_base.specs.declared.record.Record.{Record}
 use Rattle.board_base.specs.declared.record.Record.TheVariants.{Stroke}
-use Rattle.log_text.specs.declared.part.Part.{Part}
+use Rattle.board_base.specs.declared.part.Part.{Part}
 use Rattle.log_text.specs.Lines.{line, record_text}
 
 -- seven words behind a letter

@@ -1,12 +1,14 @@
 -- The next record of four lists.
-use Rattle.std.proofs.Common.{◌≡◌, ◌≢◌, ℕ, ◌<◌, ◌≤◌, ◌⊎◌, inl, inr, List, [], ◌∷◌, ◌++◌, length, min, refl, ap, ◌∙◌, sym, subst, arith, suc, append_assoc}
+use Rattle.std.proofs.Common.{◌≡◌, ◌≢◌, ℕ, ◌<◌, ◌≤◌, List, [], ◌∷◌, ◌++◌, length, refl, ap, ◌∙◌, sym, subst, arith, suc, append_assoc}
 use Rattle.std.specs.Prelude.{Option, Some, None}
 use Rattle.std.specs.List.Sorted.{IsNonDecreasingBy}
 use Rattle.board_base.specs.declared.record.Record.{Record}
-use Rattle.log_text.specs.declared.part.Part.{Part}
-use Rattle.log_text.specs.declared.part.Part.TheVariants.{Generator, Pokey1, Pokey2, Board}
-use Rattle.log_text.specs.LogText.{PartRecord, clock_of, by_clock, from_part, merged}
-use Rattle.log_text.specs.Merging.{first_clock, sooner_of, earliest_of, TakesAt, AreSorted}
+use Rattle.board_base.specs.declared.part.Part.{Part}
+use Rattle.board_base.specs.declared.part.Part.TheVariants.{Generator, Pokey1, Pokey2, Board}
+use Rattle.board_base.specs.Records.{clock_of}
+use Rattle.log_text.specs.LogText.{PartRecord, by_clock, from_part, merged}
+use Rattle.bit_words.specs.Sooner.{sooner_of}
+use Rattle.log_text.specs.Merging.{first_clock, earliest_of, TakesAt, AreSorted}
 use Rattle.log_text.proofs.Each.{Each, each-append, each-map, each-weaker, least_first, rising_tail}
 use Rattle.log_text.proofs.SortLaws.{clock, by_clock-first}
 
@@ -79,25 +81,13 @@ NotBefore t (Some u) = t ≤ u
 
 -- what isn't after the sooner clock is after neither
 sooner_bound : (t : ℕ) (x y : Option ℕ) → NotBefore t (sooner_of x y) → NotBefore t x × NotBefore t y
+unfolding sooner_of
 sooner_bound t None y at = (tt, at)
 sooner_bound t (Some u) None at = (at, tt)
 sooner_bound t (Some u) (Some w) at = (omega arith, omega arith)
 
--- the sooner clock is one of the two
-sooner_one : (t : ℕ) (x y : Option ℕ) → sooner_of x y ≡ Some t → (x ≡ Some t) ⊎ (y ≡ Some t)
-sooner_one t None y e = inr e
-sooner_one t (Some u) None e = inl e
-sooner_one t (Some u) (Some w) e =
-    let least : min u w ≡ t = cc in
-    elim (min_one u w t least) as (λ _. (Some u ≡ Some t) ⊎ (Some w ≡ Some t)) [
-      | inl same ↦ inl (ap Some same)
-      | inr same ↦ inr (ap Some same)
-    ]
-  where
-    min_one : (u w t : ℕ) → min u w ≡ t → (u ≡ t) ⊎ (w ≡ t)
-    min_one u w t least = grind arith
-
 sooner_none : (x y : Option ℕ) → sooner_of x y ≡ None → (x ≡ None) × (y ≡ None)
+unfolding sooner_of
 sooner_none None y e = (refl, e)
 sooner_none (Some u) None e = cc
 sooner_none (Some u) (Some w) e = cc
@@ -116,35 +106,22 @@ after_first t records rising at other = from_first (suc t) records rising (later
     later None at other = tt
     later (Some u) at other = let differ : u ≢ t = λ e. other (ap Some e) in omega arith
 
--- t is after the first clock of no list, and is that of one of them
+-- t is after the first clock of no list
 record IsEarliest (t : ℕ) (v a b d : List Record) : Type 0 where
   vector : NotBefore t (first_clock v)
   sound1 : NotBefore t (first_clock a)
   sound2 : NotBefore t (first_clock b)
   board : NotBefore t (first_clock d)
-  held : (first_clock v ≡ Some t) ⊎ (first_clock a ≡ Some t) ⊎ (first_clock b ≡ Some t) ⊎ (first_clock d ≡ Some t)
 
 is_earliest : (t : ℕ) (v a b d : List Record) → Some t ≡ earliest_of v a b d → IsEarliest t v a b d
 is_earliest t v a b d e =
     let in_all = sooner_bound t (first_clock v) _ (subst (NotBefore t) e (least t)) in
     let in_three = sooner_bound t (first_clock a) _ in_all.1 in
     let in_two = sooner_bound t (first_clock b) (first_clock d) in_three.1 in
-    record { vector = in_all.0; sound1 = in_three.0; sound2 = in_two.0; board = in_two.1; held = held_by }
+    record { vector = in_all.0; sound1 = in_three.0; sound2 = in_two.0; board = in_two.1 }
   where
     least : (t : ℕ) → NotBefore t (Some t)
     least t = omega arith
-
-    held_by : (first_clock v ≡ Some t) ⊎ (first_clock a ≡ Some t) ⊎ (first_clock b ≡ Some t) ⊎ (first_clock d ≡ Some t)
-    held_by = elim (sooner_one t (first_clock v) _ (sym e)) [
-      | inl here ↦ inl here
-      | inr others ↦ elim (sooner_one t (first_clock a) _ others) [
-        | inl here ↦ inr (inl here)
-        | inr others ↦ elim (sooner_one t (first_clock b) (first_clock d) others) [
-          | inl here ↦ inr (inr (inl here))
-          | inr here ↦ inr (inr (inr here))
-        ]
-      ]
-    ]
 
 -- Each of these is about a call that found the earliest clock, and took a record of it from the first list that had one.
 
@@ -213,18 +190,6 @@ next_board t v a b d v' a' b' rest made sorted earliest (same_v, not_v) (same_a,
 -- one record less is left
 pub one_less : (made : PartRecord) (before after : List PartRecord) → before ≡ made ∷ after → length after < length before
 one_less made before after split = let same = ap length split in omega arith
-
--- some list has a record of the earliest clock
-pub next_some : (t : ℕ) (v a b d v' a' b' d' : List Record) → Some t ≡ earliest_of v a b d
-    → TakesAt t v v' None → TakesAt t a a' None → TakesAt t b b' None → TakesAt t d d' None → ⊥
-next_some t v a b d v' a' b' d' earliest (_, not_v) (_, not_a) (_, not_b) (_, not_d) =
-    elim (is_earliest t v a b d earliest).held [
-      | inl here ↦ not_v here
-      | inr others ↦ elim others [
-        | inl here ↦ not_a here
-        | inr others ↦ elim others [ inl here ↦ not_b here | inr here ↦ not_d here ]
-      ]
-    ]
 
 -- where no clock is the earliest, no record is left
 pub next_none : (v a b d : List Record) → None ≡ earliest_of v a b d → merged v a b d ≡ []

@@ -4,7 +4,7 @@ use Rattle.board_base.specs.declared.record.Record.{Record}
 use Rattle.outside_io.specs.Known.{grown}
 use Rattle.outside_io.proofs.KnownLaws.{grown-nothing, grown-twice}
 use Rattle.outside_io.proofs.TakesLaws.{took_first, took_then}
-use Rattle.log_text.specs.declared.part.Part.{Part}
+use Rattle.board_base.specs.declared.part.Part.{Part}
 use Rattle.log_text.specs.Lines.{record_text}
 use Rattle.log_text.specs.LogText.{PartRecord, log_text, merged}
 use Rattle.log_text.proofs.LogLaws.{log_text-more, log_text-around}

@@ -1,4 +1,3 @@
 pub mod Lines
 pub mod LogText
-pub mod Trails
 pub mod Merging

@@ -4,8 +4,8 @@ use Rattle.std.specs.Fmt.{digit_glyph, signed_decimal}
 use Rattle.std.specs.List.{join_with_byte}
 use Rattle.board_base.specs.declared.record.Record.{Record}
 use Rattle.board_base.specs.declared.record.Record.TheVariants.{Stroke, Levels, Latch, WatchdogReset}
-use Rattle.log_text.specs.declared.part.Part.{Part}
-use Rattle.log_text.specs.declared.part.Part.TheVariants.{Pokey2}
+use Rattle.board_base.specs.declared.part.Part.{Part}
+use Rattle.board_base.specs.declared.part.Part.TheVariants.{Pokey2}
 
 -- words with a blank between each two, and LF at the end
 abbrev pub line : List (List ℕ) → List ℕ

@@ -2,9 +2,9 @@
 use Rattle.std.specs.Prelude.{◌≡◌, ℕ, ◌≤◌, List, [], ◌∷◌, ◌++◌, codes, decimal, map, AllPairs, Some, None, nat_lt, ◌==◌, if◌then◌else◌}
 use Rattle.std.specs.List.{flat_map, filter_map}
 use Rattle.board_base.specs.declared.record.Record.{Record}
-use Rattle.board_base.specs.declared.record.Record.TheVariants.{Stroke, Levels, Latch, WatchdogReset}
-use Rattle.log_text.specs.declared.part.Part.{Part}
-use Rattle.log_text.specs.declared.part.Part.TheVariants.{Generator, Pokey1, Pokey2, Board}
+use Rattle.board_base.specs.declared.part.Part.{Part}
+use Rattle.board_base.specs.declared.part.Part.TheVariants.{Generator, Pokey1, Pokey2, Board}
+use Rattle.board_base.specs.Records.{clock_of}
 use Rattle.log_text.specs.Lines.{line, hex_byte, hex_word, record_text}
 
 -- a record and the part of the board that made it
@@ -14,13 +14,6 @@ PartRecord = Part × Record
 -- the text of one list of records: their lines, in order
 unfoldable pub log_text : List PartRecord → List ℕ
 log_text records = flat_map (λ made. record_text made.0 made.1) records
-
--- the clock in which a record came
-abbrev pub clock_of : Record → ℕ
-clock_of (Stroke clock x0 y0 x1 y1 colour intensity) = clock
-clock_of (Levels clock l1 l2 l3 l4) = clock
-clock_of (Latch clock value) = clock
-clock_of (WatchdogReset clock) = clock
 
 -- a record put behind those of earlier clocks and before those of its own clock and of later ones
 unfoldable pub placed : PartRecord → List PartRecord → List PartRecord

@@ -1,20 +1,15 @@
 -- How the next record of four lists is found.
-use Rattle.std.specs.Prelude.{◌≡◌, ◌≢◌, ℕ, List, [], ◌∷◌, min}
+use Rattle.std.specs.Prelude.{◌≡◌, ◌≢◌, ℕ, List, [], ◌∷◌}
 use Rattle.std.specs.Prelude.{Option, Some, None}
 use Rattle.std.specs.List.Sorted.{IsNonDecreasingBy}
 use Rattle.board_base.specs.declared.record.Record.{Record}
-use Rattle.log_text.specs.LogText.{clock_of}
+use Rattle.bit_words.specs.Sooner.{sooner_of}
+use Rattle.board_base.specs.Records.{clock_of}
 
 -- the clock of the first record
 abbrev pub first_clock : List Record → Option ℕ
 first_clock [] = None
 first_clock (first ∷ others) = Some (clock_of first)
-
--- the lesser of the clocks that are there
-abbrev pub sooner_of : Option ℕ → Option ℕ → Option ℕ
-sooner_of None other = other
-sooner_of (Some clock) None = Some clock
-sooner_of (Some clock) (Some other) = Some (min clock other)
 
 -- the least of the first clocks of four lists
 abbrev pub earliest_of : List Record → List Record → List Record → List Record → Option ℕ

@@ -5,12 +5,10 @@ mod last;
 mod line;
 mod merge;
 mod merged;
-mod part;
 mod record_line;
 
 pub use last::{write_cost, write_end, write_jam};
 pub use merged::{one_log, write_merged};
-pub use part::Part;
 
 #[cfg(test)]
 mod tests;

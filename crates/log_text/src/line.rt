@@ -6,8 +6,8 @@ use arrayvec::ArrayVec;
 use std::marker::Model;
 
 /// Room for the bytes of the longest line, that of a stroke: a letter, three numbers of up to 20
-/// digits and four of up to 20 digits and a sign, each behind a blank, and LF.
-const LONGEST: usize = 153;
+/// digits and four of up to 10 digits and a sign, each behind a blank, and LF.
+const LONGEST: usize = 113;
 
 /// A line of the log while it is put together.
 #[derive(Drop)]
@@ -48,39 +48,35 @@ impl Line {
         self
     }
 
-    /// The decimal digits of a number, without leading zeros. It calls itself once for each digit.
-    #[tactic(auto, using(crate::proofs::DigitLaws::one_digit, crate::proofs::DigitLaws::more_digits, crate::proofs::DigitLaws::length_front))]
-    fn digits(self, n: u64) -> Line
-        requires { length self + length (decimal n) ≤ LONGEST }
-        ensures text { result ≡ self ++ decimal n }
-        ensures len { length result ≡ length self + length (decimal n) }
+    /// A piece of text more.
+    fn text(mut self, text: &[u8]) -> Line
+        requires { length self + length text.now ≤ LONGEST }
+        ensures text { result ≡ self ++ text.now }
+        ensures len { length result ≡ length self + length text.now }
     {
-        if n < 10 {
-            return self.byte(b'0' + n as u8);
-        }
-        self.digits(n / 10).byte(b'0' + (n % 10) as u8)
+        // There is room for it, so it is put.
+        let _put = self.bytes.try_extend_from_slice(text).is_ok();
+        self
     }
 
     /// A blank and a number.
-    #[tactic(auto, using(crate::proofs::DigitLaws::length_digits))]
     pub(crate) fn number(self, n: u64) -> Line
         requires { length self + 21 ≤ LONGEST }
         ensures text { result ≡ self ++ 32 ∷ decimal n }
         ensures len { length result ≤ length self + 21 }
     {
-        self.byte(b' ').digits(n)
+        let mut digits = itoa::Buffer::new();
+        self.byte(b' ').text(digits.format(n).as_bytes())
     }
 
     /// A blank and a number, with `-` where it is negative.
-    #[tactic(auto, using(crate::proofs::DigitLaws::length_digits))]
     pub(crate) fn signed(self, n: i32) -> Line
-        requires { length self + 22 ≤ LONGEST }
+        requires { length self + 12 ≤ LONGEST }
         ensures text { result ≡ self ++ 32 ∷ signed_decimal n }
-        ensures len { length result ≤ length self + 22 }
+        ensures len { length result ≤ length self + 12 }
     {
-        let line = self.byte(b' ');
-        let line = if n < 0 { line.byte(b'-') } else { line };
-        line.digits(u64::from(n.unsigned_abs()))
+        let mut digits = itoa::Buffer::new();
+        self.byte(b' ').text(digits.format(n).as_bytes())
     }
 
     /// Two hexadecimal digits.

@@ -1,10 +1,10 @@
 ghost use Rattle.std.specs.Prelude.{◌≡◌, length};
 ghost use Rattle.std.specs.Iterator.{YieldsFirst, item_count};
-ghost use Rattle.log_text.specs.LogText.{clock_of, merged};
-ghost use Rattle.log_text.specs.Merging.{first_clock, sooner_of, earliest_of, TakesAt, AreSorted};
+ghost use Rattle.log_text.specs.LogText.{merged};
+ghost use Rattle.log_text.specs.Merging.{first_clock, earliest_of, TakesAt, AreSorted};
 
-use crate::part::Part;
-use board_base::Record;
+use bit_words::sooner;
+use board_base::{Part, Record};
 
 /// The records of four trails by clock, within a clock in the order of the parts.
 #[derive(Clone, Copy)]
@@ -15,33 +15,11 @@ pub(crate) struct Merge<'a> {
     pub(crate) board: &'a [Record],
 }
 
-/// The clock in which a record came.
-pub(crate) fn clock(record: &Record) -> u64
-    ensures { result ≡ clock_of «record».now }
-{
-    match *record {
-        Record::Stroke { clock, .. }
-        | Record::Levels { clock, .. }
-        | Record::Latch { clock, .. }
-        | Record::WatchdogReset { clock } => clock,
-    }
-}
-
 /// The clock of the first record.
 fn first(records: &[Record]) -> Option<u64>
     ensures { result ≡ first_clock records.now }
 {
-    records.first().map(clock)
-}
-
-/// The lesser of the clocks that are there.
-fn sooner(first: Option<u64>, second: Option<u64>) -> Option<u64>
-    ensures { result ≡ sooner_of first second }
-{
-    match (first, second) {
-        (Some(first), Some(second)) => Some(first.min(second)),
-        (None, clock) | (clock, None) => clock,
-    }
+    records.first().map(Record::clock)
 }
 
 /// Takes the first record where it came in this clock.
@@ -49,7 +27,7 @@ fn take_at(records: &mut &[Record], at: u64) -> Option<Record>
     ensures { TakesAt at records.old.now records.new.now result }
 {
     let (record, others) = records.split_first()?;
-    if clock(record) != at {
+    if record.clock() != at {
         return None;
     }
     *records = others;
@@ -75,6 +53,7 @@ impl Iterator for Merge<'_> {
 
     ghost remaining = { item_count (λ m. merged m.vector.now m.sound1.now m.sound2.now m.board.now) };
 
+    #[tactic(auto, unfolding(bit_words::specs::Sooner::sooner_of))]
     fn next(&mut self) -> Option<(Part, Record)> {
         let Some(clock) = self.earliest() else {
             return None;

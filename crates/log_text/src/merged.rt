@@ -1,13 +1,12 @@
 ghost use Rattle.std.specs.Prelude.{List};
+ghost use Rattle.board_base.specs.Records.{IsTrailOf};
 ghost use Rattle.log_text.specs.LogText.{PartRecord, IsInOrder, MergedIsOneLog, merged_text};
-ghost use Rattle.log_text.specs.Trails.{IsTrailOf};
 ghost use Rattle.outside_io.specs.Causes.{HasCause};
 ghost use Rattle.outside_io.specs.Sink.{Takes};
 
 use crate::merge::Merge;
-use crate::part::Part;
 use crate::record_line::record_line;
-use board_base::Trails;
+use board_base::{Part, Trails};
 use outside_io::{Sink, SinkFault};
 
 /// Writes a line for each record, earlier clocks first. Lines of one clock come as the parts move in

@@ -2,8 +2,7 @@ ghost use Rattle.std.specs.Prelude.{◌≡◌, [], ◌∷◌};
 ghost use Rattle.log_text.specs.Lines.{record_text, levels_letter};
 
 use crate::line::Line;
-use crate::part::Part;
-use board_base::Record;
+use board_base::{Part, Record};
 
 /// The letter of a line of levels.
 fn letter(part: Part) -> u8

@@ -1,11 +1,9 @@
 ghost use Rattle.std.specs.Prelude.{◌≡◌, All, IfOk, IsTrue};
 ghost use Rattle.std.specs.List.Sorted.{IsNonDecreasingBy};
-ghost use Rattle.log_text.specs.LogText.{clock_of};
-ghost use Rattle.log_text.specs.Trails.{Makes, IsTrailOf};
+ghost use Rattle.board_base.specs.Records.{clock_of, Makes, IsTrailOf};
 
-use crate::merge::clock;
-use crate::{Part, write_cost, write_end, write_jam, write_merged};
-use board_base::{OutOfMemory, Record, Trail, Trails};
+use crate::{write_cost, write_end, write_jam, write_merged};
+use board_base::{OutOfMemory, Part, Record, Trail, Trails};
 use outside_io::{MemorySink, SinkFault};
 use std::alloc::Global;
 use std::process::Abort;
@@ -35,7 +33,7 @@ fn rises(records: &[Record]) -> bool
     ensures { IsTrue result → IsNonDecreasingBy clock_of records.now }
 {
     for i in 1..records.len() {
-        if clock(&records[i]) < clock(&records[i - 1]) {
+        if records[i].clock() < records[i - 1].clock() {
             return false;
         }
     }

@@ -1,5 +1,5 @@
 use Rattle.std.specs.List.{AllWithin}
-use Rattle.log_text.specs.Trails.{Makes}
+use Rattle.board_base.specs.Records.{Makes}
 use Rattle.log_text.proofs.tests.all_made.Given as goal
 
 -- the part makes each record so far

@@ -1,6 +1,6 @@
 use Rattle.std.proofs.Common.{arith}
 use Rattle.std.proofs.lemmas.List.Sorted.{IsNonDecreasingBy-from_all_adjacent}
-use Rattle.log_text.specs.LogText.{clock_of}
+use Rattle.board_base.specs.Records.{clock_of}
 use Rattle.log_text.proofs.tests.rises.Goals as goal
 
 pub returns : goal.returns

@@ -1,6 +1,6 @@
 use Rattle.std.specs.List.{AllAdjacentBelow}
 use Rattle.std.proofs.Common.{◌≤◌}
-use Rattle.log_text.specs.LogText.{clock_of}
+use Rattle.board_base.specs.Records.{clock_of}
 use Rattle.log_text.proofs.tests.rises.Given as goal
 
 -- no clock so far is less than the one before

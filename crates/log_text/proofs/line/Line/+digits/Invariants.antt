@@ -1,4 +1,0 @@
-use Rattle.log_text.proofs.line.Line.+digits.Given as goal
-
-abbrev pub decreases-digits : goal.decreases-digits
-decreases-digits l = l.n
