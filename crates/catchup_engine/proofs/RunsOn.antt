@@ -70,13 +70,6 @@ open-before limit b boundary open_yet = before b.cpu.jam b.cpu.mid boundary open
     before None None e h = leb-false limit b.wires.clock h
     before None (Some m) e h = cc
 
-pub open-running : (limit : ℕ) (b : Board) → is_over limit b ≡ false → b.cpu.jam ≡ None
-open-running limit b open_yet = running b.cpu.jam open_yet
-  where
-    running : (jam : Option ℕ) → is_some jam || (is_none b.cpu.mid && nat_le limit b.wires.clock) ≡ false → jam ≡ None
-    running None h = refl
-    running (Some o) h = cc
-
 -- a run goes on by one turn
 pub goes_on : (limit : ℕ) (start now next : EngineValue) → RunsOn limit start now → is_over limit now.board ≡ false
     → Turned 0 now.board next.board → next.board.cpu.mid ≡ None → next.room ≡ now.room → RunsOn limit start next

@@ -1,5 +1,6 @@
 -- Runs of the lockstep board.
 use Rattle.std.specs.Prelude.{ℕ, ◌+◌, ◌-◌, Bool, ◌&&◌, ◌||◌, nat_le, is_some, is_none, min, ◌≤◌, length, Option, Some, None, IfSome, if◌then◌else◌, zero, suc}
+use Rattle.board_base.specs.declared.divider.TheConstants.{DIVIDER_PERIOD}
 use Rattle.board_base.specs.Ticks.{times}
 use Rattle.cpu_core.specs.Places.{given_by}
 use Rattle.catchup_engine.specs.declared.stop.Stop.{Stop}
@@ -33,7 +34,7 @@ run_to limit b = times step (steps_until (is_over limit) (most_steps limit b) b)
 
 -- a run ends with the window too: at the first boundary after the divider's next wrap
 abbrev pub window_limit : ℕ → Board → ℕ
-window_limit limit b = min limit (b.wires.clock + (6144 - b.wires.divider.phase))
+window_limit limit b = min limit (b.wires.clock + (DIVIDER_PERIOD - b.wires.divider.phase))
 
 -- why a run ended
 abbrev pub cause_at : Option ℕ → ℕ → Board → Stop

@@ -1,6 +1,8 @@
 -- The lockstep board without its processor: what stands on the wires between two clocks, and the records made since the
 -- last clearing. The map and the order within a clock are this project's own profile.
 use Rattle.std.specs.Prelude.{ℕ, ◌+◌, ◌-◌, ◌%◌, List, [], ◌∷◌, ◌++◌, take, drop, slice_index, slice_set}
+use Rattle.board_base.specs.declared.divider.TheConstants.{DIVIDER_PERIOD}
+use Rattle.board_base.specs.declared.vector_memory.TheConstants.{VECTOR_RAM_LEN, VECTOR_ROM_LEN}
 use Rattle.board_base.specs.declared.record.Record.{Record}
 use Rattle.board_base.specs.declared.record.Record.TheVariants.{Latch, WatchdogReset}
 use Rattle.board_base.specs.declared.divider.Pending.{Pending}
@@ -38,7 +40,7 @@ pub record Wires : Type 0 where
 
 -- a clock of the divider; of its lines only the phase moves so far
 abbrev pub phase_moved : DividerValue → DividerValue
-phase_moved d = record d { phase = (d.phase + 1) % 6144 }
+phase_moved d = record d { phase = (d.phase + 1) % DIVIDER_PERIOD }
 
 -- the devices tick, and the clock counts as begun
 unfoldable pub ticked : Wires → Wires
@@ -48,7 +50,7 @@ ticked w = record w { clock = w.clock + 1; divider = phase_moved w.divider }
 abbrev pub byte_in : Region → Wires → ℕ
 byte_in (region.Ram k) w = slice_index w.ram k
 byte_in (region.VectorRam k) w = slice_index w.memory k
-byte_in (region.VectorRom k) w = slice_index w.memory (2048 + k)
+byte_in (region.VectorRom k) w = slice_index w.memory (VECTOR_RAM_LEN + k)
 byte_in (region.ProgramRom k) w = slice_index w.program k
 byte_in _ w = 255
 
@@ -98,8 +100,8 @@ wires_of image b = record {
   sound2 = b.sound2;
   earom = b.earom;
   ram = b.ram;
-  memory = b.vram ++ take 14336 image;
-  program = drop 14336 image;
+  memory = b.vram ++ take VECTOR_ROM_LEN image;
+  program = drop VECTOR_ROM_LEN image;
   strokes = [];
   levels1 = [];
   levels2 = [];
@@ -121,5 +123,5 @@ board_of c w = record {
   sound2 = w.sound2;
   earom = w.earom;
   ram = w.ram;
-  vram = take 2048 w.memory;
+  vram = take VECTOR_RAM_LEN w.memory;
 }

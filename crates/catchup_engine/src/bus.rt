@@ -4,8 +4,9 @@ ghost use Rattle.catchup_engine.specs.Bus.{BusValue, BusStep, in_clock, room_of}
 ghost use Rattle.catchup_engine.specs.Wires.{Wires, ticked, byte_read, byte_put, reset_begun, wires_of, board_of};
 
 use board_base::{
-    BoardState, CpuState, DividerState, EaromState, OutOfMemory, Pending, PokeyState, Record,
-    Trail, Trails, VectorMemory, VgState,
+    BoardState, CLOCK_LIMIT, CpuState, DIVIDER_PERIOD, DividerState, EaromState, OutOfMemory,
+    Pending, PokeyState, Record, Trail, Trails, VECTOR_RAM_LEN, VECTOR_ROM_LEN, VectorMemory,
+    VgState,
 };
 use board_map::{Region, region};
 use cpu_core::Bus;
@@ -14,9 +15,12 @@ use std::alloc::Global;
 use std::marker::Model;
 use tape_ports::Tape;
 
-/// The records that each trail has room for: a window has at most 6,144 clocks to the divider's
-/// wrap and six more, and a clock makes one record of each part at most.
-const ROOM: usize = 6160;
+/// The records that each trail has room for: a window has at most `DIVIDER_PERIOD` clocks to the
+/// divider's wrap and six more, and a clock makes one record of each part at most.
+pub const TRAIL_ROOM: usize = 6160;
+
+/// The clocks from a wrap of the divider to the next, as a count of clocks.
+const PERIOD: u64 = DIVIDER_PERIOD as u64;
 
 /// All of the board but its processor.
 ///
@@ -46,6 +50,9 @@ pub struct BoardBus {
 
 impl Model for BoardBus {
     ghost use Rattle.std.specs.Prelude.{◌≡◌, ◌+◌, ◌-◌, ◌%◌, ◌≤◌, ◌<◌, ◌^◌, true, length};
+    ghost use Rattle.board_base.specs.declared.board.TheConstants.{RAM_LEN};
+    ghost use Rattle.board_base.specs.declared.divider.TheConstants.{DIVIDER_PERIOD};
+    ghost use Rattle.catchup_engine.specs.declared.bus.TheConstants.{TRAIL_ROOM};
     ghost use Rattle.catchup_engine.specs.Bus.{BusValue};
 
     ghost Value = { BusValue };
@@ -57,7 +64,7 @@ impl Model for BoardBus {
         in0 = a.in0;
         in3 = a.in3;
         in4 = a.in4;
-        divider = record a.divider { phase = (a.divider.phase + (a.clock - a.divided)) % 6144 };
+        divider = record a.divider { phase = (a.divider.phase + (a.clock - a.divided)) % DIVIDER_PERIOD };
         vg = a.vg;
         sound1 = a.sound1;
         sound2 = a.sound2;
@@ -74,19 +81,19 @@ impl Model for BoardBus {
       room = a.written.room;
     } };
 
-    ghost invariant = { λ a. (a.clock ≤ 2 ^ 49) × (a.divided ≤ a.clock) × (a.divider.phase < 6144)
-        × (a.in0 < 64) × (length a.ram.items ≡ 2048) × (length a.program.items ≡ 28672)
+    ghost invariant = { λ a. (a.clock ≤ 2 ^ 49) × (a.divided ≤ a.clock) × (a.divider.phase < DIVIDER_PERIOD)
+        × (a.in0 < 64) × (length a.ram.items ≡ RAM_LEN) × (length a.program.items ≡ 28672)
         × (a.begun ≡ true → 1 ≤ a.clock)
-        × (6160 ≤ a.written.room) × (a.written.spare + length a.written.records ≡ a.written.room) };
+        × (TRAIL_ROOM ≤ a.written.room) × (a.written.spare + length a.written.records ≡ a.written.room) };
 }
 
 /// A trail with room for the records of a window.
 fn new_trail(alloc: Global) -> Result<Trail, OutOfMemory>
     ensures empty { IfOk result (λ trail. trail.records ≡ []) }
-    ensures room { IfOk result (λ trail. 6160 ≤ trail.room) }
+    ensures room { IfOk result (λ trail. TRAIL_ROOM ≤ trail.room) }
     ensures spare { IfOk result (λ trail. trail.spare + length trail.records ≡ trail.room) }
 {
-    let trail = Trail::new(alloc, ROOM)?;
+    let trail = Trail::new(alloc, TRAIL_ROOM)?;
     let _records = trail.records();
     Ok(trail)
 }
@@ -98,7 +105,7 @@ impl BoardBus {
         ensures wires { IfOk result (λ bus. bus.wires ≡ wires_of image.now state.now) }
         ensures level { IfOk result (λ bus. bus.begun ≡ false) }
     {
-        let (vector_rom, program) = image.bytes().split_at(14336);
+        let (vector_rom, program) = image.bytes().split_at(VECTOR_ROM_LEN);
         let mut memory = VectorMemory::new(alloc, vector_rom)?;
         memory.load_ram(&state.vram);
         let divider = state.divider;
@@ -165,7 +172,7 @@ impl BoardBus {
         match region(addr) {
             Region::Ram(k) => self.ram[k as usize],
             Region::VectorRam(k) => self.memory.byte(k),
-            Region::VectorRom(k) => self.memory.byte(2048 + k),
+            Region::VectorRom(k) => self.memory.byte(VECTOR_RAM_LEN as u16 + k),
             Region::ProgramRom(k) => self.program[k as usize],
             _ => 0xFF,
         }
@@ -229,7 +236,7 @@ impl BoardBus {
         ensures value { result ≡ self.now.wires.clock }
         ensures last { result ≤ 2 ^ 49 }
         ensures begun { self.now.begun ≡ true → 1 ≤ result }
-        ensures room { 6160 ≤ self.now.room }
+        ensures room { TRAIL_ROOM ≤ self.now.room }
     {
         self.clock
     }
@@ -250,10 +257,10 @@ impl BoardBus {
 
     /// The clocks up to and with the divider's next wrap.
     pub fn quiet(&self) -> u64
-        ensures exact { result ≡ 6144 - self.now.wires.divider.phase }
+        ensures exact { result ≡ DIVIDER_PERIOD - self.now.wires.divider.phase }
         ensures ahead { 0 < result }
     {
-        6144 - (u64::from(self.divider.phase) + (self.clock - self.divided)) % 6144
+        PERIOD - (u64::from(self.divider.phase) + (self.clock - self.divided)) % PERIOD
     }
 
     /// The divider as it stands.
@@ -261,15 +268,15 @@ impl BoardBus {
         ensures { result ≡ self.now.wires.divider }
     {
         DividerState {
-            phase: ((u64::from(self.divider.phase) + (self.clock - self.divided)) % 6144) as u16,
+            phase: ((u64::from(self.divider.phase) + (self.clock - self.divided)) % PERIOD) as u16,
             ..self.divider
         }
     }
 
     /// Copies the board with this processor.
     pub fn state(&self, cpu: &CpuState, into: &mut BoardState)
-        requires clock { self.now.wires.clock ≤ 2 ^ 48 + 16 }
-        requires middle { IsSome cpu.now.mid → self.now.wires.clock ≤ 2 ^ 48 }
+        requires clock { self.now.wires.clock ≤ CLOCK_LIMIT + 16 }
+        requires middle { IsSome cpu.now.mid → self.now.wires.clock ≤ CLOCK_LIMIT }
         ensures { into.new ≡ board_of cpu.now self.now.wires }
     {
         into.clock = self.clock;

@@ -11,7 +11,9 @@ ghost use Rattle.cpu_table.specs.Opcodes.{row_of};
 
 use crate::bus::BoardBus;
 use crate::stop::Stop;
-use board_base::{BoardState, CpuState, OutOfMemory, Pending, Sequence, Trails};
+use board_base::{
+    BoardState, CLOCK_LIMIT, CpuState, DIVIDER_PERIOD, OutOfMemory, Pending, Sequence, Trails,
+};
 use cpu_core::Cpu;
 use rom_image::Image;
 use std::alloc::Global;
@@ -27,14 +29,15 @@ pub struct Engine {
 
 impl Model for Engine {
     ghost use Rattle.std.specs.Prelude.{◌≡◌, ◌+◌, ◌≤◌, ◌^◌, false, IsSome};
+    ghost use Rattle.board_base.specs.declared.board.TheConstants.{CLOCK_LIMIT};
     ghost use Rattle.catchup_engine.specs.EngineValue.{EngineValue};
 
     ghost Value = { EngineValue };
 
     ghost view = { λ e. record { board = record { cpu = e.cpu; wires = e.bus.wires }; room = e.bus.room } };
 
-    ghost invariant = { λ e. (e.bus.begun ≡ false) × (e.bus.wires.clock ≤ 2 ^ 48 + 16)
-        × (IsSome e.cpu.mid → e.bus.wires.clock ≤ 2 ^ 48) };
+    ghost invariant = { λ e. (e.bus.begun ≡ false) × (e.bus.wires.clock ≤ CLOCK_LIMIT + 16)
+        × (IsSome e.cpu.mid → e.bus.wires.clock ≤ CLOCK_LIMIT) };
 }
 
 /// Whether interrupts are masked.
@@ -94,7 +97,7 @@ fn fetch(cpu: &mut Cpu, bus: &mut BoardBus, tape: &Tape)
     requires running { cpu.old.jam ≡ None }
     requires boundary { cpu.old.mid ≡ None }
     requires level { bus.old.begun ≡ false }
-    requires clock { bus.old.wires.clock < 2 ^ 48 }
+    requires clock { bus.old.wires.clock < CLOCK_LIMIT }
     requires room { length bus.old.wires.written + 8 ≤ bus.old.room }
     requires entries { tape.now.entries ≡ [] }
     ensures turned { Turned 0 (record { cpu = cpu.old; wires = bus.old.wires }) (record { cpu = cpu.new; wires = bus.new.wires }) }
@@ -112,7 +115,7 @@ fn fetch(cpu: &mut Cpu, bus: &mut BoardBus, tape: &Tape)
 fn resume(cpu: &mut Cpu, bus: &mut BoardBus, tape: &Tape)
     requires middle { IsSome cpu.old.mid }
     requires level { bus.old.begun ≡ false }
-    requires clock { bus.old.wires.clock ≤ 2 ^ 48 }
+    requires clock { bus.old.wires.clock ≤ CLOCK_LIMIT }
     requires room { length bus.old.wires.written + 8 ≤ bus.old.room }
     requires entries { tape.now.entries ≡ [] }
     ensures turned { Turned 1 (record { cpu = cpu.old; wires = bus.old.wires }) (record { cpu = cpu.new; wires = bus.new.wires }) }
@@ -153,8 +156,8 @@ impl Engine {
     /// Does the rest of the sequence under way, if there is one, and then whole sequences up to the
     /// limit.
     fn run_until(&mut self, tape: &Tape, limit: u64)
-        requires limit { limit ≤ 2 ^ 48 }
-        requires window { limit ≤ self.old.board.wires.clock + 6144 }
+        requires limit { limit ≤ CLOCK_LIMIT }
+        requires window { limit ≤ self.old.board.wires.clock + DIVIDER_PERIOD }
         requires written { self.old.board.wires.written ≡ [] }
         requires entries { tape.now.entries ≡ [] }
         ensures board { self.new.board ≡ run_to limit self.old.board }
@@ -191,13 +194,13 @@ impl Engine {
     /// first. A board that is jammed takes no clock.
     #[tactic(auto, using(crate::proofs::Windows::windows))]
     pub fn run(&mut self, tape: &Tape, limit: u64) -> Stop
-        requires limit { limit ≤ 2 ^ 48 }
+        requires limit { limit ≤ CLOCK_LIMIT }
         requires empty { HasNoRecords self.old.board }
         requires entries { tape.now.entries ≡ [] }
         ensures board { self.new.board ≡ run_to (window_limit limit self.old.board) self.old.board }
         ensures cause { result ≡ cause_of limit self.new.board }
         ensures boundary { self.new.board.cpu.mid ≡ None }
-        ensures window { result ≡ Stop.Window → self.old.board.wires.clock + (6144 - self.old.board.wires.divider.phase) ≤ self.new.board.wires.clock }
+        ensures window { result ≡ Stop.Window → self.old.board.wires.clock + (DIVIDER_PERIOD - self.old.board.wires.divider.phase) ≤ self.new.board.wires.clock }
         ensures later { result ≡ Stop.Window → self.old.board.wires.clock < self.new.board.wires.clock }
         ensures before { result ≡ Stop.Window → self.new.board.wires.clock < limit }
         ensures room { self.new.room ≡ self.old.room }

@@ -10,7 +10,8 @@ use Rattle.gravitar_program.specs.declared.stop.Ending.{Ending}
 use Rattle.gravitar_program.specs.Events.{Event, sent, text_of, stores_of, sending, Did, DidFirst}
 use Rattle.gravitar_program.specs.Words.{Names}
 use Rattle.gravitar_program.specs.Outcome.{both_files, command_outcome, outcome_after, last_board, whole_text, status_of_board}
-use Rattle.gravitar_program.specs.Stages.{status_of_ending, Refuses, Ends, StopEnds, RunTakes, RunStops}
+use Rattle.gravitar_program.specs.LastLine.{status_of_ending}
+use Rattle.gravitar_program.specs.Stages.{Refuses, Ends, StopEnds, RunTakes, RunStops}
 
 text_of-sending : (text : List ℕ) → text_of (sending text) ≡ text
 unfolding text_of sending

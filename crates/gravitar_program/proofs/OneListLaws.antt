@@ -1,20 +1,19 @@
 -- The log of a run is the text of its records in the one list.
-use Rattle.std.proofs.Common.{length, drop, ◌≡◌, ℕ, List, [], ◌++◌, zero, suc, refl, sym, ap, ◌∙◌, append-nil}
+use Rattle.std.proofs.Common.{length, drop, ◌≡◌, ℕ, List, [], ◌++◌, zero, suc, refl, sym, ap, ◌∙◌}
 use Rattle.std.proofs.Math.Seq.{drop-append_seam}
 use Rattle.std.proofs.lemmas.List.{map-append}
 use Rattle.board_base.specs.declared.record.Record.{Record}
 use Rattle.board_base.specs.Ticks.{ticks, times}
-use Rattle.board_base.proofs.TickLaws.{times-zero, ticks-keep}
-use Rattle.log_text.specs.declared.part.Part.TheVariants.{Generator, Pokey1, Pokey2, Board}
-use Rattle.log_text.specs.LogText.{PartRecord, log_text, from_part}
+use Rattle.board_base.proofs.TickLaws.{ticks-keep}
+use Rattle.board_base.specs.declared.part.Part.TheVariants.{Generator, Pokey1, Pokey2, Board}
+use Rattle.log_text.specs.LogText.{log_text, from_part}
 use Rattle.catchup_engine.specs.Lockstep as lockstep
 use Rattle.catchup_engine.specs.Run.{is_over, steps_until, most_steps, run_to}
 use Rattle.catchup_engine.specs.EngineValue.{HasNoRecords, cleared}
 use Rattle.catchup_engine.specs.Order.{records_of}
 use Rattle.catchup_engine.proofs.Behind.{step-behind, behind-cleared}
 use Rattle.catchup_engine.proofs.InOrder.{IsInOrder, step-in_order, run_to-in_order}
-use Rattle.gravitar_program.specs.Outcome.{log_of}
-use Rattle.gravitar_program.specs.OneList.{added, records_of_clock, one_list, run_list, LogIsOneList}
+use Rattle.gravitar_program.specs.OneList.{added, records_of_clock, one_list, LogIsOneList}
 use Rattle.gravitar_program.proofs.RunTexts.{board_text, log_of-in_order, in_order-fresh}
 
 -- the records that a board makes in its next clock, where it has none yet

@@ -4,11 +4,11 @@ use Rattle.std.proofs.lemmas.Bool.{le-ltb}
 use Rattle.board_base.specs.declared.record.Record.{Record}
 use Rattle.board_base.specs.declared.record.Record.TheVariants.{Stroke, Levels, Latch, WatchdogReset}
 use Rattle.board_base.specs.Ticks.{times}
-use Rattle.log_text.specs.declared.part.Part.{Part}
-use Rattle.log_text.specs.declared.part.Part.TheVariants.{Generator, Pokey1, Pokey2, Board}
+use Rattle.board_base.specs.declared.part.Part.{Part}
+use Rattle.board_base.specs.declared.part.Part.TheVariants.{Generator, Pokey1, Pokey2, Board}
 use Rattle.log_text.specs.Lines.{record_text}
-use Rattle.log_text.specs.LogText.{PartRecord, log_text, clock_of, placed, by_clock, from_part, merged, merged_text, end_text}
-use Rattle.log_text.specs.Trails.{IsTrailOf, Makes}
+use Rattle.log_text.specs.LogText.{PartRecord, log_text, placed, by_clock, from_part, merged, merged_text, end_text}
+use Rattle.board_base.specs.Records.{clock_of, IsTrailOf, Makes}
 use Rattle.std.proofs.lemmas.List.Sorted.{IsNonDecreasingBy-from_default}
 use Rattle.std.proofs.lemmas.List.Elements.{All-cons}
 use Rattle.board_base.proofs.TickLaws.{times-zero}
@@ -22,16 +22,15 @@ use Rattle.catchup_engine.proofs.Behind.{run_to-behind, behind-cleared}
 use Rattle.catchup_engine.proofs.InOrder.{IsInOrder, run_to-in_order, made-append}
 use Rattle.outside_io.specs.Known.{grown}
 use Rattle.outside_io.specs.Sink.{Takes}
-use Rattle.outside_io.proofs.KnownLaws.{grown-nothing, grown-twice}
+use Rattle.outside_io.proofs.KnownLaws.{grown-twice}
 use Rattle.outside_io.proofs.TakesLaws.{took_first, took_then}
 use Rattle.board_base.specs.Cpu.{MidValue}
 use Rattle.catchup_engine.specs.declared.stop.Stop.{Stop}
 use Rattle.outside_io.specs.Causes.{HasCause}
 use Rattle.gravitar_program.specs.declared.stop.Ending.{Ending}
-use Rattle.gravitar_program.specs.LastLine.{last_line, ending_of}
-use Rattle.gravitar_program.specs.Stages.{status_of_ending}
+use Rattle.gravitar_program.specs.LastLine.{last_line, last_text, ending_of, ended_by, status_of_ending}
 use Rattle.gravitar_program.specs.Fresh.{IsFresh, AreTrails}
-use Rattle.gravitar_program.specs.Outcome.{log_of, last_text, whole_text, status_of_board}
+use Rattle.gravitar_program.specs.Outcome.{log_of, whole_text, status_of_board}
 
 -- records in the order of their clocks stay so
 placed-first : (first : PartRecord) (records : List Record) (from to : ℕ) → clock_of first.1 ≤ from → MadeBetween from records to
@@ -258,17 +257,6 @@ pub record Logged (limit : ℕ) (start now : lockstep.Board) (out0 out : Option 
   pub same : faults ≡ faults0
   pub fresh : IsFresh now
 
-pub logged-start : (limit : ℕ) (start : lockstep.Board) (out : Option (List ℕ)) (faults : ℕ) → IsFresh start
-    → Logged limit start start out out faults faults
-logged-start limit start out faults fresh = record {
-  done = [];
-  text = refl;
-  status = refl;
-  taken = sym (grown-nothing out);
-  same = refl;
-  fresh = fresh;
-}
-
 -- one window more
 pub logged-window : (limit : ℕ) (start now after next : lockstep.Board) (out0 out1 out2 : Option (List ℕ)) (faults0 faults1 faults2 : ℕ)
     → Logged limit start now out0 out1 faults0 faults1 → after ≡ run_to (window_limit limit now) now → after.cpu.mid ≡ None
@@ -306,7 +294,7 @@ last_line-is None limit b = by_test (nat_le limit b.wires.clock)
     by_test false = refl
 
 ending-is : (jam : Option ℕ) (limit : ℕ) (b : lockstep.Board)
-    → status_of_ending (ending_of (cause_at jam limit b)) ≡ (if is_some jam then 3 else 0)
+    → status_of_ending (ending_of (cause_at jam limit b)) ≡ status_of_ending (ending_of (ended_by b jam))
 ending-is (Some o) limit b = refl
 ending-is None limit b = by_test (nat_le limit b.wires.clock)
   where

@@ -1,8 +1,8 @@
 -- A board from which a run starts, or goes on after its records were written.
 use Rattle.std.specs.Prelude.{◌≡◌, None}
 use Rattle.catchup_engine.specs.Lockstep as lockstep
-use Rattle.log_text.specs.declared.part.Part.TheVariants.{Generator, Pokey1, Pokey2, Board}
-use Rattle.log_text.specs.Trails.{IsTrailOf}
+use Rattle.board_base.specs.declared.part.Part.TheVariants.{Generator, Pokey1, Pokey2, Board}
+use Rattle.board_base.specs.Records.{IsTrailOf}
 use Rattle.catchup_engine.specs.EngineValue.{HasNoRecords}
 
 -- no record has been made, and the processor stands at a boundary

@@ -2,7 +2,7 @@
 use Rattle.std.specs.Prelude.{◌≡◌, ℕ, List, [], ◌++◌, length, drop, zero, suc}
 use Rattle.board_base.specs.declared.record.Record.{Record}
 use Rattle.board_base.specs.Ticks.{times}
-use Rattle.log_text.specs.declared.part.Part.TheVariants.{Generator, Pokey1, Pokey2, Board}
+use Rattle.board_base.specs.declared.part.Part.TheVariants.{Generator, Pokey1, Pokey2, Board}
 use Rattle.log_text.specs.LogText.{PartRecord, log_text, from_part}
 use Rattle.catchup_engine.specs.Lockstep as lockstep
 use Rattle.catchup_engine.specs.Run.{is_over, steps_until, most_steps, run_to}

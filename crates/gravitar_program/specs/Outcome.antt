@@ -1,5 +1,7 @@
 -- What a command writes, stores and answers, by its words and its files.
-use Rattle.std.specs.Prelude.{ℕ, ◌+◌, List, [], ◌++◌, length, take, codes, decimal, nat_lt, ◌==◌, Option, Some, None, Result, Ok, Err, if◌then◌else◌, is_some}
+use Rattle.std.specs.Prelude.{ℕ, ◌+◌, List, [], ◌++◌, length, take, codes, nat_lt, ◌==◌, Option, Some, None, Result, Ok, Err, if◌then◌else◌}
+use Rattle.rom_image.specs.declared.image.TheConstants.{IMAGE_LEN}
+use Rattle.tape_ports.specs.declared.tape.TheConstants.{TAPE_LIMIT}
 use Rattle.tape_ports.specs.declared.fault.LineCause.{LineCause}
 use Rattle.tape_ports.specs.Tape.{TapeValue}
 use Rattle.tape_ports.specs.Grammar.{tape_of}
@@ -9,9 +11,12 @@ use Rattle.outside_io.specs.Shelf.{Files}
 use Rattle.catchup_engine.specs.Wires.{wires_of}
 use Rattle.catchup_engine.specs.Lockstep.{Board}
 use Rattle.catchup_engine.specs.Run.{run_to}
-use Rattle.log_text.specs.LogText.{merged_text, end_text, jam_text}
-use Rattle.gravitar_program.specs.Causes.{line_cause_text}
+use Rattle.log_text.specs.LogText.{merged_text}
+use Rattle.gravitar_program.specs.declared.cause.Cause.{Cause}
+use Rattle.gravitar_program.specs.declared.cause.Cause.TheVariants.{Absent, Length, TooLong, Line}
+use Rattle.gravitar_program.specs.Causes.{cause_text}
 use Rattle.gravitar_program.specs.Events.{Event, sending}
+use Rattle.gravitar_program.specs.LastLine.{ended_by, last_text, ending_of, status_of_ending}
 use Rattle.gravitar_program.specs.Words.{Names, command_of}
 
 pub record Outcome : Type 0 where
@@ -36,6 +41,7 @@ memory_text = codes "gravitar: no memory\n"
 abbrev pub unbuilt_text : List ℕ
 unbuilt_text = codes "gravitar: not built\n"
 
+-- the note on a file
 abbrev pub note_text : List ℕ → List ℕ → List ℕ
 note_text name cause = codes "gravitar: " ++ (name ++ (codes ": " ++ (cause ++ codes "\n")))
 
@@ -46,31 +52,31 @@ and_then (Err refusal) next = Err refusal
 
 -- a file's first bytes, one more than the limit at most
 abbrev pub first_bytes : List ℕ → ℕ → Option (List ℕ) → Result (List ℕ) Outcome
-first_bytes name limit None = Err (refused 5 (note_text name (codes "absent")))
+first_bytes name limit None = Err (refused 5 (note_text name (cause_text Absent)))
 first_bytes name limit (Some bytes) = Ok (take (limit + 1) bytes)
 
 -- what a reader made of a file's bytes, or the cause of its refusal
-abbrev pub read_as : {A : Type 0} → List ℕ → Result A (List ℕ) → Result A Outcome
+abbrev pub read_as : {A : Type 0} → List ℕ → Result A Cause → Result A Outcome
 read_as name (Ok value) = Ok value
-read_as name (Err cause) = Err (refused 4 (note_text name cause))
+read_as name (Err cause) = Err (refused 4 (note_text name (cause_text cause)))
 
--- an image is 43,008 bytes
-unfoldable pub image_read : List ℕ → Result (List ℕ) (List ℕ)
-image_read bytes = if length bytes == 43008 then Ok bytes else Err (codes "length " ++ decimal (length bytes))
+-- an image has one length
+unfoldable pub image_read : List ℕ → Result (List ℕ) Cause
+image_read bytes = if length bytes == IMAGE_LEN then Ok bytes else Err (Length (length bytes))
 
 -- the tape of a text, or the cause of its refusal
-abbrev pub tape_or_cause : Result TapeValue (ℕ × LineCause) → Result TapeValue (List ℕ)
+abbrev pub tape_or_cause : Result TapeValue (ℕ × LineCause) → Result TapeValue Cause
 tape_or_cause (Ok tape) = Ok tape
-tape_or_cause (Err fault) = Err (codes "line " ++ (decimal fault.0 ++ (codes ": " ++ line_cause_text fault.1)))
+tape_or_cause (Err fault) = Err (Line fault.0 fault.1)
 
-unfoldable pub tape_read : List ℕ → Result TapeValue (List ℕ)
-tape_read bytes = if nat_lt 16777216 (length bytes) then Err (codes "too long") else tape_or_cause (tape_of bytes)
+unfoldable pub tape_read : List ℕ → Result TapeValue Cause
+tape_read bytes = if nat_lt TAPE_LIMIT (length bytes) then Err TooLong else tape_or_cause (tape_of bytes)
 
 unfoldable pub image_file : Files → List ℕ → Result (List ℕ) Outcome
-image_file files name = and_then (first_bytes name 43008 (files name)) (λ bytes. read_as name (image_read bytes))
+image_file files name = and_then (first_bytes name IMAGE_LEN (files name)) (λ bytes. read_as name (image_read bytes))
 
 unfoldable pub tape_file : Files → List ℕ → Result TapeValue Outcome
-tape_file files name = and_then (first_bytes name 16777216 (files name)) (λ bytes. read_as name (tape_read bytes))
+tape_file files name = and_then (first_bytes name TAPE_LIMIT (files name)) (λ bytes. read_as name (tape_read bytes))
 
 -- a tape whose entries can't be applied yet
 abbrev pub built : TapeValue → Result TapeValue Outcome
@@ -86,11 +92,6 @@ both_files files names =
 abbrev pub first_board : List ℕ → Board
 first_board image = record { cpu = cpu_at_power_on; wires = wires_of image board_at_power_on }
 
--- the last line of a run
-abbrev pub last_text : Board → Option ℕ → List ℕ
-last_text b (Some opcode) = jam_text b.wires.clock b.cpu.pc opcode
-last_text b None = end_text b.wires.clock
-
 -- the log of a board's records
 unfoldable pub log_of : Board → List ℕ
 log_of b = merged_text b.wires.strokes b.wires.levels1 b.wires.levels2 b.wires.written
@@ -103,9 +104,9 @@ whole_text b = log_of b ++ last_text b b.cpu.jam
 abbrev pub last_board : List ℕ × TapeValue → Board
 last_board parts = run_to parts.1.end (first_board parts.0)
 
--- status 3 for a board that is jammed
+-- the status of a run that has ended at this board
 abbrev pub status_of_board : Board → ℕ
-status_of_board b = if is_some b.cpu.jam then 3 else 0
+status_of_board b = status_of_ending (ending_of (ended_by b b.cpu.jam))
 
 abbrev pub outcome_at : Board → Outcome
 outcome_at b = record { status = status_of_board b; note = []; events = sending (whole_text b) }

@@ -6,8 +6,8 @@ use Rattle.outside_io.specs.Shelf.{Kept}
 use Rattle.gravitar_program.specs.declared.stop.Stop.{Stop}
 use Rattle.gravitar_program.specs.declared.stop.Stop.TheVariants.{Bad, Absent, Outside, NoMemory, NotBuilt}
 use Rattle.gravitar_program.specs.declared.stop.Ending.{Ending}
-use Rattle.gravitar_program.specs.declared.stop.Ending.TheVariants.{Done, Jammed}
 use Rattle.gravitar_program.specs.Events.{Did, DidFirst}
+use Rattle.gravitar_program.specs.LastLine.{status_of_ending}
 use Rattle.gravitar_program.specs.Outcome.{Outcome, refused, fault_text, memory_text, unbuilt_text}
 
 -- the status of a command that stopped
@@ -25,11 +25,6 @@ note_of (Absent note) = string_bytes note
 note_of Outside = fault_text
 note_of NoMemory = memory_text
 note_of NotBuilt = unbuilt_text
-
--- the status of a run that ended
-abbrev pub status_of_ending : Ending → ℕ
-status_of_ending Done = 0
-status_of_ending Jammed = 3
 
 -- a stage that writes nothing: its answer is the one that is defined over the files, or a fault or want of memory
 abbrev pub Refuses : {B : Type 0} → Result B Outcome → Stop → Type 0

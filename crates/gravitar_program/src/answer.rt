@@ -1,5 +1,6 @@
 ghost use Rattle.std.specs.Prelude.{◌≡◌};
-ghost use Rattle.gravitar_program.specs.Stages.{status_of, note_of, status_of_ending};
+ghost use Rattle.gravitar_program.specs.LastLine.{status_of_ending};
+ghost use Rattle.gravitar_program.specs.Stages.{status_of, note_of};
 
 use crate::stop::{Ending, Stop};
 

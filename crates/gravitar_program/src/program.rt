@@ -3,8 +3,9 @@ ghost use Rattle.outside_io.specs.Causes.{Rose};
 ghost use Rattle.catchup_engine.specs.Run.{run_to};
 ghost use Rattle.gravitar_program.specs.Words.{command_of};
 ghost use Rattle.gravitar_program.specs.Events.{Did, DidFirst};
+ghost use Rattle.gravitar_program.specs.LastLine.{status_of_ending};
 ghost use Rattle.gravitar_program.specs.Outcome.{command_outcome, outcome_of, last_board, whole_text, status_of_board, usage_text, fault_text, memory_text};
-ghost use Rattle.gravitar_program.specs.Stages.{Ends, IsQuiet, EndFaults, StageFaults, StageAbsences, RunStops, RunTakes, Noted, status_of_ending};
+ghost use Rattle.gravitar_program.specs.Stages.{Ends, IsQuiet, EndFaults, StageFaults, StageAbsences, RunStops, RunTakes, Noted};
 
 use crate::answer::{ending_status, note, status};
 use crate::load::{Parts, load_both};
@@ -99,6 +100,7 @@ pub fn gravitar<S: Shelf, O: Sink, N: Sink>(
     ensures memory_note { result ≡ 7 → Noted (N.taken notes.old) (N.taken notes.new) (N.faults notes.old) (N.faults notes.new) memory_text }
     ensures note { result ≢ 6 → result ≢ 7 → IfSome (S.files shelf.old) (λ files.
         Noted (N.taken notes.old) (N.taken notes.new) (N.faults notes.old) (N.faults notes.new) (outcome_of words.now files).note) }
+    ensures no_note { Contains (0 ∷ 3 ∷ []) result → notes.new ≡ notes.old }
 {
     let Some(command) = read_command(words) else {
         let _ = notes.write(USAGE);

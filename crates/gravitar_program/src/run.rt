@@ -6,11 +6,11 @@ ghost use Rattle.outside_io.specs.Sink.{Takes};
 ghost use Rattle.catchup_engine.specs.EngineValue.{cleared};
 ghost use Rattle.catchup_engine.specs.Run.{run_to, window_limit, cause_of};
 ghost use Rattle.gravitar_program.specs.Fresh.{IsFresh, AreTrails};
-ghost use Rattle.gravitar_program.specs.LastLine.{last_line, ending_of};
-ghost use Rattle.gravitar_program.specs.Outcome.{log_of, last_text, whole_text, status_of_board};
-ghost use Rattle.gravitar_program.specs.Stages.{status_of_ending};
+ghost use Rattle.gravitar_program.specs.LastLine.{last_line, ending_of, status_of_ending};
+ghost use Rattle.gravitar_program.specs.Outcome.{log_of, whole_text, status_of_board};
 
 use crate::stop::Ending;
+use board_base::CLOCK_LIMIT;
 use catchup_engine::{Engine, Stop};
 use log_text::{write_end, write_jam, write_merged};
 use outside_io::{Sink, SinkFault};
@@ -34,7 +34,7 @@ fn run_window<O: Sink>(
     limit: u64,
     out: &mut O,
 ) -> Result<Stop, SinkFault>
-    requires limit { limit ≤ 2 ^ 48 }
+    requires limit { limit ≤ CLOCK_LIMIT }
     requires fresh { IsFresh engine.old.board }
     requires entries { tape.now.entries ≡ [] }
     ensures taken { Takes (O.taken out.old) (O.taken out.new) (log_of (run_to (window_limit limit engine.old.board) engine.old.board)) result }
@@ -82,7 +82,7 @@ pub fn run_log<O: Sink>(
     limit: u64,
     out: &mut O,
 ) -> Result<Ending, SinkFault>
-    requires limit { limit ≤ 2 ^ 48 }
+    requires limit { limit ≤ CLOCK_LIMIT }
     requires fresh { IsFresh engine.old.board }
     requires entries { tape.now.entries ≡ [] }
     ensures taken { Takes (O.taken out.old) (O.taken out.new) (whole_text (run_to limit engine.old.board)) result }

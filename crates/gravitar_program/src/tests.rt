@@ -1,5 +1,6 @@
 use crate::{Words, gravitar};
 use outside_io::{MemoryShelf, MemorySink};
+use rom_image::IMAGE_LEN;
 use std::alloc::{AllocError, Global};
 use std::process::Abort;
 use std::test::Fail;
@@ -36,7 +37,7 @@ const USAGE: &str =
 /// An image with these bytes at 9000 and those at an address, the reset vector 9000, the interrupt
 /// vector 9100, and zeros.
 fn image_of(alloc: Global, program: &[u8], at: u16, more: &[u8]) -> Result<Vec<u8>, AllocError> {
-    let mut bytes = vec![in alloc; 0u8; 43008]?;
+    let mut bytes = vec![in alloc; 0u8; IMAGE_LEN]?;
     put(&mut bytes, 0x9000, program);
     put(&mut bytes, 0xFFFC, &[0x00, 0x90, 0x00, 0x91]);
     put(&mut bytes, at, more);

@@ -1,16 +1,14 @@
 -- The entries of a clock stand next to one another.
-use Rattle.std.proofs.Common.{◌≡◌, ℕ, ◌+◌, ◌-◌, ◌<◌, ◌≤◌, true, false, cond, eqb, ltb, List, [], ◌∷◌, ◌++◌, get_or, take, refl, sym, ap, ◌∙◌, arith, inl, inr}
+use Rattle.std.proofs.Common.{◌≡◌, ℕ, ◌+◌, ◌-◌, ◌<◌, ◌≤◌, true, false, cond, eqb, ltb, List, [], ◌∷◌, get_or, take, refl, sym, ap, ◌∙◌, arith, inl, inr}
 use Rattle.std.specs.List.{All, count_by, filter, slice_range}
 use Rattle.std.specs.List.Sorted.{IsNonDecreasingBy}
 use Rattle.std.proofs.lemmas.Bool.{cases_lt, eq-eqb, le-ltb, lt-ltb, ne_eqb}
 use Rattle.std.proofs.lemmas.List.Elements.{All-cons, All-head, All-tail}
 use Rattle.std.proofs.lemmas.List.Sorted.{IsNonDecreasingBy-drop}
-use Rattle.std.proofs.lemmas.List.Sums.{fold-append, sum_by-cons}
-use Rattle.board_base.specs.Board.{BoardValue}
+use Rattle.std.proofs.lemmas.List.Sums.{sum_by-cons}
 use Rattle.tape_ports.proofs.Places.{count_by-none}
 use Rattle.tape_ports.specs.declared.entry.TapeEntry.{TapeEntry}
-use Rattle.tape_ports.specs.Due.{due_at, with_entries, with_port}
-use Rattle.tape_ports.specs.Tape.{count_before}
+use Rattle.tape_ports.specs.Due.{AreTogether}
 
 -- all later elements are no lower than the first
 later : {X : Type 0} (n : X → ℕ) (x : X) (xs : List X) → IsNonDecreasingBy n (x ∷ xs) → All (λ y. n x ≤ n y) xs
@@ -71,11 +69,8 @@ module _ {X : Type 0} (n : X → ℕ) where
       ]
 
 -- the entries of a clock are those from its place up to the place of the next clock
-pub due_at-rising : (clock : ℕ) (entries : List TapeEntry) → IsNonDecreasingBy (λ entry. entry.clock) entries
-    → due_at clock entries ≡ slice_range entries (count_before clock entries) (count_before (clock + 1) entries)
+pub due_at-rising : (clock : ℕ) (entries : List TapeEntry) → AreTogether clock entries
 unfolding below
 due_at-rising clock entries rising = filter-rising (λ entry. entry.clock) clock entries rising
 
--- what came first and what came then
-pub with_entries-append : (first then : List TapeEntry) (board : BoardValue) → with_entries (first ++ then) board ≡ with_entries then (with_entries first board)
-with_entries-append first then board = fold-append (λ set entry. with_port entry.port entry.value set) board first then
+pub ruleset entries_together = due_at-rising

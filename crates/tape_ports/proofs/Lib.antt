@@ -3,3 +3,4 @@ pub mod Parting
 pub mod Places
 pub mod Reading
 pub mod DueLaws
+pub mod TextLaws

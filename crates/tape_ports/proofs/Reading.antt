@@ -1,10 +1,11 @@
 -- What the loop over the lines of a tape's text keeps.
-use Rattle.std.proofs.Common.{◌≡◌, ℕ, ◌+◌, ◌-◌, ◌<◌, ◌≤◌, ◌^◌, List, [], ◌∷◌, ◌++◌, length, Result, Ok, Err, refl, sym, ap, ◌∙◌, arith}
+use Rattle.std.proofs.Common.{◌≡◌, ℕ, ◌+◌, ◌-◌, ◌<◌, ◌≤◌, List, [], ◌∷◌, ◌++◌, length, Result, Ok, Err, refl, sym, ap, ◌∙◌, arith}
 use Rattle.std.specs.List.{All}
 use Rattle.std.specs.List.Sorted.{IsNonDecreasingBy}
 use Rattle.std.proofs.lemmas.List.{append_assoc, append-nil, nil_from_length}
-use Rattle.std.proofs.lemmas.List.Elements.{All-nil, All-push, All-weaker}
-use Rattle.std.proofs.lemmas.List.Sorted.{IsNonDecreasingBy-push, IsNonDecreasingBy-short}
+use Rattle.std.proofs.lemmas.List.Elements.{All-push, All-weaker}
+use Rattle.std.proofs.lemmas.List.Sorted.{IsNonDecreasingBy-push}
+use Rattle.board_base.specs.declared.board.TheConstants.{CLOCK_LIMIT}
 use Rattle.tape_ports.proofs.Parting.{some_line}
 use Rattle.tape_ports.specs.declared.entry.TapeEntry.{TapeEntry}
 use Rattle.tape_ports.specs.declared.fault.LineCause.{LineCause}
@@ -19,10 +20,6 @@ abbrev pub with_front : List TapeEntry → Result TapeValue (ℕ × LineCause) �
 with_front front (Ok tape) = Ok (record { entries = front ++ tape.entries; end = tape.end })
 with_front front (Err fault) = Err fault
 
-with_front-nil : (read : Result TapeValue (ℕ × LineCause)) → with_front [] read ≡ read
-with_front-nil (Ok tape) = refl
-with_front-nil (Err fault) = refl
-
 with_front-push : (front : List TapeEntry) (entry : TapeEntry) (read : Result TapeValue (ℕ × LineCause))
     → with_front front (with_first entry read) ≡ with_front (front ++ entry ∷ []) read
 with_front-push front entry (Ok tape) = rw append_assoc refl
@@ -34,19 +31,8 @@ pub record ReadSoFar (text : List ℕ) (entries : List TapeEntry) (line before :
   pub number : line + length rest ≤ 1 + length text
   pub rising : IsNonDecreasingBy (λ entry. entry.clock) entries
   pub within : All (λ entry. entry.clock ≤ before) entries
-  pub range : before ≤ 2 ^ 48
+  pub range : before ≤ CLOCK_LIMIT
   pub ports : All (λ entry. IsPort entry.port) entries
-
--- before the first line
-pub ReadSoFar-none : (text : List ℕ) → ReadSoFar text [] 1 0 text
-ReadSoFar-none text = record {
-  tape = with_front-nil (tape_of text);
-  number = omega arith;
-  rising = IsNonDecreasingBy-short (λ entry. entry.clock) [] (omega arith);
-  within = All-nil (λ entry. entry.clock ≤ 0);
-  range = omega arith;
-  ports = All-nil (λ entry. IsPort entry.port);
-}
 
 ended-some : (line end : ℕ) (lines : List (List ℕ)) → 0 < length lines → ended line end lines ≡ Err (line + 1, cause.AfterEnd)
 ended-some line end [] some = absurd (omega arith)

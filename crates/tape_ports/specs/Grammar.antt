@@ -1,8 +1,10 @@
 -- How the text of a tape is read. This project's own profile.
-use Rattle.std.specs.Prelude.{◌≡◌, ℕ, ◌+◌, ◌*◌, ◌^◌, ◌<◌, ◌≤◌, ◌==◌, ◌&&◌, List, [], ◌∷◌, length, Option, Some, None, Result, Ok, Err, nat_lt, nat_le, ok_or, option_and_then, option_map, bytes_eq, codes, if◌then◌else◌}
+use Rattle.std.specs.Prelude.{◌≡◌, ℕ, ◌+◌, ◌*◌, ◌<◌, ◌≤◌, ◌==◌, ◌&&◌, List, [], ◌∷◌, length, Option, Some, None, Result, Ok, Err, nat_lt, nat_le, ok_or, option_and_then, option_map, bytes_eq, codes, if◌then◌else◌}
 use Rattle.std.specs.List.{list_all, onto_first, slice_split}
 use Rattle.std.specs.Char.{digit_value, is_ascii_digit, is_digit}
 use Rattle.std.specs.Str.Parse.{digits_value}
+use Rattle.board_base.specs.declared.board.TheConstants.{CLOCK_LIMIT}
+use Rattle.tape_ports.specs.declared.tape.TheConstants.{TAPE_LIMIT}
 use Rattle.tape_ports.specs.declared.entry.TapeEntry.{TapeEntry}
 use Rattle.tape_ports.specs.declared.fault.LineCause.{LineCause}
 use Rattle.tape_ports.specs.declared.fault.LineCause.TheVariants as cause
@@ -42,10 +44,10 @@ abbrev pub ◌>>=◌ : {A B : Type 0} → Result A LineCause → (A → Result B
 (Ok x) >>= f = f x
 (Err c) >>= f = Err c
 
--- a clock is at most 2^48, and not below that of the line before
+-- a clock is at most the limit, and not below that of the line before
 unfoldable pub clock_after : ℕ → ℕ → Result ℕ LineCause
 clock_after before clock =
-    if nat_lt (2 ^ 48) clock then Err cause.Clock else (if nat_lt clock before then Err cause.Falls else Ok clock)
+    if nat_lt CLOCK_LIMIT clock then Err cause.Clock else (if nat_lt clock before then Err cause.Falls else Ok clock)
 
 -- a line of two words is a clock and END
 unfoldable pub end_line : ℕ → List ℕ → List ℕ → Result Line LineCause
@@ -75,10 +77,10 @@ line_of before (clock ∷ word ∷ []) = end_line before clock word
 line_of before (clock ∷ name ∷ value ∷ []) = entry_line before clock name value
 line_of before _ = Err cause.Form
 
--- a good line's clock is at most 2^48 and not below that of the line before, and its port is one
+-- a good line's clock is at most the limit and not below that of the line before, and its port is one
 abbrev pub ComesAfter : ℕ → Line → Type 0
-ComesAfter before (Entry entry) = (before ≤ entry.clock) × (entry.clock ≤ 2 ^ 48) × IsPort entry.port
-ComesAfter before (End end) = (before ≤ end) × (end ≤ 2 ^ 48)
+ComesAfter before (Entry entry) = (before ≤ entry.clock) × (entry.clock ≤ CLOCK_LIMIT) × IsPort entry.port
+ComesAfter before (End end) = (before ≤ end) × (end ≤ CLOCK_LIMIT)
 
 -- the tape with an entry put before its others, or the fault
 abbrev pub with_first : TapeEntry → Result TapeValue (ℕ × LineCause) → Result TapeValue (ℕ × LineCause)
@@ -106,9 +108,9 @@ tape_from number before (line ∷ lines) =
 abbrev pub tape_of : List ℕ → Result TapeValue (ℕ × LineCause)
 tape_of text = tape_from 1 0 (lines_of text)
 
--- how a text is read: too long above 2^24 bytes, else its tape or its fault, unless memory runs out
+-- how a text is read: too long above the limit of its bytes, else its tape or its fault, unless memory runs out
 abbrev pub ReadsTape : List ℕ → Result TapeValue TapeFault → Type 0
-ReadsTape text (Ok tape) = (length text ≤ 16777216) × (tape_of text ≡ Ok tape)
-ReadsTape text (Err TooLong) = 16777216 < length text
-ReadsTape text (Err (BadLine line cause)) = (length text ≤ 16777216) × (tape_of text ≡ Err (line, cause))
-ReadsTape text (Err OutOfMemory) = length text ≤ 16777216
+ReadsTape text (Ok tape) = (length text ≤ TAPE_LIMIT) × (tape_of text ≡ Ok tape)
+ReadsTape text (Err TooLong) = TAPE_LIMIT < length text
+ReadsTape text (Err (BadLine line cause)) = (length text ≤ TAPE_LIMIT) × (tape_of text ≡ Err (line, cause))
+ReadsTape text (Err OutOfMemory) = length text ≤ TAPE_LIMIT

@@ -1,6 +1,7 @@
 -- A tape, as a plain record. This project's own profile.
-use Rattle.std.specs.Prelude.{ℕ, ◌≤◌, ◌^◌, List, All, count_by, nat_lt}
+use Rattle.std.specs.Prelude.{ℕ, ◌≤◌, List, All, count_by, nat_lt}
 use Rattle.std.specs.List.Sorted.{IsNonDecreasingBy}
+use Rattle.board_base.specs.declared.board.TheConstants.{CLOCK_LIMIT}
 use Rattle.tape_ports.specs.declared.entry.TapeEntry.{TapeEntry}
 use Rattle.tape_ports.specs.Ports.{IsPort}
 
@@ -9,11 +10,11 @@ pub record TapeValue : Type 0 where
   pub entries : List TapeEntry
   pub end : ℕ
 
--- the clocks don't fall, none is above the END clock, which is at most 2^48, and each port is one
+-- the clocks don't fall, none is above the END clock, which is at most the limit, and each port is one
 pub record IsTape (tape : TapeValue) : Type 0 where
   pub rising : IsNonDecreasingBy (λ entry. entry.clock) tape.entries
   pub within : All (λ entry. entry.clock ≤ tape.end) tape.entries
-  pub range : tape.end ≤ 2 ^ 48
+  pub range : tape.end ≤ CLOCK_LIMIT
   pub ports : All (λ entry. IsPort entry.port) tape.entries
 
 -- the number of entries before a clock

@@ -1,28 +1,47 @@
+use std::fmt;
 use thiserror::Error;
 
 /// What is wrong with a line of a tape.
 ///
 /// On one line `AfterEnd` is looked at first, and then the others in this order. `NoEnd` is told of
 /// the line after the last.
-#[derive(Clone, Copy, Debug, PartialEq, Eq, Error)]
+#[derive(Clone, Copy, Debug, PartialEq, Eq)]
 pub enum LineCause {
-    #[error("form")]
+    /// It isn't a clock, a port and a value, nor a clock and `END`.
     Form,
-    #[error("port")]
+    /// Its second word names no port.
     Port,
-    #[error("clock")]
+    /// Its clock is above `CLOCK_LIMIT`.
     Clock,
-    #[error("falls")]
+    /// Its clock is below that of the line before.
     Falls,
-    #[error("no end")]
+    /// No END line came.
     NoEnd,
-    #[error("after end")]
+    /// The END line stands before it.
     AfterEnd,
+}
+
+impl fmt::Display for LineCause {
+    ghost use Rattle.std.specs.Prelude.{Some};
+    ghost use Rattle.tape_ports.specs.Causes.{line_cause_text};
+
+    ghost output = { λ cause. Some (line_cause_text cause) };
+
+    fn fmt<W: fmt::Write>(&self, f: &mut fmt::Formatter<W>) -> fmt::Result {
+        f.write_str(match self {
+            LineCause::Form => "form",
+            LineCause::Port => "port",
+            LineCause::Clock => "clock",
+            LineCause::Falls => "falls",
+            LineCause::NoEnd => "no end",
+            LineCause::AfterEnd => "after end",
+        })
+    }
 }
 
 /// Why a text is no tape.
 ///
-/// `TooLong` is more than 16,777,216 bytes, and is looked at first. `BadLine` has the number of the
+/// `TooLong` is more than `TAPE_LIMIT` bytes, and is looked at first. `BadLine` has the number of the
 /// first bad line, counted from 1.
 #[derive(Clone, Copy, Debug, PartialEq, Eq, Error)]
 pub enum TapeFault {

@@ -3,11 +3,13 @@
 
 pub mod entry;
 pub mod fault;
+pub mod laws;
 mod line;
 pub mod tape;
 
 pub use entry::{Port, TapeEntry};
 pub use fault::{LineCause, TapeFault};
+pub use laws::{entries_of_a_clock, tape_by_its_lines};
 pub use tape::{TAPE_LIMIT, Tape};
 
 #[cfg(test)]

@@ -4,9 +4,7 @@ ghost use Rattle.tape_ports.specs.Grammar.{lines_of, words_of, clock_of, value_o
 
 use crate::entry::{Port, TapeEntry};
 use crate::fault::LineCause;
-
-/// The greatest clock of a tape.
-const LAST: u64 = 281_474_976_710_656;
+use board_base::CLOCK_LIMIT;
 
 /// What a good line tells: an entry, or the END clock.
 #[derive(Clone, Copy)]
@@ -107,9 +105,9 @@ fn read_port(name: &[u8]) -> Option<Port>
 #[tactic(auto, unfolding(crate::specs::Grammar::clock_after))]
 fn check_clock(before: u64, clock: u64) -> Result<u64, LineCause>
     ensures clock { result ≡ clock_after before clock }
-    ensures after { IfOk result (λ now. (before ≤ now) × (now ≤ 2 ^ 48)) }
+    ensures after { IfOk result (λ now. (before ≤ now) × (now ≤ CLOCK_LIMIT)) }
 {
-    if clock > LAST {
+    if clock > CLOCK_LIMIT {
         Err(LineCause::Clock)
     } else if clock < before {
         Err(LineCause::Falls)

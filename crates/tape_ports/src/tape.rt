@@ -3,7 +3,7 @@ ghost use Rattle.std.specs.Prelude.{◌≡◌, ◌<◌, ◌≤◌, ◌^◌, All,
 use crate::entry::TapeEntry;
 use crate::fault::{LineCause, TapeFault};
 use crate::line::{Line, parse_line, read_line};
-use board_base::OutOfMemory;
+use board_base::{CLOCK_LIMIT, OutOfMemory};
 use std::alloc::Global;
 use std::marker::Model;
 
@@ -35,9 +35,9 @@ impl Tape {
     /// Reads the text of a tape, once from its front to its end.
     ///
     /// An entry line is a clock, a port and two hexadecimal digits of either case, parted by single
-    /// spaces; the last line is a clock and `END`. A clock has 1 to 15 digits and is at most 2^48.
-    /// Each line ends with LF, which may be missing after the last. The text has at most 16,777,216
-    /// bytes. Memory is taken for the entries alone.
+    /// spaces; the last line is a clock and `END`. A clock has 1 to 15 digits and is at most
+    /// `CLOCK_LIMIT`. Each line ends with LF, which may be missing after the last. The text has at most
+    /// `TAPE_LIMIT` bytes. Memory is taken for the entries alone.
     pub fn read(alloc: Global, bytes: &[u8]) -> Result<Tape, TapeFault>
         ensures { ReadsTape bytes.now result }
     {
@@ -85,7 +85,7 @@ impl Tape {
     /// The END clock, at which a run ends where no smaller limit is given.
     pub fn end(&self) -> u64
         ensures end { result ≡ self.now.end }
-        ensures range { result ≤ 2 ^ 48 }
+        ensures range { result ≤ CLOCK_LIMIT }
     {
         self.end
     }
