@@ -1,5 +1,7 @@
 -- The address map, as a list of ranges. This project's own profile.
 use Rattle.std.specs.Prelude.{ℕ, ◌-◌, ◌%◌, ◌<◌, List, [], ◌∷◌, nat_le, ◌&&◌, if◌then◌else◌}
+use Rattle.board_base.specs.declared.board.TheConstants.{RAM_LEN}
+use Rattle.board_base.specs.declared.vector_memory.TheConstants.{VECTOR_RAM_LEN, VECTOR_ROM_LEN}
 use Rattle.board_map.specs.declared.map.Region.{Region}
 use Rattle.board_map.specs.declared.map.Region.TheVariants.{Ram, VectorRam, VectorRom, Sound1, Sound2, EaromOut, In0, In3, In4, Go, VgReset, Acknowledge, EaromControl, EaromLatch, Watchdog, ProgramRom, Nothing}
 
@@ -52,9 +54,9 @@ region_of address = region_in address_map address
 
 -- an offset is inside its region, a register is one of 16, and a cell one of 64
 abbrev pub IsInside : Region → Type 0
-IsInside (Ram offset) = offset < 2048
-IsInside (VectorRam offset) = offset < 2048
-IsInside (VectorRom offset) = offset < 14336
+IsInside (Ram offset) = offset < RAM_LEN
+IsInside (VectorRam offset) = offset < VECTOR_RAM_LEN
+IsInside (VectorRom offset) = offset < VECTOR_ROM_LEN
 IsInside (Sound1 register) = register < 16
 IsInside (Sound2 register) = register < 16
 IsInside (EaromLatch cell) = cell < 64

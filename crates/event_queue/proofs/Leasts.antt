@@ -2,12 +2,12 @@
 use Rattle.std.proofs.Common.{◌≡◌, ◌≢◌, ℕ, ◌+◌, ◌≤◌, ◌<◌, List, [], ◌∷◌, Option, Some, None, slice_get, MatchOption, nat_lt, true, false, if◌then◌else◌, zero, suc, refl, arith, subst, get_or, drop, length, drop-cons, ◌-◌}
 use Rattle.std.proofs.Math.ListN.{drop_of_length-le}
 use Rattle.std.proofs.lemmas.Bool.{ltb-true, ltb-false}
-use Rattle.event_queue.specs.Least.{IsLeastOf, sooner_of}
+use Rattle.event_queue.specs.Least.{IsLeastOf, earlier_of}
 
 -- the least deadline of a list whose first name is this one
 pub least_from : ℕ → List (Option ℕ) → Option (ℕ × ℕ)
 least_from name [] = None
-least_from name (time ∷ times) = sooner_of name time (least_from (suc name) times)
+least_from name (time ∷ times) = earlier_of name time (least_from (suc name) times)
 
 -- a deadline of a list whose first name is this one
 record IsLeastFrom (from : ℕ) (times : List (Option ℕ)) (name at : ℕ) : Type 0 where
@@ -61,12 +61,12 @@ least-here from at times later_ones = record {
     least_here zero later held = let a : at ≡ later = cc in omega arith
     least_here (suc other) later held = later_ones other later held
 
-found-sooner : (from : ℕ) (time : Option ℕ) (times : List (Option ℕ)) (best : Option (ℕ × ℕ)) → Found (suc from) times best
-    → Found from (time ∷ times) (sooner_of from time best)
-found-sooner from None times None none = empty-none times none
-found-sooner from None times (Some best) least = least-shift from None times best.0 best.1 least (λ later e. cc)
-found-sooner from (Some at) times None none = least-here from at times (λ other later held. absurd (none other later held))
-found-sooner from (Some at) times (Some best) least =
+found-earlier : (from : ℕ) (time : Option ℕ) (times : List (Option ℕ)) (best : Option (ℕ × ℕ)) → Found (suc from) times best
+    → Found from (time ∷ times) (earlier_of from time best)
+found-earlier from None times None none = empty-none times none
+found-earlier from None times (Some best) least = least-shift from None times best.0 best.1 least (λ later e. cc)
+found-earlier from (Some at) times None none = least-here from at times (λ other later held. absurd (none other later held))
+found-earlier from (Some at) times (Some best) least =
     elim (nat_lt best.1 at) as (λ b. nat_lt best.1 at ≡ b → Found from (Some at ∷ times) (if b then Some best else Some (from, at))) [
       | true ↦ λ e. least-shift from (Some at) times best.0 best.1 least (λ later f. let a : at ≡ later = cc in let b = ltb-true best.1 at e in omega arith)
       | false ↦ λ e. least-here from at times (λ other later held. let a = least.least other later held in let b = ltb-false best.1 at e in omega arith)
@@ -75,7 +75,7 @@ found-sooner from (Some at) times (Some best) least =
 least_from-found : (from : ℕ) (times : List (Option ℕ)) → Found from times (least_from from times)
 unfolding least_from
 least_from-found from [] = λ name at held. cc
-least_from-found from (time ∷ times) = found-sooner from time times (least_from (suc from) times) (least_from-found (suc from) times)
+least_from-found from (time ∷ times) = found-earlier from time times (least_from (suc from) times) (least_from-found (suc from) times)
 
 -- from name 0 on it is the least of all
 pub least_from-is_least : (times : List (Option ℕ)) → IsLeastOf times (least_from 0 times)
@@ -96,7 +96,7 @@ least_from-end n times h = rw (drop_of_length-le times h) refl
 
 -- one name less
 pub least_from-before : (name : ℕ) (times : List (Option ℕ)) (d : Option ℕ) → 0 < name → name ≤ length times
-    → least_from (name - 1) (drop (name - 1) times) ≡ sooner_of (name - 1) (get_or times (name - 1) d) (least_from name (drop name times))
+    → least_from (name - 1) (drop (name - 1) times) ≡ earlier_of (name - 1) (get_or times (name - 1) d) (least_from name (drop name times))
 unfolding least_from
 least_from-before zero times d h within = absurd (omega arith)
 least_from-before (suc before) times d h within =

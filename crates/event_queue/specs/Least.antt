@@ -12,7 +12,7 @@ abbrev pub IsLeastOf : List (Option ℕ) → Option (ℕ × ℕ) → Type 0
 IsLeastOf times found = MatchOption found ((name at : ℕ) → slice_get times name ≢ Some (Some at)) (λ deadline. IsLeast times deadline.0 deadline.1)
 
 -- of a name's deadline and the least of the greater names, the one that comes first, at a tie the lesser name
-abbrev pub sooner_of : ℕ → Option ℕ → Option (ℕ × ℕ) → Option (ℕ × ℕ)
-sooner_of name None best = best
-sooner_of name (Some at) None = Some (name, at)
-sooner_of name (Some at) (Some best) = if nat_lt best.1 at then Some best else Some (name, at)
+abbrev pub earlier_of : ℕ → Option ℕ → Option (ℕ × ℕ) → Option (ℕ × ℕ)
+earlier_of name None best = best
+earlier_of name (Some at) None = Some (name, at)
+earlier_of name (Some at) (Some best) = if nat_lt best.1 at then Some best else Some (name, at)

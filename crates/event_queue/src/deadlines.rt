@@ -1,5 +1,5 @@
 ghost use Rattle.std.specs.Prelude.{◌≡◌, ◌<◌, Some, None, replicate, slice_set};
-ghost use Rattle.event_queue.specs.Least.{IsLeastOf, sooner_of};
+ghost use Rattle.event_queue.specs.Least.{IsLeastOf, earlier_of};
 
 use std::marker::Model;
 
@@ -56,15 +56,15 @@ impl Deadlines {
     {
         let mut best = None;
         for name in (0..16u8).rev() {
-            best = sooner(name, self.times[name as usize], best);
+            best = earlier(name, self.times[name as usize], best);
         }
         best
     }
 }
 
-/// The sooner of a name's deadline and one of a greater name, at a tie the first.
-fn sooner(name: u8, time: Option<u64>, best: Option<(u8, u64)>) -> Option<(u8, u64)>
-    ensures { result ≡ sooner_of name time best }
+/// The earlier of a name's deadline and one of a greater name, at a tie the first.
+fn earlier(name: u8, time: Option<u64>, best: Option<(u8, u64)>) -> Option<(u8, u64)>
+    ensures { result ≡ earlier_of name time best }
 {
     match (time, best) {
         (None, best) => best,

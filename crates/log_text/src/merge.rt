@@ -1,4 +1,4 @@
-ghost use Rattle.std.specs.Prelude.{◌≡◌, length};
+ghost use Rattle.std.specs.Prelude.{◌≡◌};
 ghost use Rattle.std.specs.Iterator.{YieldsFirst, item_count};
 ghost use Rattle.log_text.specs.LogText.{merged};
 ghost use Rattle.log_text.specs.Merging.{first_clock, earliest_of, TakesAt, AreSorted};

@@ -1,8 +1,6 @@
 //! A shelf that never fails.
-ghost use Rattle.std.specs.Prelude.{◌≡◌, ◌≢◌, ◌≤◌, true, false, [], ◌∷◌, ◌++◌, OnOk, OnErr, IsOk, Err};
-ghost use Rattle.outside_io.specs.Causes.{HasCause};
-ghost use Rattle.outside_io.specs.Known.{grown};
-ghost use Rattle.outside_io.specs.Shelf.{Loads, LoadFaults, LoadAbsences, KeepsOthers};
+ghost use Rattle.std.specs.Prelude.{◌≡◌, ◌≢◌, true, false, [], ◌∷◌, ◌++◌, OnOk, OnErr, IsOk, Err};
+ghost use Rattle.outside_io.specs.Shelf.{Loads, LoadFaults, LoadAbsences};
 ghost use Rattle.outside_io.specs.Steady.{told_files, after_steady_load};
 
 use crate::answers::{Failed, Loaded, ShelfFault};

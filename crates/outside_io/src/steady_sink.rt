@@ -4,7 +4,8 @@ ghost use Rattle.std.specs.Prelude.{◌≡◌, IsOk, None};
 use crate::answers::SinkFault;
 use crate::outside::Sink;
 
-/// Takes every piece, keeps nothing and tells nothing. Its count of faults is always 0.
+/// A sink into which any piece goes and from which none comes back; contracts see no byte of it. It
+/// has no faults to count.
 #[derive(Clone, Copy, Debug, Default, PartialEq, Eq)]
 pub struct SteadySink;
 

@@ -1,5 +1,5 @@
 //! A file in memory.
-ghost use Rattle.std.specs.Prelude.{◌≡◌, ℕ, ◌+◌, ◌≤◌, ◌++◌, List, [], take, drop, length, IfOk, IsUtf8, vec_len, vec_capacity};
+ghost use Rattle.std.specs.Prelude.{◌≡◌, ℕ, ◌+◌, ◌≤◌, List, [], take, drop, length, IfOk, IsUtf8, vec_len, vec_capacity};
 
 use crate::append::append;
 use std::alloc::{AllocError, Global};

@@ -3,12 +3,15 @@ ghost use Rattle.rom_image.specs.Addresses.{offset_of, byte_of};
 ghost use Rattle.rom_image.specs.Reading.{ReadsImage};
 
 use crate::fault::ImageFault;
-use board_base::OutOfMemory;
+use board_base::{OutOfMemory, VECTOR_ROM_LEN};
 use std::alloc::Global;
 use std::marker::Model;
 
-/// The bytes of an image: 14,336 of vector ROM, then 28,672 of program ROM.
-pub const IMAGE_LEN: usize = 43_008;
+/// The bytes of the program ROM.
+pub const PROGRAM_ROM_LEN: usize = 28_672;
+
+/// The bytes of an image: those of the vector ROM, and then those of the program ROM.
+pub const IMAGE_LEN: usize = VECTOR_ROM_LEN + PROGRAM_ROM_LEN;
 
 /// The board's two ROMs: 43,008 bytes, the vector ROM from 2800 to 5FFF and then the program ROM
 /// from 9000 to FFFF.
@@ -19,22 +22,23 @@ pub struct Image {
 
 impl Model for Image {
     ghost use Rattle.std.specs.Prelude.{◌≡◌, ℕ, List, length};
+    ghost use Rattle.rom_image.specs.declared.image.TheConstants.{IMAGE_LEN};
 
     ghost Value = { List ℕ };
 
     ghost view = { λ i. i.bytes.items };
 
-    ghost invariant = { λ i. length i.bytes.items ≡ 43008 };
+    ghost invariant = { λ i. length i.bytes.items ≡ IMAGE_LEN };
 }
 
 /// The place of an address in an image.
 fn offset(addr: u16) -> Option<usize>
     ensures place { result ≡ offset_of addr }
-    ensures inside { IfSome result (λ k. k < 43008) }
+    ensures inside { IfSome result (λ k. k < IMAGE_LEN) }
 {
     match addr {
         0x2800..=0x5FFF => Some((addr - 0x2800) as usize),
-        0x9000..=0xFFFF => Some(14336 + (addr - 0x9000) as usize),
+        0x9000..=0xFFFF => Some(VECTOR_ROM_LEN + (addr - 0x9000) as usize),
         _ => None,
     }
 }
@@ -63,7 +67,7 @@ impl Image {
 
     /// An image whose bytes are all 0.
     pub fn blank(alloc: Global) -> Result<Image, OutOfMemory>
-        ensures { IfOk result (λ image. image ≡ replicate 43008 0) }
+        ensures { IfOk result (λ image. image ≡ replicate IMAGE_LEN 0) }
     {
         let bytes = zeros(alloc, IMAGE_LEN)?;
         Ok(Image { bytes })
@@ -72,7 +76,7 @@ impl Image {
     /// The 43,008 bytes.
     pub fn bytes(&self) -> &[u8]
         ensures bytes { result.now ≡ self.now }
-        ensures len { length result.now ≡ 43008 }
+        ensures len { length result.now ≡ IMAGE_LEN }
     {
         self.bytes.as_slice()
     }

@@ -1,5 +1,5 @@
+use std::error::Error;
 use std::fmt;
-use thiserror::Error;
 
 /// What is wrong with a line of a tape.
 ///
@@ -23,9 +23,9 @@ pub enum LineCause {
 
 impl fmt::Display for LineCause {
     ghost use Rattle.std.specs.Prelude.{Some};
-    ghost use Rattle.tape_ports.specs.Causes.{line_cause_text};
+    ghost use Rattle.tape_ports.specs.Texts.{cause_text};
 
-    ghost output = { λ cause. Some (line_cause_text cause) };
+    ghost output = { λ cause. Some (cause_text cause) };
 
     fn fmt<W: fmt::Write>(&self, f: &mut fmt::Formatter<W>) -> fmt::Result {
         f.write_str(match self {
@@ -39,16 +39,31 @@ impl fmt::Display for LineCause {
     }
 }
 
+impl Error for LineCause {}
+
 /// Why a text is no tape.
-///
-/// `TooLong` is more than `TAPE_LIMIT` bytes, and is looked at first. `BadLine` has the number of the
-/// first bad line, counted from 1.
-#[derive(Clone, Copy, Debug, PartialEq, Eq, Error)]
+#[derive(Clone, Copy, Debug, PartialEq, Eq)]
 pub enum TapeFault {
-    #[error("too long")]
+    /// More than `TAPE_LIMIT` bytes, which comes before all else.
     TooLong,
-    #[error("line {line}: {cause}")]
+    /// The first bad line, counted from 1, and what is wrong with it.
     BadLine { line: u64, cause: LineCause },
-    #[error("no memory")]
     OutOfMemory,
 }
+
+impl fmt::Display for TapeFault {
+    ghost use Rattle.std.specs.Prelude.{Some};
+    ghost use Rattle.tape_ports.specs.Texts.{fault_text};
+
+    ghost output = { λ fault. Some (fault_text fault) };
+
+    fn fmt<W: fmt::Write>(&self, f: &mut fmt::Formatter<W>) -> fmt::Result {
+        match self {
+            TapeFault::TooLong => f.write_str("too long"),
+            TapeFault::BadLine { line, cause } => write!(f, "line {line}: {cause}"),
+            TapeFault::OutOfMemory => f.write_str("no memory"),
+        }
+    }
+}
+
+impl Error for TapeFault {}

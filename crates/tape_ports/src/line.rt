@@ -1,4 +1,4 @@
-ghost use Rattle.std.specs.Prelude.{◌≡◌, ◌≢◌, ◌<◌, ◌≤◌, ◌^◌, ◌∷◌, ◌++◌, [], All, IfOk, IfSome, MatchOption, length};
+ghost use Rattle.std.specs.Prelude.{◌≡◌, ◌≢◌, ◌<◌, ◌≤◌, ◌∷◌, ◌++◌, [], All, IfOk, IfSome, MatchOption, length};
 ghost use Rattle.tape_ports.specs.Ports.{IsPort, port_of};
 ghost use Rattle.tape_ports.specs.Grammar.{lines_of, words_of, clock_of, value_of, digit_of, clock_after, end_line, entry_line, line_of, ComesAfter};
 

@@ -1,5 +1,5 @@
 use Rattle.std.proofs.Common.{◌≡◌, sym, ◌∙◌, ap, arith}
-use Rattle.event_queue.specs.Least.{sooner_of}
+use Rattle.event_queue.specs.Least.{earlier_of}
 use Rattle.event_queue.proofs.Leasts.{least_from-is_least, least_from-end, least_from-before}
 use Rattle.event_queue.proofs.deadlines.Deadlines.least.Goals as goal
 
@@ -8,8 +8,8 @@ loop-name-init c = least_from-end 16 c.self.inside.times (omega arith)
 
 pub loop-name-preserved : goal.loop-name-preserved
 loop-name-preserved c =
-    c.sooner-best.ensures
-    ∙ ap (sooner_of _ _) c.loop-name.invariant
+    c.earlier-best.ensures
+    ∙ ap (earlier_of _ _) c.loop-name.invariant
     ∙ sym (least_from-before c.loop-name.name c.self.inside.times _ c.loop-name-test.true (omega arith))
 
 pub returns : goal.returns
