@@ -1,32 +1,29 @@
 -- The EAROM's latches, and the hold that an erase or a write takes (after the ER2055 data sheet). Which control bit is
 -- which line, how long a hold lasts, and that a write can only clear bits are this project's own profile.
-use Rattle.std.specs.Prelude.{ℕ, ◌+◌, ◌/◌, ◌%◌, ◌^◌, Bool, not, ◌&&◌, ◌==◌, nat_lt, if◌then◌else◌, slice_index, slice_set, bit_and}
+use Rattle.std.specs.Prelude.{ℕ, ◌+◌, ◌%◌, Bool, not, ◌&&◌, ◌==◌, nat_lt, if◌then◌else◌, slice_index, slice_set, bit_and}
+use Rattle.bit_words.specs.Bits.{is_bit}
 use Rattle.board_base.specs.Earom.{EaromValue}
 
--- bit k of a number
-abbrev pub bit : ℕ → ℕ → Bool
-bit n k = n / 2 ^ k % 2 == 1
+-- the control lines that are high
+abbrev pub is_clock_high : ℕ → Bool
+is_clock_high control = is_bit control 0
 
--- the control lines
-abbrev pub clock_line : ℕ → Bool
-clock_line control = bit control 0
+abbrev pub is_not_c1_high : ℕ → Bool
+is_not_c1_high control = is_bit control 1
 
-abbrev pub not_c1_line : ℕ → Bool
-not_c1_line control = bit control 1
+abbrev pub is_c2_high : ℕ → Bool
+is_c2_high control = is_bit control 2
 
-abbrev pub c2_line : ℕ → Bool
-c2_line control = bit control 2
-
-abbrev pub select_line : ℕ → Bool
-select_line control = bit control 3
+abbrev pub is_selected : ℕ → Bool
+is_selected control = is_bit control 3
 
 -- an erase or a write is asked for
 abbrev pub is_held : ℕ → Bool
-is_held control = select_line control && not_c1_line control
+is_held control = is_selected control && is_not_c1_high control
 
 -- what the addressed cell becomes when the hold is complete: an erase sets all its bits, a write can only clear some
 abbrev pub written_cell : EaromValue → ℕ
-written_cell e = if c2_line e.control then 255 else bit_and (slice_index e.cells e.addr) e.value
+written_cell e = if is_c2_high e.control then 255 else bit_and (slice_index e.cells e.addr) e.value
 
 -- the hold is complete with its 1,512th clock
 abbrev pub completed : EaromValue → EaromValue
@@ -46,7 +43,7 @@ latched addr value e = record e { addr = addr; value = value; hold = 0 }
 
 -- the clock line falls while the cells are selected for reading
 abbrev pub reads_out : ℕ → ℕ → Bool
-reads_out old new = clock_line old && not (clock_line new) && select_line new && not (not_c1_line new)
+reads_out old new = is_clock_high old && not (is_clock_high new) && is_selected new && not (is_not_c1_high new)
 
 -- the control bits are written, the hold begins anew, and a read puts the addressed cell into the output latch
 unfoldable pub controlled : ℕ → EaromValue → EaromValue

@@ -1,10 +1,10 @@
 //! The EAROM.
 #![tactic(auto)]
 
-pub mod held;
+pub mod cells;
 pub mod unit;
 
-pub use held::Earom;
+pub use cells::Earom;
 pub use unit::CellUnit;
 
 #[cfg(test)]

@@ -79,6 +79,16 @@ fn one_by_one_is_the_same_as_in_slices(rt: HostRuntime) {
 }
 
 #[test]
+fn any_number_of_clocks_can_be_moved(rt: HostRuntime) {
+    let mut earom = latched();
+    earom.control(0x0E);
+    earom.advance(u64::MAX);
+    assert_eq!(rt; (earom.state().cells[5], earom.state().hold), (0xFF, 1512));
+    earom.advance(u64::MAX);
+    assert_eq!(rt; (earom.state().cells[5], earom.state().hold), (0xFF, 1512));
+}
+
+#[test]
 fn it_begins_erased_and_with_no_call_counted(rt: HostRuntime) {
     let mut earom = Earom::new();
     assert_eq!(rt; earom.calls(), 0);

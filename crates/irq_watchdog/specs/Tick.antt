@@ -1,5 +1,6 @@
 -- The interrupt divider and the watchdog. This project's own profile.
-use Rattle.std.specs.Prelude.{ℕ, ◌+◌, ◌/◌, ◌%◌, ◌^◌, Bool, true, false, ◌==◌, if◌then◌else◌}
+use Rattle.std.specs.Prelude.{◌+◌, ◌/◌, ◌%◌, ◌^◌, Bool, true, false, ◌==◌, if◌then◌else◌}
+use Rattle.board_base.specs.declared.divider.TheConstants.{DIVIDER_PERIOD}
 use Rattle.board_base.specs.declared.divider.Pending.TheVariants.{Nothing, Watchdog}
 use Rattle.board_base.specs.Divider.{DividerValue}
 
@@ -10,9 +11,9 @@ wrapped d =
     then record d { phase = 0; irq = true; dog = 0; pending = Watchdog }
     else record d { phase = 0; irq = true; dog = d.dog + 1 }
 
--- one clock: the phase rises by 1, and at 6,144 it wraps
+-- one clock: the phase rises by 1, and with a whole period it wraps
 unfoldable pub divider_tick : DividerValue → DividerValue
-divider_tick d = if d.phase + 1 == 6144 then wrapped d else record d { phase = d.phase + 1 }
+divider_tick d = if d.phase + 1 == DIVIDER_PERIOD then wrapped d else record d { phase = d.phase + 1 }
 
 -- an acknowledge lets go of the interrupt
 abbrev pub acknowledged : DividerValue → DividerValue

@@ -1,10 +1,10 @@
 //! The interrupt divider and the watchdog.
 #![tactic(auto)]
 
-pub mod arithmetic;
+pub mod interrupt_divider;
 pub mod unit;
 
-pub use arithmetic::Divider;
+pub use interrupt_divider::Divider;
 pub use unit::DividerUnit;
 
 #[cfg(test)]

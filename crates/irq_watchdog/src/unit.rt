@@ -3,7 +3,7 @@ ghost use Rattle.board_base.specs.Counts.{Counted};
 ghost use Rattle.board_base.specs.Ticks.{times};
 ghost use Rattle.irq_watchdog.specs.Tick.{divider_tick, acknowledged, watchdog_cleared, reset_taken, line_3k};
 
-use board_base::{Clocked, DividerState, Pending};
+use board_base::{Clocked, DIVIDER_PERIOD, DividerState, Pending};
 
 /// An interrupt divider with its watchdog. This project's own profile.
 pub trait DividerUnit: Clocked {
@@ -32,7 +32,7 @@ pub trait DividerUnit: Clocked {
 
     /// The clocks up to and with the next wrap.
     fn quiet(&self) -> u64
-        ensures exact { result ≡ 6144 - (device self.now).phase }
+        ensures exact { result ≡ DIVIDER_PERIOD - (device self.now).phase }
         ensures ahead { 0 < result };
 
     /// The 3 kHz line.

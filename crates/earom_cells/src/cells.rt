@@ -1,9 +1,10 @@
-ghost use Rattle.std.specs.Prelude.{◌≡◌, ◌&&◌, ◌+◌, ◌<◌, min, nat_lt, nat_le};
+ghost use Rattle.std.specs.Prelude.{◌≡◌, ◌<◌};
 ghost use Rattle.board_base.specs.Earom.{earom_at_power_on};
 ghost use Rattle.board_base.specs.Ticks.{times};
-ghost use Rattle.earom_cells.specs.Tick.{bit, earom_tick, is_held, reads_out, completed, controlled, written_cell};
+ghost use Rattle.earom_cells.specs.Tick.{is_clock_high, is_not_c1_high, is_c2_high, is_selected, earom_tick, is_held, reads_out, completed, controlled};
 
 use crate::unit::CellUnit;
+use bit_words::is_set;
 use board_base::{CallCount, Clocked, EaromState};
 use std::marker::Model;
 
@@ -46,26 +47,46 @@ impl Clocked for Earom {
     }
 }
 
-/// Whether the line `k` is set.
-fn line(control: u8, k: u8) -> bool
-    requires { k < 4 }
-    ensures { result ≡ bit control k }
+/// Whether the clock line is high.
+fn is_clock_high(control: u8) -> bool
+    ensures { result ≡ is_clock_high control }
 {
-    control / (1 << k) % 2 == 1
+    is_set(control, 0)
+}
+
+/// Whether the not-C1 line is high.
+fn is_not_c1_high(control: u8) -> bool
+    ensures { result ≡ is_not_c1_high control }
+{
+    is_set(control, 1)
+}
+
+/// Whether the C2 line is high, which asks for an erase and not for a write.
+fn is_c2_high(control: u8) -> bool
+    ensures { result ≡ is_c2_high control }
+{
+    is_set(control, 2)
+}
+
+/// Whether the cells are selected.
+fn is_selected(control: u8) -> bool
+    ensures { result ≡ is_selected control }
+{
+    is_set(control, 3)
 }
 
 /// Whether an erase or a write is asked for.
-fn holds(control: u8) -> bool
+fn is_held(control: u8) -> bool
     ensures { result ≡ is_held control }
 {
-    line(control, 3) && line(control, 1)
+    is_selected(control) && is_not_c1_high(control)
 }
 
 /// Whether a control write reads the addressed cell into the output latch.
-fn reads(old: u8, new: u8) -> bool
+fn reads_out(old: u8, new: u8) -> bool
     ensures { result ≡ reads_out old new }
 {
-    line(old, 0) && !line(new, 0) && line(new, 3) && !line(new, 1)
+    is_clock_high(old) && !is_clock_high(new) && is_selected(new) && !is_not_c1_high(new)
 }
 
 /// Erases the addressed cell, or writes it.
@@ -73,7 +94,7 @@ fn complete(state: &mut EaromState)
     ensures { state.new ≡ completed state.old }
 {
     let cell = state.addr as usize;
-    state.cells[cell] = if line(state.control, 2) {
+    state.cells[cell] = if is_c2_high(state.control) {
         0xFF
     } else {
         state.cells[cell] & state.value
@@ -86,7 +107,7 @@ fn complete(state: &mut EaromState)
 fn advance_state(state: &mut EaromState, n: u64)
     ensures { state.new ≡ times earom_tick n state.old }
 {
-    if !holds(state.control) || state.hold >= HOLD {
+    if !is_held(state.control) || state.hold >= HOLD {
         return;
     }
     if n < u64::from(HOLD - state.hold) {
@@ -122,7 +143,7 @@ impl CellUnit for Earom {
     #[tactic(auto, unfolding(crate::specs::Tick::controlled))]
     fn control(&mut self, value: u8) {
         let control = value % 16;
-        if reads(self.state.control, control) {
+        if reads_out(self.state.control, control) {
             self.state.out = self.state.cells[self.state.addr as usize];
         }
         self.state.control = control;

@@ -4,8 +4,14 @@ ghost use Rattle.board_base.specs.Ticks.{times};
 ghost use Rattle.irq_watchdog.specs.Tick.{divider_tick};
 
 use crate::unit::DividerUnit;
-use board_base::{CallCount, Clocked, DividerState, Pending};
+use board_base::{CallCount, Clocked, DIVIDER_PERIOD, DividerState, Pending};
 use std::marker::Model;
+
+/// The clocks from a wrap to the next.
+const PERIOD: u64 = DIVIDER_PERIOD as u64;
+
+/// The wraps since the watchdog was cleared that ask for a reset.
+const WATCHDOG_WRAPS: u64 = 8;
 
 /// A divider that moves any number of clocks at the same cost.
 #[derive(Drop)]
@@ -46,36 +52,48 @@ impl Clocked for Divider {
 /// The phase after `n` clocks.
 #[tactic(auto, using(crate::proofs::Moves::rounds))]
 fn phase_after(phase: u16, n: u64) -> u16
-    requires { phase < 6144 }
-    ensures { result ≡ (phase + n) % 6144 }
+    requires { phase < DIVIDER_PERIOD }
+    ensures { result ≡ (phase + n) % DIVIDER_PERIOD }
 {
-    ((u64::from(phase) + n % 6144) % 6144) as u16
+    ((u64::from(phase) + n % PERIOD) % PERIOD) as u16
 }
 
-/// The wraps of `n` clocks from this phase: whole rounds of 6,144 first, and then the rest.
+/// The wraps of `n` clocks from this phase: whole rounds first, and then the rest.
 #[tactic(auto, using(crate::proofs::Moves::rounds))]
 fn wraps_within(phase: u16, n: u64) -> u64
-    requires { phase < 6144 }
-    ensures value { result ≡ (phase + n) / 6144 }
+    requires { phase < DIVIDER_PERIOD }
+    ensures value { result ≡ (phase + n) / DIVIDER_PERIOD }
     ensures few { result ≤ 2 ^ 52 }
 {
-    n / 6144 + (u64::from(phase) + n % 6144) / 6144
+    n / PERIOD + (u64::from(phase) + n % PERIOD) / PERIOD
 }
 
 /// The reset that is pending when the watchdog has counted this far.
 fn pending_after(pending: Pending, count: u64) -> Pending
-    ensures { result ≡ (if nat_le 8 count then Pending.Watchdog else pending) }
+    ensures { result ≡ (if nat_le WATCHDOG_WRAPS count then Pending.Watchdog else pending) }
 {
-    if count >= 8 {
+    if count >= WATCHDOG_WRAPS {
         Pending::Watchdog
     } else {
         pending
     }
 }
 
-/// The state after `n` clocks.
+/// The state after `n` clocks without a wrap.
+#[tactic(auto, using(crate::proofs::Moves::moves_within_a_round))]
+fn moved_within_a_round(state: DividerState, n: u64) -> DividerState
+    requires { state.phase + n < DIVIDER_PERIOD }
+    ensures { result ≡ times divider_tick n state }
+{
+    DividerState {
+        phase: state.phase + n as u16,
+        ..state
+    }
+}
+
+/// The state after `n` clocks, with any number of wraps among them.
 #[tactic(auto, using(crate::proofs::Moves::moves), unfolding(crate::proofs::Moves::divided))]
-fn moved(state: DividerState, n: u64) -> DividerState
+fn moved_over_wraps(state: DividerState, n: u64) -> DividerState
     ensures { result ≡ times divider_tick n state }
 {
     let wraps = wraps_within(state.phase, n);
@@ -83,8 +101,19 @@ fn moved(state: DividerState, n: u64) -> DividerState
     DividerState {
         phase: phase_after(state.phase, n),
         irq: state.irq || wraps >= 1,
-        dog: (count % 8) as u8,
+        dog: (count % WATCHDOG_WRAPS) as u8,
         pending: pending_after(state.pending, count),
+    }
+}
+
+/// The state after `n` clocks.
+fn moved(state: DividerState, n: u64) -> DividerState
+    ensures { result ≡ times divider_tick n state }
+{
+    if n < PERIOD - u64::from(state.phase) {
+        moved_within_a_round(state, n)
+    } else {
+        moved_over_wraps(state, n)
     }
 }
 
@@ -110,7 +139,7 @@ impl DividerUnit for Divider {
     }
 
     fn quiet(&self) -> u64 {
-        6144 - u64::from(self.state.phase)
+        PERIOD - u64::from(self.state.phase)
     }
 
     fn bit3k(&self) -> bool {
