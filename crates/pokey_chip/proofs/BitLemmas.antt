@@ -1,25 +1,9 @@
 -- Single bits of small numbers.
 use borrow.Author.Tests.{ltb-true}
-use Rattle.std.proofs.Common.{nat_lt, ◌≡◌, ℕ, ◌*◌, ◌%◌, ◌^◌, ◌<◌, Bool, true, false, List, map, get_or, refl, ap, sym, ◌∙◌, zero-add, bit_and, bit_or}
-use Rattle.std.proofs.lemmas.List.FromFn.{get_or-map-range_with_len}
+use Rattle.std.proofs.Common.{nat_lt, ◌≡◌, ℕ, ◌*◌, ◌%◌, ◌^◌, ◌<◌, Bool, true, false, refl, bit_and, bit_or}
 use Rattle.std.specs.Int.{bit_not, w8}
-use Rattle.std.specs.List.{range_with_len}
+use Rattle.bit_words.proofs.Tables.{same_by_tables}
 use Rattle.pokey_chip.specs.Tick.{with_bit}
-
--- two functions that agree in a table of the numbers below n agree at each of them
-pub same_by_table : {A : Type 0} (n : ℕ) (f g : ℕ → A) → map f (range_with_len 0 n) ≡ map g (range_with_len 0 n) → (m : ℕ) → m < n → f m ≡ g m
-same_by_table {A} n f g same m h =
-    sym (get_or-map-range_with_len f 0 n m m (f m) h (zero-add m))
-    ∙ ap (λ (xs : List A). get_or xs m (f m)) same
-    ∙ get_or-map-range_with_len g 0 n m m (f m) h (zero-add m)
-
--- of two numbers
-pub same_by_tables : {A : Type 0} (m n : ℕ) (f g : ℕ → ℕ → A)
-    → map (λ k. map (f k) (range_with_len 0 n)) (range_with_len 0 m) ≡ map (λ k. map (g k) (range_with_len 0 n)) (range_with_len 0 m)
-    → (k : ℕ) → k < m → (r : ℕ) → r < n → f k r ≡ g k r
-same_by_tables m n f g same k below =
-    same_by_table n (f k) (g k)
-    (same_by_table m (λ k. map (f k) (range_with_len 0 n)) (λ k. map (g k) (range_with_len 0 n)) same k below)
 
 pub bit_set : (k : ℕ) → k < 4 → (n : ℕ) → n < 16 → bit_or n (1 * 2 ^ k % 2 ^ 8) ≡ with_bit n k true
 unfolding with_bit

@@ -1,9 +1,12 @@
 pub mod BitLemmas
+pub mod CountLaws
 pub mod RecordLemmas
 pub mod PotLemmas
 pub mod KeptLaws
 pub mod PulseLaws
-pub mod CalmLaws
-pub mod CrossLaws
+pub mod RegisterLaws
+pub mod UnderflowLaws
+pub mod VoiceLaws
+pub mod EventLaws
+pub mod MoveLaws
 pub mod RequestLaws
-pub mod FastLaws

@@ -4,7 +4,7 @@ use Rattle.std.proofs.Math.Nat.{pow-succ'}
 use Rattle.std.proofs.Math.Pow.{pow_mono}
 use Rattle.std.proofs.Math.Seq.{drop-cons}
 use Rattle.std.specs.Int.{from_bool}
-use Rattle.pokey_chip.specs.Registers.{number}
+use Rattle.bit_words.specs.Bits.{number}
 
 -- the number of the bits that a test gives from a place on
 pub number_from : (f : ℕ → Bool) (xs : List ℕ) (n : ℕ) → n < length xs

@@ -6,9 +6,10 @@ use Rattle.board_base.specs.Pokey.{PokeyValue}
 use Rattle.board_base.specs.Ticks.{ticks, times}
 use Rattle.pokey_timer.specs.Prescaler.{pulses}
 use Rattle.pokey_chip.specs.declared.channel.Channel.{Channel}
-use Rattle.pokey_chip.specs.Channels.{is_bit, is_fast, is_still}
+use Rattle.bit_words.specs.Bits.{is_bit}
+use Rattle.pokey_chip.specs.Channels.{is_on_chip_clock, is_still}
 use Rattle.pokey_chip.specs.Pulses.{pulses_of, rises_of}
-use Rattle.pokey_chip.specs.Tick.{all_turned, clocked, counted_down, counted_on, is_held, pokey_tick, pot_counted, pots_rise, turned}
+use Rattle.pokey_chip.specs.Tick.{channel_ticked, channels_ticked, clocked, is_held, pokey_tick, pot_counted, pots_rise, turned, with_left}
 use Rattle.pokey_chip.proofs.KeptLaws.{kept, pre28-after, pre114-after}
 
 -- the lower channel of a pair gets none
@@ -18,7 +19,7 @@ pulses-still c zero p still = refl
 pulses-still c (suc n) p still = rw ((kept n p).audctl_kept, still, pulses-still c n p still) refl
 
 -- a channel on the chip clock gets one in each clock
-pub pulses-fast : (c : Channel) (n : ℕ) (p : PokeyValue) → is_still p.audctl c ≡ false → is_fast p.audctl c ≡ true → pulses_of c n p ≡ n
+pub pulses-fast : (c : Channel) (n : ℕ) (p : PokeyValue) → is_still p.audctl c ≡ false → is_on_chip_clock p.audctl c ≡ true → pulses_of c n p ≡ n
 unfolding pulses_of
 pulses-fast c zero p still fast = refl
 pulses-fast c (suc n) p still fast = rw ((kept n p).audctl_kept, still, fast, pulses-fast c n p still fast) (add-one n)
@@ -28,21 +29,21 @@ never true = refl
 never false = refl
 
 -- a channel on the base clock gets none while the prescalers are held
-pub pulses-held : (c : Channel) (n : ℕ) (p : PokeyValue) → is_fast p.audctl c ≡ false → is_held p.skctl ≡ true → pulses_of c n p ≡ 0
+pub pulses-held : (c : Channel) (n : ℕ) (p : PokeyValue) → is_on_chip_clock p.audctl c ≡ false → is_held p.skctl ≡ true → pulses_of c n p ≡ 0
 unfolding pulses_of
 pulses-held c zero p fast held = refl
 pulses-held c (suc n) p fast held =
     rw ((kept n p).audctl_kept, (kept n p).skctl_kept, fast, held, pulses-held c n p fast held, never (not (is_still p.audctl c))) refl
 
 -- and else those of a prescaler
-pub pulses-line : (c : Channel) (n : ℕ) (p : PokeyValue) → is_still p.audctl c ≡ false → is_fast p.audctl c ≡ false
+pub pulses-line : (c : Channel) (n : ℕ) (p : PokeyValue) → is_still p.audctl c ≡ false → is_on_chip_clock p.audctl c ≡ false
     → is_held p.skctl ≡ false → is_bit p.audctl 0 ≡ true → pulses_of c n p ≡ pulses 114 p.pre114 n
 unfolding pulses_of pulses
 pulses-line c zero p still fast held slow = refl
 pulses-line c (suc n) p still fast held slow =
     rw ((kept n p).audctl_kept, (kept n p).skctl_kept, still, fast, held, slow, pre114-after n p held, pulses-line c n p still fast held slow) refl
 
-pub pulses-base : (c : Channel) (n : ℕ) (p : PokeyValue) → is_still p.audctl c ≡ false → is_fast p.audctl c ≡ false
+pub pulses-base : (c : Channel) (n : ℕ) (p : PokeyValue) → is_still p.audctl c ≡ false → is_on_chip_clock p.audctl c ≡ false
     → is_held p.skctl ≡ false → is_bit p.audctl 0 ≡ false → pulses_of c n p ≡ pulses 28 p.pre28 n
 unfolding pulses_of pulses
 pulses-base c zero p still fast held slow = refl
@@ -72,7 +73,7 @@ risen true pot rises = grind (arith, nat_tests)
 risen false pot rises = rw add-zero refl
 
 pub pot-after : (n : ℕ) (p : PokeyValue) → p.pot ≤ 228 → (times pokey_tick n p).pot ≡ min 228 (p.pot + rises_of n p)
-unfolding ticks rises_of pokey_tick all_turned turned counted_on counted_down pot_counted clocked
+unfolding ticks rises_of pokey_tick channels_ticked channel_ticked with_left turned pot_counted clocked
 pot-after zero p small = omega arith
 pot-after (suc n) p small = rw (pot-after n p small) (sym (risen (pots_rise (times pokey_tick n p)) p.pot (rises_of n p)))
 
@@ -85,16 +86,8 @@ unfolding rises_of
 rises-few zero p = omega arith
 rises-few (suc n) p = few (pots_rise (times pokey_tick n p)) n (rises_of n p) (rises-few n p)
 
--- where a pulse comes, so does a clock
-pub pulses-some : (period count n : ℕ) → 1 ≤ pulses period count n → 1 ≤ n
-unfolding pulses
-pulses-some period count zero h = h
-pulses-some period count (suc n) h = omega arith
-
 pub ruleset paces = (pulses-still, pulses-fast, pulses-held, pulses-line, pulses-base)
 
 pub ruleset pots = (rises-fast, rises-held, rises-line)
 
 pub ruleset few_rises = rises-few
-
-pub ruleset waits = pulses-some

@@ -34,13 +34,15 @@ one-change clock before now = at_most (pointwise nat_eq now before)
     at_most true = omega arith
     at_most false = omega arith
 
-gives-one : (clock : ℕ) (p : PokeyValue) → length (pokey_gives clock p) ≤ 1
+pub gives-one : (clock : ℕ) (p : PokeyValue) → length (pokey_gives clock p) ≤ 1
 unfolding pokey_gives
 gives-one clock p = one-change clock p.last (pokey_tick p).last
 
 -- n clocks give n records at most
 pub length-levels : (from n : ℕ) (p : PokeyValue) → length (levels_made from n p) ≤ n
 length-levels from n p = length-made (λ _. pokey_tick) pokey_gives from n p gives-one
+
+pub ruleset few_records = (gives-one, length-levels)
 
 -- one clock more, for a POKEY that lags behind a clock
 pub levels-next : (from to : ℕ) (p : PokeyValue) → from ≤ to

@@ -1,5 +1,5 @@
 -- When a request is made.
-use Rattle.std.proofs.Common.{◌≡◌, ◌≢◌, ℕ, ◌+◌, ◌-◌, ◌<◌, ◌≤◌, min, Bool, true, false, not, ◌&&◌, nat_le, ◌⊎◌, inl, inr, if◌then◌else◌, ◌==◌, zero, suc, refl, add-zero, add-suc, sym, ap, ◌∙◌, arith, Option, Some, None, MatchOption, IfSome}
+use Rattle.std.proofs.Common.{◌≡◌, ◌≢◌, ℕ, ◌+◌, ◌-◌, ◌<◌, ◌≤◌, min, Bool, true, false, not, ◌&&◌, nat_le, ◌⊎◌, inl, inr, if◌then◌else◌, ◌==◌, zero, suc, refl, add-zero, add-suc, sym, ap, ◌∙◌, arith, Option, Some, None, MatchOption}
 use Rattle.std.proofs.lemmas.Bool.Decides.{nat_tests}
 use Rattle.std.proofs.lemmas.Bool.{cases_lt}
 use Rattle.std.proofs.lemmas.List.Elements.{All-get_or}
@@ -8,12 +8,13 @@ use Rattle.board_base.specs.Pokey.{PokeyValue, IsPokey}
 use Rattle.board_base.specs.Ticks.{ticks, times}
 use Rattle.pokey_chip.specs.declared.channel.Channel.{Channel}
 use Rattle.pokey_chip.specs.declared.channel.Channel.TheVariants.{First, Second, Third, Fourth}
-use Rattle.pokey_chip.specs.Channels.{is_bit}
-use Rattle.pokey_chip.specs.Pulses.{has_pulse, pulses_of, asks, IsCalm, AreCalm, IsSilent, AreSilent, FirstFails, sooner_of}
-use Rattle.pokey_chip.specs.Tick.{all_turned, base_pulses, clocked, counted_down, counted_on, left_of, pokey_tick, pot_counted, requested, turned, underflows, with_bit}
+use Rattle.bit_words.specs.Bits.{is_bit}
+use Rattle.bit_words.specs.Sooner.{sooner_of}
+use Rattle.pokey_chip.specs.Pulses.{has_pulse, pulses_of, asks, HasNoUnderflow, MakesNoRequest, NoneRequests, FirstFails}
+use Rattle.pokey_chip.specs.Tick.{base_pulses, channel_ticked, channels_ticked, clocked, left_of, pokey_tick, pot_counted, requested, turned, underflows, with_bit, with_left}
 use Rattle.pokey_chip.specs.Quiet.{requests_after, IsEverQuiet, IsQuietBefore}
 use Rattle.pokey_chip.proofs.KeptLaws.{kept}
-use Rattle.pokey_chip.proofs.CalmLaws.{calm-before, calm-now, calm-then, left-fallen, no-underflow, has-spare}
+use Rattle.pokey_chip.proofs.UnderflowLaws.{calm-before, calm-now, calm-then, left-fallen, no-underflow, has-spare}
 
 -- IRQST with the requests of channels 1, 2 and 4 made or not
 unfoldable made_of : Bool → Bool → Bool → ℕ → ℕ
@@ -35,7 +36,7 @@ abbrev calls : PokeyValue → Channel → Bool
 calls p c = underflows (base_pulses p) p c && asks p c
 
 irqst-tick : (p : PokeyValue) → (pokey_tick p).irqst ≡ made_of (calls p First) (calls p Second) (calls p Fourth) p.irqst
-unfolding pokey_tick all_turned turned counted_on counted_down pot_counted clocked requested made_of
+unfolding pokey_tick channels_ticked channel_ticked with_left turned pot_counted clocked requested made_of
 irqst-tick p =
     rw (
       same-choice (underflows (base_pulses p) p Third),
@@ -94,27 +95,27 @@ tick-back p before now =
     (ap (made_of (calls p First) (calls p Second) (calls p Fourth)) (sym before) ∙ sym (irqst-tick p) ∙ now)
 
 module _ (c : Channel) (n : ℕ) (p : PokeyValue) where
-  silent-before : IsSilent p c (suc n) → IsSilent p c n
+  silent-before : MakesNoRequest p c (suc n) → MakesNoRequest p c n
   silent-before silent = λ asked. calm-before c n p (silent asked)
 
-  silent-now : IsSilent p c (suc n) → calls (times pokey_tick n p) c ≡ false
+  silent-now : MakesNoRequest p c (suc n) → calls (times pokey_tick n p) c ≡ false
   silent-now silent =
       quiet-call c (times pokey_tick n p)
-      (λ asked. let calm : IsCalm p c (suc n) = silent (sym (asks-kept c n p) ∙ asked) in
+      (λ asked. let calm : HasNoUnderflow p c (suc n) = silent (sym (asks-kept c n p) ∙ asked) in
       calm-now c n p (left-fallen c n p (calm-before c n p calm)) calm)
 
-  still-some : IsCalm p c n → 0 < left_of c (times pokey_tick n p)
+  still-some : HasNoUnderflow p c n → 0 < left_of c (times pokey_tick n p)
   still-some calm = omega (arith, left-fallen c n p calm)
 
-  silent-then : IsSilent p c n → calls (times pokey_tick n p) c ≡ false → IsSilent p c (suc n)
+  silent-then : MakesNoRequest p c n → calls (times pokey_tick n p) c ≡ false → MakesNoRequest p c (suc n)
   silent-then silent none =
-      λ asked. let calm : IsCalm p c n = silent asked in
+      λ asked. let calm : HasNoUnderflow p c n = silent asked in
       calm-then c n p (left-fallen c n p calm)
       (spare-call c (times pokey_tick n p) (still-some calm) none (asks-kept c n p ∙ asked))
 
 module _ (p : PokeyValue) (at_rest : p.irqst ≡ 7) where
   -- no request stands after n clocks in which none is made
-  pub quiet-after : (n : ℕ) → AreSilent p n → requests_after n p ≡ 7
+  pub quiet-after : (n : ℕ) → NoneRequests p n → requests_after n p ≡ 7
   unfolding ticks
   quiet-after zero silent = at_rest
   quiet-after (suc n) silent =
@@ -122,7 +123,7 @@ module _ (p : PokeyValue) (at_rest : p.irqst ≡ 7) where
       ∙ quiet-after n (silent-before First n p silent.0, silent-before Second n p silent.1, silent-before Fourth n p silent.2)
 
   -- and where none stands after one clock more, none was made in it
-  pub silent-after : (n : ℕ) → AreSilent p n → requests_after (suc n) p ≡ 7 → AreSilent p (suc n)
+  pub silent-after : (n : ℕ) → NoneRequests p n → requests_after (suc n) p ≡ 7 → NoneRequests p (suc n)
   unfolding ticks
   silent-after n silent now =
       let none : (calls (times pokey_tick n p) First ≡ false) × (calls (times pokey_tick n p) Second ≡ false) × (calls (times pokey_tick n p) Fourth ≡ false)
@@ -160,12 +161,12 @@ some-left Second p h = (All-get_or IsLeft p.left 1 0 (omega arith) h.pulses).0
 some-left Third p h = (All-get_or IsLeft p.left 2 0 (omega arith) h.pulses).0
 some-left Fourth p h = (All-get_or IsLeft p.left 3 0 (omega arith) h.pulses).0
 
-silent-at-first : (p : PokeyValue) → IsPokey p → AreSilent p 0
+silent-at-first : (p : PokeyValue) → IsPokey p → NoneRequests p 0
 unfolding pulses_of
 silent-at-first p h = (λ _. some-left First p h, λ _. some-left Second p h, λ _. some-left Fourth p h)
 
 -- the first clock with a request is the answer
-pub quiet-answer : (p : PokeyValue) → IsPokey p → p.irqst ≡ 7 → (r : Option ℕ) → FirstFails (AreSilent p) r
+pub quiet-answer : (p : PokeyValue) → IsPokey p → p.irqst ≡ 7 → (r : Option ℕ) → FirstFails (NoneRequests p) r
     → MatchOption r (IsEverQuiet p) (IsQuietBefore p)
 quiet-answer p h at_rest None f = λ n. quiet-after p at_rest n (f n)
 quiet-answer p h at_rest (Some zero) f = absurd (f.0 (silent-at-first p h))
@@ -179,33 +180,15 @@ pub quiet-now : (p : PokeyValue) → p.irqst ≢ 7 → IsQuietBefore p 0
 unfolding ticks
 quiet-now p stands = record { stands = stands; before = λ k below. absurd (omega arith) }
 
--- the soonest of four channels' underflows
-pub next-of-four : (p : PokeyValue) (a b c d : Option ℕ) → FirstFails (IsCalm p First) a → FirstFails (IsCalm p Second) b
-    → FirstFails (IsCalm p Third) c → FirstFails (IsCalm p Fourth) d → FirstFails (AreCalm p) (sooner_of (sooner_of a b) (sooner_of c d))
-next-of-four p a b c d f g h i =
-    FirstFails-same (λ k. (IsCalm p First k × IsCalm p Second k) × (IsCalm p Third k × IsCalm p Fourth k)) (AreCalm p)
-    (sooner_of (sooner_of a b) (sooner_of c d))
-    (λ k e. (e.0.0, e.0.1, e.1.0, e.1.1)) (λ k e. ((e.0, e.1), (e.2, e.3)))
-    (FirstFails-sooner (λ k. IsCalm p First k × IsCalm p Second k) (λ k. IsCalm p Third k × IsCalm p Fourth k) (sooner_of a b) (sooner_of c d)
-    (FirstFails-sooner (IsCalm p First) (IsCalm p Second) a b f g)
-    (FirstFails-sooner (IsCalm p Third) (IsCalm p Fourth) c d h i))
-
 -- the soonest of three channels' requests
-pub next-of-three : (p : PokeyValue) (a b d : Option ℕ) → FirstFails (IsSilent p First) a → FirstFails (IsSilent p Second) b
-    → FirstFails (IsSilent p Fourth) d → FirstFails (AreSilent p) (sooner_of a (sooner_of b d))
+pub next-of-three : (p : PokeyValue) (a b d : Option ℕ) → FirstFails (MakesNoRequest p First) a → FirstFails (MakesNoRequest p Second) b
+    → FirstFails (MakesNoRequest p Fourth) d → FirstFails (NoneRequests p) (sooner_of a (sooner_of b d))
 next-of-three p a b d f g i =
-    FirstFails-same (λ k. IsSilent p First k × (IsSilent p Second k × IsSilent p Fourth k)) (AreSilent p)
+    FirstFails-same (λ k. MakesNoRequest p First k × (MakesNoRequest p Second k × MakesNoRequest p Fourth k)) (NoneRequests p)
     (sooner_of a (sooner_of b d))
     (λ k e. (e.0, e.1.0, e.1.1)) (λ k e. (e.0, (e.1, e.2)))
-    (FirstFails-sooner (IsSilent p First) (λ k. IsSilent p Second k × IsSilent p Fourth k) a (sooner_of b d) f
-    (FirstFails-sooner (IsSilent p Second) (IsSilent p Fourth) b d g i))
-
--- none of two clocks is the present one
-pub later-sooner : (a b : Option ℕ) → IfSome a (λ n. 1 ≤ n) → IfSome b (λ n. 1 ≤ n) → IfSome (sooner_of a b) (λ n. 1 ≤ n)
-unfolding sooner_of
-later-sooner None b f g = g
-later-sooner (Some m) None f g = f
-later-sooner (Some m) (Some n) f g = omega arith
+    (FirstFails-sooner (MakesNoRequest p First) (λ k. MakesNoRequest p Second k × MakesNoRequest p Fourth k) a (sooner_of b d) f
+    (FirstFails-sooner (MakesNoRequest p Second) (MakesNoRequest p Fourth) b d g i))
 
 -- a request that stands goes on: IRQST doesn't rise by itself
 lowered : (n k : ℕ) → with_bit n k false ≤ n

@@ -1,4 +1,5 @@
 pub mod Channels
+pub mod Moves
 pub mod Paces
 pub mod Pulses
 pub mod Quiet

@@ -2,16 +2,18 @@
 use Rattle.std.specs.Prelude.{ℕ, ◌<◌}
 use Rattle.pokey_timer.specs.Prescaler.{pulses}
 use Rattle.pokey_chip.specs.declared.pace.Pace.{Pace}
-use Rattle.pokey_chip.specs.declared.pace.Pace.TheVariants.{Never, EachClock, Prescaler}
+use Rattle.pokey_chip.specs.declared.pace.Pace.TheVariants.{Never, ChipClock, By28, By114}
 
 -- the pulses of n clocks
 abbrev pub paced : Pace → ℕ → ℕ
 paced Never n = 0
-paced EachClock n = n
-paced (Prescaler count period) n = pulses period count n
+paced ChipClock n = n
+paced (By28 count) n = pulses 28 count n
+paced (By114 count) n = pulses 114 count n
 
 -- a prescaler's count is below its period
 abbrev pub IsPace : Pace → Type 0
 IsPace Never = Unit {0}
-IsPace EachClock = Unit {0}
-IsPace (Prescaler count period) = count < period
+IsPace ChipClock = Unit {0}
+IsPace (By28 count) = count < 28
+IsPace (By114 count) = count < 114

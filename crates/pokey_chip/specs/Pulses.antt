@@ -1,11 +1,11 @@
 -- The pulses that are to come, and the next underflow of a channel, while no register is written.
-use Rattle.std.specs.Prelude.{◌≡◌, ℕ, ◌+◌, ◌-◌, ◌<◌, min, Bool, true, false, Some, None, zero, suc, List, [], ◌∷◌, Option, MatchOption}
+use Rattle.std.specs.Prelude.{◌≡◌, ℕ, ◌+◌, ◌-◌, ◌<◌, Bool, true, false, zero, suc, List, [], ◌∷◌, Option, MatchOption}
 use Rattle.std.specs.Int.{from_bool}
+use Rattle.bit_words.specs.Bits.{is_bit}
 use Rattle.board_base.specs.Pokey.{PokeyValue}
 use Rattle.board_base.specs.Ticks.{times}
 use Rattle.pokey_chip.specs.declared.channel.Channel.{Channel}
 use Rattle.pokey_chip.specs.declared.channel.Channel.TheVariants.{First, Second, Third, Fourth}
-use Rattle.pokey_chip.specs.Channels.{is_bit}
 use Rattle.pokey_chip.specs.Tick.{base_pulses, is_pulsed, left_of, pokey_tick, pots_rise}
 
 -- whether a channel gets a pulse in the next clock
@@ -23,12 +23,12 @@ rises_of zero p = 0
 rises_of (suc n) p = rises_of n p + from_bool (pots_rise (times pokey_tick n p))
 
 -- a channel has no underflow in the next n clocks
-abbrev pub IsCalm : PokeyValue → Channel → ℕ → Type 0
-IsCalm p c n = pulses_of c n p < left_of c p
+abbrev pub HasNoUnderflow : PokeyValue → Channel → ℕ → Type 0
+HasNoUnderflow p c n = pulses_of c n p < left_of c p
 
 -- no channel has an underflow in the next n clocks
-abbrev pub AreCalm : PokeyValue → ℕ → Type 0
-AreCalm p n = IsCalm p First n × IsCalm p Second n × IsCalm p Third n × IsCalm p Fourth n
+abbrev pub NoneUnderflows : PokeyValue → ℕ → Type 0
+NoneUnderflows p n = HasNoUnderflow p First n × HasNoUnderflow p Second n × HasNoUnderflow p Third n × HasNoUnderflow p Fourth n
 
 -- whether an underflow of a channel makes a request; channel 3 makes none
 abbrev pub asks : PokeyValue → Channel → Bool
@@ -38,12 +38,12 @@ asks p Third = false
 asks p Fourth = is_bit p.irqen 2
 
 -- a channel makes no request in the next n clocks
-abbrev pub IsSilent : PokeyValue → Channel → ℕ → Type 0
-IsSilent p c n = asks p c ≡ true → IsCalm p c n
+abbrev pub MakesNoRequest : PokeyValue → Channel → ℕ → Type 0
+MakesNoRequest p c n = asks p c ≡ true → HasNoUnderflow p c n
 
 -- no channel makes a request in the next n clocks
-abbrev pub AreSilent : PokeyValue → ℕ → Type 0
-AreSilent p n = IsSilent p First n × IsSilent p Second n × IsSilent p Fourth n
+abbrev pub NoneRequests : PokeyValue → ℕ → Type 0
+NoneRequests p n = MakesNoRequest p First n × MakesNoRequest p Second n × MakesNoRequest p Fourth n
 
 -- what is left of a channel after n clocks in which it has no underflow
 abbrev pub left_in : Channel → ℕ → PokeyValue → ℕ
@@ -53,12 +53,6 @@ left_in c n p = left_of c p - pulses_of c n p
 abbrev pub lefts_in : ℕ → PokeyValue → List ℕ
 lefts_in n p = left_in First n p ∷ left_in Second n p ∷ left_in Third n p ∷ left_in Fourth n p ∷ []
 
--- where a fact first fails: it holds below that number and not at it; or it never fails
+-- where a fact first fails: it is_held below that number and not at it; or it never fails
 abbrev pub FirstFails : (ℕ → Type 0) → Option ℕ → Type 0
 FirstFails P place = MatchOption place ((k : ℕ) → P k) (λ n. (P n → ⊥) × ((k : ℕ) → k < n → P k))
-
--- the sooner of two clocks, either of which may never come
-unfoldable pub sooner_of : Option ℕ → Option ℕ → Option ℕ
-sooner_of None b = b
-sooner_of (Some m) None = Some m
-sooner_of (Some m) (Some n) = Some (min m n)

@@ -1,15 +1,11 @@
 -- The sixteen registers of a POKEY, read and written (POKEY C012294 data sheet; the pots are this project's own profile).
-use Rattle.std.specs.Prelude.{ℕ, ◌+◌, ◌-◌, ◌*◌, ◌/◌, ◌%◌, Bool, ◌==◌, nat_lt, if◌then◌else◌, min, bit_or, List, [], ◌∷◌, map, slice_index, slice_set}
-use Rattle.std.specs.Int.{from_bool}
+use Rattle.std.specs.Prelude.{ℕ, ◌+◌, ◌-◌, ◌/◌, ◌%◌, ◌==◌, nat_lt, if◌then◌else◌, min, bit_or, [], ◌∷◌, map, slice_index, slice_set}
+use Rattle.bit_words.specs.Bits.{number}
 use Rattle.board_base.specs.Pokey.{PokeyValue}
+use Rattle.pokey_chip.specs.declared.registers.TheConstants.{ALLPOT, AUDCTL, IRQEN, IRQST, POTGO, RANDOM, SKCTL, STIMER}
 use Rattle.pokey_chip.specs.declared.channel.Channel.TheVariants.{First, Second, Third, Fourth}
 use Rattle.pokey_chip.specs.Channels.{period_of}
 use Rattle.pokey_chip.specs.Tick.{long_register}
-
--- the number with these bits, the lowest first
-abbrev pub number : List Bool → ℕ
-number [] = 0
-number (low ∷ higher) = from_bool low + 2 * number higher
 
 -- POT0 to POT7: the count, as far as the target
 abbrev pub pot_of : PokeyValue → ℕ → ℕ
@@ -19,13 +15,13 @@ pot_of p which = min p.pot (slice_index p.targets which)
 unfoldable pub all_pot : PokeyValue → ℕ
 all_pot p = number (map (λ target. nat_lt p.pot target) p.targets)
 
--- the byte that a register gives: 0 to 7 are the pots, 8 is ALLPOT, A is RANDOM, E is IRQST, and the others give FF
+-- the byte that a register gives: 0 to 7 are the pots, and KBCODE, SERIN, SKSTAT and those without a name give FF
 unfoldable pub register_read : ℕ → PokeyValue → ℕ
 register_read reg p =
     if nat_lt reg 8 then pot_of p reg
-    else if reg == 8 then all_pot p
-    else if reg == 10 then long_register p % 256
-    else if reg == 14 then 248 + p.irqst
+    else if reg == ALLPOT then all_pot p
+    else if reg == RANDOM then long_register p % 256
+    else if reg == IRQST then 248 + p.irqst
     else 255
 
 -- AUDF and AUDC: a channel's two registers, AUDF first
@@ -46,16 +42,15 @@ timers_started p = record p {
 unfoldable pub requests_enabled : ℕ → PokeyValue → PokeyValue
 requests_enabled value p = record p { irqen = value % 8; irqst = bit_or p.irqst (7 - value % 8) }
 
--- a register written: 0 to 7 are AUDF and AUDC, 8 is AUDCTL, 9 is STIMER, B is POTGO, E is IRQEN, F is SKCTL, and the
--- others do nothing
+-- a register written: 0 to 7 are AUDF and AUDC of the channels, and SKREST, SEROUT and those without a name do nothing
 unfoldable pub register_written : ℕ → ℕ → PokeyValue → PokeyValue
 register_written reg value p =
     if nat_lt reg 8 then channel_written reg value p
-    else if reg == 8 then record p { audctl = value }
-    else if reg == 9 then timers_started p
-    else if reg == 11 then record p { pot = 0 }
-    else if reg == 14 then requests_enabled value p
-    else if reg == 15 then record p { skctl = value }
+    else if reg == AUDCTL then record p { audctl = value }
+    else if reg == STIMER then timers_started p
+    else if reg == POTGO then record p { pot = 0 }
+    else if reg == IRQEN then requests_enabled value p
+    else if reg == SKCTL then record p { skctl = value }
     else p
 
 -- the target of a pot

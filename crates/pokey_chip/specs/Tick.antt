@@ -1,8 +1,9 @@
 -- One clock of a POKEY, in five steps (POKEY C012294 data sheet; the order within a clock, the pots and what a joined pair
 -- does are this project's own profile).
-use Rattle.std.specs.Prelude.{ℕ, ◌+◌, ◌-◌, ◌*◌, ◌%◌, ◌^◌, Bool, false, not, ◌&&◌, ◌||◌, ◌==◌, nat_eq, nat_lt, nat_le, if◌then◌else◌, List, [], ◌∷◌, slice_index}
+use Rattle.std.specs.Prelude.{ℕ, ◌+◌, ◌-◌, ◌*◌, ◌%◌, ◌^◌, Bool, false, not, ◌&&◌, ◌||◌, ◌==◌, nat_eq, nat_lt, if◌then◌else◌, List, [], ◌∷◌, slice_index}
 use Rattle.std.specs.Int.{bit_at, from_bool}
 use Rattle.std.specs.Cmp.Lexicographic.{pointwise}
+use Rattle.bit_words.specs.Bits.{is_bit}
 use Rattle.board_base.specs.declared.record.Record.{Record}
 use Rattle.board_base.specs.declared.record.Record.TheVariants.{Levels}
 use Rattle.board_base.specs.Pokey.{PokeyValue}
@@ -10,10 +11,12 @@ use Rattle.board_base.specs.Ticks.{made}
 use Rattle.pokey_poly.specs.declared.poly.Poly.{Poly}
 use Rattle.pokey_poly.specs.declared.poly.Poly.TheVariants.{Four, Five, Nine, Seventeen}
 use Rattle.pokey_poly.specs.Shift.{shifted, width_of}
+use Rattle.pokey_timer.specs.Countdown.{pulse_taken}
 use Rattle.pokey_timer.specs.Prescaler.{counted, pulsed}
 use Rattle.pokey_chip.specs.declared.channel.Channel.{Channel}
 use Rattle.pokey_chip.specs.declared.channel.Channel.TheVariants.{First, Second, Third, Fourth}
-use Rattle.pokey_chip.specs.Channels.{is_bit, place, is_still, is_fast, period_of}
+use Rattle.pokey_chip.specs.declared.control.TheConstants.{FAST_POT_SCAN, FOUR_BITS, HIGH_PASS_1, HIGH_PASS_2, NINE_BITS, NO_FIVE_BITS, PURE_TONE, SLOW_BASE_CLOCK, VOLUME_ONLY}
+use Rattle.pokey_chip.specs.Channels.{place, is_still, is_on_chip_clock, period_of}
 
 -- a number with its bit k made the given one
 unfoldable pub with_bit : ℕ → ℕ → Bool → ℕ
@@ -48,11 +51,11 @@ line_pulses p = not (is_held p.skctl) && pulsed 114 p.pre114
 
 -- whether the base clock pulses: AUDCTL bit 0 chooses the prescaler by 114, else it is that by 28
 abbrev pub base_pulses : PokeyValue → Bool
-base_pulses p = not (is_held p.skctl) && (if is_bit p.audctl 0 then pulsed 114 p.pre114 else pulsed 28 p.pre28)
+base_pulses p = not (is_held p.skctl) && (if is_bit p.audctl SLOW_BASE_CLOCK then pulsed 114 p.pre114 else pulsed 28 p.pre28)
 
 -- whether the pots are counted in this clock: in each one while SKCTL bit 2 is set, and else at a pulse of the prescaler by 114
 abbrev pub pots_rise : PokeyValue → Bool
-pots_rise p = is_bit p.skctl 2 || line_pulses p
+pots_rise p = is_bit p.skctl FAST_POT_SCAN || line_pulses p
 
 -- step 2: the pot count, which stands still at 228
 unfoldable pub pot_counted : Bool → PokeyValue → PokeyValue
@@ -60,27 +63,32 @@ pot_counted rise p = record p { pot = if rise && nat_lt p.pot 228 then p.pot + 1
 
 -- a channel gets a pulse in each clock, or with the base clock; the lower channel of a pair gets none
 abbrev pub is_pulsed : Bool → ℕ → Channel → Bool
-is_pulsed base audctl c = not (is_still audctl c) && (is_fast audctl c || base)
+is_pulsed base audctl c = not (is_still audctl c) && (is_on_chip_clock audctl c || base)
 
 -- the pulses left of a channel
 abbrev pub left_of : Channel → PokeyValue → ℕ
 left_of c p = slice_index p.left (place c)
 
--- a channel underflows: a pulse takes the last that was left
+-- step 3: a channel counts its pulse, where it gets one; what is left of it, and its underflows in this clock, one or none
+abbrev pub counted_down : Bool → PokeyValue → Channel → ℕ × ℕ
+counted_down base p c =
+    if is_pulsed base p.audctl c then pulse_taken (period_of p.audf p.audctl c) (left_of c p, 0)
+    else (left_of c p, 0)
+
+-- what is left of a channel after a clock
+abbrev pub left_after : Bool → PokeyValue → Channel → ℕ
+left_after base p c = (counted_down base p c).0
+
+-- whether a channel underflows in a clock
 abbrev pub underflows : Bool → PokeyValue → Channel → Bool
-underflows base p c = is_pulsed base p.audctl c && nat_le (left_of c p) 1
+underflows base p c = (counted_down base p c).1 == 1
 
--- what is left of a channel: an underflow begins a period, and any other pulse takes one
-unfoldable pub left_after : Bool → PokeyValue → Channel → ℕ
-left_after base p c =
-    if underflows base p c then period_of p.audf p.audctl c
-    else if is_pulsed base p.audctl c then left_of c p - 1 else left_of c p
-
--- step 3: each channel counts its pulses
-unfoldable pub counted_down : Bool → PokeyValue → PokeyValue
-counted_down base p = record p {
-  left = left_after base p First ∷ left_after base p Second ∷ left_after base p Third ∷ left_after base p Fourth ∷ [];
-}
+-- with this many pulses left of one channel
+unfoldable pub with_left : Channel → ℕ → PokeyValue → PokeyValue
+with_left First n p = record p { left = n ∷ left_of Second p ∷ left_of Third p ∷ left_of Fourth p ∷ [] }
+with_left Second n p = record p { left = left_of First p ∷ n ∷ left_of Third p ∷ left_of Fourth p ∷ [] }
+with_left Third n p = record p { left = left_of First p ∷ left_of Second p ∷ n ∷ left_of Fourth p ∷ [] }
+with_left Fourth n p = record p { left = left_of First p ∷ left_of Second p ∷ left_of Third p ∷ n ∷ [] }
 
 -- a request where it is enabled: its bit of IRQST is 0 while it stands
 abbrev pub request : ℕ → PokeyValue → ℕ
@@ -95,7 +103,7 @@ requested Fourth p = request 2 p
 
 -- the long register: that of 9 bits where AUDCTL bit 7 is set, else that of 17
 abbrev pub long_register : PokeyValue → ℕ
-long_register p = if is_bit p.audctl 7 then p.poly9 else p.poly17
+long_register p = if is_bit p.audctl NINE_BITS then p.poly9 else p.poly17
 
 -- the tone bit of a channel
 abbrev pub tone_of : Channel → PokeyValue → Bool
@@ -105,9 +113,9 @@ tone_of c p = is_bit p.tone (place c)
 -- is the output of the 4-bit register, where AUDC bit 6 is set, or of the long one
 abbrev pub new_tone : ℕ → Channel → PokeyValue → Bool
 new_tone audc c p =
-    if not (is_bit audc 7) && not (is_bit p.poly5 0) then tone_of c p
-    else if is_bit audc 5 then not (tone_of c p)
-    else if is_bit audc 6 then is_bit p.poly4 0
+    if not (is_bit audc NO_FIVE_BITS) && not (is_bit p.poly5 0) then tone_of c p
+    else if is_bit audc PURE_TONE then not (tone_of c p)
+    else if is_bit audc FOUR_BITS then is_bit p.poly4 0
     else is_bit (long_register p) 0
 
 -- all tone bits after an underflow of a channel
@@ -136,14 +144,14 @@ filtered on bit tone = if on && bit then not tone else tone
 
 -- a channel's signal: channel 1 is filtered where AUDCTL bit 2 is set, channel 2 where AUDCTL bit 1 is
 unfoldable pub signal : PokeyValue → Channel → Bool
-signal p First = filtered (is_bit p.audctl 2) (is_bit p.pass 0) (tone_of First p)
-signal p Second = filtered (is_bit p.audctl 1) (is_bit p.pass 1) (tone_of Second p)
+signal p First = filtered (is_bit p.audctl HIGH_PASS_1) (is_bit p.pass 0) (tone_of First p)
+signal p Second = filtered (is_bit p.audctl HIGH_PASS_2) (is_bit p.pass 1) (tone_of Second p)
 signal p Third = tone_of Third p
 signal p Fourth = tone_of Fourth p
 
 -- the level of a signal: the volume, AUDC's low four bits, while the signal is 1, or always where AUDC bit 4 is set
 abbrev pub level_of : ℕ → Bool → ℕ
-level_of audc on = if is_bit audc 4 || on then audc % 16 else 0
+level_of audc on = if is_bit audc VOLUME_ONLY || on then audc % 16 else 0
 
 -- the level of a channel
 abbrev pub level : PokeyValue → Channel → ℕ
@@ -157,21 +165,18 @@ levels_of p = level p First ∷ level p Second ∷ level p Third ∷ level p Fou
 abbrev pub levelled : PokeyValue → PokeyValue
 levelled p = record p { last = levels_of p }
 
--- steps 1 to 3; what a channel counts doesn't depend on another's turn, so all of them count before the first takes its turn
-unfoldable pub counted_on : PokeyValue → PokeyValue
-counted_on p = counted_down (base_pulses p) (pot_counted (pots_rise p) (clocked p))
+-- steps 3 and 4 of a channel: it counts, and where it underflows it takes its turn
+unfoldable pub channel_ticked : Bool → Channel → PokeyValue → PokeyValue
+channel_ticked base c p = turned (underflows base p c) c (with_left c (left_after base p c) p)
 
--- step 4: the four channels in order; `p` is the POKEY before the clock
-unfoldable pub all_turned : PokeyValue → PokeyValue → PokeyValue
-all_turned p q =
-    turned (underflows (base_pulses p) p Fourth) Fourth
-    (turned (underflows (base_pulses p) p Third) Third
-    (turned (underflows (base_pulses p) p Second) Second
-    (turned (underflows (base_pulses p) p First) First q)))
+-- steps 3 and 4: channels 1 to 4 in order
+unfoldable pub channels_ticked : Bool → PokeyValue → PokeyValue
+channels_ticked base p =
+    channel_ticked base Fourth (channel_ticked base Third (channel_ticked base Second (channel_ticked base First p)))
 
 -- one clock
 unfoldable pub pokey_tick : PokeyValue → PokeyValue
-pokey_tick p = levelled (all_turned p (counted_on p))
+pokey_tick p = levelled (channels_ticked (base_pulses p) (pot_counted (pots_rise p) (clocked p)))
 
 -- the record of a change of the levels
 unfoldable pub change : ℕ → List ℕ → List ℕ → List Record

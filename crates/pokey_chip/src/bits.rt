@@ -1,14 +1,5 @@
 ghost use Rattle.std.specs.Prelude.{◌≡◌, ◌<◌, false};
-ghost use Rattle.pokey_chip.specs.Channels.{is_bit};
 ghost use Rattle.pokey_chip.specs.Tick.{with_bit};
-
-/// Whether bit `k` of a byte is 1, bit 0 being the lowest.
-pub(crate) fn is_set(byte: u8, k: u32) -> bool
-    requires { k < 8 }
-    ensures { result ≡ is_bit byte k }
-{
-    (byte >> k) & 1 == 1
-}
 
 /// Four bits with bit `k` made the given one.
 #[tactic(auto, using(crate::proofs::BitLemmas::bit_writes))]

@@ -1,6 +1,7 @@
 ghost use Rattle.std.specs.Prelude.{◌≡◌, ◌+◌, ◌*◌, ◌<◌, ◌≤◌};
 
-use crate::bits::is_set;
+use crate::control::{CHIP_CLOCK_1, CHIP_CLOCK_3, JOIN_1_2, JOIN_3_4};
+use bit_words::is_set;
 
 /// A channel of a POKEY: channels 1 to 4.
 #[derive(Clone, Copy, Debug, PartialEq, Eq)]
@@ -12,7 +13,7 @@ pub enum Channel {
 }
 
 impl Channel {
-    ghost use Rattle.pokey_chip.specs.Channels.{extra_of, frequency_of, is_fast, is_still, is_upper, period_of, place};
+    ghost use Rattle.pokey_chip.specs.Channels.{extra_of, frequency_of, is_on_chip_clock, is_still, is_upper, period_of, place};
 
     /// The place of a channel in the arrays of a state.
     pub(crate) fn index(self) -> usize
@@ -28,36 +29,36 @@ impl Channel {
     }
 
     /// Whether it is the lower channel of a joined pair.
-    pub(crate) fn stands_still(self, audctl: u8) -> bool
+    pub(crate) fn is_still(self, audctl: u8) -> bool
         ensures { result ≡ is_still audctl self }
     {
         match self {
-            Channel::First => is_set(audctl, 4),
-            Channel::Third => is_set(audctl, 3),
+            Channel::First => is_set(audctl, JOIN_1_2),
+            Channel::Third => is_set(audctl, JOIN_3_4),
             Channel::Second | Channel::Fourth => false,
         }
     }
 
     /// Whether it is the upper channel of a joined pair.
-    fn counts_for_both(self, audctl: u8) -> bool
+    fn is_upper(self, audctl: u8) -> bool
         ensures { result ≡ is_upper audctl self }
     {
         match self {
-            Channel::Second => is_set(audctl, 4),
-            Channel::Fourth => is_set(audctl, 3),
+            Channel::Second => is_set(audctl, JOIN_1_2),
+            Channel::Fourth => is_set(audctl, JOIN_3_4),
             Channel::First | Channel::Third => false,
         }
     }
 
     /// Whether it is on the chip clock.
     pub(crate) fn is_on_chip_clock(self, audctl: u8) -> bool
-        ensures { result ≡ is_fast audctl self }
+        ensures { result ≡ is_on_chip_clock audctl self }
     {
         match self {
-            Channel::First => is_set(audctl, 6),
-            Channel::Second => is_set(audctl, 4) && is_set(audctl, 6),
-            Channel::Third => is_set(audctl, 5),
-            Channel::Fourth => is_set(audctl, 3) && is_set(audctl, 5),
+            Channel::First => is_set(audctl, CHIP_CLOCK_1),
+            Channel::Second => is_set(audctl, JOIN_1_2) && is_set(audctl, CHIP_CLOCK_1),
+            Channel::Third => is_set(audctl, CHIP_CLOCK_3),
+            Channel::Fourth => is_set(audctl, JOIN_3_4) && is_set(audctl, CHIP_CLOCK_3),
         }
     }
 
@@ -68,10 +69,10 @@ impl Channel {
     {
         match self {
             Channel::First => u32::from(audf[0]),
-            Channel::Second if is_set(audctl, 4) => joined(audf[0], audf[1]),
+            Channel::Second if is_set(audctl, JOIN_1_2) => joined(audf[0], audf[1]),
             Channel::Second => u32::from(audf[1]),
             Channel::Third => u32::from(audf[2]),
-            Channel::Fourth if is_set(audctl, 3) => joined(audf[2], audf[3]),
+            Channel::Fourth if is_set(audctl, JOIN_3_4) => joined(audf[2], audf[3]),
             Channel::Fourth => u32::from(audf[3]),
         }
     }
@@ -84,7 +85,7 @@ impl Channel {
     {
         if !self.is_on_chip_clock(audctl) {
             1
-        } else if self.counts_for_both(audctl) {
+        } else if self.is_upper(audctl) {
             7
         } else {
             4

@@ -1,20 +1,23 @@
-ghost use Rattle.std.specs.Prelude.{◌≡◌, ◌+◌, ◌^◌, ◌≤◌};
-ghost use Rattle.pokey_chip.specs.Pulses.{AreCalm};
+ghost use Rattle.std.specs.Prelude.{◌≡◌, ◌+◌, ◌==◌, ◌^◌, ◌≤◌};
 ghost use Rattle.board_base.specs.Pokey.{pokey_at_power_on};
 ghost use Rattle.board_base.specs.Ticks.{times};
 ghost use Rattle.board_base.specs.Trail.{Extended};
-ghost use Rattle.pokey_chip.specs.Tick.{levels_made, levels_of, pokey_tick};
+ghost use Rattle.pokey_chip.specs.Moves.{turns_taken};
+ghost use Rattle.pokey_chip.specs.Tick.{levelled, levels_made, pokey_tick};
 
-use crate::cross::cross;
-use crate::pace::{calm_clocks, quiet_clocks};
+use crate::channel::Channel;
+use crate::counts::put_counts;
+use crate::folded::FoldedRegisters;
+use crate::quiet::quiet_clocks;
 use crate::registers::{read_register, write_register};
-use crate::tick::tick_into;
+use crate::tick::{is_held, levels, record_change, turn};
 use crate::unit::SoundUnit;
+use crate::voice::Voices;
 use board_base::{CallCount, Clocked, PokeyState, Trail};
 use std::marker::Model;
 
-/// A POKEY that does the first clock of a move and those with an underflow by themselves, and
-/// crosses the clocks between them in one step.
+/// A POKEY that goes from underflow to underflow: between two of them only its polynomial registers
+/// move, and what the channels and the pots have counted is put right at the end of a move.
 #[derive(Drop)]
 pub struct FastPokey {
     state: PokeyState,
@@ -50,34 +53,48 @@ impl Clocked for FastPokey {
     }
 }
 
-/// Crosses those of the next `most` clocks that come before an underflow, and tells how many.
-fn cross_calm(state: &mut PokeyState, most: u64) -> u64
-    requires most { most ≤ 2 ^ 49 }
-    requires settled { state.old.last ≡ levels_of state.old }
-    ensures within { result ≤ most }
-    ensures state { state.new ≡ times pokey_tick result state.old }
-    ensures none { AreCalm state.old result }
+/// The turns of the channels that are due in the clock `at` of a move, and the levels.
+#[inline(always)]
+#[tactic(auto, unfolding(crate::specs::Moves::turns_taken))]
+fn take_turns(state: &mut PokeyState, voices: &Voices, at: u64)
+    ensures { state.new ≡ levelled (turns_taken (voices.now.first.due == at) (voices.now.second.due == at) (voices.now.third.due == at) (voices.now.fourth.due == at) state.old) }
 {
-    let calm = calm_clocks(state, most);
-    if calm > 0 {
-        cross(state, calm);
-    }
-    calm
+    turn(state, voices.first.due == at, Channel::First);
+    turn(state, voices.second.due == at, Channel::Second);
+    turn(state, voices.third.due == at, Channel::Third);
+    turn(state, voices.fourth.due == at, Channel::Fourth);
+    state.last = levels(state);
 }
 
-/// Does `n` clocks, from one underflow to the next.
+/// Does `n` clocks, from one underflow to the next. The first clock is looked at always, since a state
+/// that was taken on may have other levels than those that its channels have.
 fn advance_by_underflows(state: &mut PokeyState, from: u64, n: u64, trail: &mut Trail)
     requires room { n ≤ trail.old.spare }
     requires clocks { from + n ≤ 2 ^ 49 }
     ensures state { state.new ≡ times pokey_tick n state.old }
     ensures records { Extended trail.old trail.new (levels_made from n state.old) }
 {
-    let mut done = 0;
-    while done < n {
-        tick_into(state, from + done, trail);
-        done += 1;
-        done += cross_calm(state, n - done);
+    if n == 0 {
+        return;
     }
+    let start = *state;
+    let held = is_held(start.skctl);
+    let mut voices = Voices::of(&start);
+    let mut registers = FoldedRegisters::of(&start);
+    let mut done = 0;
+    let mut at = 1;
+    while at <= n {
+        registers = registers.rolled(held, at - done);
+        registers.put(state);
+        let before = state.last;
+        take_turns(state, &voices, at);
+        record_change(&before, &state.last, from + (at - 1), trail);
+        voices = voices.after(at);
+        done = at;
+        at = voices.soonest();
+    }
+    registers.rolled(held, n - done).put(state);
+    put_counts(state, &start, &voices, n);
 }
 
 impl SoundUnit for FastPokey {

@@ -3,17 +3,21 @@
 
 mod bits;
 mod channel;
-mod cross;
+mod control;
+mod counts;
 pub mod fast;
+mod folded;
 mod pace;
 pub mod plain;
+mod quiet;
 mod registers;
 mod tick;
 pub mod unit;
+mod voice;
 
 pub use fast::FastPokey;
 pub use plain::PlainPokey;
-pub use unit::SoundUnit;
+pub use unit::{SoundUnit, one_record_a_clock};
 
 #[cfg(test)]
 mod tests;

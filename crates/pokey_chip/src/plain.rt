@@ -4,7 +4,7 @@ ghost use Rattle.board_base.specs.Ticks.{times};
 ghost use Rattle.board_base.specs.Trail.{Extended};
 ghost use Rattle.pokey_chip.specs.Tick.{levels_made, pokey_tick};
 
-use crate::pace::quiet_clocks;
+use crate::quiet::quiet_clocks;
 use crate::registers::{read_register, write_register};
 use crate::tick::tick_into;
 use crate::unit::SoundUnit;

@@ -2,8 +2,37 @@ ghost use Rattle.std.specs.Prelude.{◌≡◌, ◌<◌};
 ghost use Rattle.pokey_chip.specs.Registers.{all_pot, channel_written, pot_of, register_read, register_written, requests_enabled, timers_started};
 
 use crate::channel::Channel;
-use crate::tick::long;
+use crate::tick::long_register;
 use board_base::PokeyState;
+
+// Registers that are written (POKEY C012294 data sheet): 0 to 7 are AUDF and AUDC of channels 1 to
+// 4, and those without a name here do nothing.
+
+const AUDF1: u8 = 0x0;
+
+const AUDC4: u8 = 0x7;
+
+const AUDCTL: u8 = 0x8;
+
+const STIMER: u8 = 0x9;
+
+const POTGO: u8 = 0xB;
+
+const IRQEN: u8 = 0xE;
+
+const SKCTL: u8 = 0xF;
+
+// Registers that are read: those without a name here give FF.
+
+const POT0: u8 = 0x0;
+
+const POT7: u8 = 0x7;
+
+const ALLPOT: u8 = 0x8;
+
+const RANDOM: u8 = 0xA;
+
+const IRQST: u8 = 0xE;
 
 /// The count of a pot, as far as its target.
 fn pot(state: &PokeyState, which: u8) -> u8
@@ -33,10 +62,10 @@ pub(crate) fn read_register(state: &PokeyState, reg: u8) -> u8
     ensures { result ≡ register_read reg state.now }
 {
     match reg {
-        0..=7 => pot(state, reg),
-        0x8 => pots_counted(state),
-        0xA => (long(state) % 256) as u8,
-        0xE => 0xF8 + state.irqst,
+        POT0..=POT7 => pot(state, reg),
+        ALLPOT => pots_counted(state),
+        RANDOM => (long_register(state) % 256) as u8,
+        IRQST => 0xF8 + state.irqst,
         _ => 0xFF,
     }
 }
@@ -85,12 +114,12 @@ pub(crate) fn write_register(state: &mut PokeyState, reg: u8, value: u8)
     ensures { state.new ≡ register_written reg value state.old }
 {
     match reg {
-        0..=7 => write_channel(state, reg, value),
-        0x8 => state.audctl = value,
-        0x9 => start_timers(state),
-        0xB => state.pot = 0,
-        0xE => enable_requests(state, value),
-        0xF => state.skctl = value,
+        AUDF1..=AUDC4 => write_channel(state, reg, value),
+        AUDCTL => state.audctl = value,
+        STIMER => start_timers(state),
+        POTGO => state.pot = 0,
+        IRQEN => enable_requests(state, value),
+        SKCTL => state.skctl = value,
         _ => {}
     }
 }

@@ -2,15 +2,20 @@ ghost use Rattle.std.specs.Prelude.{◌≡◌, ◌+◌, ◌-◌, ◌^◌, ◌<�
 ghost use Rattle.board_base.specs.Trail.{Extended};
 ghost use Rattle.pokey_poly.specs.Shift.{width_of};
 ghost use Rattle.pokey_timer.specs.Prescaler.{pulsed};
-ghost use Rattle.pokey_chip.specs.Tick.{all_turned, base_pulses, change, clocked, counted_down, counted_on, filtered, is_held, is_pulsed, left_after, level, levels_of, line_pulses, long_register, new_tone, passed, pokey_gives, pokey_tick, pot_counted, pots_rise, prescaled, request, requested, rolled, signal, toned, tone_of, turned, underflows};
+ghost use Rattle.pokey_chip.specs.Tick.{base_pulses, change, channel_ticked, channels_ticked, clocked, filtered, is_held, is_pulsed, left_after, level, levels_of, line_pulses, long_register, new_tone, passed, pokey_gives, pokey_tick, pot_counted, pots_rise, prescaled, request, requested, rolled, signal, toned, tone_of, turned, underflows};
 
-use crate::bits::{clear_bit, is_set, put_bit, put_pass};
+use crate::bits::{clear_bit, put_bit, put_pass};
 use crate::channel::Channel;
+use crate::control::{
+    FAST_POT_SCAN, FOUR_BITS, HIGH_PASS_1, HIGH_PASS_2, NINE_BITS, NO_FIVE_BITS, PURE_TONE,
+    SLOW_BASE_CLOCK, VOLUME_ONLY,
+};
+use bit_words::is_set;
 use board_base::{PokeyState, Record, Trail};
 use pokey_poly::Poly;
 
 /// Whether the polynomial registers and the prescalers are held.
-pub(crate) fn holds(skctl: u8) -> bool
+pub(crate) fn is_held(skctl: u8) -> bool
     ensures { result ≡ is_held skctl }
 {
     skctl % 4 == 0
@@ -56,7 +61,7 @@ fn prescale(held: bool, period: u8, count: u8) -> u8
 fn clock_registers(state: &mut PokeyState)
     ensures { state.new ≡ clocked state.old }
 {
-    let held = holds(state.skctl);
+    let held = is_held(state.skctl);
     state.poly4 = roll(held, Poly::Four, u32::from(state.poly4)) as u8;
     state.poly5 = roll(held, Poly::Five, u32::from(state.poly5)) as u8;
     state.poly9 = roll(held, Poly::Nine, u32::from(state.poly9)) as u16;
@@ -75,19 +80,19 @@ fn wraps(count: u8, period: u8) -> bool
 }
 
 /// Whether the prescaler by 114 pulses in the next clock.
-fn line_pulse(state: &PokeyState) -> bool
+fn line_pulses(state: &PokeyState) -> bool
     ensures { result ≡ line_pulses state.now }
 {
-    !holds(state.skctl) && wraps(state.pre114, 114)
+    !is_held(state.skctl) && wraps(state.pre114, 114)
 }
 
 /// Whether the base clock pulses in the next clock.
-fn base_pulse(state: &PokeyState) -> bool
+fn base_pulses(state: &PokeyState) -> bool
     ensures { result ≡ base_pulses state.now }
 {
-    if holds(state.skctl) {
+    if is_held(state.skctl) {
         false
-    } else if is_set(state.audctl, 0) {
+    } else if is_set(state.audctl, SLOW_BASE_CLOCK) {
         wraps(state.pre114, 114)
     } else {
         wraps(state.pre28, 28)
@@ -95,10 +100,10 @@ fn base_pulse(state: &PokeyState) -> bool
 }
 
 /// Whether the pots are counted in the next clock.
-fn pot_scan(state: &PokeyState) -> bool
+fn pots_rise(state: &PokeyState) -> bool
     ensures { result ≡ pots_rise state.now }
 {
-    is_set(state.skctl, 2) || line_pulse(state)
+    is_set(state.skctl, FAST_POT_SCAN) || line_pulses(state)
 }
 
 /// The second step of a clock: the pot count.
@@ -112,47 +117,35 @@ fn count_pot(state: &mut PokeyState, rise: bool)
 }
 
 /// Whether a channel gets a pulse, in a clock in which the base clock pulses or doesn't.
-fn gets_pulse(base: bool, audctl: u8, channel: Channel) -> bool
+fn is_pulsed(base: bool, audctl: u8, channel: Channel) -> bool
     ensures { result ≡ is_pulsed base audctl channel }
 {
-    !channel.stands_still(audctl) && (channel.is_on_chip_clock(audctl) || base)
+    !channel.is_still(audctl) && (channel.is_on_chip_clock(audctl) || base)
 }
 
 /// Whether a channel underflows in the next clock.
-fn ends(state: &PokeyState, base: bool, channel: Channel) -> bool
+#[tactic(auto, using(crate::proofs::CountLaws::counts))]
+fn underflows(state: &PokeyState, base: bool, channel: Channel) -> bool
     ensures { result ≡ underflows base state.now channel }
 {
-    gets_pulse(base, state.audctl, channel) && state.left[channel.index()] <= 1
+    is_pulsed(base, state.audctl, channel) && state.left[channel.index()] <= 1
 }
 
 /// The pulses left of a channel after the next clock.
-#[tactic(auto, unfolding(crate::specs::Tick::left_after))]
-fn remaining(state: &PokeyState, base: bool, channel: Channel) -> u32
+#[tactic(auto, using(crate::proofs::CountLaws::counts))]
+fn left_after(state: &PokeyState, base: bool, channel: Channel) -> u32
     ensures value { result ≡ left_after base state.now channel }
     ensures low { 1 ≤ result }
     ensures high { result ≤ 65542 }
 {
     let left = state.left[channel.index()];
-    if !gets_pulse(base, state.audctl, channel) {
+    if !is_pulsed(base, state.audctl, channel) {
         left
     } else if left <= 1 {
         channel.period(&state.audf, state.audctl)
     } else {
         left - 1
     }
-}
-
-/// The third step of a clock: each channel counts its pulses.
-#[tactic(auto, unfolding(crate::specs::Tick::counted_down))]
-fn count_down(state: &mut PokeyState, base: bool)
-    ensures { state.new ≡ counted_down base state.old }
-{
-    state.left = [
-        remaining(state, base, Channel::First),
-        remaining(state, base, Channel::Second),
-        remaining(state, base, Channel::Third),
-        remaining(state, base, Channel::Fourth),
-    ];
 }
 
 /// IRQST with the request `k` made, where it is enabled.
@@ -184,11 +177,11 @@ fn requests(state: &PokeyState, channel: Channel) -> u8
 }
 
 /// The long register.
-pub(crate) fn long(state: &PokeyState) -> u32
+pub(crate) fn long_register(state: &PokeyState) -> u32
     ensures value { result ≡ long_register state.now }
     ensures fits { result < 131072 }
 {
-    if is_set(state.audctl, 7) {
+    if is_set(state.audctl, NINE_BITS) {
         u32::from(state.poly9)
     } else {
         state.poly17
@@ -206,14 +199,14 @@ fn tone_bit(state: &PokeyState, channel: Channel) -> bool
 fn next_tone(state: &PokeyState, audc: u8, channel: Channel) -> bool
     ensures { result ≡ new_tone audc channel state.now }
 {
-    if !is_set(audc, 7) && !is_set(state.poly5, 0) {
+    if !is_set(audc, NO_FIVE_BITS) && !is_set(state.poly5, 0) {
         tone_bit(state, channel)
-    } else if is_set(audc, 5) {
+    } else if is_set(audc, PURE_TONE) {
         !tone_bit(state, channel)
-    } else if is_set(audc, 6) {
+    } else if is_set(audc, FOUR_BITS) {
         is_set(state.poly4, 0)
     } else {
-        long(state) % 2 == 1
+        long_register(state) % 2 == 1
     }
 }
 
@@ -243,7 +236,7 @@ fn passes(state: &PokeyState, channel: Channel) -> u8
 
 /// The fourth step of a clock, a channel's turn: what its underflow does.
 #[tactic(auto, unfolding(crate::specs::Tick::turned))]
-fn turn(state: &mut PokeyState, underflow: bool, channel: Channel)
+pub(crate) fn turn(state: &mut PokeyState, underflow: bool, channel: Channel)
     ensures { state.new ≡ turned underflow channel state.old }
 {
     if underflow {
@@ -259,16 +252,26 @@ fn turn(state: &mut PokeyState, underflow: bool, channel: Channel)
     }
 }
 
-/// The fourth step of a clock: the four channels in order, after what `before` tells.
-#[tactic(auto, unfolding(crate::specs::Tick::all_turned))]
-fn turn_all(before: &PokeyState, state: &mut PokeyState)
-    ensures { state.new ≡ all_turned before.now state.old }
+/// The third and fourth step of a clock for a channel: it counts its pulse, and takes its turn where
+/// it underflows.
+#[tactic(auto, using(crate::proofs::CountLaws::places), unfolding(crate::specs::Tick::channel_ticked, crate::specs::Tick::with_left))]
+fn tick_channel(state: &mut PokeyState, base: bool, channel: Channel)
+    ensures { state.new ≡ channel_ticked base channel state.old }
 {
-    let base = base_pulse(before);
-    turn(state, ends(before, base, Channel::First), Channel::First);
-    turn(state, ends(before, base, Channel::Second), Channel::Second);
-    turn(state, ends(before, base, Channel::Third), Channel::Third);
-    turn(state, ends(before, base, Channel::Fourth), Channel::Fourth);
+    let underflow = underflows(state, base, channel);
+    state.left[channel.index()] = left_after(state, base, channel);
+    turn(state, underflow, channel);
+}
+
+/// The third and fourth step of a clock: channels 1 to 4 in order.
+#[tactic(auto, unfolding(crate::specs::Tick::channels_ticked))]
+fn tick_channels(state: &mut PokeyState, base: bool)
+    ensures { state.new ≡ channels_ticked base state.old }
+{
+    tick_channel(state, base, Channel::First);
+    tick_channel(state, base, Channel::Second);
+    tick_channel(state, base, Channel::Third);
+    tick_channel(state, base, Channel::Fourth);
 }
 
 /// A tone bit after a high-pass filter.
@@ -285,19 +288,27 @@ fn signal_of(state: &PokeyState, channel: Channel) -> bool
 {
     let tone = tone_bit(state, channel);
     match channel {
-        Channel::First => filter(is_set(state.audctl, 2), is_set(state.pass, 0), tone),
-        Channel::Second => filter(is_set(state.audctl, 1), is_set(state.pass, 1), tone),
+        Channel::First => filter(
+            is_set(state.audctl, HIGH_PASS_1),
+            is_set(state.pass, 0),
+            tone,
+        ),
+        Channel::Second => filter(
+            is_set(state.audctl, HIGH_PASS_2),
+            is_set(state.pass, 1),
+            tone,
+        ),
         Channel::Third | Channel::Fourth => tone,
     }
 }
 
 /// The level of a channel.
-fn volume(state: &PokeyState, channel: Channel) -> u8
+fn level(state: &PokeyState, channel: Channel) -> u8
     ensures value { result ≡ level state.now channel }
     ensures fits { result < 16 }
 {
     let audc = state.audc[channel.index()];
-    if is_set(audc, 4) || signal_of(state, channel) {
+    if is_set(audc, VOLUME_ONLY) || signal_of(state, channel) {
         audc % 16
     } else {
         0
@@ -306,28 +317,16 @@ fn volume(state: &PokeyState, channel: Channel) -> u8
 
 /// The four levels.
 #[tactic(auto, unfolding(crate::specs::Tick::levels_of))]
-fn levels(state: &PokeyState) -> [u8; 4]
+pub(crate) fn levels(state: &PokeyState) -> [u8; 4]
     ensures value { result ≡ levels_of state.now }
     ensures fits { All (λ level. level < 16) result }
 {
     [
-        volume(state, Channel::First),
-        volume(state, Channel::Second),
-        volume(state, Channel::Third),
-        volume(state, Channel::Fourth),
+        level(state, Channel::First),
+        level(state, Channel::Second),
+        level(state, Channel::Third),
+        level(state, Channel::Fourth),
     ]
-}
-
-/// The first three steps of a clock.
-#[tactic(auto, unfolding(crate::specs::Tick::counted_on))]
-fn count_on(state: &mut PokeyState)
-    ensures { state.new ≡ counted_on state.old }
-{
-    let base = base_pulse(state);
-    let scan = pot_scan(state);
-    clock_registers(state);
-    count_pot(state, scan);
-    count_down(state, base);
 }
 
 /// One clock.
@@ -335,15 +334,17 @@ fn count_on(state: &mut PokeyState)
 fn tick(state: &mut PokeyState)
     ensures { state.new ≡ pokey_tick state.old }
 {
-    let before = *state;
-    count_on(state);
-    turn_all(&before, state);
+    let base = base_pulses(state);
+    let rise = pots_rise(state);
+    clock_registers(state);
+    count_pot(state, rise);
+    tick_channels(state, base);
     state.last = levels(state);
 }
 
 /// Records the levels of a clock where they changed.
 #[tactic(auto, using(crate::proofs::RecordLemmas::unchanged), unfolding(crate::specs::Tick::change))]
-fn record_change(before: &[u8; 4], now: &[u8; 4], clock: u64, trail: &mut Trail)
+pub(crate) fn record_change(before: &[u8; 4], now: &[u8; 4], clock: u64, trail: &mut Trail)
     requires { 1 ≤ trail.old.spare }
     ensures records { Extended trail.old trail.new (change clock before.now now.now) }
     ensures few { trail.old.spare ≤ trail.new.spare + 1 }

@@ -1,18 +1,17 @@
-ghost use Rattle.std.specs.Prelude.{◌≡◌, ◌+◌, ◌^◌, ◌<◌, ◌≤◌, MatchOption};
+ghost use Rattle.std.specs.Prelude.{◌≡◌, ℕ, ◌+◌, ◌^◌, ◌<◌, ◌≤◌, length, MatchOption};
 ghost use Rattle.board_base.specs.Counts.{Counted};
+ghost use Rattle.board_base.specs.Pokey.{PokeyValue};
 ghost use Rattle.board_base.specs.Ticks.{times};
 ghost use Rattle.board_base.specs.Trail.{Extended};
 ghost use Rattle.pokey_chip.specs.Quiet.{IsEverQuiet, IsQuietBefore};
 ghost use Rattle.pokey_chip.specs.Registers.{pot_set, register_read, register_written};
-ghost use Rattle.pokey_chip.specs.Tick.{levels_made, pokey_tick};
+ghost use Rattle.pokey_chip.specs.Tick.{levels_made, pokey_gives, pokey_tick};
 
 use board_base::{Clocked, PokeyState, Trail};
 
 /// A POKEY (C012294 data sheet; the pots, joined pairs and the order within a clock are this
 /// project's own profile).
 pub trait SoundUnit: Clocked {
-    ghost use Rattle.board_base.specs.Pokey.{PokeyValue};
-
     /// The POKEY as it stands.
     ghost device: { Self → PokeyValue };
 
@@ -56,3 +55,11 @@ pub trait SoundUnit: Clocked {
     fn state(&self) -> PokeyState
         ensures { result ≡ device self.now };
 }
+
+/// A clock gives one record at most, so that a move has room where its trail has room for as many
+/// records as there are clocks. It tells a law, and does nothing.
+#[tactic(auto, using(crate::proofs::RecordLemmas::few_records))]
+pub fn one_record_a_clock()
+    ensures clock { (at : ℕ) → (p : PokeyValue) → length (pokey_gives at p) ≤ 1 }
+    ensures clocks { (from : ℕ) → (n : ℕ) → (p : PokeyValue) → length (levels_made from n p) ≤ n }
+{}

@@ -1,47 +1,72 @@
 -- A shift by arithmetic: half the number, and the new bit at the top.
-use Rattle.std.proofs.Common.{◌≡◌, ℕ, ◌+◌, ◌*◌, ◌/◌, ◌%◌, ◌^◌, ◌<◌, ◌≤◌, zero, suc, bit_and, bit_or, bit_xor, [], ◌∷◌, ◌++◌, arith, sym, ap, ◌∙◌, add-one}
-use Rattle.std.proofs.Math.Nat.{two-pow-succ}
+use Rattle.std.proofs.Common.{◌≡◌, ℕ, ◌+◌, ◌*◌, ◌/◌, ◌%◌, ◌^◌, ◌<◌, ◌≤◌, ◌==◌, Bool, true, false, zero, suc, bit_and, bit_or, bit_xor, [], ◌∷◌, ◌++◌, map, refl, arith, sym, ap, ◌∙◌, add-one}
+use Rattle.std.proofs.Math.Bool.{xor}
+use Rattle.std.proofs.Math.Nat.{two-pow-succ, div-div-eq-div-mul}
 use Rattle.std.specs.Int.Bits.{or_shifted_r}
 use Rattle.std.proofs.lemmas.Nat.{and_mask, pow_below, xor_lt}
 use Rattle.std.proofs.lemmas.Nat.Bits.{bit_at-lt, bit_at_lowest, bit_at_xor}
-use Rattle.std.specs.Int.{bit_at}
-use Rattle.pokey_poly.specs.Shift.{bits, moved, number}
+use Rattle.std.specs.Int.{bit_at, from_bool}
+use Rattle.std.specs.List.{range_with_len}
+use Rattle.bit_words.specs.Bits.{is_bit, number}
+use Rattle.pokey_poly.specs.Shift.{incoming, moved}
 
--- the number with the bits of another and one more at the top
-number-bits-append : (width r top : ℕ) → r < 2 ^ width → number (bits width r ++ top ∷ []) ≡ r + top * 2 ^ width
-unfolding bits number
-number-bits-append zero r top h = omega arith
-number-bits-append (suc width) r top h =
+-- a digit as a Bool and back
+digit-bool : (d : ℕ) → d < 2 → from_bool (d == 1) ≡ d
+digit-bool zero two = refl
+digit-bool (suc zero) two = refl
+digit-bool (suc (suc d)) two = absurd (omega arith)
+
+pub from-is_bit : (r k : ℕ) → from_bool (is_bit r k) ≡ bit_at r k
+from-is_bit r k = digit-bool (bit_at r k) (bit_at-lt r k)
+
+-- a bit further on, halved once more
+halved : (r a : ℕ) → r / 2 ^ (a + 1) ≡ r / 2 ^ a / 2
+halved r a =
+    let doubled : 2 ^ (a + 1) ≡ 2 ^ a * 2 = rw add-one (omega (arith, two-pow-succ a)) in
+    ap (λ (n : ℕ). r / n) doubled ∙ sym (div-div-eq-div-mul r (2 ^ a) 2)
+
+-- the number with the bits of another from a place on, and one more at the top
+number-from : (width a r : ℕ) (b : Bool) → r / 2 ^ a < 2 ^ width
+    → number (map (is_bit r) (range_with_len a width) ++ b ∷ []) ≡ r / 2 ^ a + from_bool b * 2 ^ width
+number-from zero a r b h = omega arith
+number-from (suc width) a r b h =
     let doubled : 2 ^ suc width ≡ 2 ^ width + 2 ^ width = two-pow-succ width in
-    let half : r / 2 < 2 ^ width = omega arith in
-    rw (number-bits-append width (r / 2) top half, doubled) (omega arith)
-
--- the bit that comes in
-abbrev pub incoming : ℕ → ℕ → ℕ
-incoming r tap = bit_xor (bit_at r tap) (bit_at r 0)
+    let half : r / 2 ^ (a + 1) < 2 ^ width = rw (halved r a) (omega arith) in
+    rw (from-is_bit r a, number-from width (a + 1) r b half, halved r a, doubled) (omega arith)
 
 -- the exclusive or of two digits
 digit-xor : (u v : ℕ) → u < 2 → v < 2 → bit_xor u v ≡ (u + v) % 2
 digit-xor u v hu hv = omega (arith, bit_at_xor u v 0, xor_lt 1 u v hu hv)
 
-pub incoming-lt : (r tap : ℕ) → incoming r tap < 2
-incoming-lt r tap = xor_lt 1 (bit_at r tap) (bit_at r 0) (bit_at-lt r tap) (bit_at-lt r 0)
+sum-xor : (a b : Bool) → from_bool (xor a b) ≡ (from_bool a + from_bool b) % 2
+unfolding xor
+sum-xor true true = refl
+sum-xor true false = refl
+sum-xor false true = refl
+sum-xor false false = refl
+
+-- the bit that comes in
+pub incoming-sum : (tap r : ℕ) → from_bool (incoming tap r) ≡ (bit_at r tap + bit_at r 0) % 2
+incoming-sum tap r = rw (sum-xor (is_bit r tap) (is_bit r 0), from-is_bit r tap, from-is_bit r 0) refl
+
+pub incoming-lt : (tap r : ℕ) → from_bool (incoming tap r) < 2
+incoming-lt tap r = omega (arith, incoming-sum tap r)
 
 -- the code takes it from the number by shifting and masking
-masked : (r tap : ℕ) → bit_and (bit_xor (r / 2 ^ tap) r) 1 ≡ incoming r tap
+masked : (r tap : ℕ) → bit_and (bit_xor (r / 2 ^ tap) r) 1 ≡ from_bool (incoming tap r)
 masked r tap =
     and_mask (bit_xor (r / 2 ^ tap) r) 1
     ∙ sym (bit_at_lowest (bit_xor (r / 2 ^ tap) r))
     ∙ bit_at_xor (r / 2 ^ tap) r 0
     ∙ ap (λ (n : ℕ). (n + bit_at r 0) % 2) (bit_at_lowest (r / 2 ^ tap))
-    ∙ sym (digit-xor (bit_at r tap) (bit_at r 0) (bit_at-lt r tap) (bit_at-lt r 0))
+    ∙ sym (incoming-sum tap r)
 
-pub moved-sum : (top tap r : ℕ) → r < 2 ^ (top + 1) → moved (top + 1) tap r ≡ r / 2 + incoming r tap * 2 ^ top
-unfolding moved bits
+pub moved-sum : (top tap r : ℕ) → r < 2 ^ (top + 1) → moved (top + 1) tap r ≡ r / 2 + from_bool (incoming tap r) * 2 ^ top
+unfolding moved
 moved-sum top tap r h =
     let doubled : 2 ^ suc top ≡ 2 ^ top + 2 ^ top = two-pow-succ top in
-    let half : r / 2 < 2 ^ top = omega (arith, rw add-one at h) in
-    let e : moved (suc top) tap r ≡ r / 2 + incoming r tap * 2 ^ top = number-bits-append top (r / 2) (incoming r tap) half in
+    let half : r / 2 ^ (0 + 1) < 2 ^ top = omega (arith, rw add-one at h) in
+    let e : moved (suc top) tap r ≡ r / 2 ^ (0 + 1) + from_bool (incoming tap r) * 2 ^ top = number-from top (0 + 1) r (incoming tap r) half in
     rw add-one e
 
 digit-times : (t p : ℕ) → t < 2 → t * p ≤ p
@@ -57,7 +82,7 @@ pub moved-lt : (top tap r : ℕ) → r < 2 ^ (top + 1) → moved (top + 1) tap r
 moved-lt top tap r h =
     let doubled : 2 ^ suc top ≡ 2 ^ top + 2 ^ top = two-pow-succ top in
     let half : r / 2 < 2 ^ top = omega (arith, rw add-one at h) in
-    let few : incoming r tap * 2 ^ top ≤ 2 ^ top = digit-times (incoming r tap) (2 ^ top) (incoming-lt r tap) in
+    let few : from_bool (incoming tap r) * 2 ^ top ≤ 2 ^ top = digit-times (from_bool (incoming tap r)) (2 ^ top) (incoming-lt tap r) in
     rw (moved-sum top tap r h, add-one, doubled) (omega arith)
 
 -- a shift, as the code computes it
@@ -65,8 +90,8 @@ pub moves : (top tap r : ℕ) → top < 31 → r < 2 ^ (top + 1) → bit_or (r /
 moves top tap r low h =
     let doubled : 2 ^ suc top ≡ 2 ^ top + 2 ^ top = two-pow-succ top in
     let half : r / 2 < 2 ^ top = omega (arith, rw add-one at h) in
-    let fits : incoming r tap * 2 ^ top % 2 ^ 32 ≡ incoming r tap * 2 ^ top = (placed (incoming r tap) (2 ^ top) (incoming-lt r tap) (pow_below top 31 low)) in
-    let joined : bit_or (r / 2) (incoming r tap * 2 ^ top) ≡ incoming r tap * 2 ^ top + r / 2 = or_shifted_r (incoming r tap) top (r / 2) half in
+    let fits : from_bool (incoming tap r) * 2 ^ top % 2 ^ 32 ≡ from_bool (incoming tap r) * 2 ^ top = (placed (from_bool (incoming tap r)) (2 ^ top) (incoming-lt tap r) (pow_below top 31 low)) in
+    let joined : bit_or (r / 2) (from_bool (incoming tap r) * 2 ^ top) ≡ from_bool (incoming tap r) * 2 ^ top + r / 2 = or_shifted_r (from_bool (incoming tap r)) top (r / 2) half in
     rw (masked r tap, fits, joined, moved-sum top tap r h) (omega arith)
 
 pub ruleset shifts = (moves, moved-lt)

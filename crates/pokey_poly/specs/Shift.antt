@@ -1,7 +1,8 @@
 -- The polynomial registers of the POKEY (C012294 data sheet; the bit order is this project's own
 -- profile). Bit 0 of a register is its lowest and its output.
-use Rattle.std.specs.Prelude.{ℕ, ◌+◌, ◌*◌, ◌/◌, ◌%◌, zero, suc, bit_xor, List, [], ◌∷◌, ◌++◌, drop}
-use Rattle.std.specs.Int.{bit_at}
+use Rattle.std.specs.Prelude.{ℕ, Bool, [], ◌∷◌, ◌++◌, drop}
+use Rattle.std.proofs.Math.Bool.{xor}
+use Rattle.bit_words.specs.Bits.{bits, is_bit, number}
 use Rattle.pokey_poly.specs.declared.poly.Poly.{Poly}
 use Rattle.pokey_poly.specs.declared.poly.Poly.TheVariants.{Four, Five, Nine, Seventeen}
 
@@ -19,20 +20,13 @@ tap_of Five = 2
 tap_of Nine = 4
 tap_of Seventeen = 5
 
--- the bits of a number at this width, the lowest first
-unfoldable pub bits : ℕ → ℕ → List ℕ
-bits zero r = []
-bits (suc width) r = r % 2 ∷ bits width (r / 2)
+-- the bit that comes in at the top: the exclusive or of the tap and bit 0
+abbrev pub incoming : ℕ → ℕ → Bool
+incoming tap r = xor (is_bit r tap) (is_bit r 0)
 
--- the number with these bits, the lowest first
-unfoldable pub number : List ℕ → ℕ
-number [] = 0
-number (lowest ∷ higher) = lowest + 2 * number higher
-
--- a register whose bits move down by one place: bit 0 goes, and the exclusive or of the tap and bit
--- 0 comes in at the top
+-- a register whose bits move down by one place: bit 0 goes, and a bit comes in at the top
 unfoldable pub moved : ℕ → ℕ → ℕ → ℕ
-moved width tap r = number (drop 1 (bits width r) ++ bit_xor (bit_at r tap) (bit_at r 0) ∷ [])
+moved width tap r = number (drop 1 (bits width r) ++ incoming tap r ∷ [])
 
 -- one shift of a register
 unfoldable pub shifted : Poly → ℕ → ℕ

@@ -1,5 +1,5 @@
 -- A countdown over any number of pulses, in one step.
-use Rattle.std.proofs.Common.{◌≡◌, ℕ, Bool, ◌+◌, ◌-◌, ◌*◌, ◌/◌, ◌%◌, ◌<◌, ◌≤◌, ◌==◌, if◌then◌else◌, zero, suc, arith, refl, sym, ap, ◌∙◌, add_assoc, true, false, add-zero, add-suc}
+use Rattle.std.proofs.Common.{◌≡◌, ℕ, ◌+◌, ◌-◌, ◌*◌, ◌/◌, ◌%◌, ◌<◌, ◌≤◌, ◌==◌, zero, suc, arith, refl, sym, ap, ◌∙◌, false, add-zero, add-suc}
 use Rattle.std.proofs.Math.Nat.{add-sub_of_le, sub-zero, zero-mul}
 use Rattle.std.proofs.lemmas.Nat.{div-add-mod'}
 use Rattle.std.proofs.lemmas.Bool.Decides.{nat_tests}
@@ -73,39 +73,3 @@ skipped-many period n left many one some =
     ap (λ (m : ℕ). skipped period m (left, 0)) (sym (add-sub_of_le many)) ∙ skipped-beyond period left (n - left) one some
 
 pub ruleset skips = (skipped-few, skipped-many)
-
--- a pulse, by whether it is an underflow
-abbrev taken : Bool → ℕ → ℕ → ℕ → ℕ × ℕ
-taken last period left underflows = if last then (period, underflows + 1) else (left, underflows)
-
--- the underflows so far are carried along
-carried : (last : Bool) (period left underflows more : ℕ) → taken last period left (underflows + more) ≡ ((taken last period left more).0, underflows + (taken last period left more).1)
-carried true period left underflows more = ap (λ (m : ℕ). (period, m)) (add_assoc underflows more 1)
-carried false period left underflows more = refl
-
-pulse_taken-carried : (period underflows : ℕ) (s : ℕ × ℕ) → pulse_taken period (s.0, underflows + s.1) ≡ ((pulse_taken period s).0, underflows + (pulse_taken period s).1)
-unfolding pulse_taken
-pulse_taken-carried period underflows s = carried (s.0 - 1 == 0) period (s.0 - 1) underflows s.1
-
-pub skipped-carried : (period n left underflows : ℕ) → skipped period n (left, underflows) ≡ ((skipped period n (left, 0)).0, underflows + (skipped period n (left, 0)).1)
-unfolding skipped
-skipped-carried period zero left underflows = ap (λ (m : ℕ). (left, m)) (sym (add-zero underflows))
-skipped-carried period (suc n) left underflows =
-    ap (pulse_taken period) (skipped-carried period n left underflows) ∙ pulse_taken-carried period underflows (skipped period n (left, 0))
-
--- at least one pulse is left, and never more than there were or than a period
-kept : (last : Bool) (period left underflows most : ℕ) → 1 ≤ period → period ≤ most → left ≤ most → (last ≡ false → 1 ≤ left)
-    → (1 ≤ (taken last period left underflows).0) × ((taken last period left underflows).0 ≤ most)
-kept true period left underflows most some below before more = (some, below)
-kept false period left underflows most some below before more = (more refl, before)
-
-pulse_taken-range : (period most : ℕ) (s : ℕ × ℕ) → 1 ≤ period → period ≤ most → s.0 ≤ most → (1 ≤ (pulse_taken period s).0) × ((pulse_taken period s).0 ≤ most)
-unfolding pulse_taken
-pulse_taken-range period most s some below before =
-    kept (s.0 - 1 == 0) period (s.0 - 1) s.1 most some below (omega arith) (λ more. grind (arith, nat_tests, more))
-
-pub skipped-range : (period n most : ℕ) (s : ℕ × ℕ) → 1 ≤ period → period ≤ most → 1 ≤ s.0 → s.0 ≤ most → (1 ≤ (skipped period n s).0) × ((skipped period n s).0 ≤ most)
-unfolding skipped
-skipped-range period zero most s some below one before = (one, before)
-skipped-range period (suc n) most s some below one before =
-    pulse_taken-range period most (skipped period n s) some below (skipped-range period n most s some below one before).1

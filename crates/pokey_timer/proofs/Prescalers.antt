@@ -1,5 +1,5 @@
 -- A prescaler over any number of ticks, in one step.
-use Rattle.std.proofs.Common.{◌≡◌, ℕ, ◌+◌, ◌-◌, ◌*◌, ◌/◌, ◌%◌, ◌<◌, ◌≤◌, zero, suc, arith, sym, ap, ◌∙◌, add-zero, add-suc, zero-add}
+use Rattle.std.proofs.Common.{◌≡◌, ℕ, ◌+◌, ◌-◌, ◌*◌, ◌/◌, ◌%◌, ◌<◌, ◌≤◌, zero, suc, arith, sym, ap, ◌∙◌, add-zero, add-suc}
 use Rattle.std.proofs.Math.Nat.{add-sub_of_le, div-lt_iff_lt-mul, mod-eq_of_lt, mul-add-mod_self_right, mul-div_left, mul-le-mul_right}
 use Rattle.std.proofs.lemmas.Bool.Decides.{nat_tests}
 use Rattle.std.proofs.lemmas.Nat.{div-mul-add}
@@ -69,21 +69,6 @@ pulses-add period count a zero = rw (add-zero (pulses period count a), add-zero 
 pulses-add period count a (suc b) =
     let before = pulses-add period count a b in
     rw (add-suc, count_after-add period count a b) (omega arith)
-
--- the first tick first
-pub count_after-first : (period count n : ℕ) → count_after period count (suc n) ≡ count_after period (counted period count) n
-unfolding count_after
-count_after-first period count n =
-    let one_more : suc n ≡ 1 + n = omega arith in
-    ap (count_after period count) one_more ∙ count_after-add period count 1 n
-
-pub pulses-first : (period count n : ℕ) → pulses period count (suc n) ≡ from_bool (pulsed period count) + pulses period (counted period count) n
-unfolding pulses count_after
-pulses-first period count n =
-    let one_more : suc n ≡ 1 + n = omega arith in
-    ap (pulses period count) one_more
-    ∙ pulses-add period count 1 n
-    ∙ ap (λ (m : ℕ). m + pulses period (counted period count) n) (zero-add (from_bool (pulsed period count)))
 
 -- more ticks give no fewer pulses
 pub pulses-grow : (period count a b : ℕ) → a ≤ b → pulses period count a ≤ pulses period count b

@@ -1,5 +1,5 @@
 use Rattle.std.proofs.Common.{◌≡◌, ◌-◌, nat_lt, map, drop}
-use Rattle.pokey_chip.specs.Registers.{number}
+use Rattle.bit_words.specs.Bits.{number}
 use Rattle.pokey_chip.proofs.registers.pots_counted.Given as goal
 
 abbrev pub invariant-loop-n : goal.invariant-loop-n

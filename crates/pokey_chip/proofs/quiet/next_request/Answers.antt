@@ -1,5 +1,5 @@
 use Rattle.pokey_chip.proofs.RequestLaws.{next-of-three}
-use Rattle.pokey_chip.proofs.pace.next_request.Goals as goal
+use Rattle.pokey_chip.proofs.quiet.next_request.Goals as goal
 
 pub returns : goal.returns
 returns c =

@@ -1,0 +1,169 @@
+-- A channel in a move: when it is due.
+use Rattle.std.proofs.Common.{◌≡◌, ℕ, ◌+◌, ◌-◌, ◌*◌, ◌^◌, ◌<◌, ◌≤◌, ◌==◌, Bool, true, false, ◌&&◌, nat_le, if◌then◌else◌, zero, suc, refl, sym, ap, ◌∙◌, arith, add-zero, add-suc, ◌⊎◌, inl, inr}
+use Rattle.std.proofs.lemmas.Bool.Decides.{nat_tests}
+use Rattle.std.proofs.lemmas.Bool.{cases_lt}
+use Rattle.std.specs.Int.{from_bool}
+use Rattle.board_base.specs.Pokey.{PokeyValue}
+use Rattle.board_base.specs.Ticks.{ticks, times}
+use Rattle.board_base.proofs.TickLaws.{times-add}
+use Rattle.pokey_timer.specs.Prescaler.{pulsed, pulses}
+use Rattle.pokey_timer.proofs.Prescalers.{pulses-before, pulses-grow, pulses-reached}
+use Rattle.pokey_chip.specs.declared.channel.Channel.{Channel}
+use Rattle.pokey_chip.specs.declared.pace.Pace.{Pace}
+use Rattle.pokey_chip.specs.declared.pace.Pace.TheVariants.{Never, ChipClock, By28, By114}
+use Rattle.pokey_chip.specs.declared.voice.Voice.{Voice}
+use Rattle.pokey_chip.specs.Moves.{due_at, IsPassed, IsTimed, IsVoice}
+use Rattle.pokey_chip.specs.Paces.{IsPace, paced}
+use Rattle.pokey_chip.specs.Pulses.{HasNoUnderflow, has_pulse, pulses_of}
+use Rattle.pokey_chip.specs.Tick.{base_pulses, left_of, pokey_tick, underflows}
+use Rattle.pokey_chip.proofs.CountLaws.{left-is, underflow-is}
+use Rattle.pokey_chip.proofs.KeptLaws.{kept}
+use Rattle.pokey_chip.proofs.UnderflowLaws.{left-fallen, left-tick, no-underflow}
+
+-- no more pulses than clocks
+pulses-few : (period count n : ℕ) → pulses period count n ≤ n
+unfolding pulses
+pulses-few period count zero = omega arith
+pulses-few period count (suc n) = one-more (pulsed period _) (pulses period count n) n (pulses-few period count n)
+  where
+    one-more : (b : Bool) (m n : ℕ) → m ≤ n → m + from_bool b ≤ suc n
+    one-more true m n h = omega arith
+    one-more false m n h = omega arith
+
+pub paced-few : (pace : Pace) (n : ℕ) → paced pace n ≤ n
+paced-few Never n = omega arith
+paced-few ChipClock n = omega arith
+paced-few (By28 count) n = pulses-few 28 count n
+paced-few (By114 count) n = pulses-few 114 count n
+
+-- before a pulse's clock fewer pulses come, and from then on as many or more
+pub early : (pace : Pace) (pulse j : ℕ) → IsPace pace → 1 ≤ pulse → j < due_at pace pulse → paced pace j < pulse
+early Never pulse j is some h = some
+early ChipClock pulse j is some h = h
+early (By28 count) pulse j is some h = pulses-before 28 count pulse j is h
+early (By114 count) pulse j is some h = pulses-before 114 count pulse j is h
+
+pub late : (pace : Pace) (pulse j : ℕ) → IsPace pace → 1 ≤ pulse → j ≤ 2 ^ 49 → due_at pace pulse ≤ j → pulse ≤ paced pace j
+late Never pulse j is some small h = absurd (omega arith)
+late ChipClock pulse j is some small h = h
+late (By28 count) pulse j is some small h = omega (arith, pulses-reached 28 count pulse is some, pulses-grow 28 count (pulse * 28 - count) j h)
+late (By114 count) pulse j is some small h = omega (arith, pulses-reached 114 count pulse is some, pulses-grow 114 count (pulse * 114 - count) j h)
+
+-- where a channel is due in a clock, its pulse is no later
+pub due-few : (v : Voice) (at : ℕ) → IsTimed v → at ≤ 2 ^ 49 → v.due ≡ at → v.pulse ≤ at
+due-few v at timed small e =
+    let h : due_at v.pace v.pulse ≤ at = omega (arith, timed.due) in
+    omega (arith, late v.pace v.pulse at timed.prescaler timed.some small h, paced-few v.pace at)
+
+pub ruleset passes = due-few
+
+-- a channel at the start of a move
+pub begun : (c : Channel) (p : PokeyValue) (n : ℕ) → left_of c p ≡ n → left_of c (times pokey_tick 0 p) + pulses_of c 0 p ≡ n
+unfolding ticks pulses_of
+begun c p n e = omega arith
+
+pub begun-left : (c : Channel) (p : PokeyValue) → left_of c (times pokey_tick 0 p) ≡ left_of c p
+unfolding ticks
+begun-left c p = refl
+
+pub ruleset begins = (begun, begun-left)
+
+-- the pulses of clocks one after another
+pub pulses_of-add : (c : Channel) (k m : ℕ) (p : PokeyValue) → pulses_of c (k + m) p ≡ pulses_of c k p + pulses_of c m (times pokey_tick k p)
+unfolding pulses_of
+pulses_of-add c k zero p = rw (add-zero k, add-zero (pulses_of c k p)) refl
+pulses_of-add c k (suc m) p = rw (add-suc, pulses_of-add c k m p, times-add pokey_tick k m p) (omega arith)
+
+module _ (c : Channel) (k : ℕ) (p : PokeyValue) (v : Voice) (is : IsVoice c k p v) where
+  -- before it is due a channel has no underflow
+  pub none-before : (m : ℕ) → k + m < v.due → HasNoUnderflow (times pokey_tick k p) c m
+  none-before m h =
+      let soon : k + m < due_at v.pace v.pulse = omega (arith, is.timed.due) in
+      let few : paced v.pace (k + m) < v.pulse = early v.pace v.pulse (k + m) is.timed.prescaler is.timed.some soon in
+      omega (arith, few, pulses_of-add c k m p, is.paced_by (k + m), is.next)
+
+  -- and it goes on with the same pulse
+  pub goes-on : (m : ℕ) → k + m < v.due → IsVoice c (k + m) p v
+  goes-on m h =
+      let none : HasNoUnderflow (times pokey_tick k p) c m = none-before m h in
+      let fallen : left_of c (times pokey_tick m (times pokey_tick k p)) + pulses_of c m (times pokey_tick k p) ≡ left_of c (times pokey_tick k p)
+      = left-fallen c m (times pokey_tick k p) none in
+      let at : left_of c (times pokey_tick (k + m) p) ≡ left_of c (times pokey_tick m (times pokey_tick k p))
+      = ap (left_of c) (times-add pokey_tick k m p) in
+      record {
+        timed = is.timed;
+        paced_by = is.paced_by;
+        period = is.period;
+        next = omega (arith, at, fallen, pulses_of-add c k m p, is.next);
+        some = omega (arith, at, fallen, none);
+        most = omega (arith, at, fallen, is.most);
+      }
+
+-- a channel that counts a pulse or none
+counted-next : (pulse : Bool) (left period so_far next : ℕ) → left + so_far ≡ next → 1 ≤ left
+    → (if pulse then (if nat_le left 1 then period else left - 1) else left) + (so_far + from_bool pulse) ≡ (if pulse && nat_le left 1 then next + period else next)
+counted-next true left period so_far next e some = grind (arith, nat_tests)
+counted-next false left period so_far next e some = omega arith
+
+counted-range : (pulse : Bool) (left period : ℕ) → 1 ≤ left → left ≤ 65542 → 1 ≤ period → period ≤ 65542
+    → (1 ≤ (if pulse then (if nat_le left 1 then period else left - 1) else left)) × ((if pulse then (if nat_le left 1 then period else left - 1) else left) ≤ 65542)
+counted-range true left period a b d e = (grind (arith, nat_tests), grind (arith, nat_tests))
+counted-range false left period a b d e = (a, b)
+
+later-test : (due at : ℕ) → at < due → (due == at) ≡ false
+later-test due at h = grind (arith, nat_tests)
+
+now-test : (due at : ℕ) → at ≤ due → due ≤ at → (due == at) ≡ true
+now-test due at h g = grind (arith, nat_tests)
+
+last-taken : (pulse : Bool) (left : ℕ) → 1 ≤ left → left ≤ from_bool pulse → (pulse && nat_le left 1) ≡ true
+last-taken true left some h = grind (arith, nat_tests)
+last-taken false left some h = absurd (omega arith)
+
+module _ (c : Channel) (j : ℕ) (p : PokeyValue) (v : Voice) (is : IsVoice c j p v) (soon : suc j ≤ v.due) (small : suc j ≤ 2 ^ 49) where
+  -- a channel underflows exactly in the clock in which it is due
+  pub due-is : underflows (base_pulses (times pokey_tick j p)) (times pokey_tick j p) c ≡ (v.due == suc j)
+  unfolding pulses_of
+  due-is = by_place (cases_lt (suc j) v.due)
+    where
+      by_place : (suc j < v.due) ⊎ (v.due ≤ suc j) → underflows (base_pulses (times pokey_tick j p)) (times pokey_tick j p) c ≡ (v.due == suc j)
+      by_place (inl h) =
+          let later : suc j < due_at v.pace v.pulse = omega (arith, is.timed.due) in
+          let few : paced v.pace (suc j) < v.pulse = early v.pace v.pulse (suc j) is.timed.prescaler is.timed.some later in
+          let sum : pulses_of c (suc j) p ≡ pulses_of c j p + from_bool (has_pulse c (times pokey_tick j p)) = refl in
+          no-underflow c (times pokey_tick j p) (omega (arith, few, sum, is.paced_by (suc j), is.next)) ∙ sym (later-test v.due (suc j) h)
+      by_place (inr h) =
+          let now : due_at v.pace v.pulse ≤ suc j = omega (arith, is.timed.due) in
+          let many : v.pulse ≤ paced v.pace (suc j) = late v.pace v.pulse (suc j) is.timed.prescaler is.timed.some small now in
+          let sum : pulses_of c (suc j) p ≡ pulses_of c j p + from_bool (has_pulse c (times pokey_tick j p)) = refl in
+          underflow-is (base_pulses (times pokey_tick j p)) (times pokey_tick j p) c
+          ∙ last-taken (has_pulse c (times pokey_tick j p)) (left_of c (times pokey_tick j p)) is.some (omega (arith, many, sum, is.paced_by (suc j), is.next))
+          ∙ sym (now-test v.due (suc j) soon h)
+
+  left-then : left_of c (times pokey_tick (suc j) p)
+      ≡ (if has_pulse c (times pokey_tick j p) then (if nat_le (left_of c (times pokey_tick j p)) 1 then v.period else left_of c (times pokey_tick j p) - 1) else left_of c (times pokey_tick j p))
+  unfolding ticks
+  left-then =
+      left-tick c (times pokey_tick j p)
+      ∙ left-is (base_pulses (times pokey_tick j p)) (times pokey_tick j p) c
+      ∙ rw ((kept j p).audf_kept, (kept j p).audctl_kept, ← is.period) refl
+
+  -- and so it goes on after it
+  pub passes-on : (w : Voice) → IsPassed (suc j) v w → IsVoice c (suc j) p w
+  unfolding pulses_of
+  passes-on w passed =
+      let range : (1 ≤ (if has_pulse c (times pokey_tick j p) then (if nat_le (left_of c (times pokey_tick j p)) 1 then v.period else left_of c (times pokey_tick j p) - 1) else left_of c (times pokey_tick j p)))
+      × ((if has_pulse c (times pokey_tick j p) then (if nat_le (left_of c (times pokey_tick j p)) 1 then v.period else left_of c (times pokey_tick j p) - 1) else left_of c (times pokey_tick j p)) ≤ 65542)
+      = counted-range (has_pulse c (times pokey_tick j p)) (left_of c (times pokey_tick j p)) v.period is.some is.most is.timed.low is.timed.high in
+      let sum : left_of c (times pokey_tick (suc j) p) + (pulses_of c j p + from_bool (has_pulse c (times pokey_tick j p)))
+      ≡ (if underflows (base_pulses (times pokey_tick j p)) (times pokey_tick j p) c then v.pulse + v.period else v.pulse)
+      = rw (left-then, underflow-is (base_pulses (times pokey_tick j p)) (times pokey_tick j p) c)
+      (counted-next (has_pulse c (times pokey_tick j p)) (left_of c (times pokey_tick j p)) v.period (pulses_of c j p) v.pulse is.next is.some) in
+      record {
+        timed = passed.timed;
+        paced_by = λ n. is.paced_by n ∙ ap (λ (pace : Pace). paced pace n) (sym passed.pace);
+        period = passed.period ∙ is.period;
+        next = sum ∙ ap (λ (b : Bool). if b then v.pulse + v.period else v.pulse) due-is ∙ sym passed.pulse;
+        some = rw left-then range.0;
+        most = rw left-then range.1;
+      }

@@ -1,0 +1,61 @@
+-- A move of a POKEY from underflow to underflow. The pulses and the clocks of a channel are counted from the start of the
+-- move; no register is written in it.
+use Rattle.std.specs.Prelude.{◌≡◌, ℕ, ◌+◌, ◌-◌, ◌*◌, ◌^◌, ◌<◌, ◌≤◌, ◌==◌, if◌then◌else◌, Bool}
+use Rattle.board_base.specs.Pokey.{PokeyValue}
+use Rattle.board_base.specs.Ticks.{times}
+use Rattle.pokey_chip.specs.declared.channel.Channel.{Channel}
+use Rattle.pokey_chip.specs.declared.channel.Channel.TheVariants.{First, Second, Third, Fourth}
+use Rattle.pokey_chip.specs.declared.pace.Pace.{Pace}
+use Rattle.pokey_chip.specs.declared.pace.Pace.TheVariants.{Never, ChipClock, By28, By114}
+use Rattle.pokey_chip.specs.declared.voice.Voice.{Voice}
+use Rattle.pokey_chip.specs.Channels.{period_of}
+use Rattle.pokey_chip.specs.Paces.{IsPace, paced}
+use Rattle.pokey_chip.specs.Pulses.{pulses_of}
+use Rattle.pokey_chip.specs.Tick.{left_of, pokey_tick, turned}
+
+-- the clock with which a pulse comes; the greatest number of 64 bits where none does
+abbrev pub due_at : Pace → ℕ → ℕ
+due_at Never pulse = 2 ^ 64 - 1
+due_at ChipClock pulse = pulse
+due_at (By28 count) pulse = pulse * 28 - count
+due_at (By114 count) pulse = pulse * 114 - count
+
+-- a channel's next underflow comes with a pulse to come, and in the clock of that pulse
+pub record IsTimed (v : Voice) : Type 0 where
+  pub prescaler : IsPace v.pace
+  pub some : 1 ≤ v.pulse
+  pub few : v.pulse ≤ 2 ^ 49 + 65542
+  pub low : 1 ≤ v.period
+  pub high : v.period ≤ 65542
+  pub due : v.due ≡ due_at v.pace v.pulse
+
+-- the same channel after the clock `at`, in which it underflows where it is due
+pub record IsPassed (at : ℕ) (before after : Voice) : Type 0 where
+  pub timed : IsTimed after
+  pub pace : after.pace ≡ before.pace
+  pub period : after.period ≡ before.period
+  pub pulse : after.pulse ≡ (if before.due == at then before.pulse + before.period else before.pulse)
+
+-- the pulses that are left of a channel after n clocks
+abbrev pub left_of_voice : Voice → ℕ → ℕ
+left_of_voice v n = v.pulse - paced v.pace n
+
+-- a channel that hasn't come to its underflow in n clocks, and is within a period of it
+pub record IsLeft (v : Voice) (n : ℕ) : Type 0 where
+  pub prescaler : IsPace v.pace
+  pub some : paced v.pace n < v.pulse
+  pub most : v.pulse ≤ paced v.pace n + 65542
+
+-- a channel after `done` clocks of a move: its pulses, its period, and the pulse with which it underflows next
+pub record IsVoice (c : Channel) (done : ℕ) (p : PokeyValue) (v : Voice) : Type 0 where
+  pub timed : IsTimed v
+  pub paced_by : (n : ℕ) → pulses_of c n p ≡ paced v.pace n
+  pub period : v.period ≡ period_of p.audf p.audctl c
+  pub next : left_of c (times pokey_tick done p) + pulses_of c done p ≡ v.pulse
+  pub some : 1 ≤ left_of c (times pokey_tick done p)
+  pub most : left_of c (times pokey_tick done p) ≤ 65542
+
+-- the turns of those channels that are due, in order
+unfoldable pub turns_taken : Bool → Bool → Bool → Bool → PokeyValue → PokeyValue
+turns_taken first second third fourth p =
+    turned fourth Fourth (turned third Third (turned second Second (turned first First p)))

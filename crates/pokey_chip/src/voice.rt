@@ -1,0 +1,159 @@
+ghost use Rattle.std.specs.Prelude.{◌≡◌, ◌+◌, ◌^◌, ◌≤◌, All, [], ◌∷◌, min};
+ghost use Rattle.pokey_chip.specs.Moves.{due_at, IsLeft, IsPassed, IsTimed, IsVoice, left_of_voice};
+ghost use Rattle.pokey_chip.specs.Paces.{IsPace};
+
+use crate::channel::Channel;
+use crate::pace::Pace;
+use board_base::PokeyState;
+
+/// A channel in a move: what gives it its pulses, its period, the pulse with which it underflows
+/// next and the clock of that pulse, both counted from the start of the move.
+#[derive(Clone, Copy)]
+pub struct Voice {
+    pub pace: Pace,
+    pub period: u32,
+    pub pulse: u64,
+    pub due: u64,
+}
+
+/// The clock with which a pulse comes.
+#[inline(always)]
+fn clock_of(pace: Pace, pulse: u64) -> u64
+    requires prescaler { IsPace pace }
+    requires some { 1 ≤ pulse }
+    requires few { pulse ≤ 2 ^ 49 + 65542 }
+    ensures { result ≡ due_at pace pulse }
+{
+    match pace {
+        Pace::Never => u64::MAX,
+        Pace::ChipClock => pulse,
+        Pace::By28 { count } => pulse * 28 - u64::from(count),
+        Pace::By114 { count } => pulse * 114 - u64::from(count),
+    }
+}
+
+impl Voice {
+    /// A channel at the start of a move.
+    #[inline(always)]
+    #[tactic(auto, using(crate::proofs::VoiceLaws::begins))]
+    fn of(state: &PokeyState, channel: Channel) -> Voice
+        ensures { IsVoice channel 0 state.now result }
+    {
+        let pace = Pace::of(state, channel);
+        let pulse = u64::from(state.left[channel.index()]);
+        Voice {
+            pace,
+            period: channel.period(&state.audf, state.audctl),
+            pulse,
+            due: clock_of(pace, pulse),
+        }
+    }
+
+    /// The channel after the clock `at`, in which it underflows where it is due.
+    #[inline(always)]
+    #[tactic(auto, using(crate::proofs::VoiceLaws::passes))]
+    fn after(self, at: u64) -> Voice
+        requires timed { IsTimed self }
+        requires at { at ≤ 2 ^ 49 }
+        ensures { IsPassed at self result }
+    {
+        if self.due != at {
+            return self;
+        }
+        let pulse = self.pulse + u64::from(self.period);
+        Voice {
+            pulse,
+            due: clock_of(self.pace, pulse),
+            ..self
+        }
+    }
+
+    /// The pulses left of the channel after `n` clocks.
+    #[inline(always)]
+    fn left(self, n: u64) -> u32
+        requires n { n ≤ 2 ^ 49 }
+        requires left { IsLeft self n }
+        ensures value { result ≡ left_of_voice self n }
+        ensures low { 1 ≤ result }
+        ensures high { result ≤ 65542 }
+    {
+        (self.pulse - self.pace.pulses(n)) as u32
+    }
+}
+
+/// The four channels in a move.
+#[derive(Clone, Copy)]
+pub struct Voices {
+    pub first: Voice,
+    pub second: Voice,
+    pub third: Voice,
+    pub fourth: Voice,
+}
+
+impl Voices {
+    /// The channels at the start of a move.
+    #[inline(always)]
+    pub fn of(state: &PokeyState) -> Voices
+        ensures first { IsVoice Channel.First 0 state.now result.first }
+        ensures second { IsVoice Channel.Second 0 state.now result.second }
+        ensures third { IsVoice Channel.Third 0 state.now result.third }
+        ensures fourth { IsVoice Channel.Fourth 0 state.now result.fourth }
+    {
+        Voices {
+            first: Voice::of(state, Channel::First),
+            second: Voice::of(state, Channel::Second),
+            third: Voice::of(state, Channel::Third),
+            fourth: Voice::of(state, Channel::Fourth),
+        }
+    }
+
+    /// The channels after the clock `at`, in which those underflow that are due.
+    #[inline(always)]
+    pub fn after(self, at: u64) -> Voices
+        requires first { IsTimed self.first }
+        requires second { IsTimed self.second }
+        requires third { IsTimed self.third }
+        requires fourth { IsTimed self.fourth }
+        requires at { at ≤ 2 ^ 49 }
+        ensures first { IsPassed at self.first result.first }
+        ensures second { IsPassed at self.second result.second }
+        ensures third { IsPassed at self.third result.third }
+        ensures fourth { IsPassed at self.fourth result.fourth }
+    {
+        Voices {
+            first: self.first.after(at),
+            second: self.second.after(at),
+            third: self.third.after(at),
+            fourth: self.fourth.after(at),
+        }
+    }
+
+    /// The pulses left of the channels after `n` clocks.
+    #[inline(always)]
+    pub fn left(&self, n: u64) -> [u32; 4]
+        requires n { n ≤ 2 ^ 49 }
+        requires first { IsLeft self.now.first n }
+        requires second { IsLeft self.now.second n }
+        requires third { IsLeft self.now.third n }
+        requires fourth { IsLeft self.now.fourth n }
+        ensures value { result ≡ left_of_voice self.now.first n ∷ left_of_voice self.now.second n ∷ left_of_voice self.now.third n ∷ left_of_voice self.now.fourth n ∷ [] }
+        ensures range { All (λ left. (1 ≤ left) × (left ≤ 65542)) result }
+    {
+        [
+            self.first.left(n),
+            self.second.left(n),
+            self.third.left(n),
+            self.fourth.left(n),
+        ]
+    }
+
+    /// The clock in which the next channel is due.
+    #[inline(always)]
+    pub fn soonest(&self) -> u64
+        ensures { result ≡ min (min self.now.first.due self.now.second.due) (min self.now.third.due self.now.fourth.due) }
+    {
+        let lower = self.first.due.min(self.second.due);
+        let upper = self.third.due.min(self.fourth.due);
+        lower.min(upper)
+    }
+}
