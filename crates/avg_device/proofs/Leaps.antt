@@ -10,6 +10,7 @@ use Rattle.board_base.proofs.ExtendedLaws.{Extended-none}
 use Rattle.board_base.proofs.TickLaws.{made-rest, ticks-rest}
 use Rattle.board_base.specs.Ticks.{made, ticks}
 use Rattle.board_base.specs.Vg.{VgValue}
+use Rattle.avg_device.specs.declared.phase.TheConstants.{LOW_BYTE, HIGH_BYTE, SECOND_LOW, SECOND_HIGH, EXECUTE, DRAW}
 use Rattle.avg_device.specs.Leap.{drawn_for, long_done, memory_word, short_done, strokes_for}
 use Rattle.avg_device.specs.Tick.{drawn, ended, executed, high_byte, high_read, low_byte, low_read, next_word, obeyed, phase_after, phase_done, second_high_read, second_low_read, stroke_at, strokes_at, vg_gives, vg_tick, word_at}
 
@@ -38,32 +39,32 @@ pub made_halted : (m : List ℕ) (t n : ℕ) (v : VgValue) → v.halted ≡ true
 made_halted m t n v h = made-rest (vg_tick m) vg_gives t n v (λ t. tick_halted m t v h) (λ t. gives_halted t v h)
 
 -- the effect of a clock, by its phase
-low_tick : (m : List ℕ) (t : ℕ) (v : VgValue) → v.halted ≡ false → v.phase ≡ 0 → vg_tick m t v ≡ low_read m v
+low_tick : (m : List ℕ) (t : ℕ) (v : VgValue) → v.halted ≡ false → v.phase ≡ LOW_BYTE → vg_tick m t v ≡ low_read m v
 unfolding vg_tick phase_done
 low_tick m t v h p = rw (h, p) refl
 
-high_tick : (m : List ℕ) (t : ℕ) (v : VgValue) → v.halted ≡ false → v.phase ≡ 1 → vg_tick m t v ≡ high_read m v
+high_tick : (m : List ℕ) (t : ℕ) (v : VgValue) → v.halted ≡ false → v.phase ≡ HIGH_BYTE → vg_tick m t v ≡ high_read m v
 unfolding vg_tick phase_done
 high_tick m t v h p = rw (h, p) refl
 
-second_low_tick : (m : List ℕ) (t : ℕ) (v : VgValue) → v.halted ≡ false → v.phase ≡ 2 → vg_tick m t v ≡ second_low_read m v
+second_low_tick : (m : List ℕ) (t : ℕ) (v : VgValue) → v.halted ≡ false → v.phase ≡ SECOND_LOW → vg_tick m t v ≡ second_low_read m v
 unfolding vg_tick phase_done
 second_low_tick m t v h p = rw (h, p) refl
 
-second_high_tick : (m : List ℕ) (t : ℕ) (v : VgValue) → v.halted ≡ false → v.phase ≡ 3 → vg_tick m t v ≡ second_high_read m v
+second_high_tick : (m : List ℕ) (t : ℕ) (v : VgValue) → v.halted ≡ false → v.phase ≡ SECOND_HIGH → vg_tick m t v ≡ second_high_read m v
 unfolding vg_tick phase_done
 second_high_tick m t v h p = rw (h, p) refl
 
-execute_tick : (m : List ℕ) (t : ℕ) (v : VgValue) → v.halted ≡ false → v.phase ≡ 4 → vg_tick m t v ≡ executed v
+execute_tick : (m : List ℕ) (t : ℕ) (v : VgValue) → v.halted ≡ false → v.phase ≡ EXECUTE → vg_tick m t v ≡ executed v
 unfolding vg_tick phase_done
 execute_tick m t v h p = rw (h, p) refl
 
-draw_tick : (m : List ℕ) (t : ℕ) (v : VgValue) → v.halted ≡ false → v.phase ≡ 5 → vg_tick m t v ≡ drawn v
+draw_tick : (m : List ℕ) (t : ℕ) (v : VgValue) → v.halted ≡ false → v.phase ≡ DRAW → vg_tick m t v ≡ drawn v
 unfolding vg_tick phase_done
 draw_tick m t v h p = rw (h, p) refl
 
 -- outside phase 5 there is no record
-silent : (t : ℕ) (v : VgValue) → v.halted ≡ false → (v.phase == 5) ≡ false → vg_gives t v ≡ []
+silent : (t : ℕ) (v : VgValue) → v.halted ≡ false → (v.phase == DRAW) ≡ false → vg_gives t v ≡ []
 unfolding vg_gives
 silent t v h p = rw (h, p) refl
 
@@ -75,7 +76,7 @@ long_next : (high : ℕ) → high < 32 → phase_after high ≡ 2
 long_next high h = grind (arith, nat_tests)
 
 -- the states of a word that needs no second one, and no record
-short_state : (m : List ℕ) (t : ℕ) (v : VgValue) → v.halted ≡ false → v.phase ≡ 0 → 32 ≤ high_byte m v.pc
+short_state : (m : List ℕ) (t : ℕ) (v : VgValue) → v.halted ≡ false → v.phase ≡ LOW_BYTE → 32 ≤ high_byte m v.pc
     → ticks (vg_tick m) t 3 v ≡ executed (high_read m (low_read m v))
 unfolding ticks low_read high_read
 short_state m t v h p high =
@@ -83,7 +84,7 @@ short_state m t v h p high =
     (rw (high_tick m (t + 1) (low_read m v) h refl)
     (execute_tick m (t + 2) (high_read m (low_read m v)) h (short_next (high_byte m v.pc) high)))
 
-pub short_made : (m : List ℕ) (t : ℕ) (v : VgValue) → v.halted ≡ false → v.phase ≡ 0 → 32 ≤ high_byte m v.pc
+pub short_made : (m : List ℕ) (t : ℕ) (v : VgValue) → v.halted ≡ false → v.phase ≡ LOW_BYTE → 32 ≤ high_byte m v.pc
     → made (vg_tick m) vg_gives t 3 v ≡ []
 unfolding made ticks low_read high_read
 short_made m t v h p high =
@@ -96,7 +97,7 @@ short_made m t v h p high =
     ) refl
 
 -- the states of a word with its second one, and no record
-long_state : (m : List ℕ) (t : ℕ) (v : VgValue) → v.halted ≡ false → v.phase ≡ 0 → high_byte m v.pc < 32
+long_state : (m : List ℕ) (t : ℕ) (v : VgValue) → v.halted ≡ false → v.phase ≡ LOW_BYTE → high_byte m v.pc < 32
     → ticks (vg_tick m) t 5 v ≡ executed (second_high_read m (second_low_read m (high_read m (low_read m v))))
 unfolding ticks low_read high_read second_low_read second_high_read
 long_state m t v h p high =
@@ -106,7 +107,7 @@ long_state m t v h p high =
     (rw (second_high_tick m (t + 3) (second_low_read m (high_read m (low_read m v))) h refl)
     (execute_tick m (t + 4) (second_high_read m (second_low_read m (high_read m (low_read m v)))) h refl))))
 
-pub long_made : (m : List ℕ) (t : ℕ) (v : VgValue) → v.halted ≡ false → v.phase ≡ 0 → high_byte m v.pc < 32
+pub long_made : (m : List ℕ) (t : ℕ) (v : VgValue) → v.halted ≡ false → v.phase ≡ LOW_BYTE → high_byte m v.pc < 32
     → made (vg_tick m) vg_gives t 5 v ≡ []
 unfolding made ticks low_read high_read second_low_read second_high_read
 long_made m t v h p high =
@@ -169,7 +170,7 @@ word_alone w least most s t v =
     rw e (later_alone w (field w 13 3 - 1) s t v)
 
 -- a whole word in one step
-pub short_ticks : (m : List ℕ) (t word : ℕ) (v : VgValue) → v.halted ≡ false → v.phase ≡ 0 → length v.bytes ≡ 4
+pub short_ticks : (m : List ℕ) (t word : ℕ) (v : VgValue) → v.halted ≡ false → v.phase ≡ LOW_BYTE → length v.bytes ≡ 4
     → word ≡ memory_word m v.pc → word / 256 ≡ high_byte m v.pc → 8192 ≤ word → word < 65536
     → ticks (vg_tick m) t 3 v ≡ short_done word v
 unfolding executed high_read low_read short_done
@@ -178,7 +179,7 @@ short_ticks m t word v h p four is high least most =
     short_state m t v h p later
     ∙ rw (first_word v.bytes (low_byte m v.pc) (high_byte m v.pc) four, ← is, p) (word_alone word least most _ (pos 0, 0) _)
 
-pub long_ticks : (m : List ℕ) (t word : ℕ) (v : VgValue) → v.halted ≡ false → v.phase ≡ 0 → length v.bytes ≡ 4
+pub long_ticks : (m : List ℕ) (t word : ℕ) (v : VgValue) → v.halted ≡ false → v.phase ≡ LOW_BYTE → length v.bytes ≡ 4
     → word ≡ memory_word m v.pc → word / 256 ≡ high_byte m v.pc → word < 8192
     → ticks (vg_tick m) t 5 v ≡ long_done word (memory_word m (next_word v.pc)) v
 unfolding executed high_read low_read second_high_read second_low_read long_done
@@ -194,17 +195,17 @@ more_left n left h = grind (arith, nat_tests)
 one_less : (left n : ℕ) → left - n - 1 ≡ left - suc n
 one_less left n = omega arith
 
-drawing_tick : (m : List ℕ) (t n : ℕ) (v : VgValue) → v.halted ≡ false → v.phase ≡ 5 → suc n < v.left
+drawing_tick : (m : List ℕ) (t n : ℕ) (v : VgValue) → v.halted ≡ false → v.phase ≡ DRAW → suc n < v.left
     → vg_tick m t (record v { left = v.left - n }) ≡ record v { left = v.left - suc n }
 unfolding drawn
 drawing_tick m t n v h p more =
     draw_tick m t (record v { left = v.left - n }) h p ∙ rw (more_left n v.left more, one_less v.left n) refl
 
-drawing_gives : (t n : ℕ) (v : VgValue) → v.halted ≡ false → v.phase ≡ 5 → suc n < v.left → vg_gives t (record v { left = v.left - n }) ≡ []
+drawing_gives : (t n : ℕ) (v : VgValue) → v.halted ≡ false → v.phase ≡ DRAW → suc n < v.left → vg_gives t (record v { left = v.left - n }) ≡ []
 unfolding vg_gives
 drawing_gives t n v h p more = rw (h, p, more_left n v.left more) refl
 
-drawing : (m : List ℕ) (t n : ℕ) (v : VgValue) → v.halted ≡ false → v.phase ≡ 5 → n < v.left
+drawing : (m : List ℕ) (t n : ℕ) (v : VgValue) → v.halted ≡ false → v.phase ≡ DRAW → n < v.left
     → ticks (vg_tick m) t n v ≡ record v { left = v.left - n }
 unfolding ticks
 drawing m t zero v h p more = rw (sub-zero v.left) refl
@@ -212,7 +213,7 @@ drawing m t (suc n) v h p more =
     let less : n < v.left = omega arith in
     rw (drawing m t n v h p less) (drawing_tick m (t + n) n v h p more)
 
-drawing_silent : (m : List ℕ) (t n : ℕ) (v : VgValue) → v.halted ≡ false → v.phase ≡ 5 → n < v.left → made (vg_tick m) vg_gives t n v ≡ []
+drawing_silent : (m : List ℕ) (t n : ℕ) (v : VgValue) → v.halted ≡ false → v.phase ≡ DRAW → n < v.left → made (vg_tick m) vg_gives t n v ≡ []
 unfolding made
 drawing_silent m t zero v h p more = refl
 drawing_silent m t (suc n) v h p more =
@@ -223,13 +224,13 @@ drawing_silent m t (suc n) v h p more =
 last_left : (n left : ℕ) → suc n ≡ left → (left - n == 1) ≡ true
 last_left n left h = grind (arith, nat_tests)
 
-ending : (m : List ℕ) (t n : ℕ) (v : VgValue) → v.halted ≡ false → v.phase ≡ 5 → suc n ≡ v.left → ticks (vg_tick m) t (suc n) v ≡ ended v
+ending : (m : List ℕ) (t n : ℕ) (v : VgValue) → v.halted ≡ false → v.phase ≡ DRAW → suc n ≡ v.left → ticks (vg_tick m) t (suc n) v ≡ ended v
 unfolding drawn ended ticks
 ending m t n v h p all =
     let less : n < v.left = omega arith in
     rw (drawing m t n v h p less) (draw_tick m (t + n) (record v { left = v.left - n }) h p ∙ rw (last_left n v.left all) refl)
 
-ending_stroke : (m : List ℕ) (t n : ℕ) (v : VgValue) → v.halted ≡ false → v.phase ≡ 5 → suc n ≡ v.left
+ending_stroke : (m : List ℕ) (t n : ℕ) (v : VgValue) → v.halted ≡ false → v.phase ≡ DRAW → suc n ≡ v.left
     → made (vg_tick m) vg_gives t (suc n) v ≡ strokes_at (t + n) v
 unfolding made stroke_at strokes_at vg_gives
 ending_stroke m t n v h p all =
@@ -237,7 +238,7 @@ ending_stroke m t n v h p all =
     rw (drawing_silent m t n v h p less, drawing m t n v h p less, h, p, last_left n v.left all) refl
 
 -- the clocks of a draw in one step
-pub draw_ticks : (m : List ℕ) (t n : ℕ) (v : VgValue) → v.halted ≡ false → v.phase ≡ 5 → 1 ≤ n → n ≤ v.left
+pub draw_ticks : (m : List ℕ) (t n : ℕ) (v : VgValue) → v.halted ≡ false → v.phase ≡ DRAW → 1 ≤ n → n ≤ v.left
     → ticks (vg_tick m) t n v ≡ drawn_for n v
 unfolding drawn_for
 draw_ticks m t zero v h p some few = absurd (omega arith)
@@ -247,7 +248,7 @@ draw_ticks m t (suc n) v h p some few =
       | inr w ↦ rw w.0 (drawing m t (suc n) v h p (omega (arith, w.1)))
     ]
 
-pub draw_made : (m : List ℕ) (t n : ℕ) (v : VgValue) → v.halted ≡ false → v.phase ≡ 5 → 1 ≤ n → n ≤ v.left
+pub draw_made : (m : List ℕ) (t n : ℕ) (v : VgValue) → v.halted ≡ false → v.phase ≡ DRAW → 1 ≤ n → n ≤ v.left
     → made (vg_tick m) vg_gives t n v ≡ strokes_for t n v
 unfolding strokes_for
 draw_made m t zero v h p some few = absurd (omega arith)

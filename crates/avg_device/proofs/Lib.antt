@@ -1,2 +1,2 @@
 pub mod Leaps
-pub mod Lines
+pub mod ManyTicks

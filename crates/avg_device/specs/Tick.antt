@@ -8,6 +8,7 @@ use Rattle.avg_draw.specs.Beam.{clocks_of, delta_of, held}
 use Rattle.board_base.specs.declared.record.Record.{Record}
 use Rattle.board_base.specs.declared.record.Record.TheVariants.{Stroke}
 use Rattle.board_base.specs.Vg.{VgValue}
+use Rattle.avg_device.specs.declared.phase.TheConstants.{LOW_BYTE, HIGH_BYTE, SECOND_LOW, SECOND_HIGH, EXECUTE, DRAW}
 
 -- the low and the high byte of the word at a word address
 abbrev pub low_byte : List ℕ → ℕ → ℕ
@@ -20,15 +21,15 @@ high_byte memory pc = slice_index memory (2 * pc + 1)
 abbrev pub next_word : ℕ → ℕ
 next_word pc = (pc + 1) % 8192
 
--- phase 0: the low byte of a word is read
+-- the low byte of a word is read
 unfoldable pub low_read : List ℕ → VgValue → VgValue
-low_read memory v = record v { phase = 1; bytes = slice_set v.bytes 0 (low_byte memory v.pc) }
+low_read memory v = record v { phase = HIGH_BYTE; bytes = slice_set v.bytes 0 (low_byte memory v.pc) }
 
 -- the phase after a high byte: below 32 it is that of a long vector, which has a second word
 abbrev pub phase_after : ℕ → ℕ
-phase_after high = if nat_lt high 32 then 2 else 4
+phase_after high = if nat_lt high 32 then SECOND_LOW else EXECUTE
 
--- phase 1: its high byte is read
+-- its high byte is read
 unfoldable pub high_read : List ℕ → VgValue → VgValue
 high_read memory v = record v {
   phase = phase_after (high_byte memory v.pc);
@@ -36,14 +37,14 @@ high_read memory v = record v {
   bytes = slice_set v.bytes 1 (high_byte memory v.pc);
 }
 
--- phase 2: the low byte of the second word is read
+-- the low byte of the second word is read
 unfoldable pub second_low_read : List ℕ → VgValue → VgValue
-second_low_read memory v = record v { phase = 3; bytes = slice_set v.bytes 2 (low_byte memory v.pc) }
+second_low_read memory v = record v { phase = SECOND_HIGH; bytes = slice_set v.bytes 2 (low_byte memory v.pc) }
 
--- phase 3: its high byte is read
+-- its high byte is read
 unfoldable pub second_high_read : List ℕ → VgValue → VgValue
 second_high_read memory v = record v {
-  phase = 4;
+  phase = EXECUTE;
   pc = next_word v.pc;
   bytes = slice_set v.bytes 3 (high_byte memory v.pc);
 }
@@ -59,7 +60,7 @@ pen_of z intensity = if z == 0 then 0 else if z == 1 then intensity else 2 * z
 -- a vector is about to be drawn
 unfoldable pub begun : ℤ → ℤ → ℕ → VgValue → VgValue
 begun dx dy z v = record v {
-  phase = 5;
+  phase = DRAW;
   dx = delta_of dx v.lin v.bin;
   dy = delta_of dy v.lin v.bin;
   left = clocks_of dx dy v.bin;
@@ -78,10 +79,10 @@ obeyed (Jsrl to) second v = record v { stack = slice_set v.stack v.sp v.pc; sp =
 obeyed Rtsl second v = record v { sp = (v.sp + 3) % 4; pc = slice_index v.stack ((v.sp + 3) % 4) }
 obeyed (Jmpl to) second v = record v { pc = to }
 
--- phase 4: the word that was read is done, and its bytes are forgotten
+-- the word that was read is done, and its bytes are forgotten
 unfoldable pub executed : VgValue → VgValue
 executed v =
-    obeyed (word_of (word_at v.bytes 0)) (second_of (word_at v.bytes 2)) (record v { phase = 0; bytes = replicate 4 0 })
+    obeyed (word_of (word_at v.bytes 0)) (second_of (word_at v.bytes 2)) (record v { phase = LOW_BYTE; bytes = replicate 4 0 })
 
 -- the beam after a vector
 abbrev pub beam_x : VgValue → ℤ
@@ -92,20 +93,20 @@ beam_y v = held (v.y +ℤ v.dy)
 
 -- the beam has moved, and the next word comes
 unfoldable pub ended : VgValue → VgValue
-ended v = record v { phase = 0; x = beam_x v; y = beam_y v; dx = pos 0; dy = pos 0; pen = 0; left = 0 }
+ended v = record v { phase = LOW_BYTE; x = beam_x v; y = beam_y v; dx = pos 0; dy = pos 0; pen = 0; left = 0 }
 
--- phase 5: one clock of a vector, which ends with the last of them
+-- one clock of a vector, which ends with the last of them
 unfoldable pub drawn : VgValue → VgValue
 drawn v = if v.left == 1 then ended v else record v { left = v.left - 1 }
 
 -- the effect of each phase
 unfoldable pub phase_done : List ℕ → VgValue → VgValue
 phase_done memory v =
-    if v.phase == 0 then low_read memory v
-    else if v.phase == 1 then high_read memory v
-    else if v.phase == 2 then second_low_read memory v
-    else if v.phase == 3 then second_high_read memory v
-    else if v.phase == 4 then executed v
+    if v.phase == LOW_BYTE then low_read memory v
+    else if v.phase == HIGH_BYTE then high_read memory v
+    else if v.phase == SECOND_LOW then second_low_read memory v
+    else if v.phase == SECOND_HIGH then second_high_read memory v
+    else if v.phase == EXECUTE then executed v
     else drawn v
 
 -- one clock: nothing where the generator is halted, and else the effect of its phase
@@ -122,14 +123,14 @@ strokes_at clock v = if v.pen == 0 then [] else stroke_at clock v ∷ []
 
 -- the records of one clock: the stroke of a vector in the last clock of its drawing
 unfoldable pub vg_gives : ℕ → VgValue → List Record
-vg_gives clock v = if not v.halted && v.phase == 5 && v.left == 1 then strokes_at clock v else []
+vg_gives clock v = if not v.halted && v.phase == DRAW && v.left == 1 then strokes_at clock v else []
 
 -- the generator begins anew: at the first word, with an empty return stack and no vector under way; the beam, the colour, the
 -- intensity, the scales and the words of the stack stay
 unfoldable pub vg_go : VgValue → VgValue
 vg_go v = record v {
   halted = false;
-  phase = 0;
+  phase = LOW_BYTE;
   pc = 0;
   sp = 0;
   bytes = replicate 4 0;
@@ -143,7 +144,7 @@ vg_go v = record v {
 unfoldable pub vg_reset : VgValue → VgValue
 vg_reset v = record v {
   halted = true;
-  phase = 0;
+  phase = LOW_BYTE;
   bytes = replicate 4 0;
   dx = pos 0;
   dy = pos 0;

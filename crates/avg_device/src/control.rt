@@ -1,14 +1,15 @@
 ghost use Rattle.std.specs.Prelude.{◌≡◌, replicate, pos};
 ghost use Rattle.avg_device.specs.Tick.{vg_go, vg_reset};
 
+use crate::phase::LOW_BYTE;
 use board_base::VgState;
 
 /// Forgets the word and the vector under way.
 fn abandon(state: &mut VgState)
-    ensures { state.new ≡ record state.old { phase = 0; bytes = replicate 4 0; dx = pos 0; dy = pos 0; pen = 0; left = 0 } }
+    ensures { state.new ≡ record state.old { phase = LOW_BYTE; bytes = replicate 4 0; dx = pos 0; dy = pos 0; pen = 0; left = 0 } }
 {
     *state = VgState {
-        phase: 0,
+        phase: LOW_BYTE,
         bytes: [0; 4],
         dx: 0,
         dy: 0,

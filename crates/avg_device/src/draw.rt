@@ -3,11 +3,12 @@ ghost use Rattle.board_base.specs.Ranges.{IsWithin};
 ghost use Rattle.board_base.specs.Trail.{Extended};
 ghost use Rattle.avg_device.specs.Tick.{beam_x, beam_y, drawn, ended, stroke_at, strokes_at};
 
+use crate::phase::{DRAW, LOW_BYTE};
 use avg_draw::move_beam;
 use board_base::{Record, Trail, VgState};
 
 /// The beam after the vector under way.
-#[tactic(auto, using(crate::proofs::Lines::passed))]
+#[tactic(auto, using(crate::proofs::ManyTicks::passed))]
 fn beam_after(state: &VgState) -> (i32, i32)
     ensures x { result.0 ≡ beam_x state.now }
     ensures y { result.1 ≡ beam_y state.now }
@@ -18,7 +19,7 @@ fn beam_after(state: &VgState) -> (i32, i32)
 }
 
 /// The stroke of a vector that ends in this clock.
-#[tactic(auto, using(crate::proofs::Lines::passed), unfolding(crate::specs::Tick::stroke_at))]
+#[tactic(auto, using(crate::proofs::ManyTicks::passed), unfolding(crate::specs::Tick::stroke_at))]
 fn stroke(state: &VgState, clock: u64) -> Record
     ensures { result ≡ stroke_at clock state.now }
 {
@@ -35,7 +36,7 @@ fn stroke(state: &VgState, clock: u64) -> Record
 }
 
 /// Records the stroke of a vector that ends in this clock, where it is drawn at all.
-#[tactic(auto, using(crate::proofs::Lines::none), unfolding(crate::specs::Tick::strokes_at))]
+#[tactic(auto, using(crate::proofs::ManyTicks::none), unfolding(crate::specs::Tick::strokes_at))]
 fn record_stroke(state: &VgState, clock: u64, trail: &mut Trail)
     requires { 1 ≤ trail.old.spare }
     ensures { Extended trail.old trail.new (strokes_at clock state.now) }
@@ -46,7 +47,7 @@ fn record_stroke(state: &VgState, clock: u64, trail: &mut Trail)
 }
 
 /// Moves the beam by a vector that ends in this clock.
-#[tactic(auto, using(crate::proofs::Lines::passed), unfolding(crate::specs::Tick::ended))]
+#[tactic(auto, using(crate::proofs::ManyTicks::passed), unfolding(crate::specs::Tick::ended))]
 pub(crate) fn end(state: &mut VgState, clock: u64, trail: &mut Trail)
     requires { 1 ≤ trail.old.spare }
     ensures state { state.new ≡ ended state.old }
@@ -55,7 +56,7 @@ pub(crate) fn end(state: &mut VgState, clock: u64, trail: &mut Trail)
     record_stroke(state, clock, trail);
     let (x, y) = beam_after(state);
     *state = VgState {
-        phase: 0,
+        phase: LOW_BYTE,
         x,
         y,
         dx: 0,
@@ -67,9 +68,9 @@ pub(crate) fn end(state: &mut VgState, clock: u64, trail: &mut Trail)
 }
 
 /// Phase 5: draws for one clock.
-#[tactic(auto, using(crate::proofs::Lines::none), unfolding(crate::specs::Tick::drawn))]
+#[tactic(auto, using(crate::proofs::ManyTicks::none), unfolding(crate::specs::Tick::drawn))]
 pub(crate) fn draw(state: &mut VgState, clock: u64, trail: &mut Trail)
-    requires phase { state.old.phase ≡ 5 }
+    requires phase { state.old.phase ≡ DRAW }
     requires room { 1 ≤ trail.old.spare }
     ensures state { state.new ≡ drawn state.old }
     ensures records { Extended trail.old trail.new (if state.old.left == 1 then strokes_at clock state.old else []) }

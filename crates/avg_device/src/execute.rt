@@ -2,6 +2,7 @@ ghost use Rattle.std.specs.Prelude.{◌≡◌, ◌<◌, ◌+◌, ◌%◌, slice_
 ghost use Rattle.avg_decode.specs.Word.{IsInRange, IsLong};
 ghost use Rattle.avg_device.specs.Tick.{begun, executed, obeyed, pen_of};
 
+use crate::phase::{DRAW, EXECUTE, LOW_BYTE};
 use avg_decode::{VgWord, second, word_kind};
 use avg_draw::{delta, draw_clocks};
 use board_base::VgState;
@@ -28,7 +29,7 @@ fn begin(state: &mut VgState, dx: i16, dy: i16, z: u8)
     requires z { z < 8 }
     ensures { state.new ≡ begun dx dy z state.old }
 {
-    state.phase = 5;
+    state.phase = DRAW;
     state.dx = delta(dx, state.lin, state.bin);
     state.dy = delta(dy, state.lin, state.bin);
     state.left = draw_clocks(dx, dy, state.bin);
@@ -56,7 +57,7 @@ fn come_back(state: &mut VgState)
 /// Does what a word says. A long vector has its `dx` and its `z` in `second`.
 #[tactic(auto, unfolding(crate::specs::Tick::obeyed))]
 pub(crate) fn obey(state: &mut VgState, word: VgWord, second: (i16, u8))
-    requires phase { state.old.phase ≡ 0 }
+    requires phase { state.old.phase ≡ LOW_BYTE }
     requires word { IsInRange word }
     requires dx { IsLong second.0 }
     requires z { second.1 < 8 }
@@ -87,13 +88,13 @@ pub(crate) fn obey(state: &mut VgState, word: VgWord, second: (i16, u8))
 /// Phase 4: does the word that was read.
 #[tactic(auto, unfolding(crate::specs::Tick::executed))]
 pub(crate) fn execute(state: &mut VgState)
-    requires { state.old.phase ≡ 4 }
+    requires { state.old.phase ≡ EXECUTE }
     ensures { state.new ≡ executed state.old }
 {
     let [low, high, second_low, second_high] = state.bytes;
     let word = word_kind(u16::from_le_bytes([low, high]));
     let second = second(u16::from_le_bytes([second_low, second_high]));
     state.bytes = [0; 4];
-    state.phase = 0;
+    state.phase = LOW_BYTE;
     obey(state, word, second);
 }

@@ -48,7 +48,7 @@ impl Clocked for FastVg {
 }
 
 /// Does `n` clocks, as many as go together at a time.
-#[tactic(auto, using(crate::proofs::Lines::start))]
+#[tactic(auto, using(crate::proofs::ManyTicks::start))]
 fn leap_each(state: &mut VgState, memory: &VectorMemory, from: u64, n: u64, trail: &mut Trail)
     requires room { n ≤ trail.old.spare }
     requires clocks { from + n ≤ 2 ^ 49 }

@@ -7,6 +7,7 @@ ghost use Rattle.avg_device.specs.Tick.{high_byte, next_word, vg_gives, vg_tick}
 use crate::draw::end;
 use crate::execute::obey;
 use crate::fetch::following;
+use crate::phase::{DRAW, LOW_BYTE};
 use crate::tick::tick;
 use avg_decode::{second, word_kind};
 use board_base::{Trail, VectorMemory, VgState};
@@ -32,7 +33,7 @@ fn word_at(memory: &VectorMemory, pc: u16) -> u16
 /// Does a word that needs no second one.
 #[tactic(auto, unfolding(crate::specs::Leap::short_done))]
 fn do_short(state: &mut VgState, word: u16)
-    requires { state.old.phase ≡ 0 }
+    requires { state.old.phase ≡ LOW_BYTE }
     ensures { state.new ≡ short_done word state.old }
 {
     state.pc = following(state.pc);
@@ -43,7 +44,7 @@ fn do_short(state: &mut VgState, word: u16)
 /// Does a word with its second one.
 #[tactic(auto, unfolding(crate::specs::Leap::long_done))]
 fn do_long(state: &mut VgState, memory: &VectorMemory, word: u16)
-    requires { state.old.phase ≡ 0 }
+    requires { state.old.phase ≡ LOW_BYTE }
     ensures { state.new ≡ long_done word (memory_word memory.now (next_word state.old.pc)) state.old }
 {
     let second_pc = following(state.pc);
@@ -64,7 +65,7 @@ fn read_on(
     trail: &mut Trail,
 ) -> u64
     requires running { state.old.halted ≡ false }
-    requires phase { state.old.phase ≡ 0 }
+    requires phase { state.old.phase ≡ LOW_BYTE }
     requires some { 1 ≤ most }
     requires room { most ≤ trail.old.spare }
     ensures some { 1 ≤ result }
@@ -86,9 +87,9 @@ fn read_on(
 }
 
 /// Draws to the end, or for the clocks that there are. Gives the clocks done.
-#[tactic(auto, using(crate::proofs::Lines::none), unfolding(crate::specs::Leap::drawn_for, crate::specs::Leap::strokes_for))]
+#[tactic(auto, using(crate::proofs::ManyTicks::none), unfolding(crate::specs::Leap::drawn_for, crate::specs::Leap::strokes_for))]
 fn draw_on(state: &mut VgState, clock: u64, most: u64, trail: &mut Trail) -> u64
-    requires phase { state.old.phase ≡ 5 }
+    requires phase { state.old.phase ≡ DRAW }
     requires some { 1 ≤ most }
     requires room { most ≤ trail.old.spare }
     requires clocks { clock + most ≤ 2 ^ 49 }
@@ -128,8 +129,8 @@ pub(crate) fn leap(
         return most;
     }
     match state.phase {
-        0 => read_on(state, memory, clock, most, trail),
-        5 => draw_on(state, clock, most, trail),
+        LOW_BYTE => read_on(state, memory, clock, most, trail),
+        DRAW => draw_on(state, clock, most, trail),
         _ => {
             tick(state, memory, clock, trail);
             1

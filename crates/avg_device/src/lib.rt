@@ -8,13 +8,14 @@ mod execute;
 mod fast;
 mod fetch;
 mod leap;
+pub mod phase;
 mod plain;
 mod tick;
 mod unit;
 
 pub use fast::FastVg;
 pub use plain::PlainVg;
-pub use unit::VectorUnit;
+pub use unit::{VectorUnit, one_record_a_clock};
 
 #[cfg(test)]
 mod tests;

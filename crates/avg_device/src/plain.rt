@@ -47,7 +47,7 @@ impl Clocked for PlainVg {
 }
 
 /// Does `n` clocks, one by one.
-#[tactic(auto, using(crate::proofs::Lines::start))]
+#[tactic(auto, using(crate::proofs::ManyTicks::start))]
 fn tick_each(state: &mut VgState, memory: &VectorMemory, from: u64, n: u64, trail: &mut Trail)
     requires room { n ≤ trail.old.spare }
     requires clocks { from + n ≤ 2 ^ 49 }

@@ -5,10 +5,11 @@ ghost use Rattle.avg_device.specs.Tick.{vg_gives, vg_tick};
 use crate::draw::draw;
 use crate::execute::execute;
 use crate::fetch::{read_high, read_low, read_second_high, read_second_low};
+use crate::phase::{EXECUTE, HIGH_BYTE, LOW_BYTE, SECOND_HIGH, SECOND_LOW};
 use board_base::{Trail, VectorMemory, VgState};
 
 /// Does one clock.
-#[tactic(auto, using(crate::proofs::Lines::none), unfolding(crate::specs::Tick::vg_tick, crate::specs::Tick::phase_done, crate::specs::Tick::vg_gives))]
+#[tactic(auto, using(crate::proofs::ManyTicks::none), unfolding(crate::specs::Tick::vg_tick, crate::specs::Tick::phase_done, crate::specs::Tick::vg_gives))]
 pub(crate) fn tick(state: &mut VgState, memory: &VectorMemory, clock: u64, trail: &mut Trail)
     requires { 1 ≤ trail.old.spare }
     ensures state { state.new ≡ vg_tick memory.now clock state.old }
@@ -18,11 +19,11 @@ pub(crate) fn tick(state: &mut VgState, memory: &VectorMemory, clock: u64, trail
         return;
     }
     match state.phase {
-        0 => read_low(state, memory),
-        1 => read_high(state, memory),
-        2 => read_second_low(state, memory),
-        3 => read_second_high(state, memory),
-        4 => execute(state),
+        LOW_BYTE => read_low(state, memory),
+        HIGH_BYTE => read_high(state, memory),
+        SECOND_LOW => read_second_low(state, memory),
+        SECOND_HIGH => read_second_high(state, memory),
+        EXECUTE => execute(state),
         _ => draw(state, clock, trail),
     }
 }

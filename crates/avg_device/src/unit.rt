@@ -1,7 +1,8 @@
-ghost use Rattle.std.specs.Prelude.{◌≡◌, ◌+◌, ◌^◌, ◌≤◌};
+ghost use Rattle.std.specs.Prelude.{◌≡◌, ℕ, ◌+◌, ◌^◌, ◌≤◌, List, length};
 ghost use Rattle.board_base.specs.Counts.{Counted};
 ghost use Rattle.board_base.specs.Ticks.{made, ticks};
 ghost use Rattle.board_base.specs.Trail.{Extended};
+ghost use Rattle.board_base.specs.Vg.{VgValue};
 ghost use Rattle.avg_device.specs.Tick.{vg_gives, vg_go, vg_reset, vg_tick};
 
 use board_base::{Clocked, Trail, VectorMemory, VgState};
@@ -44,3 +45,11 @@ pub trait VectorUnit: Clocked {
     fn state(&self) -> VgState
         ensures { result ≡ device self.now };
 }
+
+/// A clock gives one stroke at most, so that a move has room where its trail has room for as many
+/// records as there are clocks. It tells a law, and does nothing.
+#[tactic(auto, using(crate::proofs::ManyTicks::few_records))]
+pub fn one_record_a_clock()
+    ensures clock { (at : ℕ) → (v : VgValue) → length (vg_gives at v) ≤ 1 }
+    ensures clocks { (memory : List ℕ) → (from : ℕ) → (n : ℕ) → (v : VgValue) → length (made (vg_tick memory) vg_gives from n v) ≤ n }
+{}

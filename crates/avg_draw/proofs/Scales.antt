@@ -1,21 +1,14 @@
 -- Scales, distances and drawing times stay in their ranges.
-use Rattle.std.proofs.Common.{◌≡◌, ℕ, ◌+◌, ◌-◌, ◌*◌, ◌%◌, ◌^◌, ◌<◌, ◌≤◌, nat_le, nat_lt, Bool, true, false, ℤ, pos, negsuc, ◌*ℤ◌, ◌≤ℤ◌, List, [], ◌∷◌, map, get_or, suc, refl, ap, sym, ◌∙◌, zero-add, add-one, cond, FitsSigned, to_z, of_z, arith}
+use Rattle.std.proofs.Common.{◌≡◌, ℕ, ◌+◌, ◌-◌, ◌*◌, ◌%◌, ◌^◌, ◌<◌, ◌≤◌, nat_le, nat_lt, Bool, true, false, ℤ, pos, negsuc, ◌*ℤ◌, ◌≤ℤ◌, List, [], ◌∷◌, suc, refl, ◌∙◌, add-one, cond, FitsSigned, to_z, of_z, arith}
 use Rattle.std.proofs.Math.Nat.{mul-le-mul, pow-succ'}
 use Rattle.std.proofs.Math.Pow.{pow_mono}
 use Rattle.std.proofs.lemmas.Int.{ints, to_z-of_z}
-use Rattle.std.proofs.lemmas.List.FromFn.{get_or-map-range_with_len}
 use Rattle.std.proofs.lemmas.Nat.{one_shl, leading_length}
 use Rattle.std.proofs.lemmas.Bool.Decides.{nat_tests}
 use Rattle.std.specs.Int.{leading_zeros, w16, w32}
 use Rattle.std.specs.List.{count_by, fold, range_with_len}
+use Rattle.bit_words.proofs.Tables.{same_by_table}
 use Rattle.avg_draw.specs.Beam.{binary_digits}
-
--- two functions that agree in a table of the numbers below n agree at each of them
-same_by_table : {A : Type 0} (n : ℕ) (f g : ℕ → A) → map f (range_with_len 0 n) ≡ map g (range_with_len 0 n) → (m : ℕ) → m < n → f m ≡ g m
-same_by_table {A} n f g same m h =
-    sym (get_or-map-range_with_len f 0 n m m (f m) h (zero-add m))
-    ∙ ap (λ (xs : List A). get_or xs m (f m)) same
-    ∙ get_or-map-range_with_len g 0 n m m (f m) h (zero-add m)
 
 -- the widest scale is 256 * 2^7
 pub scale_bound : (lin bin : ℕ) → (256 - lin) * 2 ^ (7 - bin) ≤ 32768

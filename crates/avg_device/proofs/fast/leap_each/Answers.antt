@@ -2,7 +2,7 @@
 use Rattle.std.proofs.Common.{◌+◌, arith}
 use Rattle.board_base.proofs.ExtendedLaws.{Extended-more}
 use Rattle.board_base.proofs.TickLaws.{made-add, ticks-add}
-use Rattle.avg_device.proofs.Lines.{vg_made-few}
+use Rattle.avg_device.proofs.ManyTicks.{vg_made-few}
 use Rattle.avg_device.proofs.fast.leap_each.Goals as goal
 
 pub loop-done-preserved : goal.loop-done-preserved

@@ -6,6 +6,7 @@ use Rattle.board_base.proofs.TickLaws.{length-made, one_tick}
 use Rattle.board_base.specs.declared.record.Record.{Record}
 use Rattle.board_base.specs.Ticks.{made}
 use Rattle.board_base.specs.Vg.{VgValue}
+use Rattle.avg_device.specs.declared.phase.TheConstants.{DRAW}
 use Rattle.avg_device.specs.Tick.{strokes_at, vg_gives, vg_tick}
 
 -- a trail that stays
@@ -29,8 +30,10 @@ either_few false xs few = omega arith
 -- a clock gives one record at most
 pub vg_gives-few : (clock : ℕ) (v : VgValue) → length (vg_gives clock v) ≤ 1
 unfolding vg_gives
-vg_gives-few clock v = either_few (not v.halted && v.phase == 5 && v.left == 1) (strokes_at clock v) (strokes_at-few clock v)
+vg_gives-few clock v = either_few (not v.halted && v.phase == DRAW && v.left == 1) (strokes_at clock v) (strokes_at-few clock v)
 
 -- n clocks give n records at most
 pub vg_made-few : (memory : List ℕ) (from n : ℕ) (v : VgValue) → length (made (vg_tick memory) vg_gives from n v) ≤ n
 vg_made-few memory from n v = length-made (vg_tick memory) vg_gives from n v vg_gives-few
+
+pub ruleset few_records = (vg_gives-few, vg_made-few)
