@@ -1,15 +1,7 @@
-use Rattle.std.proofs.Common.{◌≡◌, ℕ, ◌-◌, not, ◌+◌, ◌*◌, ◌/◌, ◌%◌, ◌<◌, nat_lt, arith, Bool, true, false, List, map, get_or, refl, ap, sym, ◌∙◌, zero-add}
-use Rattle.std.proofs.lemmas.List.FromFn.{get_or-map-range_with_len}
+use Rattle.std.proofs.Common.{◌≡◌, ℕ, ◌-◌, not, ◌+◌, ◌*◌, ◌/◌, ◌%◌, ◌<◌, nat_lt, arith, Bool, true, false, refl}
 use Rattle.std.specs.Int.{from_bool}
-use Rattle.std.specs.List.{range_with_len}
+use Rattle.bit_words.proofs.Tables.{same_by_table}
 use Rattle.cpu_alu.specs.Shifts.{left_by, right_by}
-
--- two functions that agree in a table of the numbers below n agree at each of them
-pub same_by_table : {A : Type 0} (n : ℕ) (f g : ℕ → A) → map f (range_with_len 0 n) ≡ map g (range_with_len 0 n) → (m : ℕ) → m < n → f m ≡ g m
-same_by_table {A} n f g same m h =
-    sym (get_or-map-range_with_len f 0 n m m (f m) h (zero-add m))
-    ∙ ap (λ (xs : List A). get_or xs m (f m)) same
-    ∙ get_or-map-range_with_len g 0 n m m (f m) h (zero-add m)
 
 pub left_with_zero : (m : ℕ) → m < 256 → m * 2 % 256 ≡ left_by false m
 unfolding left_by

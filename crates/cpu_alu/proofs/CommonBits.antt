@@ -6,8 +6,8 @@ use Rattle.std.proofs.lemmas.Nat.{and_le_l}
 use Rattle.std.proofs.lemmas.Nat.Bits.{bit_at-lt, bit_at-zero, bit_at_and, same_from_bits_below}
 use Rattle.std.specs.Int.{bit_at}
 use Rattle.std.specs.List.{list_all}
-use Rattle.cpu_alu.proofs.Bytes.{same_by_table}
-use Rattle.cpu_alu.specs.Bits.{is_bit}
+use Rattle.bit_words.proofs.Tables.{same_by_table}
+use Rattle.bit_words.specs.Bits.{is_bit}
 use Rattle.cpu_alu.specs.Logic.{are_disjoint}
 
 apart : (x y : ℕ) → min x y ≡ 0 → not (x == 1 && y == 1) ≡ true

@@ -1,8 +1,8 @@
 use Rattle.std.proofs.Common.{◌≡◌, ℕ, ◌+◌, ◌*◌, ◌/◌, ◌%◌, ◌<◌, ◌≤◌, ◌==◌, Bool, true, false, refl, ap, ◌∙◌, arith}
 use Rattle.std.specs.Int.{bit_at, from_bool}
-use Rattle.cpu_alu.proofs.Bytes.{same_by_table}
+use Rattle.bit_words.proofs.Tables.{same_by_table}
 use Rattle.cpu_alu.specs.declared.flags.Flags.{Flags}
-use Rattle.cpu_alu.specs.Bits.{is_bit}
+use Rattle.bit_words.specs.Bits.{is_bit}
 use Rattle.cpu_alu.specs.Flags.{byte_of, flags_of}
 
 at_most_one : (b : Bool) → from_bool b ≤ 1

@@ -1,11 +1,11 @@
 use Rattle.std.proofs.Common.{◌≡◌, ℕ, ◌+◌, ◌-◌, ◌*◌, ◌/◌, ◌%◌, ◌<◌, ◌≤◌, nat_lt, nat_le, Bool, true, false, not, pos, ℤ, ◌+ℤ◌, ◌-ℤ◌, refl, ap, subst, sym, ◌∙◌, arith}
 use Rattle.std.proofs.lemmas.Int.{ints}
 use Rattle.std.specs.Int.{cast_signed, from_bool, w8}
-use Rattle.cpu_alu.proofs.Bytes.{same_by_table}
+use Rattle.bit_words.proofs.Tables.{same_by_table}
 use Rattle.cpu_alu.proofs.StatusLemmas.{flags_of_byte}
 use Rattle.cpu_alu.specs.declared.flags.Flags.{Flags}
 use Rattle.cpu_alu.specs.Arithmetic.{adc_of, binary_adc, overflows, sbc_of, with_byte}
-use Rattle.cpu_alu.specs.Bits.{is_bit}
+use Rattle.bit_words.specs.Bits.{is_bit}
 use Rattle.cpu_alu.specs.Decimal.{borrowed_digit, carried_digit, corrected_difference, corrected_sum, decimal_adc, decimal_sbc, high_part, leaves_byte, modulo}
 use Rattle.cpu_alu.specs.Flags.{flags_of, with_result}
 use Rattle.cpu_alu.specs.Meaning.{IsDecimal, IsDecimalDifference, IsDecimalSum, IsDifference, IsSum, decimal_value}

@@ -1,7 +1,7 @@
 use Rattle.std.specs.Prelude.{ℕ, ◌+◌, ◌-◌, ◌%◌, nat_lt, nat_le, Bool, true, false, not, ◌&&◌, if◌then◌else◌, pos, ◌-ℤ◌}
 use Rattle.std.specs.Int.{from_bool}
 use Rattle.cpu_alu.specs.declared.flags.Flags.{Flags}
-use Rattle.cpu_alu.specs.Bits.{is_bit}
+use Rattle.bit_words.specs.Bits.{is_bit}
 use Rattle.cpu_alu.specs.Decimal.{decimal_adc, decimal_sbc, modulo}
 use Rattle.cpu_alu.specs.Flags.{byte_of, flags_of, with_result}
 

@@ -1,7 +1,7 @@
 use Rattle.std.specs.Prelude.{ℕ, ◌+◌, ◌-◌, ◌%◌, ◌==◌, nat_le, Bool, ◌||◌, if◌then◌else◌, ℤ, pos, negsuc, ◌+ℤ◌, ◌-ℤ◌, int_lt, unsigned_abs}
 use Rattle.std.specs.Int.{cast_signed, from_bool, int_rem_euclid, w8}
 use Rattle.cpu_alu.specs.declared.flags.Flags.{Flags}
-use Rattle.cpu_alu.specs.Bits.{is_bit}
+use Rattle.bit_words.specs.Bits.{is_bit}
 
 -- the remainder of z by n, from 0 to n - 1
 abbrev pub modulo : ℤ → ℕ → ℕ

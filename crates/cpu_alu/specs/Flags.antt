@@ -1,7 +1,7 @@
-use Rattle.std.specs.Prelude.{ℕ, ◌+◌, ◌*◌, ◌==◌}
+use Rattle.std.specs.Prelude.{ℕ, ◌+◌, ◌*◌, ◌==◌, Bool}
 use Rattle.std.specs.Int.{from_bool}
 use Rattle.cpu_alu.specs.declared.flags.Flags.{Flags}
-use Rattle.cpu_alu.specs.Bits.{is_bit}
+use Rattle.bit_words.specs.Bits.{is_bit}
 
 -- the flags of a status byte: N is bit 7, V bit 6, D bit 3, I bit 2, Z bit 1 and C bit 0
 -- (MCS6500 Programming Manual, the processor status register)
@@ -14,6 +14,10 @@ flags_of p = record {
   zero = is_bit p 1;
   carry = is_bit p 0;
 }
+
+-- flag I is set, and an interrupt waits
+abbrev pub is_masked : ℕ → Bool
+is_masked p = (flags_of p).interrupt
 
 -- the status byte with these flags, bits 4 and 5 being clear
 unfoldable pub byte_of : Flags → ℕ

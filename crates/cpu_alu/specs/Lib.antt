@@ -1,5 +1,4 @@
 pub mod Arithmetic
-pub mod Bits
 pub mod Decimal
 pub mod Flags
 pub mod Logic

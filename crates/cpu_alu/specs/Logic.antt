@@ -1,6 +1,6 @@
 use Rattle.std.specs.Prelude.{ℕ, Bool, not, ◌&&◌, [], ◌∷◌}
 use Rattle.std.specs.List.{list_all}
-use Rattle.cpu_alu.specs.Bits.{is_bit}
+use Rattle.bit_words.specs.Bits.{is_bit}
 use Rattle.cpu_alu.specs.Flags.{byte_of, flags_of, with_result}
 
 -- no bit is set in both of two bytes

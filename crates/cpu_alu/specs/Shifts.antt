@@ -1,16 +1,16 @@
 use Rattle.std.specs.Prelude.{ℕ, Bool, false, [], ◌∷◌, ◌++◌, take, drop}
 use Rattle.cpu_alu.specs.declared.flags.Flags.{Flags}
-use Rattle.cpu_alu.specs.Bits.{bits, is_bit, number}
+use Rattle.bit_words.specs.Bits.{bits, is_bit, number}
 use Rattle.cpu_alu.specs.Flags.{byte_of, flags_of, with_result}
 
 -- a byte whose bits move up by one place: the given one comes in at the low end, and bit 7 is lost
 unfoldable pub left_by : Bool → ℕ → ℕ
-left_by low m = number (low ∷ take 7 (bits m))
+left_by low m = number (low ∷ take 7 (bits 8 m))
 
 -- a byte whose bits move down by one place: the given one comes in at the high end, and bit 0 is
 -- lost
 unfoldable pub right_by : Bool → ℕ → ℕ
-right_by high m = number (drop 1 (bits m) ++ high ∷ [])
+right_by high m = number (drop 1 (bits 8 m) ++ high ∷ [])
 
 -- a result of a shift, and the status byte: C is the bit that was lost; V, D and I stay
 unfoldable pub shifted : ℕ → Bool → Flags → ℕ × ℕ

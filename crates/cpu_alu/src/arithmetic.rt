@@ -5,7 +5,7 @@ ghost use Rattle.cpu_alu.specs.Meaning.{IsDecimal, IsDecimalDifference, IsDecima
 
 use crate::Flags;
 use crate::decimal::{add_decimal, subtract_decimal};
-use crate::flags::is_bit_set;
+use bit_words::is_set;
 
 /// The sum of A, an operand and the carry, in binary or where D is set in decimal, and the status
 /// byte after it. D and I stay.
@@ -96,5 +96,5 @@ fn subtract_binary(a: u8, m: u8, flags: Flags) -> (u8, Flags)
 fn has_overflowed(a: u8, m: u8, sum: u8) -> bool
     ensures { result ≡ overflows a m sum }
 {
-    is_bit_set(a, 7) == is_bit_set(m, 7) && is_bit_set(a, 7) != is_bit_set(sum, 7)
+    is_set(a, 7) == is_set(m, 7) && is_set(a, 7) != is_set(sum, 7)
 }

@@ -14,7 +14,6 @@ ghost use Rattle.cpu_alu.specs.Decimal.{
 };
 
 use crate::Flags;
-use crate::flags::is_bit_set;
 
 /// The decimal sum, and the flags after it.
 #[tactic(auto, unfolding(crate::specs::Decimal::decimal_adc))]

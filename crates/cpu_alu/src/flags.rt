@@ -1,5 +1,6 @@
-ghost use Rattle.std.specs.Prelude.{◌≡◌, ◌+◌, ◌*◌, ◌%◌, ◌/◌, ◌<◌};
-ghost use Rattle.cpu_alu.specs.Bits.{is_bit};
+ghost use Rattle.std.specs.Prelude.{◌≡◌, ◌+◌, ◌*◌, ◌%◌, ◌/◌};
+
+use bit_words::is_set;
 
 /// The six flags of the processor, as a status byte holds them.
 #[derive(Clone, Copy, Debug, PartialEq, Eq)]
@@ -22,12 +23,12 @@ impl Flags {
         ensures back { byte_of result + p / 16 % 4 * 16 ≡ p }
     {
         Flags {
-            negative: is_bit_set(p, 7),
-            overflow: is_bit_set(p, 6),
-            decimal: is_bit_set(p, 3),
-            interrupt: is_bit_set(p, 2),
-            zero: is_bit_set(p, 1),
-            carry: is_bit_set(p, 0),
+            negative: is_set(p, 7),
+            overflow: is_set(p, 6),
+            decimal: is_set(p, 3),
+            interrupt: is_set(p, 2),
+            zero: is_set(p, 1),
+            carry: is_set(p, 0),
         }
     }
 
@@ -52,17 +53,9 @@ impl Flags {
         ensures { result ≡ with_result value self }
     {
         Flags {
-            negative: is_bit_set(value, 7),
+            negative: is_set(value, 7),
             zero: value == 0,
             ..self
         }
     }
-}
-
-/// Whether bit `k` of a byte is 1, bit 0 being the lowest.
-pub(crate) fn is_bit_set(byte: u8, k: u32) -> bool
-    requires { k < 8 }
-    ensures { result ≡ is_bit byte k }
-{
-    (byte >> k) & 1 == 1
 }

@@ -3,7 +3,7 @@ ghost use Rattle.cpu_alu.specs.Logic.{bit_of, nz_of};
 ghost use Rattle.cpu_alu.specs.Meaning.{KeepsModes};
 
 use crate::Flags;
-use crate::flags::is_bit_set;
+use bit_words::is_set;
 
 /// The status byte after A is tested with an operand: N and V are bits 7 and 6 of the operand, and
 /// Z says that no bit is set in both. D, I and C stay.
@@ -14,8 +14,8 @@ pub fn bit(a: u8, m: u8, p: u8) -> u8
     ensures modes { KeepsModes p result }
 {
     let flags = Flags {
-        negative: is_bit_set(m, 7),
-        overflow: is_bit_set(m, 6),
+        negative: is_set(m, 7),
+        overflow: is_set(m, 6),
         zero: a & m == 0,
         ..Flags::from_byte(p)
     };

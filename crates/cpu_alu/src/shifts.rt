@@ -3,7 +3,7 @@ ghost use Rattle.cpu_alu.specs.Shifts.{asl_of, left_by, lsr_of, right_by, rol_of
 ghost use Rattle.cpu_alu.specs.Meaning.{KeepsModes};
 
 use crate::Flags;
-use crate::flags::is_bit_set;
+use bit_words::is_set;
 
 /// The operand shifted left with a 0 at the low end, and the status byte after it: C is its old
 /// bit 7. V, D and I stay.
@@ -13,7 +13,7 @@ pub fn asl(m: u8, p: u8) -> (u8, u8)
     ensures clear { result.1 / 16 % 4 ≡ 0 }
     ensures modes { KeepsModes p result.1 }
 {
-    after_shift(shift_left(m, false), is_bit_set(m, 7), Flags::from_byte(p))
+    after_shift(shift_left(m, false), is_set(m, 7), Flags::from_byte(p))
 }
 
 /// The operand shifted right with a 0 at the high end, and the status byte after it: C is its old
@@ -24,7 +24,7 @@ pub fn lsr(m: u8, p: u8) -> (u8, u8)
     ensures clear { result.1 / 16 % 4 ≡ 0 }
     ensures modes { KeepsModes p result.1 }
 {
-    after_shift(shift_right(m, false), is_bit_set(m, 0), Flags::from_byte(p))
+    after_shift(shift_right(m, false), is_set(m, 0), Flags::from_byte(p))
 }
 
 /// The operand shifted left with the old C at the low end, and the status byte after it: C is its
@@ -36,7 +36,7 @@ pub fn rol(m: u8, p: u8) -> (u8, u8)
     ensures modes { KeepsModes p result.1 }
 {
     let flags = Flags::from_byte(p);
-    after_shift(shift_left(m, flags.carry), is_bit_set(m, 7), flags)
+    after_shift(shift_left(m, flags.carry), is_set(m, 7), flags)
 }
 
 /// The operand shifted right with the old C at the high end, and the status byte after it: C is its
@@ -48,7 +48,7 @@ pub fn ror(m: u8, p: u8) -> (u8, u8)
     ensures modes { KeepsModes p result.1 }
 {
     let flags = Flags::from_byte(p);
-    after_shift(shift_right(m, flags.carry), is_bit_set(m, 0), flags)
+    after_shift(shift_right(m, flags.carry), is_set(m, 0), flags)
 }
 
 /// A shifted byte, and the status byte after it: C is the bit that was shifted out.

@@ -8,12 +8,13 @@ use Rattle.cpu_table.specs.declared.instruction.Mode.{Mode}
 use Rattle.cpu_table.specs.declared.instruction.Mode.TheVariants.{Immediate, ZeroPage, ZeroPageX, ZeroPageY, Absolute, AbsoluteX, AbsoluteY, Indirect, IndirectX, IndirectY}
 use Rattle.cpu_table.specs.Opcodes.{row_of}
 use Rattle.cpu_core.specs.declared.operations.Kind.{Kind}
-use Rattle.cpu_core.specs.declared.operations.Kind.TheVariants.{Load, Store, Modify, Alone, Branch, Jump, Call, Return, ReturnFromInterrupt, Push, Pull, Break}
+use Rattle.cpu_core.specs.declared.operations.Kind.TheVariants.{Load, Store, ReadModifyWrite, Implied, Branch, Jump, Call, Return, ReturnFromInterrupt, Push, Pull, Break}
+use Rattle.cpu_core.specs.Kinds.{kind_of}
 use Rattle.cpu_core.specs.declared.replay.Next.TheVariants.{End}
 use Rattle.cpu_core.specs.Registers.{RegistersValue}
 use Rattle.cpu_core.specs.Course.{Course, finish, read, write}
-use Rattle.cpu_core.specs.Operations.{kind_of, is_taken}
-use Rattle.cpu_core.specs.Patterns.{address_of, load_course, store_course, indexed, directly_addressed, addressed, is_accumulator, executed_by, row_course, modify_a_course, modify_course, landed, target_of, ends_with, peeked}
+use Rattle.cpu_core.specs.Operations.{is_taken}
+use Rattle.cpu_core.specs.Patterns.{address_of, load_course, store_course, indexed, directly_addressed, addressed, is_accumulator, executed_by, row_course, modify_a_course, read_modify_write_course, landed, target_of, ends_with, dummy_read}
 use Rattle.cpu_core.specs.Sequences.{course_of, after, head_of, next_of}
 
 -- whatever the bytes are, the processor stands inside no sequence at the end of the course
@@ -52,9 +53,9 @@ addressed_closes IndirectX always r k h = λ _ _ _ _. h _ _
 addressed_closes IndirectY always r k h = λ b low high. indexed_closes low high r.y always (k (raised r)) (h (raised r))
 addressed_closes mode always r k h = direct_closes mode always r k h
 
-modify_closes : (op : Op) (mode : Mode) (r : RegistersValue) → Closes (executed_by Modify op mode r)
+modify_closes : (op : Op) (mode : Mode) (r : RegistersValue) → Closes (executed_by ReadModifyWrite op mode r)
 modify_closes op mode r =
-    either_closes (is_accumulator mode) (modify_a_course op r) (modify_course op mode r) (λ _. refl) (direct_closes mode true r _ (λ _ _ _. refl))
+    either_closes (is_accumulator mode) (modify_a_course op r) (read_modify_write_course op mode r) (λ _. refl) (direct_closes mode true r _ (λ _ _ _. refl))
 
 landed_closes : (r : RegistersValue) (target : ℕ) → Closes (landed r target)
 landed_closes r target =
@@ -64,7 +65,7 @@ landed_closes r target =
 branch_closes : (op : Op) (mode : Mode) (r : RegistersValue) → Closes (executed_by Branch op mode r)
 branch_closes op mode r = λ offset.
     let s : RegistersValue = record r { pc = (r.pc + 1) % 65536 } in
-    either_closes (is_taken op r.p) (peeked s (landed s (target_of s.pc offset))) (ends_with s)
+    either_closes (is_taken op r.p) (dummy_read s.pc (landed s (target_of s.pc offset))) (ends_with s)
     (λ _. landed_closes s (target_of s.pc offset)) refl
 
 jump_closes : (op : Op) (mode : Mode) (r : RegistersValue) → Closes (executed_by Jump op mode r)
@@ -74,8 +75,8 @@ jump_closes op _ r = λ _ _. refl
 executed_closes : (kind : Kind) (op : Op) (mode : Mode) (r : RegistersValue) → Closes (executed_by kind op mode r)
 executed_closes Load op mode r = addressed_closes mode false r _ (λ _ _ _. refl)
 executed_closes Store op mode r = addressed_closes mode true r _ (λ _ _. refl)
-executed_closes Modify op mode r = modify_closes op mode r
-executed_closes Alone op mode r = λ _. refl
+executed_closes ReadModifyWrite op mode r = modify_closes op mode r
+executed_closes Implied op mode r = λ _. refl
 executed_closes Branch op mode r = branch_closes op mode r
 executed_closes Jump op mode r = jump_closes op mode r
 executed_closes Call op mode r = λ _ _ _. refl

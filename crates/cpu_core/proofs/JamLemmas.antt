@@ -9,13 +9,14 @@ use Rattle.cpu_table.specs.declared.instruction.Mode.{Mode}
 use Rattle.cpu_table.specs.declared.instruction.Mode.TheVariants.{Immediate, ZeroPage, ZeroPageX, ZeroPageY, Absolute, AbsoluteX, AbsoluteY, Indirect, IndirectX, IndirectY}
 use Rattle.cpu_table.specs.Opcodes.{row_of}
 use Rattle.cpu_core.specs.declared.operations.Kind.{Kind}
-use Rattle.cpu_core.specs.declared.operations.Kind.TheVariants.{Load, Store, Modify, Alone, Branch, Jump, Call, Return, ReturnFromInterrupt, Push, Pull, Break}
+use Rattle.cpu_core.specs.declared.operations.Kind.TheVariants.{Load, Store, ReadModifyWrite, Implied, Branch, Jump, Call, Return, ReturnFromInterrupt, Push, Pull, Break}
+use Rattle.cpu_core.specs.Kinds.{kind_of}
 use Rattle.cpu_core.specs.declared.replay.Next.{Next}
 use Rattle.cpu_core.specs.declared.replay.Next.TheVariants.{Read, Write, End}
 use Rattle.cpu_core.specs.Registers.{RegistersValue, registers_of, at_boundary, jammed_on}
 use Rattle.cpu_core.specs.Course.{Access, read_of, Course, finish, read, write, EndsRunning}
-use Rattle.cpu_core.specs.Operations.{kind_of, is_taken}
-use Rattle.cpu_core.specs.Patterns.{address_of, ends_with, peeked, landed, target_of, indexed, directly_addressed, addressed, is_accumulator, executed_by, row_course, modify_a_course, modify_course}
+use Rattle.cpu_core.specs.Operations.{is_taken}
+use Rattle.cpu_core.specs.Patterns.{address_of, ends_with, dummy_read, landed, target_of, indexed, directly_addressed, addressed, is_accumulator, executed_by, row_course, modify_a_course, read_modify_write_course}
 use Rattle.cpu_core.specs.Sequences.{start_of, course_of, after, head_of, next_of, IsAccess, Moves}
 use Rattle.cpu_core.specs.Places.{IsPlace, given_by, stopped, standing, Gone, Fetches, BeginsWith}
 
@@ -54,19 +55,19 @@ jump_ends op Indirect r = λ _ _ _ _. refl
 jump_ends op _ r = λ _ _. refl
 
 branch_ends : (op : Op) (r : RegistersValue) (offset : ℕ)
-    → EndsRunning (if is_taken op r.p then peeked r (landed r (target_of r.pc offset)) else ends_with r)
+    → EndsRunning (if is_taken op r.p then dummy_read r.pc (landed r (target_of r.pc offset)) else ends_with r)
 branch_ends op r offset =
-    either_ends (is_taken op r.p) (peeked r (landed r (target_of r.pc offset))) (ends_with r)
+    either_ends (is_taken op r.p) (dummy_read r.pc (landed r (target_of r.pc offset))) (ends_with r)
     (λ _. either_ends (target_of r.pc offset / 256 == r.pc / 256) (ends_with (record r { pc = target_of r.pc offset }))
     (read (address_of (target_of r.pc offset % 256) (r.pc / 256)) (λ _. ends_with (record r { pc = target_of r.pc offset }))) refl (λ _. refl)) refl
 
 executed_ends : (kind : Kind) (op : Op) (mode : Mode) (r : RegistersValue) → EndsRunning (executed_by kind op mode r)
 executed_ends Load op mode r = addressed_ends mode false r _ (λ _ _ _. refl)
 executed_ends Store op mode r = addressed_ends mode true r _ (λ _ _. refl)
-executed_ends Modify op mode r =
-    either_ends (is_accumulator mode) (modify_a_course op r) (modify_course op mode r) (λ _. refl)
+executed_ends ReadModifyWrite op mode r =
+    either_ends (is_accumulator mode) (modify_a_course op r) (read_modify_write_course op mode r) (λ _. refl)
     (direct_ends mode true r _ (λ _ _ _. refl))
-executed_ends Alone op mode r = λ _. refl
+executed_ends Implied op mode r = λ _. refl
 executed_ends Branch op mode r = λ offset. branch_ends op (fetched_once r) offset
 executed_ends Jump op mode r = jump_ends op mode r
 executed_ends Call op mode r = λ _ _ _. refl

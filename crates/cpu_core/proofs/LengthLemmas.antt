@@ -7,11 +7,12 @@ use Rattle.cpu_table.specs.declared.instruction.Mode.{Mode}
 use Rattle.cpu_table.specs.declared.instruction.Mode.TheVariants.{Immediate, ZeroPage, ZeroPageX, ZeroPageY, Absolute, AbsoluteX, AbsoluteY, Indirect, IndirectX, IndirectY}
 use Rattle.cpu_table.specs.Opcodes.{row_of}
 use Rattle.cpu_core.specs.declared.operations.Kind.{Kind}
-use Rattle.cpu_core.specs.declared.operations.Kind.TheVariants.{Load, Store, Modify, Alone, Branch, Jump, Call, Return, ReturnFromInterrupt, Push, Pull, Break}
+use Rattle.cpu_core.specs.declared.operations.Kind.TheVariants.{Load, Store, ReadModifyWrite, Implied, Branch, Jump, Call, Return, ReturnFromInterrupt, Push, Pull, Break}
+use Rattle.cpu_core.specs.Kinds.{kind_of}
 use Rattle.cpu_core.specs.Registers.{RegistersValue}
 use Rattle.cpu_core.specs.Course.{Course, finish, read, write, AtMost, AtLeast}
-use Rattle.cpu_core.specs.Operations.{kind_of, is_taken}
-use Rattle.cpu_core.specs.Patterns.{address_of, load_course, store_course, indexed, directly_addressed, addressed, is_accumulator, executed_by, row_course, modify_a_course, modify_course, landed, target_of, ends_with, peeked}
+use Rattle.cpu_core.specs.Operations.{is_taken}
+use Rattle.cpu_core.specs.Patterns.{address_of, load_course, store_course, indexed, directly_addressed, addressed, is_accumulator, executed_by, row_course, modify_a_course, read_modify_write_course, landed, target_of, ends_with, dummy_read}
 use Rattle.cpu_core.specs.Sequences.{course_of, after, head_of, next_of, IsEnd}
 
 -- a bound may be raised
@@ -50,9 +51,9 @@ addressed_short IndirectX always r k n h = λ _ _ _ _. h _ _
 addressed_short IndirectY always r k n h = λ b low high. indexed_short low high _ always _ n (h _)
 addressed_short mode always r k n h = weaken (suc (suc (suc n))) (directly_addressed mode always r k) (direct_short mode always r k n h)
 
-modify_short : (op : Op) (mode : Mode) (r : RegistersValue) → AtMost 6 (executed_by Modify op mode r)
+modify_short : (op : Op) (mode : Mode) (r : RegistersValue) → AtMost 6 (executed_by ReadModifyWrite op mode r)
 modify_short op mode r =
-    either_short (is_accumulator mode) 6 (modify_a_course op r) (modify_course op mode r) (λ _. tt)
+    either_short (is_accumulator mode) 6 (modify_a_course op r) (read_modify_write_course op mode r) (λ _. tt)
     (direct_short mode true r _ 3 (λ _ _ _. tt))
 
 landed_short : (r : RegistersValue) (target : ℕ) → AtMost 4 (landed r target)
@@ -63,7 +64,7 @@ landed_short r target =
 branch_short : (op : Op) (mode : Mode) (r : RegistersValue) → AtMost 6 (executed_by Branch op mode r)
 branch_short op mode r = λ offset.
     let s : RegistersValue = record r { pc = (r.pc + 1) % 65536 } in
-    either_short (is_taken op r.p) 5 (peeked s (landed s (target_of s.pc offset))) (ends_with s)
+    either_short (is_taken op r.p) 5 (dummy_read s.pc (landed s (target_of s.pc offset))) (ends_with s)
     (λ _. landed_short s (target_of s.pc offset)) tt
 
 jump_short : (op : Op) (mode : Mode) (r : RegistersValue) → AtMost 6 (executed_by Jump op mode r)
@@ -73,8 +74,8 @@ jump_short op _ r = λ _ _. tt
 executed_short : (kind : Kind) (op : Op) (mode : Mode) (r : RegistersValue) → AtMost 6 (executed_by kind op mode r)
 executed_short Load op mode r = weaken 5 (load_course op mode r) (addressed_short mode false r _ 1 (λ _ _ _. tt))
 executed_short Store op mode r = weaken 5 (store_course op mode r) (addressed_short mode true r _ 1 (λ _ _. tt))
-executed_short Modify op mode r = modify_short op mode r
-executed_short Alone op mode r = λ _. tt
+executed_short ReadModifyWrite op mode r = modify_short op mode r
+executed_short Implied op mode r = λ _. tt
 executed_short Branch op mode r = branch_short op mode r
 executed_short Jump op mode r = jump_short op mode r
 executed_short Call op mode r = λ _ _ _. tt
@@ -138,10 +139,10 @@ jump_long op _ r = λ _. tt
 executed_long : (kind : Kind) (op : Op) (mode : Mode) (r : RegistersValue) → AtLeast 1 (executed_by kind op mode r)
 executed_long Load op mode r = addressed_long mode false r _ (λ _ _ _. tt)
 executed_long Store op mode r = addressed_long mode true r _ (λ _ _. tt)
-executed_long Modify op mode r =
-    either_long (is_accumulator mode) 1 (modify_a_course op r) (modify_course op mode r) (λ _. tt)
+executed_long ReadModifyWrite op mode r =
+    either_long (is_accumulator mode) 1 (modify_a_course op r) (read_modify_write_course op mode r) (λ _. tt)
     (direct_long mode true r _ (λ _ _ _. tt))
-executed_long Alone op mode r = λ _. tt
+executed_long Implied op mode r = λ _. tt
 executed_long Branch op mode r = λ _. tt
 executed_long Jump op mode r = jump_long op mode r
 executed_long Call op mode r = λ _. tt

@@ -1,5 +1,5 @@
 -- Going on inside a sequence, and the places in it.
-use Rattle.std.proofs.Common.{rules, ◌⊎◌, inl, inr, ◌-◌, IfSome, slice_index, Option, ◌≢◌, ◌≡◌, ◌<◌, ◌≤◌, ◌+◌, ◌++◌, ℕ, List, [], ◌∷◌, length, take, drop, All, Some, None, refl, sym, ap, subst, ◌∙◌, append_assoc, arith}
+use Rattle.std.proofs.Common.{rules, ◌⊎◌, inl, inr, ◌-◌, IfSome, slice_index, Option, ◌≢◌, ◌≡◌, ◌<◌, ◌≤◌, ◌+◌, ◌++◌, ℕ, List, [], ◌∷◌, length, take, drop, All, true, Some, None, refl, sym, ap, subst, ◌∙◌, append_assoc, arith}
 use Rattle.std.proofs.lemmas.List.{append-nil, take-append-drop, length-append, length-take-le, take-append-le}
 use Rattle.std.proofs.lemmas.List.Elements.{All-drop}
 use Rattle.std.proofs.Math.Seq.{take-append_seam, drop-append_seam}
@@ -11,10 +11,10 @@ use Rattle.cpu_core.specs.declared.replay.Next.TheVariants.{Read, Write, End}
 use Rattle.cpu_table.specs.declared.instruction.Op.{Op}
 use Rattle.cpu_table.specs.declared.instruction.Mode.{Mode}
 use Rattle.cpu_table.specs.Opcodes.{row_of}
+use Rattle.cpu_alu.specs.Flags.{is_masked}
 use Rattle.cpu_core.specs.Registers.{RegistersValue, registers_of, jammed_on}
 use Rattle.cpu_core.specs.Patterns.{row_course}
 use Rattle.cpu_core.specs.Course.{Access, Course, finish, read, write}
-use Rattle.cpu_core.specs.Operations.{IsMasked}
 use Rattle.cpu_core.specs.Sequences.{course_of, after, head_of, next_of, IsEnd, IsAccess, Moves, Runs}
 use Rattle.cpu_core.specs.Places.{Gone, IsPlace, IsProcessor, padded, given_by, paused, stopped, Advances}
 use Rattle.cpu_core.proofs.CourseLemmas.{after-append, after-finish}
@@ -117,7 +117,7 @@ pub given_paused : (bytes : List ℕ) → take (length bytes) (padded bytes) ≡
 given_paused bytes = take-append_seam bytes _
 
 -- where an access is due after some bytes, there is a place after them
-pub paused_place : (r : RegistersValue) (q : Sequence) (bytes : List ℕ) → 1 ≤ length bytes → (q ≡ Reset → IsMasked r.p)
+pub paused_place : (r : RegistersValue) (q : Sequence) (bytes : List ℕ) → 1 ≤ length bytes → (q ≡ Reset → is_masked r.p ≡ true)
     → ¬ IsEnd (next_of r q bytes) → IsPlace r (record { sequence = q; count = length bytes; bytes = padded bytes })
 paused_place r q bytes begun masked due =
     record {
@@ -130,14 +130,14 @@ paused_place r q bytes begun masked due =
           due (ended_early r q bytes n (subst (λ (xs : List ℕ). IsEnd (next_of r q xs)) (take-append-le n bytes _ high) over));
     }
 
-pub paused_processor : (r : RegistersValue) (q : Sequence) (bytes : List ℕ) → 1 ≤ length bytes → (q ≡ Reset → IsMasked r.p)
+pub paused_processor : (r : RegistersValue) (q : Sequence) (bytes : List ℕ) → 1 ≤ length bytes → (q ≡ Reset → is_masked r.p ≡ true)
     → ¬ IsEnd (next_of r q bytes) → IsProcessor (paused r q bytes)
 paused_processor r q bytes begun masked due =
     record { undocumented = tt; place = (refl, paused_place r q bytes begun masked due) }
 
 -- the conditions of a place; of its first bytes only all together have to be looked at
 pub is_place : (r : RegistersValue) (m : MidValue) → 1 ≤ m.count → m.count ≤ 6 → length m.bytes ≡ 6 → All (λ b. b ≡ 0) (drop m.count m.bytes)
-    → (m.sequence ≡ Reset → IsMasked r.p) → ¬ IsEnd (next_of r m.sequence (given_by m)) → IsPlace r m
+    → (m.sequence ≡ Reset → is_masked r.p ≡ true) → ¬ IsEnd (next_of r m.sequence (given_by m)) → IsPlace r m
 is_place r m begun short six zeros masked due =
     let long : m.count ≤ length m.bytes = omega arith in
     let same : length (given_by m) ≡ m.count = length-take-le m.count m.bytes long in
@@ -164,7 +164,7 @@ place_due r m place = place.unended m.count place.begun (omega arith)
 pub ruleset places = (is_place, place_due)
 
 -- accesses after accesses
-moves-join : {S : Type 0} (step : Access → S → S → Type 0) (r : RegistersValue) (q : Sequence) (given more last : List ℕ) (s m t : S)
+pub moves-join : {S : Type 0} (step : Access → S → S → Type 0) (r : RegistersValue) (q : Sequence) (given more last : List ℕ) (s m t : S)
     → Moves step r q given more s m → Moves step r q (given ++ more) last m t → Moves step r q given (more ++ last) s t
 moves-join step r q given [] last s m t p n =
     subst (λ (bytes : List ℕ). Moves step r q bytes last s t) (append-nil given)
@@ -177,6 +177,17 @@ moves-join step r q given (v ∷ more) last s m t p n = (
   moves-join step r q (given ++ v ∷ []) more last p.1 m t p.4
       (subst (λ (bytes : List ℕ). Moves step r q bytes last m t) (sym (append_assoc given (v ∷ []) more)) n),
 )
+
+-- accesses that are parted
+pub moves-part : {S : Type 0} (step : Access → S → S → Type 0) (r : RegistersValue) (q : Sequence) (given more last : List ℕ) (s t : S)
+    → Moves step r q given (more ++ last) s t → (m : S) × Moves step r q given more s m × Moves step r q (given ++ more) last m t
+moves-part step r q given [] last s t p = (s, refl, subst (λ (bytes : List ℕ). Moves step r q bytes last s t) (sym (append-nil given)) p)
+moves-part step r q given (v ∷ more) last s t p =
+    let rest = moves-part step r q (given ++ v ∷ []) more last p.1 t p.4 in (
+      rest.0,
+      (p.0, p.1, p.2, p.3, rest.1),
+      subst (λ (bytes : List ℕ). Moves step r q bytes last rest.0 t) (append_assoc given (v ∷ []) more) rest.2,
+    )
 
 -- a sequence is complete or it isn't
 ends_or_not : (n : Next) → IsEnd n ⊎ (¬ IsEnd n)

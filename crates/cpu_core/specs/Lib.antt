@@ -1,5 +1,6 @@
 pub mod Registers
 pub mod Course
+pub mod Kinds
 pub mod Operations
 pub mod Patterns
 pub mod Sequences

@@ -8,68 +8,7 @@ use Rattle.cpu_alu.specs.Flags.{flags_of, byte_of}
 use Rattle.cpu_alu.specs.Arithmetic.{adc_of, sbc_of, compare_of}
 use Rattle.cpu_alu.specs.Shifts.{asl_of, lsr_of, rol_of, ror_of}
 use Rattle.cpu_alu.specs.Logic.{bit_of, nz_of}
-use Rattle.cpu_core.specs.declared.operations.Kind.{Kind}
-use Rattle.cpu_core.specs.declared.operations.Kind.TheVariants.{Load, Store, Modify, Alone, Branch, Jump, Call, Return, ReturnFromInterrupt, Push, Pull, Break}
 use Rattle.cpu_core.specs.Registers.{RegistersValue}
-
--- the pattern of accesses that an operation follows
-unfoldable pub kind_of : Op → Kind
-kind_of Adc = Load
-kind_of And = Load
-kind_of Bit = Load
-kind_of Cmp = Load
-kind_of Cpx = Load
-kind_of Cpy = Load
-kind_of Eor = Load
-kind_of Lda = Load
-kind_of Ldx = Load
-kind_of Ldy = Load
-kind_of Ora = Load
-kind_of Sbc = Load
-kind_of Sta = Store
-kind_of Stx = Store
-kind_of Sty = Store
-kind_of Asl = Modify
-kind_of Dec = Modify
-kind_of Inc = Modify
-kind_of Lsr = Modify
-kind_of Rol = Modify
-kind_of Ror = Modify
-kind_of Bcc = Branch
-kind_of Bcs = Branch
-kind_of Beq = Branch
-kind_of Bmi = Branch
-kind_of Bne = Branch
-kind_of Bpl = Branch
-kind_of Bvc = Branch
-kind_of Bvs = Branch
-kind_of Jmp = Jump
-kind_of Jsr = Call
-kind_of Rts = Return
-kind_of Rti = ReturnFromInterrupt
-kind_of Pha = Push
-kind_of Php = Push
-kind_of Pla = Pull
-kind_of Plp = Pull
-kind_of Brk = Break
-kind_of Clc = Alone
-kind_of Cld = Alone
-kind_of Cli = Alone
-kind_of Clv = Alone
-kind_of Dex = Alone
-kind_of Dey = Alone
-kind_of Inx = Alone
-kind_of Iny = Alone
-kind_of Nop = Alone
-kind_of Sec = Alone
-kind_of Sed = Alone
-kind_of Sei = Alone
-kind_of Tax = Alone
-kind_of Tay = Alone
-kind_of Tsx = Alone
-kind_of Txa = Alone
-kind_of Txs = Alone
-kind_of Tya = Alone
 
 -- the byte v in A, in X or in Y, with N and Z after it
 abbrev pub into_a : ℕ → RegistersValue → RegistersValue
@@ -129,25 +68,25 @@ abbrev pub into_p : Op → RegistersValue → RegistersValue
 into_p op r = record r { p = byte_of (flag_changed op (flags_of r.p)) }
 
 -- the registers after an operation that needs no byte
-unfoldable pub done_alone : Op → RegistersValue → RegistersValue
-done_alone Clc r = into_p Clc r
-done_alone Cld r = into_p Cld r
-done_alone Cli r = into_p Cli r
-done_alone Clv r = into_p Clv r
-done_alone Sec r = into_p Sec r
-done_alone Sed r = into_p Sed r
-done_alone Sei r = into_p Sei r
-done_alone Dex r = into_x ((r.x + 255) % 256) r
-done_alone Dey r = into_y ((r.y + 255) % 256) r
-done_alone Inx r = into_x ((r.x + 1) % 256) r
-done_alone Iny r = into_y ((r.y + 1) % 256) r
-done_alone Tax r = into_x r.a r
-done_alone Tay r = into_y r.a r
-done_alone Tsx r = into_x r.s r
-done_alone Txa r = into_a r.x r
-done_alone Txs r = record r { s = r.x }
-done_alone Tya r = into_a r.y r
-done_alone _ r = r
+unfoldable pub worked_alone : Op → RegistersValue → RegistersValue
+worked_alone Clc r = into_p Clc r
+worked_alone Cld r = into_p Cld r
+worked_alone Cli r = into_p Cli r
+worked_alone Clv r = into_p Clv r
+worked_alone Sec r = into_p Sec r
+worked_alone Sed r = into_p Sed r
+worked_alone Sei r = into_p Sei r
+worked_alone Dex r = into_x ((r.x + 255) % 256) r
+worked_alone Dey r = into_y ((r.y + 255) % 256) r
+worked_alone Inx r = into_x ((r.x + 1) % 256) r
+worked_alone Iny r = into_y ((r.y + 1) % 256) r
+worked_alone Tax r = into_x r.a r
+worked_alone Tay r = into_y r.a r
+worked_alone Tsx r = into_x r.s r
+worked_alone Txa r = into_a r.x r
+worked_alone Txs r = record r { s = r.x }
+worked_alone Tya r = into_a r.y r
+worked_alone _ r = r
 
 -- whether a branch is taken with these flags
 unfoldable pub is_taken : Op → ℕ → Bool
@@ -182,10 +121,6 @@ pulled_flags m = byte_of (flags_of m)
 unfoldable pub pulled : Op → ℕ → RegistersValue → RegistersValue
 pulled Plp m r = record r { p = pulled_flags m }
 pulled _ m r = into_a m r
-
--- interrupts are masked: I is set
-abbrev pub IsMasked : ℕ → Type 0
-IsMasked p = (flags_of p).interrupt ≡ true
 
 -- the flags with I set
 unfoldable pub masked : ℕ → ℕ

@@ -6,10 +6,11 @@ use Rattle.cpu_table.specs.declared.instruction.Mode.{Mode}
 use Rattle.cpu_table.specs.declared.instruction.Mode.TheVariants.{Accumulator, Immediate, ZeroPage, ZeroPageX, ZeroPageY, Absolute, AbsoluteX, AbsoluteY, Indirect, IndirectX, IndirectY}
 use Rattle.cpu_table.specs.Opcodes.{row_of}
 use Rattle.cpu_core.specs.declared.operations.Kind.{Kind}
-use Rattle.cpu_core.specs.declared.operations.Kind.TheVariants.{Load, Store, Modify, Alone, Branch, Jump, Call, Return, ReturnFromInterrupt, Push, Pull, Break}
-use Rattle.cpu_core.specs.Registers.{RegistersValue, at_boundary, jammed_on}
+use Rattle.cpu_core.specs.declared.operations.Kind.TheVariants.{Load, Store, ReadModifyWrite, Implied, Branch, Jump, Call, Return, ReturnFromInterrupt, Push, Pull, Break}
+use Rattle.cpu_core.specs.Kinds.{kind_of}
+use Rattle.cpu_core.specs.Registers.{RegistersValue, at_boundary, jammed_on, stack_address}
 use Rattle.cpu_core.specs.Course.{Course, finish, read, write}
-use Rattle.cpu_core.specs.Operations.{kind_of, loaded, stored, modified, done_alone, is_taken, flags_by_program, flags_by_interrupt, pushed, pulled_flags, pulled, masked}
+use Rattle.cpu_core.specs.Operations.{loaded, stored, modified, worked_alone, is_taken, flags_by_program, flags_by_interrupt, pushed, pulled_flags, pulled, masked}
 
 -- the address with this low and this high byte
 abbrev pub address_of : ℕ → ℕ → ℕ
@@ -23,17 +24,13 @@ ends_with r = finish (at_boundary r)
 abbrev pub fetched : RegistersValue → (RegistersValue → ℕ → Course) → Course
 fetched r k = read r.pc (λ b. k (record r { pc = (r.pc + 1) % 65536 }) b)
 
--- the byte at pc is read and dropped
-abbrev pub peeked : RegistersValue → Course → Course
-peeked r c = read r.pc (λ _. c)
-
--- the byte at the stack pointer is read and dropped
-abbrev pub peeked_stack : RegistersValue → Course → Course
-peeked_stack r c = read (256 + r.s) (λ _. c)
+-- the byte at an address is read and dropped
+abbrev pub dummy_read : ℕ → Course → Course
+dummy_read address c = read address (λ _. c)
 
 -- a byte is written at the stack pointer, which is lowered
 abbrev pub pushing : RegistersValue → ℕ → (RegistersValue → Course) → Course
-pushing r v k = write (256 + r.s) v (k (record r { s = (r.s + 255) % 256 }))
+pushing r v k = write (stack_address r) v (k (record r { s = (r.s + 255) % 256 }))
 
 -- the stack pointer is raised, and the byte there read
 abbrev pub pulling : RegistersValue → (RegistersValue → ℕ → Course) → Course
@@ -48,7 +45,7 @@ pointed b k = read b (λ low. read ((b + 1) % 256) (λ high. k low high))
 abbrev pub indexed : ℕ → ℕ → ℕ → Bool → (ℕ → Course) → Course
 indexed low high index always k =
     if always || nat_lt 255 (low + index)
-    then read (address_of ((low + index) % 256) high) (λ _. k ((address_of low high + index) % 65536))
+    then dummy_read (address_of ((low + index) % 256) high) (k ((address_of low high + index) % 65536))
     else k ((address_of low high + index) % 65536)
 
 -- the address of the operand, in the modes without a pointer; an immediate operand is the byte at pc
@@ -56,9 +53,9 @@ abbrev pub directly_addressed : Mode → Bool → RegistersValue → (RegistersV
 directly_addressed Immediate always r k = k (record r { pc = (r.pc + 1) % 65536 }) r.pc
 directly_addressed ZeroPage always r k = fetched r k
 directly_addressed ZeroPageX always r k =
-    fetched r (λ r1 b. read b (λ _. k r1 ((b + r1.x) % 256)))
+    fetched r (λ r1 b. dummy_read b (k r1 ((b + r1.x) % 256)))
 directly_addressed ZeroPageY always r k =
-    fetched r (λ r1 b. read b (λ _. k r1 ((b + r1.y) % 256)))
+    fetched r (λ r1 b. dummy_read b (k r1 ((b + r1.y) % 256)))
 directly_addressed Absolute always r k =
     fetched r (λ r1 low. fetched r1 (λ r2 high. k r2 (address_of low high)))
 directly_addressed AbsoluteX always r k =
@@ -70,7 +67,7 @@ directly_addressed _ always r k = k r 0
 -- the address of the operand; a store or a change of the operand makes the dropped read always
 abbrev pub addressed : Mode → Bool → RegistersValue → (RegistersValue → ℕ → Course) → Course
 addressed IndirectX always r k =
-    fetched r (λ r1 b. read b (λ _. pointed ((b + r1.x) % 256) (λ low high. k r1 (address_of low high))))
+    fetched r (λ r1 b. dummy_read b (pointed ((b + r1.x) % 256) (λ low high. k r1 (address_of low high))))
 addressed IndirectY always r k =
     fetched r (λ r1 b. pointed b (λ low high. indexed low high r1.y always (k r1)))
 addressed mode always r k = directly_addressed mode always r k
@@ -86,17 +83,17 @@ store_course op mode r = addressed mode true r (λ r1 address. write address (st
 -- A is changed
 abbrev pub modify_a_course : Op → RegistersValue → Course
 modify_a_course op r =
-    peeked r (ends_with (record r { a = (modified op r.a r.p).0; p = (modified op r.a r.p).1 }))
+    dummy_read r.pc (ends_with (record r { a = (modified op r.a r.p).0; p = (modified op r.a r.p).1 }))
 
 -- a byte of memory is changed; the old byte is written before the new one
-abbrev pub modify_course : Op → Mode → RegistersValue → Course
-modify_course op mode r =
+abbrev pub read_modify_write_course : Op → Mode → RegistersValue → Course
+read_modify_write_course op mode r =
     directly_addressed mode true r (λ r1 address. read address (λ m. write address m
     (write address (modified op m r1.p).0 (ends_with (record r1 { p = (modified op m r1.p).1 })))))
 
 -- an operation on registers alone
-abbrev pub alone_course : Op → RegistersValue → Course
-alone_course op r = peeked r (ends_with (done_alone op r))
+abbrev pub implied_course : Op → RegistersValue → Course
+implied_course op r = dummy_read r.pc (ends_with (worked_alone op r))
 
 -- where a branch goes: the offset is signed
 abbrev pub target_of : ℕ → ℕ → ℕ
@@ -107,12 +104,12 @@ abbrev pub landed : RegistersValue → ℕ → Course
 landed r target =
     if target / 256 == r.pc / 256
     then ends_with (record r { pc = target })
-    else read (address_of (target % 256) (r.pc / 256)) (λ _. ends_with (record r { pc = target }))
+    else dummy_read (address_of (target % 256) (r.pc / 256)) (ends_with (record r { pc = target }))
 
 -- the offset is read; the jump goes from the pc after it
 abbrev pub branch_course : Op → RegistersValue → Course
 branch_course op r = fetched r (λ r1 offset.
-    if is_taken op r1.p then peeked r1 (landed r1 (target_of r1.pc offset)) else ends_with r1)
+    if is_taken op r1.p then dummy_read r1.pc (landed r1 (target_of r1.pc offset)) else ends_with r1)
 
 -- a jump; the second byte of the pointer of an indirect one is in the page of the first
 abbrev pub jump_course : Mode → RegistersValue → Course
@@ -122,30 +119,30 @@ jump_course Indirect r = fetched r (λ r1 low. fetched r1 (λ r2 high.
 jump_course _ r = fetched r (λ r1 low. read r1.pc (λ high. ends_with (record r1 { pc = address_of low high })))
 
 -- JSR: the address of its own last byte is pushed before that byte is read
-abbrev pub call_course : RegistersValue → Course
-call_course r = fetched r (λ r1 low. peeked_stack r1
+abbrev pub jsr_course : RegistersValue → Course
+jsr_course r = fetched r (λ r1 low. dummy_read (stack_address r1)
     (pushing r1 (r1.pc / 256) (λ r2. pushing r2 (r2.pc % 256) (λ r3.
     read r3.pc (λ high. ends_with (record r3 { pc = address_of low high }))))))
 
 -- RTS: execution goes on after the address pulled
-abbrev pub return_course : RegistersValue → Course
-return_course r = peeked r (peeked_stack r
+abbrev pub rts_course : RegistersValue → Course
+rts_course r = dummy_read r.pc (dummy_read (stack_address r)
     (pulling r (λ r1 low. pulling r1 (λ r2 high.
-    read (address_of low high) (λ _. ends_with (record r2 { pc = (address_of low high + 1) % 65536 }))))))
+    dummy_read (address_of low high) (ends_with (record r2 { pc = (address_of low high + 1) % 65536 }))))))
 
 -- RTI: the flags come before the address
-abbrev pub return_from_interrupt_course : RegistersValue → Course
-return_from_interrupt_course r = peeked r (peeked_stack r
+abbrev pub rti_course : RegistersValue → Course
+rti_course r = dummy_read r.pc (dummy_read (stack_address r)
     (pulling r (λ r1 flags. pulling (record r1 { p = pulled_flags flags }) (λ r2 low. pulling r2 (λ r3 high.
     ends_with (record r3 { pc = address_of low high }))))))
 
 -- PHA and PHP
 abbrev pub push_course : Op → RegistersValue → Course
-push_course op r = peeked r (pushing r (pushed op r) ends_with)
+push_course op r = dummy_read r.pc (pushing r (pushed op r) ends_with)
 
 -- PLA and PLP
 abbrev pub pull_course : Op → RegistersValue → Course
-pull_course op r = peeked r (peeked_stack r (pulling r (λ r1 m. ends_with (pulled op m r1))))
+pull_course op r = dummy_read r.pc (dummy_read (stack_address r) (pulling r (λ r1 m. ends_with (pulled op m r1))))
 
 -- pc comes from the two bytes at an address
 abbrev pub vectored : ℕ → RegistersValue → Course
@@ -158,8 +155,8 @@ interrupted flags r =
     vectored 65534 (record r3 { p = masked r3.p }))))
 
 -- BRK: the byte after the opcode is read and dropped, and the pc after it is pushed
-abbrev pub break_course : RegistersValue → Course
-break_course r = fetched r (λ r1 _. interrupted (flags_by_program r1.p) r1)
+abbrev pub brk_course : RegistersValue → Course
+brk_course r = fetched r (λ r1 _. interrupted (flags_by_program r1.p) r1)
 
 -- the operand is A
 abbrev pub is_accumulator : Mode → Bool
@@ -170,16 +167,16 @@ is_accumulator _ = false
 abbrev pub executed_by : Kind → Op → Mode → RegistersValue → Course
 executed_by Load op mode r = load_course op mode r
 executed_by Store op mode r = store_course op mode r
-executed_by Modify op mode r = if is_accumulator mode then modify_a_course op r else modify_course op mode r
-executed_by Alone op mode r = alone_course op r
+executed_by ReadModifyWrite op mode r = if is_accumulator mode then modify_a_course op r else read_modify_write_course op mode r
+executed_by Implied op mode r = implied_course op r
 executed_by Branch op mode r = branch_course op r
 executed_by Jump op mode r = jump_course mode r
-executed_by Call op mode r = call_course r
-executed_by Return op mode r = return_course r
-executed_by ReturnFromInterrupt op mode r = return_from_interrupt_course r
+executed_by Call op mode r = jsr_course r
+executed_by Return op mode r = rts_course r
+executed_by ReturnFromInterrupt op mode r = rti_course r
 executed_by Push op mode r = push_course op r
 executed_by Pull op mode r = pull_course op r
-executed_by Break op mode r = break_course r
+executed_by Break op mode r = brk_course r
 
 -- what follows an opcode: an undocumented one stops the processor, with pc at the opcode
 abbrev pub row_course : RegistersValue → ℕ → Option (Op × Mode) → Course
@@ -192,8 +189,8 @@ instruction_course r = read r.pc (λ o. row_course r o (row_of o))
 
 -- the interrupt: two dropped reads at pc, and then as BRK with its bit clear
 abbrev pub interrupt_course : RegistersValue → Course
-interrupt_course r = peeked r (peeked r (interrupted (flags_by_interrupt r.p) r))
+interrupt_course r = dummy_read r.pc (dummy_read r.pc (interrupted (flags_by_interrupt r.p) r))
 
 -- the reset: five dropped reads at pc, and then pc comes from the vector at FFFC
 abbrev pub reset_course : RegistersValue → Course
-reset_course r = peeked r (peeked r (peeked r (peeked r (peeked r (vectored 65532 r)))))
+reset_course r = dummy_read r.pc (dummy_read r.pc (dummy_read r.pc (dummy_read r.pc (dummy_read r.pc (vectored 65532 r)))))

@@ -1,5 +1,5 @@
 -- Where a processor stands inside a sequence, and how far some clocks bring it.
-use Rattle.std.specs.Prelude.{◌≡◌, ◌≢◌, ◌≤◌, ◌↔◌, ◌++◌, ℕ, List, [], ◌∷◌, length, take, drop, slice_index, All, Option, Some, None, IfSome, IsSomeAnd, MatchOption}
+use Rattle.std.specs.Prelude.{◌≡◌, ◌≢◌, ◌≤◌, ◌↔◌, ◌++◌, ℕ, List, [], ◌∷◌, length, take, drop, slice_index, All, true, Option, Some, None, IfSome, IsSomeAnd, MatchOption}
 use Rattle.board_base.specs.Cpu.{CpuValue, MidValue}
 use Rattle.board_base.specs.declared.cpu.Sequence.{Sequence}
 use Rattle.board_base.specs.declared.cpu.Sequence.TheVariants.{Opcode, Reset}
@@ -8,9 +8,9 @@ use Rattle.cpu_core.specs.declared.fetched.Fetched.{Fetched}
 use Rattle.cpu_core.specs.declared.fetched.Fetched.TheVariants.{Done, Jammed}
 use Rattle.cpu_core.specs.declared.replay.Next.{Next}
 use Rattle.cpu_core.specs.declared.replay.Next.TheVariants.{End}
+use Rattle.cpu_alu.specs.Flags.{is_masked}
 use Rattle.cpu_core.specs.Registers.{RegistersValue, registers_of, at_boundary}
 use Rattle.cpu_core.specs.Course.{Access, read_of}
-use Rattle.cpu_core.specs.Operations.{IsMasked}
 use Rattle.cpu_core.specs.Sequences.{next_of, IsEnd, Moves}
 
 -- the bytes of the accesses so far
@@ -24,7 +24,7 @@ pub record IsPlace (r : RegistersValue) (m : MidValue) : Type 0 where
   pub short : m.count ≤ 6
   pub zeros : All (λ b. b ≡ 0) (drop m.count m.bytes)
   pub documented : m.sequence ≡ Opcode → row_of (slice_index m.bytes 0) ≢ None
-  pub masked : m.sequence ≡ Reset → IsMasked r.p
+  pub masked : m.sequence ≡ Reset → is_masked r.p ≡ true
   pub unended : (n : ℕ) → 1 ≤ n → n ≤ m.count → ¬ IsEnd (next_of r m.sequence (take n m.bytes))
 
 -- a processor that stands inside a sequence

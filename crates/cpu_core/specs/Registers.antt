@@ -1,6 +1,6 @@
 -- The registers of the 6502 (MCS6500 Programming Manual, chapters 1 to 3), as a sequence of
 -- accesses works on them.
-use Rattle.std.specs.Prelude.{◌≡◌, ◌/◌, ◌%◌, ℕ, Some, None}
+use Rattle.std.specs.Prelude.{◌≡◌, ◌+◌, ◌/◌, ◌%◌, ℕ, Some, None}
 use Rattle.board_base.specs.Cpu.{CpuValue}
 
 -- the registers, without a jam and without a place in a sequence
@@ -15,6 +15,10 @@ pub record RegistersValue : Type 0 where
 -- bits 4 and 5 of the flags are clear
 pub record AreRegisters (r : RegistersValue) : Type 0 where
   pub flags : r.p / 16 % 4 ≡ 0
+
+-- the stack lies in page 1
+abbrev pub stack_address : RegistersValue → ℕ
+stack_address r = 256 + r.s
 
 -- the registers of a processor
 abbrev pub registers_of : CpuValue → RegistersValue

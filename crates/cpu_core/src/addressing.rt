@@ -1,5 +1,5 @@
 ghost use Rattle.std.specs.Prelude.{◌≡◌, ◌+◌, ◌*◌, ◌%◌, ◌≤◌, ℕ};
-ghost use Rattle.cpu_core.specs.Registers.{RegistersValue};
+ghost use Rattle.cpu_core.specs.Registers.{RegistersValue, stack_address};
 ghost use Rattle.cpu_core.specs.Course.{Course, Leads, read_of, write_of};
 ghost use Rattle.cpu_core.specs.Patterns.{address_of, indexed, directly_addressed, addressed};
 
@@ -8,6 +8,7 @@ use crate::registers::Registers;
 use cpu_table::Mode;
 
 /// The address with this low and this high byte.
+#[inline(always)]
 pub(crate) fn address(low: u8, high: u8) -> u16
     ensures { result ≡ address_of low high }
 {
@@ -15,6 +16,7 @@ pub(crate) fn address(low: u8, high: u8) -> u16
 }
 
 /// Reads the byte at `pc`, and raises `pc`.
+#[inline(always)]
 pub(crate) fn fetch<B: Bus>(r: &mut Registers, bus: &mut B, feed: &B::Feed) -> u8
     requires fits { B.fits feed.now bus.old }
     requires room { 1 ≤ B.room bus.old }
@@ -28,33 +30,48 @@ pub(crate) fn fetch<B: Bus>(r: &mut Registers, bus: &mut B, feed: &B::Feed) -> u
     byte
 }
 
+/// Reads a byte that the processor drops. Its contract alone looks at the byte.
+#[inline(always)]
+pub(crate) fn dummy_read<B: Bus>(bus: &mut B, feed: &B::Feed, addr: u16) -> u8
+    requires fits { B.fits feed.now bus.old }
+    requires room { 1 ≤ B.room bus.old }
+    ensures step { B.step feed.now (read_of addr result) bus.old bus.new }
+    ensures fits { B.fits feed.now bus.new }
+    ensures room { B.room bus.old ≤ B.room bus.new + 1 }
+{
+    bus.read(feed, addr)
+}
+
 /// Writes a byte at the stack pointer, and lowers it.
+#[inline(always)]
 pub(crate) fn push<B: Bus>(r: &mut Registers, byte: u8, bus: &mut B, feed: &B::Feed)
     requires fits { B.fits feed.now bus.old }
     requires room { 1 ≤ B.room bus.old }
-    ensures step { B.step feed.now (write_of (256 + r.old.s) byte) bus.old bus.new }
+    ensures step { B.step feed.now (write_of (stack_address r.old) byte) bus.old bus.new }
     ensures lowered { r.new ≡ record r.old { s = (r.old.s + 255) % 256 } }
     ensures fits { B.fits feed.now bus.new }
     ensures room { B.room bus.old ≤ B.room bus.new + 1 }
 {
-    bus.write(feed, 256 + u16::from(r.s), byte);
-    r.s = r.s.wrapping_add(255);
+    bus.write(feed, r.stack_address(), byte);
+    r.s = r.s.wrapping_sub(1);
 }
 
 /// Raises the stack pointer, and reads the byte there.
+#[inline(always)]
 pub(crate) fn pull<B: Bus>(r: &mut Registers, bus: &mut B, feed: &B::Feed) -> u8
     requires fits { B.fits feed.now bus.old }
     requires room { 1 ≤ B.room bus.old }
-    ensures step { B.step feed.now (read_of (256 + (r.old.s + 1) % 256) result) bus.old bus.new }
+    ensures step { B.step feed.now (read_of (stack_address r.new) result) bus.old bus.new }
     ensures raised { r.new ≡ record r.old { s = (r.old.s + 1) % 256 } }
     ensures fits { B.fits feed.now bus.new }
     ensures room { B.room bus.old ≤ B.room bus.new + 1 }
 {
     r.s = r.s.wrapping_add(1);
-    bus.read(feed, 256 + u16::from(r.s))
+    bus.read(feed, r.stack_address())
 }
 
 /// Adds an index to an address, with the dropped read where the page is crossed, or `always`.
+#[inline(always)]
 pub(crate) fn add_index<B: Bus>(
     low: u8,
     high: u8,
@@ -71,12 +88,13 @@ pub(crate) fn add_index<B: Bus>(
 {
     let (uncorrected, carry) = low.overflowing_add(index);
     if always || carry {
-        bus.read(feed, address(uncorrected, high));
+        dummy_read(bus, feed, address(uncorrected, high));
     }
     address(low, high).wrapping_add(u16::from(index))
 }
 
 /// Finds the address of the operand, in the modes without a pointer.
+#[inline(always)]
 pub(crate) fn find_direct<B: Bus>(
     r: &mut Registers,
     mode: Mode,
@@ -99,12 +117,12 @@ pub(crate) fn find_direct<B: Bus>(
         Mode::ZeroPage => u16::from(fetch(r, bus, feed)),
         Mode::ZeroPageX => {
             let base = fetch(r, bus, feed);
-            bus.read(feed, u16::from(base));
+            dummy_read(bus, feed, u16::from(base));
             u16::from(base.wrapping_add(r.x))
         }
         Mode::ZeroPageY => {
             let base = fetch(r, bus, feed);
-            bus.read(feed, u16::from(base));
+            dummy_read(bus, feed, u16::from(base));
             u16::from(base.wrapping_add(r.y))
         }
         Mode::Absolute => {
@@ -127,6 +145,7 @@ pub(crate) fn find_direct<B: Bus>(
 }
 
 /// Finds the address of the operand.
+#[inline(always)]
 pub(crate) fn find<B: Bus>(
     r: &mut Registers,
     mode: Mode,
@@ -143,7 +162,7 @@ pub(crate) fn find<B: Bus>(
     match mode {
         Mode::IndirectX => {
             let base = fetch(r, bus, feed);
-            bus.read(feed, u16::from(base));
+            dummy_read(bus, feed, u16::from(base));
             let pointer = base.wrapping_add(r.x);
             let low = bus.read(feed, u16::from(pointer));
             let high = bus.read(feed, u16::from(pointer.wrapping_add(1)));

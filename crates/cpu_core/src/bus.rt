@@ -1,4 +1,4 @@
-ghost use Rattle.std.specs.Prelude.{◌≡◌, ◌+◌, ◌≤◌, ℕ};
+ghost use Rattle.std.specs.Prelude.{◌+◌, ◌≤◌, ℕ};
 ghost use Rattle.cpu_core.specs.Course.{Access, read_of, write_of};
 
 /// What a processor reads and writes. Each call is one access and takes one clock.

@@ -1,7 +1,7 @@
-ghost use Rattle.std.specs.Prelude.{◌≡◌, ◌↔◌, ◌≤◌, All, IsTrue, length, drop};
-ghost use Rattle.cpu_core.specs.Operations.{IsMasked};
+ghost use Rattle.std.specs.Prelude.{◌≡◌, ◌↔◌, All, IsTrue, drop};
+ghost use Rattle.cpu_alu.specs.Flags.{is_masked};
 ghost use Rattle.cpu_core.specs.Sequences.{next_of, IsEnd};
-ghost use Rattle.cpu_core.specs.Places.{IsMiddle, IsPlace, given_by};
+ghost use Rattle.cpu_core.specs.Places.{IsMiddle, IsPlace};
 
 use crate::pause::next_access;
 use crate::registers::Registers;
@@ -12,7 +12,7 @@ use cpu_alu::Flags;
 
 /// Whether interrupts are masked.
 fn is_masked(p: u8) -> bool
-    ensures { IsTrue result ↔ IsMasked p }
+    ensures { result ≡ is_masked p }
 {
     Flags::from_byte(p).interrupt
 }

@@ -1,6 +1,8 @@
-ghost use Rattle.std.specs.Prelude.{◌≡◌, ◌/◌, ◌%◌};
+ghost use Rattle.std.specs.Prelude.{◌≡◌, ◌/◌, ◌%◌, true};
+ghost use Rattle.cpu_alu.specs.Flags.{is_masked};
 ghost use Rattle.cpu_alu.specs.Arithmetic.{adc_of, sbc_of};
-ghost use Rattle.cpu_core.specs.Operations.{IsMasked, into_a, into_x, into_y, kind_of, loaded, stored, modified, flag_changed, done_alone, is_taken, flags_by_program, flags_by_interrupt, pushed, pulled_flags, pulled, masked};
+ghost use Rattle.cpu_core.specs.Kinds.{kind_of};
+ghost use Rattle.cpu_core.specs.Operations.{into_a, into_x, into_y, loaded, stored, modified, flag_changed, worked_alone, is_taken, flags_by_program, flags_by_interrupt, pushed, pulled_flags, pulled, masked};
 
 use crate::registers::Registers;
 use cpu_alu::Flags;
@@ -11,8 +13,8 @@ use cpu_table::Op;
 pub(crate) enum Kind {
     Load,
     Store,
-    Modify,
-    Alone,
+    ReadModifyWrite,
+    Implied,
     Branch,
     Jump,
     Call,
@@ -24,7 +26,8 @@ pub(crate) enum Kind {
 }
 
 /// The pattern of accesses that an operation follows.
-#[tactic(auto, unfolding(crate::specs::Operations::kind_of))]
+#[tactic(auto, unfolding(crate::specs::Kinds::kind_of))]
+#[inline(always)]
 pub(crate) fn classify(op: Op) -> Kind
     ensures { result ≡ kind_of op }
 {
@@ -32,7 +35,7 @@ pub(crate) fn classify(op: Op) -> Kind
         Op::Adc | Op::And | Op::Bit | Op::Cmp | Op::Cpx | Op::Cpy => Kind::Load,
         Op::Eor | Op::Lda | Op::Ldx | Op::Ldy | Op::Ora | Op::Sbc => Kind::Load,
         Op::Sta | Op::Stx | Op::Sty => Kind::Store,
-        Op::Asl | Op::Dec | Op::Inc | Op::Lsr | Op::Rol | Op::Ror => Kind::Modify,
+        Op::Asl | Op::Dec | Op::Inc | Op::Lsr | Op::Rol | Op::Ror => Kind::ReadModifyWrite,
         Op::Bcc | Op::Bcs | Op::Beq | Op::Bmi | Op::Bne | Op::Bpl | Op::Bvc | Op::Bvs =>
             Kind::Branch,
         Op::Jmp => Kind::Jump,
@@ -42,11 +45,12 @@ pub(crate) fn classify(op: Op) -> Kind
         Op::Pha | Op::Php => Kind::Push,
         Op::Pla | Op::Plp => Kind::Pull,
         Op::Brk => Kind::Break,
-        _ => Kind::Alone,
+        _ => Kind::Implied,
     }
 }
 
 /// Puts a byte into A, with N and Z after it.
+#[inline(always)]
 fn set_a(r: &mut Registers, byte: u8)
     ensures { r.new ≡ into_a byte r.old }
 {
@@ -55,6 +59,7 @@ fn set_a(r: &mut Registers, byte: u8)
 }
 
 /// Puts a byte into X, with N and Z after it.
+#[inline(always)]
 fn set_x(r: &mut Registers, byte: u8)
     ensures { r.new ≡ into_x byte r.old }
 {
@@ -63,6 +68,7 @@ fn set_x(r: &mut Registers, byte: u8)
 }
 
 /// Puts a byte into Y, with N and Z after it.
+#[inline(always)]
 fn set_y(r: &mut Registers, byte: u8)
     ensures { r.new ≡ into_y byte r.old }
 {
@@ -70,7 +76,8 @@ fn set_y(r: &mut Registers, byte: u8)
     r.p = cpu_alu::nz(byte, r.p);
 }
 
-/// Adds to A, or subtracts from it.
+/// Adds a byte and the carry to A.
+#[inline(always)]
 fn add(r: &mut Registers, byte: u8)
     ensures { r.new ≡ record r.old { a = (adc_of r.old.a byte r.old.p).0; p = (adc_of r.old.a byte r.old.p).1 } }
 {
@@ -79,6 +86,8 @@ fn add(r: &mut Registers, byte: u8)
     r.p = flags;
 }
 
+/// Subtracts a byte and the borrow from A.
+#[inline(always)]
 fn subtract(r: &mut Registers, byte: u8)
     ensures { r.new ≡ record r.old { a = (sbc_of r.old.a byte r.old.p).0; p = (sbc_of r.old.a byte r.old.p).1 } }
 {
@@ -89,6 +98,7 @@ fn subtract(r: &mut Registers, byte: u8)
 
 /// Does an operation that reads a byte.
 #[tactic(auto, unfolding(crate::specs::Operations::loaded))]
+#[inline(always)]
 pub(crate) fn load(r: &mut Registers, op: Op, byte: u8)
     ensures { r.new ≡ loaded op byte r.old }
 {
@@ -111,6 +121,7 @@ pub(crate) fn load(r: &mut Registers, op: Op, byte: u8)
 
 /// The byte that a store writes.
 #[tactic(auto, unfolding(crate::specs::Operations::stored))]
+#[inline(always)]
 pub(crate) fn store(r: &Registers, op: Op) -> u8
     ensures { result ≡ stored op r.now }
 {
@@ -123,6 +134,7 @@ pub(crate) fn store(r: &Registers, op: Op) -> u8
 
 /// The new byte and the new flags of an operation that changes a byte.
 #[tactic(auto, unfolding(crate::specs::Operations::modified))]
+#[inline(always)]
 fn change(op: Op, byte: u8, p: u8) -> (u8, u8)
     requires { p / 16 % 4 ≡ 0 }
     ensures value { result ≡ modified op byte p }
@@ -130,10 +142,7 @@ fn change(op: Op, byte: u8, p: u8) -> (u8, u8)
 {
     match op {
         Op::Asl => cpu_alu::asl(byte, p),
-        Op::Dec => (
-            byte.wrapping_add(255),
-            cpu_alu::nz(byte.wrapping_add(255), p),
-        ),
+        Op::Dec => (byte.wrapping_sub(1), cpu_alu::nz(byte.wrapping_sub(1), p)),
         Op::Inc => (byte.wrapping_add(1), cpu_alu::nz(byte.wrapping_add(1), p)),
         Op::Lsr => cpu_alu::lsr(byte, p),
         Op::Rol => cpu_alu::rol(byte, p),
@@ -143,6 +152,7 @@ fn change(op: Op, byte: u8, p: u8) -> (u8, u8)
 }
 
 /// Does an operation that changes a byte, and gives the new byte.
+#[inline(always)]
 pub(crate) fn modify(r: &mut Registers, op: Op, byte: u8) -> u8
     ensures value { result ≡ (modified op byte r.old.p).0 }
     ensures flags { r.new ≡ record r.old { p = (modified op byte r.old.p).1 } }
@@ -154,6 +164,7 @@ pub(crate) fn modify(r: &mut Registers, op: Op, byte: u8) -> u8
 
 /// The flags after an operation that sets or clears one of them.
 #[tactic(auto, unfolding(crate::specs::Operations::flag_changed))]
+#[inline(always)]
 fn change_flag(flags: Flags, op: Op) -> Flags
     ensures { result ≡ flag_changed op flags }
 {
@@ -172,16 +183,17 @@ fn change_flag(flags: Flags, op: Op) -> Flags
 }
 
 /// Does an operation that needs no byte.
-#[tactic(auto, unfolding(crate::specs::Operations::done_alone))]
+#[tactic(auto, unfolding(crate::specs::Operations::worked_alone))]
+#[inline(always)]
 pub(crate) fn work_alone(r: &mut Registers, op: Op)
-    ensures { r.new ≡ done_alone op r.old }
+    ensures { r.new ≡ worked_alone op r.old }
 {
     match op {
         Op::Clc | Op::Cld | Op::Cli | Op::Clv | Op::Sec | Op::Sed | Op::Sei => {
             r.p = change_flag(Flags::from_byte(r.p), op).to_byte()
         }
-        Op::Dex => set_x(r, r.x.wrapping_add(255)),
-        Op::Dey => set_y(r, r.y.wrapping_add(255)),
+        Op::Dex => set_x(r, r.x.wrapping_sub(1)),
+        Op::Dey => set_y(r, r.y.wrapping_sub(1)),
         Op::Inx => set_x(r, r.x.wrapping_add(1)),
         Op::Iny => set_y(r, r.y.wrapping_add(1)),
         Op::Tax => set_x(r, r.a),
@@ -196,6 +208,7 @@ pub(crate) fn work_alone(r: &mut Registers, op: Op)
 
 /// Whether a branch is taken.
 #[tactic(auto, unfolding(crate::specs::Operations::is_taken))]
+#[inline(always)]
 pub(crate) fn is_taken(r: &Registers, op: Op) -> bool
     ensures { result ≡ is_taken op r.now.p }
 {
@@ -215,6 +228,7 @@ pub(crate) fn is_taken(r: &Registers, op: Op) -> bool
 
 /// The flags as BRK and PHP push them.
 #[tactic(auto, unfolding(crate::specs::Operations::flags_by_program))]
+#[inline(always)]
 pub(crate) fn flags_by_program(r: &Registers) -> u8
     ensures { result ≡ flags_by_program r.now.p }
 {
@@ -223,6 +237,7 @@ pub(crate) fn flags_by_program(r: &Registers) -> u8
 
 /// The flags as an interrupt pushes them.
 #[tactic(auto, unfolding(crate::specs::Operations::flags_by_interrupt))]
+#[inline(always)]
 pub(crate) fn flags_by_interrupt(r: &Registers) -> u8
     ensures { result ≡ flags_by_interrupt r.now.p }
 {
@@ -231,6 +246,7 @@ pub(crate) fn flags_by_interrupt(r: &Registers) -> u8
 
 /// The byte that PHA or PHP pushes.
 #[tactic(auto, unfolding(crate::specs::Operations::pushed))]
+#[inline(always)]
 pub(crate) fn pushed(r: &Registers, op: Op) -> u8
     ensures { result ≡ pushed op r.now }
 {
@@ -242,6 +258,7 @@ pub(crate) fn pushed(r: &Registers, op: Op) -> u8
 
 /// The flags that a byte from the stack gives.
 #[tactic(auto, unfolding(crate::specs::Operations::pulled_flags))]
+#[inline(always)]
 pub(crate) fn pulled_flags(byte: u8) -> u8
     ensures value { result ≡ pulled_flags byte }
     ensures clear { result / 16 % 4 ≡ 0 }
@@ -251,6 +268,7 @@ pub(crate) fn pulled_flags(byte: u8) -> u8
 
 /// Puts the byte that PLA or PLP has pulled where it belongs.
 #[tactic(auto, unfolding(crate::specs::Operations::pulled))]
+#[inline(always)]
 pub(crate) fn pull(r: &mut Registers, op: Op, byte: u8)
     ensures { r.new ≡ pulled op byte r.old }
 {
@@ -262,9 +280,10 @@ pub(crate) fn pull(r: &mut Registers, op: Op, byte: u8)
 
 /// The flags with I set.
 #[tactic(auto, unfolding(crate::specs::Operations::masked))]
+#[inline(always)]
 pub(crate) fn masked(p: u8) -> u8
     ensures value { result ≡ masked p }
-    ensures set { IsMasked result }
+    ensures set { is_masked result ≡ true }
     ensures clear { result / 16 % 4 ≡ 0 }
 {
     let flags = Flags::from_byte(p);

@@ -1,15 +1,16 @@
-ghost use Rattle.std.specs.Prelude.{◌≡◌, ◌+◌, ◌%◌, ◌<◌, ◌≤◌, ℕ};
+ghost use Rattle.std.specs.Prelude.{◌≡◌, ◌+◌, ◌%◌, ◌<◌, ◌≤◌};
 ghost use Rattle.cpu_core.specs.Registers.{at_boundary};
-ghost use Rattle.cpu_core.specs.Course.{Course, Leads, Performs, read_of, write_of};
-ghost use Rattle.cpu_core.specs.Patterns.{address_of, load_course, store_course, modify_a_course, modify_course, alone_course, branch_course, jump_course, call_course, return_course, return_from_interrupt_course, push_course, pull_course, break_course, vectored, interrupted, interrupt_course, reset_course, landed, target_of};
+ghost use Rattle.cpu_core.specs.Course.{Performs};
+ghost use Rattle.cpu_core.specs.Patterns.{load_course, store_course, modify_a_course, read_modify_write_course, implied_course, branch_course, jump_course, jsr_course, rts_course, rti_course, push_course, pull_course, brk_course, vectored, interrupted, interrupt_course, reset_course, landed, target_of};
 
-use crate::addressing::{address, fetch, find, find_direct, pull, push};
+use crate::addressing::{address, dummy_read, fetch, find, find_direct, pull, push};
 use crate::bus::Bus;
 use crate::operations;
 use crate::registers::Registers;
 use cpu_table::{Mode, Op};
 
 /// Reads the operand and works on the registers.
+#[inline(always)]
 pub(crate) fn load<B: Bus>(r: &mut Registers, op: Op, mode: Mode, bus: &mut B, feed: &B::Feed)
     requires fits { B.fits feed.now bus.old }
     requires room { 5 ≤ B.room bus.old }
@@ -23,6 +24,7 @@ pub(crate) fn load<B: Bus>(r: &mut Registers, op: Op, mode: Mode, bus: &mut B, f
 }
 
 /// Writes a register.
+#[inline(always)]
 pub(crate) fn store<B: Bus>(r: &mut Registers, op: Op, mode: Mode, bus: &mut B, feed: &B::Feed)
     requires fits { B.fits feed.now bus.old }
     requires room { 5 ≤ B.room bus.old }
@@ -35,6 +37,7 @@ pub(crate) fn store<B: Bus>(r: &mut Registers, op: Op, mode: Mode, bus: &mut B, 
 }
 
 /// Changes A.
+#[inline(always)]
 pub(crate) fn modify_a<B: Bus>(r: &mut Registers, op: Op, bus: &mut B, feed: &B::Feed)
     requires fits { B.fits feed.now bus.old }
     requires room { 1 ≤ B.room bus.old }
@@ -42,16 +45,23 @@ pub(crate) fn modify_a<B: Bus>(r: &mut Registers, op: Op, bus: &mut B, feed: &B:
     ensures fits { B.fits feed.now bus.new }
     ensures room { B.room bus.old ≤ B.room bus.new + 1 }
 {
-    bus.read(feed, r.pc);
+    dummy_read(bus, feed, r.pc);
     let byte = r.a;
     r.a = operations::modify(r, op, byte);
 }
 
 /// Changes a byte of memory.
-pub(crate) fn modify<B: Bus>(r: &mut Registers, op: Op, mode: Mode, bus: &mut B, feed: &B::Feed)
+#[inline(always)]
+pub(crate) fn read_modify_write<B: Bus>(
+    r: &mut Registers,
+    op: Op,
+    mode: Mode,
+    bus: &mut B,
+    feed: &B::Feed,
+)
     requires fits { B.fits feed.now bus.old }
     requires room { 6 ≤ B.room bus.old }
-    ensures performs { Performs (B.step feed.now) (modify_course op mode r.old) bus.old bus.new (at_boundary r.new) }
+    ensures performs { Performs (B.step feed.now) (read_modify_write_course op mode r.old) bus.old bus.new (at_boundary r.new) }
     ensures fits { B.fits feed.now bus.new }
     ensures room { B.room bus.old ≤ B.room bus.new + 6 }
 {
@@ -63,18 +73,20 @@ pub(crate) fn modify<B: Bus>(r: &mut Registers, op: Op, mode: Mode, bus: &mut B,
 }
 
 /// Works on the registers alone.
-pub(crate) fn work_alone<B: Bus>(r: &mut Registers, op: Op, bus: &mut B, feed: &B::Feed)
+#[inline(always)]
+pub(crate) fn implied<B: Bus>(r: &mut Registers, op: Op, bus: &mut B, feed: &B::Feed)
     requires fits { B.fits feed.now bus.old }
     requires room { 1 ≤ B.room bus.old }
-    ensures performs { Performs (B.step feed.now) (alone_course op r.old) bus.old bus.new (at_boundary r.new) }
+    ensures performs { Performs (B.step feed.now) (implied_course op r.old) bus.old bus.new (at_boundary r.new) }
     ensures fits { B.fits feed.now bus.new }
     ensures room { B.room bus.old ≤ B.room bus.new + 1 }
 {
-    bus.read(feed, r.pc);
+    dummy_read(bus, feed, r.pc);
     operations::work_alone(r, op);
 }
 
 /// The address that a branch goes to from this `pc`.
+#[inline(always)]
 fn target(pc: u16, offset: u8) -> u16
     ensures { result ≡ target_of pc offset }
 {
@@ -83,6 +95,7 @@ fn target(pc: u16, offset: u8) -> u16
 }
 
 /// Jumps, with a dropped read more where the page changes.
+#[inline(always)]
 fn land<B: Bus>(r: &mut Registers, to: u16, bus: &mut B, feed: &B::Feed)
     requires fits { B.fits feed.now bus.old }
     requires room { 1 ≤ B.room bus.old }
@@ -91,12 +104,13 @@ fn land<B: Bus>(r: &mut Registers, to: u16, bus: &mut B, feed: &B::Feed)
     ensures room { B.room bus.old ≤ B.room bus.new + 1 }
 {
     if to / 256 != r.pc / 256 {
-        bus.read(feed, r.pc / 256 * 256 + to % 256);
+        dummy_read(bus, feed, r.pc / 256 * 256 + to % 256);
     }
     r.pc = to;
 }
 
 /// Reads the offset, and jumps where the branch is taken.
+#[inline(always)]
 pub(crate) fn branch<B: Bus>(r: &mut Registers, op: Op, bus: &mut B, feed: &B::Feed)
     requires fits { B.fits feed.now bus.old }
     requires room { 3 ≤ B.room bus.old }
@@ -106,13 +120,14 @@ pub(crate) fn branch<B: Bus>(r: &mut Registers, op: Op, bus: &mut B, feed: &B::F
 {
     let offset = fetch(r, bus, feed);
     if operations::is_taken(r, op) {
-        bus.read(feed, r.pc);
+        dummy_read(bus, feed, r.pc);
         let to = target(r.pc, offset);
         land(r, to, bus, feed);
     }
 }
 
 /// JMP.
+#[inline(always)]
 pub(crate) fn jump<B: Bus>(r: &mut Registers, mode: Mode, bus: &mut B, feed: &B::Feed)
     requires fits { B.fits feed.now bus.old }
     requires room { 4 ≤ B.room bus.old }
@@ -134,15 +149,16 @@ pub(crate) fn jump<B: Bus>(r: &mut Registers, mode: Mode, bus: &mut B, feed: &B:
 }
 
 /// JSR.
-pub(crate) fn call<B: Bus>(r: &mut Registers, bus: &mut B, feed: &B::Feed)
+#[inline(always)]
+pub(crate) fn jsr<B: Bus>(r: &mut Registers, bus: &mut B, feed: &B::Feed)
     requires fits { B.fits feed.now bus.old }
     requires room { 5 ≤ B.room bus.old }
-    ensures performs { Performs (B.step feed.now) (call_course r.old) bus.old bus.new (at_boundary r.new) }
+    ensures performs { Performs (B.step feed.now) (jsr_course r.old) bus.old bus.new (at_boundary r.new) }
     ensures fits { B.fits feed.now bus.new }
     ensures room { B.room bus.old ≤ B.room bus.new + 5 }
 {
     let low = fetch(r, bus, feed);
-    bus.read(feed, 256 + u16::from(r.s));
+    dummy_read(bus, feed, r.stack_address());
     let [pc_low, pc_high] = r.pc.to_le_bytes();
     push(r, pc_high, bus, feed);
     push(r, pc_low, bus, feed);
@@ -151,32 +167,34 @@ pub(crate) fn call<B: Bus>(r: &mut Registers, bus: &mut B, feed: &B::Feed)
 }
 
 /// RTS.
-pub(crate) fn come_back<B: Bus>(r: &mut Registers, bus: &mut B, feed: &B::Feed)
+#[inline(always)]
+pub(crate) fn rts<B: Bus>(r: &mut Registers, bus: &mut B, feed: &B::Feed)
     requires fits { B.fits feed.now bus.old }
     requires room { 5 ≤ B.room bus.old }
-    ensures performs { Performs (B.step feed.now) (return_course r.old) bus.old bus.new (at_boundary r.new) }
+    ensures performs { Performs (B.step feed.now) (rts_course r.old) bus.old bus.new (at_boundary r.new) }
     ensures fits { B.fits feed.now bus.new }
     ensures room { B.room bus.old ≤ B.room bus.new + 5 }
 {
-    bus.read(feed, r.pc);
-    bus.read(feed, 256 + u16::from(r.s));
+    dummy_read(bus, feed, r.pc);
+    dummy_read(bus, feed, r.stack_address());
     let low = pull(r, bus, feed);
     let high = pull(r, bus, feed);
     r.pc = address(low, high);
-    bus.read(feed, r.pc);
+    dummy_read(bus, feed, r.pc);
     r.pc = r.pc.wrapping_add(1);
 }
 
 /// RTI.
-pub(crate) fn come_back_from_interrupt<B: Bus>(r: &mut Registers, bus: &mut B, feed: &B::Feed)
+#[inline(always)]
+pub(crate) fn rti<B: Bus>(r: &mut Registers, bus: &mut B, feed: &B::Feed)
     requires fits { B.fits feed.now bus.old }
     requires room { 5 ≤ B.room bus.old }
-    ensures performs { Performs (B.step feed.now) (return_from_interrupt_course r.old) bus.old bus.new (at_boundary r.new) }
+    ensures performs { Performs (B.step feed.now) (rti_course r.old) bus.old bus.new (at_boundary r.new) }
     ensures fits { B.fits feed.now bus.new }
     ensures room { B.room bus.old ≤ B.room bus.new + 5 }
 {
-    bus.read(feed, r.pc);
-    bus.read(feed, 256 + u16::from(r.s));
+    dummy_read(bus, feed, r.pc);
+    dummy_read(bus, feed, r.stack_address());
     let flags = pull(r, bus, feed);
     r.p = operations::pulled_flags(flags);
     let low = pull(r, bus, feed);
@@ -185,6 +203,7 @@ pub(crate) fn come_back_from_interrupt<B: Bus>(r: &mut Registers, bus: &mut B, f
 }
 
 /// PHA and PHP.
+#[inline(always)]
 pub(crate) fn push_register<B: Bus>(r: &mut Registers, op: Op, bus: &mut B, feed: &B::Feed)
     requires fits { B.fits feed.now bus.old }
     requires room { 2 ≤ B.room bus.old }
@@ -192,12 +211,13 @@ pub(crate) fn push_register<B: Bus>(r: &mut Registers, op: Op, bus: &mut B, feed
     ensures fits { B.fits feed.now bus.new }
     ensures room { B.room bus.old ≤ B.room bus.new + 2 }
 {
-    bus.read(feed, r.pc);
+    dummy_read(bus, feed, r.pc);
     let byte = operations::pushed(r, op);
     push(r, byte, bus, feed);
 }
 
 /// PLA and PLP.
+#[inline(always)]
 pub(crate) fn pull_register<B: Bus>(r: &mut Registers, op: Op, bus: &mut B, feed: &B::Feed)
     requires fits { B.fits feed.now bus.old }
     requires room { 3 ≤ B.room bus.old }
@@ -205,13 +225,14 @@ pub(crate) fn pull_register<B: Bus>(r: &mut Registers, op: Op, bus: &mut B, feed
     ensures fits { B.fits feed.now bus.new }
     ensures room { B.room bus.old ≤ B.room bus.new + 3 }
 {
-    bus.read(feed, r.pc);
-    bus.read(feed, 256 + u16::from(r.s));
+    dummy_read(bus, feed, r.pc);
+    dummy_read(bus, feed, r.stack_address());
     let byte = pull(r, bus, feed);
     operations::pull(r, op, byte);
 }
 
 /// Jumps by the vector at an address below FFFF.
+#[inline(always)]
 fn jump_by_vector<B: Bus>(r: &mut Registers, at: u16, bus: &mut B, feed: &B::Feed)
     requires at { at < 65535 }
     requires fits { B.fits feed.now bus.old }
@@ -226,6 +247,7 @@ fn jump_by_vector<B: Bus>(r: &mut Registers, at: u16, bus: &mut B, feed: &B::Fee
 }
 
 /// Pushes `pc` and these flags, masks interrupts, and jumps by the vector at FFFE.
+#[inline(always)]
 fn interrupt_with<B: Bus>(r: &mut Registers, flags: u8, bus: &mut B, feed: &B::Feed)
     requires fits { B.fits feed.now bus.old }
     requires room { 5 ≤ B.room bus.old }
@@ -242,10 +264,11 @@ fn interrupt_with<B: Bus>(r: &mut Registers, flags: u8, bus: &mut B, feed: &B::F
 }
 
 /// BRK.
-pub(crate) fn break_off<B: Bus>(r: &mut Registers, bus: &mut B, feed: &B::Feed)
+#[inline(always)]
+pub(crate) fn brk<B: Bus>(r: &mut Registers, bus: &mut B, feed: &B::Feed)
     requires fits { B.fits feed.now bus.old }
     requires room { 6 ≤ B.room bus.old }
-    ensures performs { Performs (B.step feed.now) (break_course r.old) bus.old bus.new (at_boundary r.new) }
+    ensures performs { Performs (B.step feed.now) (brk_course r.old) bus.old bus.new (at_boundary r.new) }
     ensures fits { B.fits feed.now bus.new }
     ensures room { B.room bus.old ≤ B.room bus.new + 6 }
 {
@@ -255,6 +278,7 @@ pub(crate) fn break_off<B: Bus>(r: &mut Registers, bus: &mut B, feed: &B::Feed)
 }
 
 /// The interrupt.
+#[inline(always)]
 pub(crate) fn interrupt<B: Bus>(r: &mut Registers, bus: &mut B, feed: &B::Feed)
     requires fits { B.fits feed.now bus.old }
     requires room { 7 ≤ B.room bus.old }
@@ -262,13 +286,14 @@ pub(crate) fn interrupt<B: Bus>(r: &mut Registers, bus: &mut B, feed: &B::Feed)
     ensures fits { B.fits feed.now bus.new }
     ensures room { B.room bus.old ≤ B.room bus.new + 7 }
 {
-    bus.read(feed, r.pc);
-    bus.read(feed, r.pc);
+    dummy_read(bus, feed, r.pc);
+    dummy_read(bus, feed, r.pc);
     let flags = operations::flags_by_interrupt(r);
     interrupt_with(r, flags, bus, feed);
 }
 
 /// The reset, from registers where `s` is lowered and interrupts are masked.
+#[inline(always)]
 pub(crate) fn reset<B: Bus>(r: &mut Registers, bus: &mut B, feed: &B::Feed)
     requires fits { B.fits feed.now bus.old }
     requires room { 7 ≤ B.room bus.old }
@@ -276,10 +301,10 @@ pub(crate) fn reset<B: Bus>(r: &mut Registers, bus: &mut B, feed: &B::Feed)
     ensures fits { B.fits feed.now bus.new }
     ensures room { B.room bus.old ≤ B.room bus.new + 7 }
 {
-    bus.read(feed, r.pc);
-    bus.read(feed, r.pc);
-    bus.read(feed, r.pc);
-    bus.read(feed, r.pc);
-    bus.read(feed, r.pc);
+    dummy_read(bus, feed, r.pc);
+    dummy_read(bus, feed, r.pc);
+    dummy_read(bus, feed, r.pc);
+    dummy_read(bus, feed, r.pc);
+    dummy_read(bus, feed, r.pc);
     jump_by_vector(r, 0xFFFC, bus, feed);
 }

@@ -1,9 +1,9 @@
-ghost use Rattle.std.specs.Prelude.{◌≡◌, ◌++◌, ◌+◌, ◌<◌, ◌≤◌, ◌↔◌, ℕ, [], None, IfSome, length};
+ghost use Rattle.std.specs.Prelude.{◌≡◌, ◌+◌, ◌<◌, ◌≤◌, ◌↔◌, ℕ, [], None, IfSome, length, true};
 ghost use Rattle.cpu_table.specs.Opcodes.{row_of};
+ghost use Rattle.cpu_alu.specs.Flags.{is_masked};
 ghost use Rattle.cpu_core.specs.Registers.{at_boundary};
 ghost use Rattle.cpu_core.specs.Course.{Access};
-ghost use Rattle.cpu_core.specs.Operations.{IsMasked};
-ghost use Rattle.cpu_core.specs.Sequences.{next_of, IsEnd, IsAccess, Moves};
+ghost use Rattle.cpu_core.specs.Sequences.{next_of, IsEnd, IsAccess};
 ghost use Rattle.cpu_core.specs.Replays.{IfEnd};
 ghost use Rattle.cpu_core.specs.Places.{Advances, BeginsWith, Gone, given_by, paused, standing, IsPlace, IsProcessor};
 
@@ -13,7 +13,6 @@ use crate::replay::{Next, Replay};
 use crate::seen::{Seen, pad};
 use crate::sequence::perform;
 use board_base::{CpuState, Mid, Sequence};
-use cpu_alu::Flags;
 
 /// What comes next in a sequence that began with these registers and has seen these bytes.
 pub(crate) fn next_access(start: Registers, sequence: Sequence, given: &[u8]) -> Next
@@ -84,7 +83,7 @@ pub(crate) fn go_on<B: Bus>(
 fn pause(start: Registers, sequence: Sequence, seen: &[u8]) -> CpuState
     requires short { length seen.now ≤ 6 }
     requires begun { 1 ≤ length seen.now }
-    requires masked { sequence ≡ Sequence.Reset → IsMasked start.p }
+    requires masked { sequence ≡ Sequence.Reset → is_masked start.p ≡ true }
     requires due { ¬ IsEnd (next_of start sequence seen.now) }
     ensures paused { result ≡ paused start sequence seen.now }
     ensures processor { IsProcessor result }
@@ -102,7 +101,7 @@ fn pause(start: Registers, sequence: Sequence, seen: &[u8]) -> CpuState
 /// The processor that has begun a sequence with these registers and has seen these bytes.
 pub(crate) fn stand(start: Registers, sequence: Sequence, seen: &[u8]) -> CpuState
     requires begun { 1 ≤ length seen.now }
-    requires masked { sequence ≡ Sequence.Reset → IsMasked start.p }
+    requires masked { sequence ≡ Sequence.Reset → is_masked start.p ≡ true }
     ensures stands { result ≡ standing start sequence seen.now }
     ensures complete { (result.mid ≡ None) ↔ IsEnd (next_of start sequence seen.now) }
     ensures processor { IsProcessor result }
@@ -122,7 +121,7 @@ pub(crate) fn begin<B: Bus>(
     feed: &B::Feed,
     clocks: u8,
 ) -> CpuState
-    requires masked { sequence ≡ Sequence.Reset → IsMasked start.p }
+    requires masked { sequence ≡ Sequence.Reset → is_masked start.p ≡ true }
     requires some { 1 ≤ clocks }
     requires fits { B.fits feed.now bus.old }
     requires room { clocks ≤ B.room bus.old }

@@ -1,7 +1,7 @@
-ghost use Rattle.std.specs.Prelude.{◌≡◌, ◌+◌, ◌≤◌, ℕ, [], None, IfSome, IsSome};
+ghost use Rattle.std.specs.Prelude.{◌≡◌, ◌+◌, ◌≤◌, ℕ, [], None, IfSome, IsSome, true};
 ghost use Rattle.cpu_table.specs.Opcodes.{row_of};
+ghost use Rattle.cpu_alu.specs.Flags.{is_masked};
 ghost use Rattle.cpu_core.specs.Registers.{registers_of};
-ghost use Rattle.cpu_core.specs.Operations.{IsMasked};
 ghost use Rattle.cpu_core.specs.Sequences.{start_of, Runs};
 ghost use Rattle.cpu_core.specs.Places.{Advances, BeginsWith, Fetches, IsMiddle, fetched_of, given_by};
 
@@ -58,6 +58,7 @@ impl Cpu {
     ///
     /// An undocumented opcode jams the processor. Its read is then the only access, and `pc` stays
     /// at it.
+    #[inline(always)]
     pub fn instruction<B: Bus>(&mut self, bus: &mut B, feed: &B::Feed) -> Fetched
         requires running { self.old.jam ≡ None }
         requires boundary { self.old.mid ≡ None }
@@ -155,52 +156,23 @@ impl Cpu {
         self.state = state;
         made
     }
-
-    /// Does a whole sequence in two parts: its first `clocks` accesses, and then all that are left.
-    /// It comes to the same as the sequence in one part.
-    #[tactic(auto, using(crate::proofs::PlaceLemmas::two_parts))]
-    pub fn in_two_parts<B: Bus>(
-        &mut self,
-        sequence: Sequence,
-        bus: &mut B,
-        feed: &B::Feed,
-        clocks: u8,
-    ) -> Fetched
-        requires running { self.old.jam ≡ None }
-        requires boundary { self.old.mid ≡ None }
-        requires some { 1 ≤ clocks }
-        requires few { clocks ≤ 7 }
-        requires fits { B.fits feed.now bus.old }
-        requires room { 7 ≤ B.room bus.old }
-        ensures runs { Runs (B.step feed.now) (start_of sequence self.old) sequence bus.old bus.new self.new }
-        ensures boundary { self.new.mid ≡ None }
-        ensures jammed { result ≡ fetched_of self.new.jam }
-        ensures fits { B.fits feed.now bus.new }
-        ensures room { B.room bus.old ≤ B.room bus.new + 7 }
-    {
-        let begun = self.begin(sequence, bus, feed, clocks);
-        if self.state().mid.is_none() {
-            return begun;
-        }
-        self.resume(bus, feed, 7 - clocks);
-        fetched(self.state())
-    }
 }
 
 /// The registers that a sequence starts from.
 fn start(sequence: Sequence, state: &CpuState) -> Registers
     ensures value { result ≡ start_of sequence state.now }
-    ensures masked { sequence ≡ Sequence.Reset → IsMasked result.p }
+    ensures masked { sequence ≡ Sequence.Reset → is_masked result.p ≡ true }
 {
     let mut registers = Registers::of(state);
     if let Sequence::Reset = sequence {
-        registers.s = registers.s.wrapping_add(253);
+        registers.s = registers.s.wrapping_sub(3);
         registers.p = masked(registers.p);
     }
     registers
 }
 
 /// Whether the processor is jammed, and by which opcode.
+#[inline(always)]
 fn fetched(state: &CpuState) -> Fetched
     ensures { result ≡ fetched_of state.now.jam }
 {

@@ -1,5 +1,5 @@
 ghost use Rattle.std.specs.Prelude.{◌≡◌};
-ghost use Rattle.cpu_core.specs.Registers.{registers_of, at_boundary, jammed_on};
+ghost use Rattle.cpu_core.specs.Registers.{registers_of, at_boundary, jammed_on, stack_address};
 
 use board_base::CpuState;
 use std::marker::Model;
@@ -29,6 +29,7 @@ impl Model for Registers {
 
 impl Registers {
     /// The registers of a processor.
+    #[inline(always)]
     pub fn of(state: &CpuState) -> Registers
         ensures { result ≡ registers_of state.now }
     {
@@ -42,7 +43,16 @@ impl Registers {
         }
     }
 
+    /// The address of the stack pointer, in page 1.
+    #[inline(always)]
+    pub fn stack_address(&self) -> u16
+        ensures { result ≡ stack_address self.now }
+    {
+        256 + u16::from(self.s)
+    }
+
     /// A processor with these registers between two sequences.
+    #[inline(always)]
     pub fn at_boundary(&self) -> CpuState
         ensures { result ≡ at_boundary self.now }
     {
@@ -59,6 +69,7 @@ impl Registers {
     }
 
     /// A processor with these registers that this opcode has stopped.
+    #[inline(always)]
     pub fn jammed_on(&self, opcode: u8) -> CpuState
         ensures { result ≡ jammed_on self.now opcode }
     {

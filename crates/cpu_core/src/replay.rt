@@ -1,5 +1,4 @@
 ghost use Rattle.std.specs.Prelude.{◌≡◌};
-ghost use Rattle.cpu_core.specs.Course.{Access, read_of, write_of};
 
 use crate::bus::Bus;
 use board_base::CpuState;

@@ -24,3 +24,8 @@ noted direction a v s =
 abbrev pub FlatStep : Access → FlatValue → FlatValue → Type 0
 FlatStep (read_of a v) s t = (v ≡ slice_index s.bytes a) × (t ≡ noted Read a v s)
 FlatStep (write_of a v) s t = t ≡ record (noted Write a v s) { bytes = slice_set s.bytes a v }
+
+-- the same of a bus that notes nothing
+abbrev pub UnloggedStep : Access → List ℕ → List ℕ → Type 0
+UnloggedStep (read_of a v) s t = (v ≡ slice_index s a) × (t ≡ s)
+UnloggedStep (write_of a v) s t = t ≡ slice_set s a v

@@ -28,7 +28,7 @@ impl Model for FlatBus {
 }
 
 /// This many bytes that are all 0.
-fn make_zeros(alloc: Global, n: usize) -> Result<Vec<u8>, OutOfMemory>
+pub(crate) fn make_zeros(alloc: Global, n: usize) -> Result<Vec<u8>, OutOfMemory>
     ensures zeros { IfOk result (λ v. v.items ≡ zeros n) }
     ensures length { IfOk result (λ v. length v.items ≡ n) }
 {
@@ -36,7 +36,7 @@ fn make_zeros(alloc: Global, n: usize) -> Result<Vec<u8>, OutOfMemory>
 }
 
 /// Writes some bytes at an index.
-fn overwrite(all: &mut [u8], at: usize, bytes: &[u8])
+pub(crate) fn overwrite(all: &mut [u8], at: usize, bytes: &[u8])
     requires { at + length bytes.now ≤ length all.old }
     ensures { all.new ≡ take at all.old ++ bytes.now ++ drop (at + length bytes.now) all.old }
 {
@@ -98,7 +98,6 @@ impl FlatBus {
 }
 
 impl Bus for FlatBus {
-    ghost use Rattle.std.specs.Prelude.{ℕ};
     ghost use Rattle.flat_bus.specs.Flat.{FlatStep};
 
     type Feed = ();

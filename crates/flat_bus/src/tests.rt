@@ -1,8 +1,8 @@
 ghost use Rattle.std.specs.Prelude.{◌≡◌, ◌≤◌, ◌/◌, ◌%◌, None, IfOk};
 
-use crate::{Direction, FlatBus, Logged};
+use crate::{Direction, FlatBus, Logged, UnloggedBus};
 use board_base::{CpuState, Mid, OutOfMemory, Sequence};
-use cpu_core::{Cpu, Fetched, is_middle};
+use cpu_core::{Bus, Cpu, Fetched, is_middle};
 use std::alloc::Global;
 use std::process::Abort;
 use std::test::Fail;
@@ -550,4 +550,18 @@ fn middles_are_told(rt: HostRuntime) {
         );
     }
     assert!(rt; !is_middle(&CpuState::power_on()));
+}
+
+#[test]
+fn a_bus_without_a_log_keeps_what_is_written(rt: HostRuntime) -> Result<(), Fail> {
+    let mut bus = UnloggedBus::new(rt.alloc())?;
+    // LDA #5A, STA 0210.
+    bus.load(0x9000, &[0xA9, 0x5A, 0x8D, 0x10, 0x02]);
+    let mut cpu = processor(0, 0, 0);
+    cpu.instruction(&mut bus, &());
+    if cpu.state().jam.is_none() {
+        cpu.instruction(&mut bus, &());
+    }
+    assert_eq!(rt; (bus.read(&(), 0x0210), bus.read(&(), 0x0211)), (0x5A, 0));
+    Ok(())
 }
