@@ -35,10 +35,10 @@ Takes-head token tokens place low high = (0, token, omega arith, refl, (low, hig
 Takes-tail : (token : Token) (tokens : List Token) (place : ℕ) → Takes tokens place → Takes (token ∷ tokens) place
 Takes-tail token tokens place (k, other, inside, is, takes) = (Prim.Native.Nat.suc k, other, omega arith, is, takes)
 
-Takes-front : (first then : List Token) (place : ℕ) → Takes first place → Takes (first ++ then) place
+pub Takes-front : (first then : List Token) (place : ℕ) → Takes first place → Takes (first ++ then) place
 Takes-front first then place (k, token, inside, is, takes) = (k, token, omega (arith, length-append first then), get_or-append first then token k inside ∙ is, takes)
 
-Takes-back : (first then : List Token) (place : ℕ) → Takes then place → Takes (first ++ then) place
+pub Takes-back : (first then : List Token) (place : ℕ) → Takes then place → Takes (first ++ then) place
 Takes-back [] then place takes = takes
 Takes-back (token ∷ first) then place takes = Takes-tail token (first ++ then) place (Takes-back first then place takes)
 
@@ -76,7 +76,7 @@ blank_piece piece said = elim (bool_cases (is_blank piece)) [
 ]
 
 -- a byte of a part of a text, by its place in the text
-byte_at : (text : List ℕ) (place k : ℕ) (part after : List ℕ) → drop place text ≡ part ++ after → place ≤ k → k < place + length part
+pub byte_at : (text : List ℕ) (place k : ℕ) (part after : List ℕ) → drop place text ≡ part ++ after → place ≤ k → k < place + length part
     → get_or text k 0 ≡ get_or part (k - place) 0
 byte_at text place k part after here low high =
     let far : place + (k - place) ≡ k = omega arith in
@@ -105,7 +105,7 @@ read_told text line place k piece after (Ok (Some kind)) (Ok later) tokens here 
       ]
     ])
 
-code_read : (text : List ℕ) (line place k : ℕ) (pieces : List (List ℕ)) (after : List ℕ) (tokens : List Token) → drop place text ≡ concat pieces ++ after
+pub code_read : (text : List ℕ) (line place k : ℕ) (pieces : List (List ℕ)) (after : List ℕ) (tokens : List Token) → drop place text ≡ concat pieces ++ after
     → Ok tokens ≡ piece_tokens line place pieces → place ≤ k → k < place + length (concat pieces) → Takes tokens k ⊎ HasBlank text k
 unfolding piece_tokens
 code_read text line place k [] after tokens here given low high = absurd (omega arith)
@@ -117,7 +117,7 @@ code_read text line place k (piece ∷ pieces) after tokens here given low high 
     given
 
 -- a place of a line lies in a token, has a blank, or lies in the comment
-line_read : (text : List ℕ) (line place k : ℕ) (bytes after : List ℕ) (tokens : List Token) → drop place text ≡ bytes ++ after → IsLine bytes
+pub line_read : (text : List ℕ) (line place k : ℕ) (bytes after : List ℕ) (tokens : List Token) → drop place text ≡ bytes ++ after → IsLine bytes
     → Ok tokens ≡ line_tokens line place bytes → place ≤ k → k < place + length bytes → IsAccounted text tokens k
 line_read text line place k bytes after tokens here is_line given low high =
     let at : ℕ = position_or_len (λ byte. eqb byte 59) bytes in

@@ -16,11 +16,11 @@ use Rattle.asm_text.specs.Tokens.{joined, line_tokens, piece_tokens, told, token
 use Rattle.asm_text.proofs.Parting.{bool_cases}
 use Rattle.asm_text.proofs.Standing.{concat-lines, line_spans, part_after, part_within}
 
-feeds-append : (first then : List ℕ) → line_feeds (first ++ then) ≡ line_feeds first + line_feeds then
+pub feeds-append : (first then : List ℕ) → line_feeds (first ++ then) ≡ line_feeds first + line_feeds then
 feeds-append first then = sum_by-append (λ byte. cond (eqb byte 10) 1 0) first then
 
 -- another byte than LF counts for nothing
-feeds-other : (byte : ℕ) (bytes : List ℕ) → eqb byte 10 ≡ false → line_feeds (byte ∷ bytes) ≡ line_feeds bytes
+pub feeds-other : (byte : ℕ) (bytes : List ℕ) → eqb byte 10 ≡ false → line_feeds (byte ∷ bytes) ≡ line_feeds bytes
 feeds-other byte bytes other = sum_by-cons (λ c. cond (eqb c 10) 1 0) byte bytes ∙ rw other (omega arith)
 
 -- a line has no LF before its last byte

@@ -12,10 +12,6 @@ use Rattle.asm_text.specs.Lines.{lines_of}
 use Rattle.asm_text.specs.Pieces.{kind_of, pieces_of}
 use Rattle.asm_text.specs.Tokens.{joined, line_tokens, onto, piece_tokens, tokens_from, tokens_of}
 
-pub onto-none : {X : Type 0} (rest : Result (List X) AsmFault) → onto [] rest ≡ rest
-onto-none (Ok rest) = refl
-onto-none (Err fault) = refl
-
 onto-append : {X : Type 0} (first then : List X) (rest : Result (List X) AsmFault) → onto first (onto then rest) ≡ onto (first ++ then) rest
 onto-append first then (Ok rest) = ap (λ xs. Ok xs) (sym (append_assoc first then rest))
 onto-append first then (Err fault) = refl

@@ -4,14 +4,14 @@ use Rattle.std.specs.List.{All, concat, onto_first, position_or_len, slice_range
 use Rattle.std.proofs.Math.Seq.{drop-append_seam, take-append_seam}
 use Rattle.std.proofs.lemmas.Bool.{cond_both}
 use Rattle.std.proofs.lemmas.List.{drop-drop, take-append-drop}
-use Rattle.std.proofs.lemmas.List.Elements.{All-cons, All-nil, All-push, All-weaker}
+use Rattle.std.proofs.lemmas.List.Elements.{All-push, All-weaker}
 use Rattle.asm_text.specs.declared.fault.AsmCause.{AsmCause}
 use Rattle.asm_text.specs.declared.fault.AsmFault.{AsmFault}
 use Rattle.asm_text.specs.declared.token.Kind.{Kind}
 use Rattle.asm_text.specs.declared.token.Token.{Token}
 use Rattle.asm_text.specs.Lines.{code_of, lines_of}
 use Rattle.asm_text.specs.Pieces.{joins, kind_of, pieces_of}
-use Rattle.asm_text.specs.Spans.{EndsBy, IsTokenOf, StandIn}
+use Rattle.asm_text.specs.Spans.{EndsBy, IsSliceOf, StandIn}
 use Rattle.asm_text.specs.Tokens.{joined, line_tokens, piece_tokens, told, tokens_from}
 
 concat-onto_first : (byte : ℕ) (parts : List (List ℕ)) → concat (onto_first byte parts) ≡ byte ∷ concat parts
@@ -47,14 +47,9 @@ StandIn-to : (text : List ℕ) (from to high : ℕ) (tokens : List Token) → to
 StandIn-to text from to high [] above stand = omega arith
 StandIn-to text from to high (token ∷ tokens) above stand = (stand.0, stand.1, StandIn-to text token.end to high tokens above stand.2)
 
-StandIn-append : (text : List ℕ) (from between to : ℕ) (first then : List Token) → StandIn text from between first → StandIn text between to then → StandIn text from to (first ++ then)
+pub StandIn-append : (text : List ℕ) (from between to : ℕ) (first then : List Token) → StandIn text from between first → StandIn text between to then → StandIn text from to (first ++ then)
 StandIn-append text from between to [] then left right = StandIn-from text from between to then left right
 StandIn-append text from between to (token ∷ first) then left right = (left.0, left.1, StandIn-append text token.end between to first then left.2 right)
-
--- each of them is a token of the text
-pub StandIn-each : (text : List ℕ) (from to : ℕ) (tokens : List Token) → StandIn text from to tokens → All (IsTokenOf text) tokens
-StandIn-each text from to [] stand = All-nil (IsTokenOf text)
-StandIn-each text from to (token ∷ tokens) stand = All-cons (IsTokenOf text) token tokens stand.1 (StandIn-each text token.end to tokens stand.2)
 
 -- what has a kind has a byte
 kind_of-some : (piece : List ℕ) (kind : Kind) → kind_of piece ≡ Ok (Some kind) → 0 < length piece
@@ -67,7 +62,7 @@ module _ (text : List ℕ) (place : ℕ) (part after : List ℕ) (here : drop pl
   pub part_after : drop (place + length part) text ≡ after
   part_after = sym (drop-drop (length part) place text) ∙ ap (λ bytes. drop (length part) bytes) here ∙ drop-append_seam part after
 
-  part_slice : slice_range text place (place + length part) ≡ part
+  pub part_slice : slice_range text place (place + length part) ≡ part
   part_slice =
       let size : place + length part - place ≡ length part = omega arith in
       rw (size, here) (take-append_seam part after)
@@ -75,8 +70,8 @@ module _ (text : List ℕ) (place : ℕ) (part after : List ℕ) (here : drop pl
   pub part_within : place ≤ length text → place + length part ≤ length text
   part_within inside = omega (arith, length-drop place text, ap length here, length-append part after)
 
-  part_token : (kind : Kind) (line : ℕ) → place ≤ length text → kind_of part ≡ Ok (Some kind)
-      → IsTokenOf text (record { kind = kind; start = place; end = place + length part; line = line })
+  pub part_token : (kind : Kind) (line : ℕ) → place ≤ length text → kind_of part ≡ Ok (Some kind)
+      → IsSliceOf text (record { kind = kind; start = place; end = place + length part; line = line })
   part_token kind line inside said = record {
     some = let some : 0 < length part = kind_of-some part kind said in omega arith;
     within = part_within inside;

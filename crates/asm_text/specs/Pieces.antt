@@ -1,6 +1,6 @@
 -- The pieces of a line, and which of them are tokens. This project's own profile.
 use Rattle.std.specs.Prelude.{ℕ, ◌==◌, ◌&&◌, ◌||◌, Bool, false, not, List, [], ◌∷◌, length, Option, Some, None, Result, Ok, Err, is_some, nat_le, bytes_eq, codes, if◌then◌else◌}
-use Rattle.std.specs.List.{list_any, onto_first}
+use Rattle.std.specs.List.{list_all, list_any, onto_first}
 use Rattle.std.specs.Char.{is_ascii_alphabetic, is_ascii_alphanumeric, is_ascii_digit}
 use Rattle.asm_text.specs.declared.fault.AsmCause.{AsmCause}
 use Rattle.asm_text.specs.declared.fault.AsmCause.TheVariants.{BadToken, BadNumber}
@@ -12,7 +12,7 @@ use Rattle.asm_text.specs.Numbers.{number_of}
 abbrev pub is_one_of : List ℕ → ℕ → Bool
 is_one_of bytes byte = list_any (λ one. byte == one) bytes
 
--- a letter, a digit or `_`
+-- a word byte: a letter, a digit or `_`
 abbrev pub is_word_byte : ℕ → Bool
 is_word_byte byte = is_ascii_alphanumeric byte || byte == 95
 
@@ -40,10 +40,14 @@ abbrev pub is_register : List ℕ → Bool
 is_register (byte ∷ []) = is_one_of (codes "aAxXyY") byte
 is_register _ = false
 
--- a piece that begins with a letter or `_` is a name, of at most 32 characters
+-- a letter or `_`
+abbrev pub is_name_start : ℕ → Bool
+is_name_start byte = is_ascii_alphabetic byte || byte == 95
+
+-- a name has such a first byte, word bytes after it, and 32 bytes at most
 abbrev pub is_name : List ℕ → Bool
 is_name [] = false
-is_name (first ∷ rest) = (is_ascii_alphabetic first || first == 95) && nat_le (length (first ∷ rest)) 32
+is_name (first ∷ rest) = is_name_start first && list_all is_word_byte rest && nat_le (length (first ∷ rest)) 32
 
 -- a `.` with a name after it, which `a`, `x` and `y` are not
 abbrev pub is_dotted_name : List ℕ → Bool

@@ -3,6 +3,7 @@ use Rattle.std.specs.Prelude.{ℕ, ◌+◌, List, [], ◌∷◌, ◌++◌, lengt
 use Rattle.asm_text.specs.declared.fault.AsmCause.{AsmCause}
 use Rattle.asm_text.specs.declared.fault.AsmFault.{AsmFault}
 use Rattle.asm_text.specs.declared.fault.AsmFault.TheVariants.{TooLong, Line}
+use Rattle.asm_text.specs.declared.scan.TheConstants.{TEXT_LIMIT}
 use Rattle.asm_text.specs.declared.token.Kind.{Kind}
 use Rattle.asm_text.specs.declared.token.Token.{Token}
 use Rattle.asm_text.specs.Lines.{code_of, lines_of}
@@ -39,6 +40,6 @@ unfoldable pub tokens_from : ℕ → ℕ → List (List ℕ) → Result (List To
 tokens_from line place [] = Ok []
 tokens_from line place (bytes ∷ lines) = joined (line_tokens line place bytes) (tokens_from (line + 1) (place + length bytes) lines)
 
--- the tokens of a source, or its one fault: it is too long above 1,048,576 bytes; lines count from 1
+-- the tokens of a source, or its one fault: it may be too long; lines count from 1
 abbrev pub tokens_of : List ℕ → Result (List Token) AsmFault
-tokens_of text = if nat_lt 1048576 (length text) then Err TooLong else tokens_from 1 0 (lines_of text)
+tokens_of text = if nat_lt TEXT_LIMIT (length text) then Err TooLong else tokens_from 1 0 (lines_of text)

@@ -1,42 +1,69 @@
-use thiserror::Error;
+ghost use Rattle.std.specs.Prelude.{Some};
+ghost use Rattle.asm_text.specs.Texts.{cause_text, fault_text};
+
+use std::error::Error;
+use std::fmt;
 
 /// What is wrong with a line of a source.
-///
-/// `BadToken` is a byte that begins no token, or a name of more than 32 characters. `BadNumber` is a
-/// number without digits, with a character that is no digit of its base, or above 65,535.
-/// `NoSuchForm` is a line of no form; `TwiceNamed` is a name that has a value already; `UnknownName`
-/// is a name that has none; `OutOfRange` is a value outside its range; `OutsideRom` is a byte at an
-/// address outside the ROM; `Overlap` is a byte that is given twice.
-#[derive(Clone, Copy, Debug, PartialEq, Eq, Error)]
+#[derive(Clone, Copy, Debug, PartialEq, Eq)]
 pub enum AsmCause {
-    #[error("bad token")]
+    /// A piece that is no token at all: a stray byte, or a name past its greatest length.
     BadToken,
-    #[error("bad number")]
+    /// What begins as a number does and writes none of 16 bits in its base.
     BadNumber,
-    #[error("no such form")]
+    /// The line's tokens make up no statement.
     NoSuchForm,
-    #[error("twice named")]
+    /// A second value for one name.
     TwiceNamed,
-    #[error("unknown name")]
+    /// A name for which no value is known.
     UnknownName,
-    #[error("out of range")]
+    /// A value that its place in the statement can't take.
     OutOfRange,
-    #[error("outside rom")]
+    /// The line's bytes would fall beside the ROM.
     OutsideRom,
-    #[error("overlap")]
+    /// One of the line's bytes was given before.
     Overlap,
 }
 
 /// Why a source is refused.
-///
-/// `TooLong` is more than 1,048,576 bytes, and is looked at first. `Line` has the number of the bad
-/// line, counted from 1.
-#[derive(Clone, Copy, Debug, PartialEq, Eq, Error)]
+#[derive(Clone, Copy, Debug, PartialEq, Eq)]
 pub enum AsmFault {
-    #[error("too long")]
+    /// More than `TEXT_LIMIT` bytes, which comes before all else.
     TooLong,
-    #[error("line {line}: {cause}")]
+    /// The first bad line, counted from 1, and what is wrong with it.
     Line { line: u32, cause: AsmCause },
-    #[error("no memory")]
     OutOfMemory,
 }
+
+impl fmt::Display for AsmCause {
+    ghost output = { λ cause. Some (cause_text cause) };
+
+    fn fmt<W: fmt::Write>(&self, f: &mut fmt::Formatter<W>) -> fmt::Result {
+        f.write_str(match self {
+            AsmCause::BadToken => "bad token",
+            AsmCause::BadNumber => "bad number",
+            AsmCause::NoSuchForm => "no such form",
+            AsmCause::TwiceNamed => "twice named",
+            AsmCause::UnknownName => "unknown name",
+            AsmCause::OutOfRange => "out of range",
+            AsmCause::OutsideRom => "outside rom",
+            AsmCause::Overlap => "overlap",
+        })
+    }
+}
+
+impl Error for AsmCause {}
+
+impl fmt::Display for AsmFault {
+    ghost output = { λ fault. Some (fault_text fault) };
+
+    fn fmt<W: fmt::Write>(&self, f: &mut fmt::Formatter<W>) -> fmt::Result {
+        match self {
+            AsmFault::TooLong => f.write_str("too long"),
+            AsmFault::Line { line, cause } => write!(f, "line {line}: {cause}"),
+            AsmFault::OutOfMemory => f.write_str("no memory"),
+        }
+    }
+}
+
+impl Error for AsmFault {}

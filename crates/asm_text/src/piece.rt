@@ -1,18 +1,25 @@
 ghost use Rattle.std.specs.Prelude.{◌≡◌, ◌<◌, ◌∷◌, ◌++◌, length};
-ghost use Rattle.asm_text.specs.Pieces.{is_blank, is_dotted_name, is_mark, is_name, is_number_start, is_register, joins, kind_of, pieces_of};
+ghost use Rattle.std.specs.List.{list_all};
+ghost use Rattle.asm_text.specs.Pieces.{is_blank, is_dotted_name, is_mark, is_name, is_name_start, is_number_start, is_register, is_word_byte, joins, kind_of, pieces_of};
 
 use crate::fault::AsmCause;
 use crate::numeral::number;
 use crate::token::Kind;
+
+/// Whether a byte is a letter, a digit or `_`.
+fn is_word_byte(byte: u8) -> bool
+    ensures { result ≡ is_word_byte byte }
+{
+    byte.is_ascii_alphanumeric() || byte == b'_'
+}
 
 /// Whether a byte belongs to the piece of the byte directly before it.
 #[tactic(auto, unfolding(crate::specs::Pieces::joins))]
 fn joins(before: u8, byte: u8) -> bool
     ensures { result ≡ joins before byte }
 {
-    let in_word = byte.is_ascii_alphanumeric() || byte == b'_';
-    let takes_word = before.is_ascii_alphanumeric() || matches!(before, b'_' | b'$' | b'%' | b'.');
-    (takes_word && in_word) || (before == b'\r' && byte == b'\n')
+    let takes_word = is_word_byte(before) || matches!(before, b'$' | b'%' | b'.');
+    (takes_word && is_word_byte(byte)) || (before == b'\r' && byte == b'\n')
 }
 
 /// The first piece of a line's code, and what stands after it.
@@ -54,12 +61,26 @@ pub fn is_register(word: &[u8]) -> bool
     matches!(word, [b'a' | b'A' | b'x' | b'X' | b'y' | b'Y'])
 }
 
-/// Whether a piece begins as a name does and isn't too long for one.
+/// Whether a name begins with this byte.
+fn is_name_start(byte: u8) -> bool
+    ensures { result ≡ is_name_start byte }
+{
+    byte.is_ascii_alphabetic() || byte == b'_'
+}
+
+/// Whether all bytes are letters, digits or `_`.
+fn is_word(bytes: &[u8]) -> bool
+    ensures { result ≡ list_all (λ byte. is_word_byte byte) bytes.now }
+{
+    bytes.iter().all(|byte| is_word_byte(*byte))
+}
+
+/// Whether a piece is a name.
 fn is_name(piece: &[u8]) -> bool
     ensures { result ≡ is_name piece.now }
 {
     match piece {
-        [first, ..] => (first.is_ascii_alphabetic() || *first == b'_') && piece.len() <= 32,
+        [first, rest @ ..] => is_name_start(*first) && is_word(rest) && piece.len() <= 32,
         [] => false,
     }
 }

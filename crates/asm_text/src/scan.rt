@@ -1,6 +1,6 @@
-ghost use Rattle.std.specs.Prelude.{◌≡◌, ◌≢◌, ℕ, ◌+◌, ◌^◌, ◌<◌, ◌≤◌, ◌↔◌, All, IfOk, OnOk, length};
+ghost use Rattle.std.specs.Prelude.{◌≡◌, ◌≢◌, ℕ, ◌+◌, ◌^◌, ◌<◌, ◌↔◌, All, IfErr, IfOk, OnOk, length};
 ghost use Rattle.asm_text.specs.Answers.{Answers};
-ghost use Rattle.asm_text.specs.Spans.{EndsBy, IsAccounted, IsNumbered, IsTokenOf, StandIn};
+ghost use Rattle.asm_text.specs.Spans.{EndsBy, IsAccounted, IsNumbered, IsTokenOf, Refused, StandIn};
 ghost use Rattle.asm_text.specs.Tokens.{line_tokens, onto, tokens_of};
 
 use crate::fault::AsmFault;
@@ -52,21 +52,23 @@ pub fn push_line(
 
 /// Reads the tokens of a source, line by line from its front to its end.
 ///
-/// A name is a letter or `_`, then letters, digits and `_`, at most 32 in all. `a`, `x` and `y` of
-/// either case are tokens of the same kind, and so is a `.` with a name directly after it, which may
-/// not be one of these three. A number is decimal, `$` and hexadecimal, or `%` and binary digits, at
-/// most 65,535. A name or a number takes in all letters, digits and `_` that follow it directly. A
-/// mark is one of `: = # ( ) , < > + -`. Blanks are spaces, tabs, LF and a CR directly before LF. A
-/// comment begins at `;` and takes in the rest of its line, whatever its bytes are.
+/// Words are names: they begin with a letter or an underscore, go on with these and with digits, and
+/// are 32 characters long at most. The letters of the three registers count as names, and so does a
+/// word behind a dot, unless it is a register's letter. Numbers are written in base 10, behind `$` in
+/// base 16 and behind `%` in base 2, and fit 16 bits. Neither ends while such characters go on, so
+/// `5x` is one bad number, and no number before a name. The marks are `:`, `=`, `#`, `(`, `)`, `,`,
+/// `<`, `>`, `+` and `-`. Tokens may be parted by spaces, tabs and the end of a line, which is LF with
+/// or without a CR before it. From a `;` to the end of its line, all is a comment.
 ///
-/// The text has at most 1,048,576 bytes. Memory is taken for the tokens alone.
+/// The text has at most `TEXT_LIMIT` bytes. Memory is taken for the tokens alone.
 pub fn tokens(alloc: Global, text: &[u8]) -> Result<Vec<Token>, AsmFault>
     ensures tokens { Answers (λ tokens. tokens.items) result (tokens_of text.now) }
-    ensures too_long { (result ≡ Err AsmFault.TooLong) ↔ (1048576 < length text.now) }
+    ensures too_long { (result ≡ Err AsmFault.TooLong) ↔ (TEXT_LIMIT < length text.now) }
     ensures spans { IfOk result (λ tokens. StandIn text.now 0 (length text.now) tokens.items) }
     ensures lines { IfOk result (λ tokens. All (IsNumbered text.now) tokens.items) }
     ensures each { IfOk result (λ tokens. All (IsTokenOf text.now) tokens.items) }
     ensures all { IfOk result (λ tokens. (place : ℕ) → place < length text.now → IsAccounted text.now tokens.items place) }
+    ensures refused { IfErr result (Refused text.now) }
 {
     if text.len() > TEXT_LIMIT {
         return Err(AsmFault::TooLong);

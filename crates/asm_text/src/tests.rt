@@ -2,7 +2,6 @@ use crate::{
     AsmCause, AsmFault, Kind, Listing, ListingLine, Token, is_register, number, push_line,
     read_line, tokens,
 };
-use std::alloc::Global;
 use std::test::Fail;
 
 /// A source of four lines: a comment with a byte that begins no token, an empty line, CR before LF,

@@ -1,31 +1,29 @@
 -- What a read of all fields tells of a file.
-use Rattle.std.proofs.Common.{◌≡◌, ℕ, ◌-◌, ◌≤◌, Bool, List, [], length, Some, None, Ok, Err, sym, subst, ◌∙◌, arith, inl, inr}
+use Rattle.std.proofs.Common.{◌≡◌, ℕ, Bool, List, [], length, None, Ok, Err, sym, subst, ◌∙◌, arith, inl, inr}
 use Rattle.std.specs.Prelude.{◌↔◌, ◌⊎◌, IsTrue}
 use Rattle.std.specs.Option.{is_some}
 use Rattle.std.specs.List.{concat}
 use Rattle.std.proofs.lemmas.List.{append-nil}
 use Rattle.cpu_core.specs.Places.{IsMiddle}
 use Rattle.board_base.specs.Board.{BoardValue}
-use Rattle.save_state.specs.Fields.{first_broken}
 use Rattle.save_state.specs.StateBytes.{fields, processor_of, board_pieces}
-use Rattle.save_state.specs.Reading.{read_all, board_at, BreaksFirst, Spells}
-use Rattle.save_state.proofs.Laws.{read_broken, read_spelled, widths}
+use Rattle.save_state.specs.Walk.{board_at}
+use Rattle.save_state.specs.Reading.{BreaksFirst, Spells}
+use Rattle.save_state.proofs.Laws.{file_broken, read_spelled}
+use Rattle.save_state.proofs.Decided.{of_middle}
 use Rattle.save_state.proofs.Whole.{board_is, all_width}
 
 -- a fault of a read is the first broken field
 pub breaks : (version : ℕ) (file : List ℕ) (at : ℕ) → length file ≡ 4356
     → ((inside : Bool) → (IsTrue inside ↔ IsMiddle (processor_of file)) → board_at version inside file ≡ Err at) → BreaksFirst version file at
-breaks version file at len e = λ inside h.
-    let whole : read_all (fields version file inside) file ≡ Err at = sym (board_is version inside file) ∙ e inside h in
-    let none : 4356 - length file ≡ 0 = omega arith in
-    let wide : widths (fields version file inside) ≤ length file = omega (arith, all_width version file inside) in
-    subst (λ (k : ℕ). first_broken (fields version file inside) k file ≡ Some at) none
-    (read_broken (fields version file inside) file at (omega arith) wide whole)
+breaks version file at len e =
+    let m = of_middle (processor_of file) in
+    file_broken (processor_of file) m.0 m.1 (fields version file) file at len (omega (arith, all_width version file)) (sym (board_is version m.0 file) ∙ e m.0 m.1)
 
 -- what is read is spelled so
 pub spelled : (version : ℕ) (file : List ℕ) (b : BoardValue) (inside : Bool) → board_at version inside file ≡ Ok (board_pieces version b, []) → file ≡ concat (board_pieces version b)
 spelled version file b inside e =
-    read_spelled (fields version file inside) file (board_pieces version b) [] (sym (board_is version inside file) ∙ e) ∙ append-nil (concat (board_pieces version b))
+    read_spelled inside (fields version file) file (board_pieces version b) [] (sym (board_is version inside file) ∙ e) ∙ append-nil (concat (board_pieces version b))
 
 spells : (version : ℕ) (file : List ℕ) (b : BoardValue) → ((version ≡ 1) ⊎ (version ≡ 2)) → (version ≡ 1 → b.cpu.mid ≡ None) → file ≡ concat (board_pieces version b) → Spells file b
 spells version file b (inl one) none e = inr (subst (λ (v : ℕ). file ≡ concat (board_pieces v b)) one e, none one)

@@ -1,6 +1,11 @@
 pub mod Inside
+pub mod Decided
 pub mod Laws
+pub mod RangeTests
 pub mod Signed
+pub mod Spelled
+pub mod BoardsRead
+pub mod OneBoard
 pub mod Whole
 pub mod Parts
 pub mod Clock

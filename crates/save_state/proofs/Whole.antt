@@ -6,80 +6,156 @@ use Rattle.std.proofs.lemmas.Nat.{from_le_bytes-to_le_bytes_2}
 use Rattle.std.specs.Option.{is_some}
 use Rattle.std.specs.Int.{w16}
 use Rattle.board_base.specs.Cpu.{CpuValue}
-use Rattle.save_state.specs.Fields.{Field, byte_to, count_to, number_to}
-use Rattle.save_state.specs.StateBytes.{head_fields, register_fields, jam_fields, port_fields, divider_fields, middle_of_version, zero_fields, halted_fields, pen_fields, stack_fields, beam_fields, tone_fields, pulse_fields, level_fields, last_fields, earom_fields, memory_fields, middle_at, processor_of, processor_pieces, head_pieces, register_pieces, jam_pieces, processor_fields, vg_fields, pokey_fields, back_fields, middle_part_fields, fields, last_clock, undocumented, eight_fields, no_place_fields, place_fields, middle_fields}
-use Rattle.save_state.specs.Reading.{next, read_all, processor_at, middle_after, vg_at, pokey_at, back_at, board_at}
-use Rattle.save_state.proofs.Laws.{join, read_rest, read_spelled, widths, rest_ports, rest_divider}
+use Rattle.save_state.specs.Fields.{Field, byte_to, signed_to, count_to, number_to, widths}
+use Rattle.save_state.specs.StateBytes.{head_fields, register_fields, jam_fields, port_fields, divider_fields, middle_of_version, zero_fields, halted_fields, pen_fields, stack_fields, left_field, beam_fields, tone_fields, pulse_fields, level_fields, last_fields, earom_fields, memory_fields, middle_at, processor_of, processor_pieces, head_pieces, register_pieces, jam_pieces, processor_fields, vg_fields, pokey_fields, back_fields, middle_part_fields, fields, last_clock, undocumented, eight_fields, no_place_fields, place_fields, middle_fields}
+use Rattle.save_state.specs.Walk.{next, read_all, processor_at, middle_after, vg_at, pokey_at, back_at, board_at}
+use Rattle.save_state.proofs.Laws.{join, read_append, read_rest, read_spelled, rest_ports, rest_divider}
 
-rest_head : (bytes : List ℕ) (ps : List (List ℕ)) (rest : List ℕ) → read_all head_fields bytes ≡ Ok (ps, rest) → rest ≡ drop 4 bytes
+rest_head : (bytes : List ℕ) (ps : List (List ℕ)) (rest : List ℕ) → read_all false head_fields bytes ≡ Ok (ps, rest) → rest ≡ drop 4 bytes
 unfolding widths head_fields
-rest_head bytes ps rest e = read_rest head_fields bytes ps rest e
+rest_head bytes ps rest e = read_rest false head_fields bytes ps rest e
 
-rest_registers : (last : ℕ) (bytes : List ℕ) (ps : List (List ℕ)) (rest : List ℕ) → read_all (register_fields last) bytes ≡ Ok (ps, rest) → rest ≡ drop 15 bytes
+rest_registers : (last : ℕ) (bytes : List ℕ) (ps : List (List ℕ)) (rest : List ℕ) → read_all false (register_fields last) bytes ≡ Ok (ps, rest) → rest ≡ drop 15 bytes
 unfolding widths register_fields
-rest_registers last bytes ps rest e = read_rest (register_fields last) bytes ps rest e
+rest_registers last bytes ps rest e = read_rest false (register_fields last) bytes ps rest e
 
-rest_halted : (bytes : List ℕ) (ps : List (List ℕ)) (rest : List ℕ) → read_all halted_fields bytes ≡ Ok (ps, rest) → rest ≡ drop 1 bytes
+rest_halted : (bytes : List ℕ) (ps : List (List ℕ)) (rest : List ℕ) → read_all false halted_fields bytes ≡ Ok (ps, rest) → rest ≡ drop 1 bytes
 unfolding widths halted_fields
-rest_halted bytes ps rest e = read_rest halted_fields bytes ps rest e
+rest_halted bytes ps rest e = read_rest false halted_fields bytes ps rest e
 
-pub processor_is : (version last : ℕ) (file : List ℕ) → processor_at version last file ≡ read_all (processor_fields last (slice_index file 19)) file
+pub processor_is : (version last : ℕ) (file : List ℕ) → processor_at version last file ≡ read_all false (processor_fields last (slice_index file 19)) file
 unfolding processor_at processor_fields
 processor_is version last file =
-    join head_fields (register_fields last ++ jam_fields (slice_index file 19)) file (read_all head_fields file)
-    (λ registers. next (read_all (register_fields last) registers) (λ jam. read_all (jam_fields (slice_index jam 0)) jam)) refl
-    (λ ps rest e. join (register_fields last) (jam_fields (slice_index file 19)) rest (read_all (register_fields last) rest)
-    (λ jam. read_all (jam_fields (slice_index jam 0)) jam) refl
+    join false head_fields (register_fields last ++ jam_fields (slice_index file 19)) file (read_all false head_fields file)
+    (λ registers. next (read_all false (register_fields last) registers) (λ jam. read_all false (jam_fields (slice_index jam 0)) jam)) refl
+    (λ ps rest e. join false (register_fields last) (jam_fields (slice_index file 19)) rest (read_all false (register_fields last) rest)
+    (λ jam. read_all false (jam_fields (slice_index jam 0)) jam) refl
     (λ ps2 rest2 e2.
     let at : slice_index rest2 0 ≡ slice_index file 19 =
     ap (λ (x : List ℕ). slice_index x 0) (rest_registers last rest ps2 rest2 e2 ∙ ap (λ (x : List ℕ). drop 15 x) (rest_head file ps rest e))
     ∙ get_or-drop 15 (drop 4 file) 0 0 ∙ get_or-drop 4 file 15 0 in
-    ap (λ (n : ℕ). read_all (jam_fields n) rest2) at))
+    ap (λ (n : ℕ). read_all false (jam_fields n) rest2) at))
 
-pub vg_is : (bytes : List ℕ) → vg_at bytes ≡ read_all (vg_fields (slice_index (drop 1 bytes) 0)) bytes
+pub vg_is : (bytes : List ℕ) → vg_at bytes ≡ read_all false (vg_fields (slice_index (drop 1 bytes) 0)) bytes
 unfolding vg_at vg_fields
 vg_is bytes =
-    join halted_fields (pen_fields ++ (stack_fields ++ beam_fields (slice_index (drop 1 bytes) 0))) bytes (read_all halted_fields bytes)
-    (λ pen. next (read_all pen_fields pen) (λ stack. next (read_all stack_fields stack) (λ beam. read_all (beam_fields (slice_index pen 0)) beam))) refl
-    (λ ps rest e. join pen_fields (stack_fields ++ beam_fields (slice_index (drop 1 bytes) 0)) rest (read_all pen_fields rest)
-    (λ stack. next (read_all stack_fields stack) (λ beam. read_all (beam_fields (slice_index rest 0)) beam)) refl
-    (λ ps2 rest2 e2. join stack_fields (beam_fields (slice_index (drop 1 bytes) 0)) rest2 (read_all stack_fields rest2)
-    (λ beam. read_all (beam_fields (slice_index rest 0)) beam) refl
-    (λ ps3 rest3 e3. ap (λ (x : List ℕ). read_all (beam_fields (slice_index x 0)) rest3) (rest_halted bytes ps rest e))))
+    join false halted_fields (pen_fields ++ (stack_fields ++ beam_fields (slice_index (drop 1 bytes) 0))) bytes (read_all false halted_fields bytes)
+    (λ pen. next (read_all false pen_fields pen) (λ stack. next (read_all false stack_fields stack) (λ beam. read_all false (beam_fields (slice_index pen 0)) beam))) refl
+    (λ ps rest e. join false pen_fields (stack_fields ++ beam_fields (slice_index (drop 1 bytes) 0)) rest (read_all false pen_fields rest)
+    (λ stack. next (read_all false stack_fields stack) (λ beam. read_all false (beam_fields (slice_index rest 0)) beam)) refl
+    (λ ps2 rest2 e2. join false stack_fields (beam_fields (slice_index (drop 1 bytes) 0)) rest2 (read_all false stack_fields rest2)
+    (λ beam. read_all false (beam_fields (slice_index rest 0)) beam) refl
+    (λ ps3 rest3 e3. ap (λ (x : List ℕ). read_all false (beam_fields (slice_index x 0)) rest3) (rest_halted bytes ps rest e))))
 
-pub pokey_is : (bytes : List ℕ) → pokey_at bytes ≡ read_all pokey_fields bytes
+pub pokey_is : (bytes : List ℕ) → pokey_at bytes ≡ read_all false pokey_fields bytes
 unfolding pokey_at pokey_fields
 pokey_is bytes =
-    join tone_fields (pulse_fields ++ (level_fields ++ last_fields)) bytes (read_all tone_fields bytes)
-    (λ pulses. next (read_all pulse_fields pulses) (λ levels. next (read_all level_fields levels) (λ last. read_all last_fields last))) refl
-    (λ ps rest e. join pulse_fields (level_fields ++ last_fields) rest (read_all pulse_fields rest)
-    (λ levels. next (read_all level_fields levels) (λ last. read_all last_fields last)) refl
-    (λ ps2 rest2 e2. join level_fields last_fields rest2 (read_all level_fields rest2) (λ last. read_all last_fields last) refl (λ ps3 rest3 e3. refl)))
+    join false tone_fields (pulse_fields ++ (level_fields ++ last_fields)) bytes (read_all false tone_fields bytes)
+    (λ pulses. next (read_all false pulse_fields pulses) (λ levels. next (read_all false level_fields levels) (λ last. read_all false last_fields last))) refl
+    (λ ps rest e. join false pulse_fields (level_fields ++ last_fields) rest (read_all false pulse_fields rest)
+    (λ levels. next (read_all false level_fields levels) (λ last. read_all false last_fields last)) refl
+    (λ ps2 rest2 e2. join false level_fields last_fields rest2 (read_all false level_fields rest2) (λ last. read_all false last_fields last) refl (λ ps3 rest3 e3. refl)))
 
-pub back_is : (bytes : List ℕ) → back_at bytes ≡ read_all (back_fields (slice_index (drop 1 bytes) 0)) bytes
+pub back_is : (bytes : List ℕ) → back_at bytes ≡ read_all false (back_fields (slice_index (drop 1 bytes) 0)) bytes
 unfolding back_at back_fields
 back_is bytes =
-    join (vg_fields (slice_index (drop 1 bytes) 0)) (pokey_fields ++ (pokey_fields ++ (earom_fields ++ memory_fields))) bytes (vg_at bytes)
-    (λ one. next (pokey_at one) (λ two. next (pokey_at two) (λ earom. next (read_all earom_fields earom) (λ memory. read_all memory_fields memory)))) (vg_is bytes)
-    (λ ps rest e. join pokey_fields (pokey_fields ++ (earom_fields ++ memory_fields)) rest (pokey_at rest)
-    (λ two. next (pokey_at two) (λ earom. next (read_all earom_fields earom) (λ memory. read_all memory_fields memory))) (pokey_is rest)
-    (λ ps2 rest2 e2. join pokey_fields (earom_fields ++ memory_fields) rest2 (pokey_at rest2)
-    (λ earom. next (read_all earom_fields earom) (λ memory. read_all memory_fields memory)) (pokey_is rest2)
-    (λ ps3 rest3 e3. join earom_fields memory_fields rest3 (read_all earom_fields rest3) (λ memory. read_all memory_fields memory) refl (λ ps4 rest4 e4. refl))))
+    join false (vg_fields (slice_index (drop 1 bytes) 0)) (pokey_fields ++ (pokey_fields ++ (earom_fields ++ memory_fields))) bytes (vg_at bytes)
+    (λ one. next (pokey_at one) (λ two. next (pokey_at two) (λ earom. next (read_all false earom_fields earom) (λ memory. read_all false memory_fields memory)))) (vg_is bytes)
+    (λ ps rest e. join false pokey_fields (pokey_fields ++ (earom_fields ++ memory_fields)) rest (pokey_at rest)
+    (λ two. next (pokey_at two) (λ earom. next (read_all false earom_fields earom) (λ memory. read_all false memory_fields memory))) (pokey_is rest)
+    (λ ps2 rest2 e2. join false pokey_fields (earom_fields ++ memory_fields) rest2 (pokey_at rest2)
+    (λ earom. next (read_all false earom_fields earom) (λ memory. read_all false memory_fields memory)) (pokey_is rest2)
+    (λ ps3 rest3 e3. join false earom_fields memory_fields rest3 (read_all false earom_fields rest3) (λ memory. read_all false memory_fields memory) refl (λ ps4 rest4 e4. refl))))
+
+-- where there is no place, it is no matter what was told
+plain_join : (inside : Bool) (fs gs : List Field) → ((bytes : List ℕ) → read_all false fs bytes ≡ read_all inside fs bytes) → ((bytes : List ℕ) → read_all false gs bytes ≡ read_all inside gs bytes)
+    → (bytes : List ℕ) → read_all false (fs ++ gs) bytes ≡ read_all inside (fs ++ gs) bytes
+plain_join inside fs gs e f bytes = sym (read_append false fs gs bytes) ∙ join inside fs gs bytes (read_all false fs bytes) (read_all false gs) (e bytes) (λ ps rest h. f rest)
+
+plain_halted : (inside : Bool) (bytes : List ℕ) → read_all false halted_fields bytes ≡ read_all inside halted_fields bytes
+unfolding read_all halted_fields
+plain_halted inside bytes = refl
+
+plain_pen : (inside : Bool) (bytes : List ℕ) → read_all false pen_fields bytes ≡ read_all inside pen_fields bytes
+unfolding read_all pen_fields
+plain_pen inside bytes = refl
+
+plain_stack : (inside : Bool) (bytes : List ℕ) → read_all false stack_fields bytes ≡ read_all inside stack_fields bytes
+unfolding read_all stack_fields
+plain_stack inside bytes = refl
+
+plain_signed : (inside : Bool) (bytes : List ℕ) → read_all false (signed_to 1073741824 ∷ signed_to 1073741824 ∷ signed_to 134217728 ∷ signed_to 134217728 ∷ []) bytes
+    ≡ read_all inside (signed_to 1073741824 ∷ signed_to 1073741824 ∷ signed_to 134217728 ∷ signed_to 134217728 ∷ []) bytes
+unfolding read_all
+plain_signed inside bytes = refl
+
+plain_pokey : (inside : Bool) (bytes : List ℕ) → read_all false pokey_fields bytes ≡ read_all inside pokey_fields bytes
+unfolding read_all pokey_fields tone_fields pulse_fields level_fields last_fields
+plain_pokey inside bytes = refl
+
+plain_end : (inside : Bool) (bytes : List ℕ) → read_all false (earom_fields ++ memory_fields) bytes ≡ read_all inside (earom_fields ++ memory_fields) bytes
+unfolding read_all earom_fields memory_fields
+plain_end inside bytes = refl
+
+plain_ports : (inside : Bool) (bytes : List ℕ) → read_all false port_fields bytes ≡ read_all inside port_fields bytes
+unfolding read_all port_fields
+plain_ports inside bytes = refl
+
+plain_divider : (inside : Bool) (bytes : List ℕ) → read_all false divider_fields bytes ≡ read_all inside divider_fields bytes
+unfolding read_all divider_fields
+plain_divider inside bytes = refl
+
+plain_zeros : (inside : Bool) (bytes : List ℕ) → read_all false zero_fields bytes ≡ read_all inside zero_fields bytes
+unfolding read_all zero_fields
+plain_zeros inside bytes = refl
+
+plain_front_by : (inside b : Bool) (last : ℕ) (bytes : List ℕ) → read_all false (head_fields ++ (register_fields last ++ (byte_to 1 ∷ cond b undocumented (byte_to 0) ∷ []))) bytes
+    ≡ read_all inside (head_fields ++ (register_fields last ++ (byte_to 1 ∷ cond b undocumented (byte_to 0) ∷ []))) bytes
+unfolding read_all head_fields register_fields undocumented
+plain_front_by inside true last bytes = refl
+plain_front_by inside false last bytes = refl
+
+plain_processor : (inside : Bool) (last jammed : ℕ) (bytes : List ℕ) → read_all false (processor_fields last jammed) bytes ≡ read_all inside (processor_fields last jammed) bytes
+unfolding processor_fields jam_fields
+plain_processor inside last jammed bytes = plain_front_by inside (jammed == 1) last bytes
+
+plain_left : (inside b : Bool) (bytes : List ℕ) → read_all false (cond b (count_to w16 8192) (number_to w16 0) ∷ []) bytes ≡ read_all inside (cond b (count_to w16 8192) (number_to w16 0) ∷ []) bytes
+unfolding read_all
+plain_left inside true bytes = refl
+plain_left inside false bytes = refl
+
+plain_beam : (inside : Bool) (phase : ℕ) (bytes : List ℕ) → read_all false (beam_fields phase) bytes ≡ read_all inside (beam_fields phase) bytes
+unfolding beam_fields
+plain_beam inside phase bytes =
+    plain_join inside (signed_to 1073741824 ∷ signed_to 1073741824 ∷ signed_to 134217728 ∷ signed_to 134217728 ∷ []) (left_field phase ∷ [])
+    (plain_signed inside) (plain_left inside (phase == 5)) bytes
+
+plain_vg : (inside : Bool) (phase : ℕ) (bytes : List ℕ) → read_all false (vg_fields phase) bytes ≡ read_all inside (vg_fields phase) bytes
+unfolding vg_fields
+plain_vg inside phase bytes =
+    plain_join inside halted_fields (pen_fields ++ (stack_fields ++ beam_fields phase)) (plain_halted inside)
+    (plain_join inside pen_fields (stack_fields ++ beam_fields phase) (plain_pen inside) (plain_join inside stack_fields (beam_fields phase) (plain_stack inside) (plain_beam inside phase))) bytes
+
+plain_back : (inside : Bool) (phase : ℕ) (bytes : List ℕ) → read_all false (back_fields phase) bytes ≡ read_all inside (back_fields phase) bytes
+unfolding back_fields
+plain_back inside phase bytes =
+    plain_join inside (vg_fields phase) (pokey_fields ++ (pokey_fields ++ (earom_fields ++ memory_fields))) (plain_vg inside phase)
+    (plain_join inside pokey_fields (pokey_fields ++ (earom_fields ++ memory_fields)) (plain_pokey inside) (plain_join inside pokey_fields (earom_fields ++ memory_fields) (plain_pokey inside) (plain_end inside))) bytes
 
 pub middle_is : (version : ℕ) (jammed inside : Bool) (bytes : List ℕ)
-    → middle_after version jammed inside bytes ≡ read_all (middle_part_fields version jammed (slice_index (drop 5 (drop 4 bytes)) 0) inside) bytes
+    → middle_after version jammed inside bytes ≡ read_all inside (middle_part_fields version jammed (slice_index (drop 5 (drop 4 bytes)) 0)) bytes
 unfolding middle_after middle_part_fields
 middle_is version jammed inside bytes =
     let at : ℕ = slice_index (drop 5 (drop 4 bytes)) 0 in
-    join port_fields (divider_fields ++ (middle_of_version version jammed at inside ++ zero_fields)) bytes (read_all port_fields bytes)
-    (λ divider. next (read_all divider_fields divider) (λ middle. next (read_all (middle_of_version version jammed (slice_index middle 0) inside) middle) (λ zeros. read_all zero_fields zeros))) refl
-    (λ ps rest e. join divider_fields (middle_of_version version jammed at inside ++ zero_fields) rest (read_all divider_fields rest)
-    (λ middle. next (read_all (middle_of_version version jammed (slice_index middle 0) inside) middle) (λ zeros. read_all zero_fields zeros)) refl
+    join inside port_fields (divider_fields ++ (middle_of_version version jammed at ++ zero_fields)) bytes (read_all false port_fields bytes)
+    (λ divider. next (read_all false divider_fields divider) (λ middle. next (read_all inside (middle_of_version version jammed (slice_index middle 0)) middle) (λ zeros. read_all false zero_fields zeros)))
+    (plain_ports inside bytes)
+    (λ ps rest e. join inside divider_fields (middle_of_version version jammed at ++ zero_fields) rest (read_all false divider_fields rest)
+    (λ middle. next (read_all inside (middle_of_version version jammed (slice_index middle 0)) middle) (λ zeros. read_all false zero_fields zeros)) (plain_divider inside rest)
     (λ ps2 rest2 e2.
-    let here : slice_index rest2 0 ≡ at = ap (λ (x : List ℕ). slice_index x 0) (rest_divider rest ps2 rest2 e2 ∙ ap (λ (x : List ℕ). drop 5 x) (rest_ports bytes ps rest e)) in
-    join (middle_of_version version jammed at inside) zero_fields rest2 (read_all (middle_of_version version jammed (slice_index rest2 0) inside) rest2)
-    (λ zeros. read_all zero_fields zeros) (ap (λ (n : ℕ). read_all (middle_of_version version jammed n inside) rest2) here) (λ ps3 rest3 e3. refl)))
+    let here : slice_index rest2 0 ≡ at = ap (λ (x : List ℕ). slice_index x 0) (rest_divider inside rest ps2 rest2 e2 ∙ ap (λ (x : List ℕ). drop 5 x) (rest_ports inside bytes ps rest e)) in
+    join inside (middle_of_version version jammed at) zero_fields rest2 (read_all inside (middle_of_version version jammed (slice_index rest2 0)) rest2)
+    (λ zeros. read_all false zero_fields zeros) (ap (λ (n : ℕ). read_all inside (middle_of_version version jammed n) rest2) here) (λ ps3 rest3 e3. plain_zeros inside rest3)))
 
 -- what the front of a file tells of its processor
 abbrev cells : ℕ → ℕ → CpuValue → Option ℕ → List ℕ → List ℕ
@@ -104,7 +180,7 @@ told_place version clock c (Some o) rest = sym (get_or-drop 5 (drop 4 rest) 0 0 
 
 pub spelled_front : (version last clock : ℕ) (c : CpuValue) (file rest : List ℕ) → processor_at version last file ≡ Ok (processor_pieces version clock c, rest) → file ≡ cells version clock c c.jam rest
 spelled_front version last clock c file rest e =
-    read_spelled (processor_fields last (slice_index file 19)) file (processor_pieces version clock c) rest (sym (processor_is version last file) ∙ e)
+    read_spelled false (processor_fields last (slice_index file 19)) file (processor_pieces version clock c) rest (sym (processor_is version last file) ∙ e)
 
 pub tells_processor : (version last clock : ℕ) (c : CpuValue) (file rest : List ℕ) → c.pc < 2 ^ 16 → processor_at version last file ≡ Ok (processor_pieces version clock c, rest)
     → processor_of file ≡ record c { mid = Some (middle_at (drop 5 (drop 4 rest))) }
@@ -121,47 +197,47 @@ unfolding undocumented
 opcode_width true = refl
 opcode_width false = refl
 
-rest_processor : (last jammed : ℕ) (bytes : List ℕ) (ps : List (List ℕ)) (rest : List ℕ) → read_all (processor_fields last jammed) bytes ≡ Ok (ps, rest) → rest ≡ drop 21 bytes
+rest_processor : (inside : Bool) (last jammed : ℕ) (bytes : List ℕ) (ps : List (List ℕ)) (rest : List ℕ) → read_all inside (processor_fields last jammed) bytes ≡ Ok (ps, rest) → rest ≡ drop 21 bytes
 unfolding widths processor_fields head_fields register_fields jam_fields
-rest_processor last jammed bytes ps rest e =
-    read_rest (processor_fields last jammed) bytes ps rest e
+rest_processor inside last jammed bytes ps rest e =
+    read_rest inside (processor_fields last jammed) bytes ps rest e
     ∙ ap (λ (w : ℕ). drop (1 + (3 + (8 + (2 + (1 + (1 + (1 + (1 + (1 + (1 + (w + 0))))))))))) bytes) (opcode_width (jammed == 1))
 
-middle_width : (a b jammed inside : Bool) → widths (port_fields ++ (divider_fields ++ (cond a eight_fields (byte_to (cond jammed 0 3) ∷ cond b no_place_fields (place_fields inside)) ++ zero_fields))) ≡ 23
+middle_width : (a b jammed : Bool) → widths (port_fields ++ (divider_fields ++ (cond a eight_fields (byte_to (cond jammed 0 3) ∷ cond b no_place_fields place_fields) ++ zero_fields))) ≡ 23
 unfolding widths port_fields divider_fields eight_fields no_place_fields place_fields zero_fields
-middle_width true b jammed inside = refl
-middle_width false true jammed inside = refl
-middle_width false false jammed inside = refl
+middle_width true b jammed = refl
+middle_width false true jammed = refl
+middle_width false false jammed = refl
 
 rest_middle : (version : ℕ) (jammed : Bool) (sequence : ℕ) (inside : Bool) (bytes : List ℕ) (ps : List (List ℕ)) (rest : List ℕ)
-    → read_all (middle_part_fields version jammed sequence inside) bytes ≡ Ok (ps, rest) → rest ≡ drop 23 bytes
+    → read_all inside (middle_part_fields version jammed sequence) bytes ≡ Ok (ps, rest) → rest ≡ drop 23 bytes
 unfolding middle_part_fields middle_fields
 rest_middle version jammed sequence inside bytes ps rest e =
-    read_rest (middle_part_fields version jammed sequence inside) bytes ps rest e
-    ∙ ap (λ (w : ℕ). drop w bytes) (middle_width (version == 1) (sequence == 0) jammed inside)
+    read_rest inside (middle_part_fields version jammed sequence) bytes ps rest e
+    ∙ ap (λ (w : ℕ). drop w bytes) (middle_width (version == 1) (sequence == 0) jammed)
 
 -- a file is read as all its fields
-pub board_is : (version : ℕ) (inside : Bool) (file : List ℕ) → board_at version inside file ≡ read_all (fields version file inside) file
+pub board_is : (version : ℕ) (inside : Bool) (file : List ℕ) → board_at version inside file ≡ read_all inside (fields version file) file
 unfolding board_at fields
 board_is version inside file =
     let last : ℕ = last_clock version (slice_index file 30) in
     let jammed : Bool = slice_index file 19 == 1 in
-    join (processor_fields last (slice_index file 19)) (middle_part_fields version jammed (slice_index file 30) inside ++ back_fields (slice_index file 45)) file
+    join inside (processor_fields last (slice_index file 19)) (middle_part_fields version jammed (slice_index file 30) ++ back_fields (slice_index file 45)) file
     (processor_at version last file)
     (λ middle. next (middle_after version jammed inside middle) (λ back. back_at back))
-    (processor_is version last file)
+    (processor_is version last file ∙ plain_processor inside last (slice_index file 19) file)
     (λ ps rest e.
-    let after : rest ≡ drop 21 file = rest_processor last (slice_index file 19) file ps rest e in
+    let after : rest ≡ drop 21 file = rest_processor inside last (slice_index file 19) file ps rest e in
     let sequence : slice_index (drop 5 (drop 4 rest)) 0 ≡ slice_index file 30 =
     get_or-drop 5 (drop 4 rest) 0 0 ∙ get_or-drop 4 rest 5 0 ∙ ap (λ (x : List ℕ). slice_index x 9) after ∙ get_or-drop 21 file 9 0 in
-    join (middle_part_fields version jammed (slice_index file 30) inside) (back_fields (slice_index file 45)) rest
+    join inside (middle_part_fields version jammed (slice_index file 30)) (back_fields (slice_index file 45)) rest
     (middle_after version jammed inside rest) (λ back. back_at back)
-    (middle_is version jammed inside rest ∙ ap (λ (n : ℕ). read_all (middle_part_fields version jammed n inside) rest) sequence)
+    (middle_is version jammed inside rest ∙ ap (λ (n : ℕ). read_all inside (middle_part_fields version jammed n) rest) sequence)
     (λ ps2 rest2 e2.
     let later : rest2 ≡ drop 23 rest = rest_middle version jammed (slice_index file 30) inside rest ps2 rest2 e2 in
     let phase : slice_index (drop 1 rest2) 0 ≡ slice_index file 45 =
     get_or-drop 1 rest2 0 0 ∙ ap (λ (x : List ℕ). slice_index x 1) later ∙ get_or-drop 23 rest 1 0 ∙ ap (λ (x : List ℕ). slice_index x 24) after ∙ get_or-drop 21 file 24 0 in
-    back_is rest2 ∙ ap (λ (n : ℕ). read_all (back_fields n) rest2) phase))
+    back_is rest2 ∙ plain_back inside (slice_index (drop 1 rest2) 0) rest2 ∙ ap (λ (n : ℕ). read_all inside (back_fields n) rest2) phase))
 
 widths-append : (fs gs : List Field) → widths (fs ++ gs) ≡ widths fs + widths gs
 unfolding widths
@@ -176,9 +252,9 @@ processor_width : (last jammed : ℕ) → widths (processor_fields last jammed) 
 unfolding widths processor_fields head_fields register_fields jam_fields
 processor_width last jammed = ap (λ (w : ℕ). 1 + (3 + (8 + (2 + (1 + (1 + (1 + (1 + (1 + (1 + (w + 0))))))))))) (opcode_width (jammed == 1))
 
-middle_part_width : (version : ℕ) (jammed : Bool) (sequence : ℕ) (inside : Bool) → widths (middle_part_fields version jammed sequence inside) ≡ 23
+middle_part_width : (version : ℕ) (jammed : Bool) (sequence : ℕ) → widths (middle_part_fields version jammed sequence) ≡ 23
 unfolding middle_part_fields middle_fields
-middle_part_width version jammed sequence inside = middle_width (version == 1) (sequence == 0) jammed inside
+middle_part_width version jammed sequence = middle_width (version == 1) (sequence == 0) jammed
 
 beam_width : (phase : ℕ) → widths (beam_fields phase) ≡ 18
 unfolding widths beam_fields
@@ -202,14 +278,14 @@ back_width phase =
     rw (widths-append (vg_fields phase) (pokey_fields ++ (pokey_fields ++ (earom_fields ++ memory_fields))), widths-append pokey_fields (pokey_fields ++ (earom_fields ++ memory_fields)), widths-append pokey_fields (earom_fields ++ memory_fields))
     (omega (arith, vg_width phase, pokey_width, end_width))
 
-pub all_width : (version : ℕ) (file : List ℕ) (inside : Bool) → widths (fields version file inside) ≡ 4356
+pub all_width : (version : ℕ) (file : List ℕ) → widths (fields version file) ≡ 4356
 unfolding fields
-all_width version file inside =
+all_width version file =
     let last : ℕ = last_clock version (slice_index file 30) in
     let jammed : Bool = slice_index file 19 == 1 in
     let p : List Field = processor_fields last (slice_index file 19) in
-    let m : List Field = middle_part_fields version jammed (slice_index file 30) inside in
+    let m : List Field = middle_part_fields version jammed (slice_index file 30) in
     let b : List Field = back_fields (slice_index file 45) in
     let e : widths (p ++ (m ++ b)) ≡ widths p + widths (m ++ b) = widths-append p (m ++ b) in
     let f : widths (m ++ b) ≡ widths m + widths b = widths-append m b in
-    omega (arith, e, f, processor_width last (slice_index file 19), middle_part_width version jammed (slice_index file 30) inside, back_width (slice_index file 45))
+    omega (arith, e, f, processor_width last (slice_index file 19), middle_part_width version jammed (slice_index file 30), back_width (slice_index file 45))

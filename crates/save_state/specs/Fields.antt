@@ -1,42 +1,66 @@
 -- The fields of a format of fixed lengths: how many bytes each has, and which bytes are in its range.
-use Rattle.std.specs.Prelude.{ℕ, ◌+◌, ℤ, pos, neg_ℤ, Bool, true, ◌&&◌, nat_le, if◌then◌else◌, List, [], ◌∷◌, take, drop, slice_index, Option, None, Some}
+use Rattle.std.specs.Prelude.{◌≡◌, ◌≤◌, ℕ, ◌/◌, ◌%◌, ℤ, Bool, List, [], ◌∷◌, ◌+◌, take, drop, slice_index, None}
 use Rattle.std.specs.Int.{Width, w16, w32, w64, byte_len, from_le_bytes, to_le_bytes, cast_signed, cast_unsigned, from_bool}
-use Rattle.std.specs.Int.Signed.{le_z}
+use Rattle.board_base.specs.Cpu.{CpuValue}
+use Rattle.board_base.specs.Ranges.{IsWithin}
+use Rattle.cpu_table.specs.Opcodes.{row_of}
+use Rattle.cpu_core.specs.Places.{IsMiddle}
 
--- a field has so many bytes, and these of them are in its range
+-- the kinds of ranges
+pub data Range : Type 0 where
+  anything : Range
+  byte_at_most : ℕ → Range
+  byte_from_1 : ℕ → Range
+  number_at_most : Width → ℕ → Range
+  number_from_1 : Width → ℕ → Range
+  signed_within : ℕ → Range
+  letters : Range
+  six_zeros : Range
+  flags : Range
+  undocumented_opcode : Range
+  place : Range
+
+-- bytes are in a range, in a file that tells of this processor; numbers stand low byte first, signed ones in two's
+-- complement
+abbrev pub Fits : CpuValue → Range → List ℕ → Type 0
+Fits cpu anything piece = Unit {0}
+Fits cpu (byte_at_most greatest) piece = slice_index piece 0 ≤ greatest
+Fits cpu (byte_from_1 greatest) piece = (1 ≤ slice_index piece 0) × (slice_index piece 0 ≤ greatest)
+Fits cpu (number_at_most w greatest) piece = from_le_bytes w piece ≤ greatest
+Fits cpu (number_from_1 w greatest) piece = (1 ≤ from_le_bytes w piece) × (from_le_bytes w piece ≤ greatest)
+Fits cpu (signed_within n) piece = IsWithin n (cast_signed w32 (from_le_bytes w32 piece))
+Fits cpu letters piece = (slice_index piece 0 ≡ 0x47) × (slice_index piece 1 ≡ 0x56) × (slice_index piece 2 ≡ 0x53)
+Fits cpu six_zeros piece =
+    (slice_index piece 0 ≡ 0) × (slice_index piece 1 ≡ 0) × (slice_index piece 2 ≡ 0) ×
+    (slice_index piece 3 ≡ 0) × (slice_index piece 4 ≡ 0) × (slice_index piece 5 ≡ 0)
+Fits cpu flags piece = slice_index piece 0 / 16 % 4 ≡ 0
+Fits cpu undocumented_opcode piece = row_of (slice_index piece 0) ≡ None
+Fits cpu place piece = IsMiddle cpu
+
+-- a field has so many bytes, and they have a range
 pub record Field : Type 0 where
   pub width : ℕ
-  pub fits : List ℕ → Bool
+  pub range : Range
 
 -- so many bytes, whatever they are
 abbrev pub any : ℕ → Field
-any n = record { width = n; fits = λ _. true }
-
--- a byte for which the test holds
-abbrev pub byte : (ℕ → Bool) → Field
-byte range = record { width = 1; fits = λ piece. range (slice_index piece 0) }
+any n = record { width = n; range = anything }
 
 -- a byte that is at most so much
 abbrev pub byte_to : ℕ → Field
-byte_to greatest = byte (λ n. nat_le n greatest)
+byte_to greatest = record { width = 1; range = byte_at_most greatest }
 
--- a number, low byte first, that is at most so much
+-- a number that is at most so much
 abbrev pub number_to : Width → ℕ → Field
-number_to w greatest = record { width = byte_len w; fits = λ piece. nat_le (from_le_bytes w piece) greatest }
+number_to w greatest = record { width = byte_len w; range = number_at_most w greatest }
 
--- a number, low byte first, from 1 to so much
+-- a number from 1 to so much
 abbrev pub count_to : Width → ℕ → Field
-count_to w greatest = record {
-  width = byte_len w;
-  fits = λ piece. nat_le 1 (from_le_bytes w piece) && nat_le (from_le_bytes w piece) greatest;
-}
+count_to w greatest = record { width = byte_len w; range = number_from_1 w greatest }
 
--- a signed number of 32 bits, in two's complement and low byte first, that is no further than so much from 0
+-- a signed number of 32 bits that is no further than so much from 0
 abbrev pub signed_to : ℕ → Field
-signed_to n = record {
-  width = 4;
-  fits = λ piece. le_z (neg_ℤ (pos n)) (cast_signed w32 (from_le_bytes w32 piece)) && le_z (cast_signed w32 (from_le_bytes w32 piece)) (pos n);
-}
+signed_to n = record { width = 4; range = signed_within n }
 
 -- how a flag is spelled, and numbers of 16, 32 and 64 bits, and signed ones of 32
 abbrev pub flag : Bool → List ℕ
@@ -54,8 +78,12 @@ long n = to_le_bytes w64 n
 abbrev pub signed : ℤ → List ℕ
 signed z = to_le_bytes w32 (cast_unsigned w32 z)
 
--- the offset of the first field in order whose bytes are out of its range; at is the offset of the first byte
-unfoldable pub first_broken : List Field → ℕ → List ℕ → Option ℕ
-first_broken [] at bytes = None
-first_broken (f ∷ fs) at bytes =
-    if f.fits (take f.width bytes) then first_broken fs (at + f.width) (drop f.width bytes) else Some at
+-- these fields, one after another from the first of the bytes on, are all in range
+abbrev pub AllFit : CpuValue → List Field → List ℕ → Type 0
+AllFit cpu [] bytes = Unit {0}
+AllFit cpu (f ∷ fs) bytes = Fits cpu f.range (take f.width bytes) × AllFit cpu fs (drop f.width bytes)
+
+-- how many bytes fields have
+unfoldable pub widths : List Field → ℕ
+widths [] = 0
+widths (f ∷ fs) = f.width + widths fs

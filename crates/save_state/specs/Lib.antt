@@ -1,3 +1,5 @@
 pub mod Fields
 pub mod Reading
 pub mod StateBytes
+pub mod Texts
+pub mod Walk

@@ -1,6 +1,5 @@
 -- The format of a saved board: its fields in order, and how a board is spelled in them. This project's own profile.
-use Rattle.std.specs.Prelude.{ℕ, ◌+◌, ◌/◌, ◌%◌, ◌^◌, Bool, ◌&&◌, ◌==◌, nat_le, if◌then◌else◌, List, [], ◌∷◌, ◌++◌, slice_index, take, drop, Option, Some, None}
-use Rattle.std.specs.Option.{is_none}
+use Rattle.std.specs.Prelude.{ℕ, ◌+◌, ◌-◌, Bool, ◌==◌, if◌then◌else◌, List, [], ◌∷◌, ◌++◌, slice_index, take, drop, Option, Some, None}
 use Rattle.std.specs.List.{concat}
 use Rattle.std.specs.Int.{w16, w32, w64, from_le_bytes}
 use Rattle.board_base.specs.Board.{BoardValue}
@@ -9,18 +8,20 @@ use Rattle.board_base.specs.Divider.{DividerValue}
 use Rattle.board_base.specs.Earom.{EaromValue}
 use Rattle.board_base.specs.Pokey.{PokeyValue}
 use Rattle.board_base.specs.Vg.{VgValue}
+use Rattle.board_base.specs.declared.board.TheConstants.{RAM_LEN, CLOCK_LIMIT}
+use Rattle.board_base.specs.declared.divider.TheConstants.{DIVIDER_PERIOD}
+use Rattle.board_base.specs.declared.vector_memory.TheConstants.{VECTOR_RAM_LEN}
 use Rattle.board_base.specs.declared.cpu.Sequence.{Sequence}
 use Rattle.board_base.specs.declared.cpu.Sequence.TheVariants.{Opcode, Interrupt, Reset}
 use Rattle.board_base.specs.declared.divider.Pending.{Pending}
 use Rattle.board_base.specs.declared.divider.Pending.TheVariants.{Nothing, Power, Watchdog}
-use Rattle.cpu_table.specs.Opcodes.{row_of}
-use Rattle.save_state.specs.Fields.{Field, any, byte, byte_to, number_to, count_to, signed_to, flag, word, quad, long, signed}
+use Rattle.save_state.specs.Fields.{Field, letters, six_zeros, flags, undocumented_opcode, byte_from_1, place, any, byte_to, number_to, count_to, signed_to, flag, word, quad, long, signed}
 
 -- the version, and the letters G, V and S
 unfoldable pub head_fields : List Field
 head_fields =
     any 1 ∷
-    record { width = 3; fits = λ piece. slice_index piece 0 == 0x47 && slice_index piece 1 == 0x56 && slice_index piece 2 == 0x53 } ∷
+    record { width = 3; range = letters } ∷
     []
 
 abbrev pub head_pieces : ℕ → List (List ℕ)
@@ -29,7 +30,7 @@ head_pieces version = (version ∷ []) ∷ (0x47 ∷ 0x56 ∷ 0x53 ∷ []) ∷ [
 -- the clock, up to this one, and the registers: pc, a, x, y, s, and p with bits 4 and 5 clear
 unfoldable pub register_fields : ℕ → List Field
 register_fields last =
-    number_to w64 last ∷ any 2 ∷ any 1 ∷ any 1 ∷ any 1 ∷ any 1 ∷ byte (λ p. p / 16 % 4 == 0) ∷ []
+    number_to w64 last ∷ any 2 ∷ any 1 ∷ any 1 ∷ any 1 ∷ any 1 ∷ record { width = 1; range = flags } ∷ []
 
 abbrev pub register_pieces : ℕ → CpuValue → List (List ℕ)
 register_pieces clock c =
@@ -37,7 +38,7 @@ register_pieces clock c =
 
 -- whether the processor is jammed, and by which undocumented opcode
 unfoldable pub undocumented : Field
-undocumented = byte (λ o. is_none (row_of o))
+undocumented = record { width = 1; range = undocumented_opcode }
 
 abbrev pub opcode_field : ℕ → Field
 opcode_field jammed = if jammed == 1 then undocumented else byte_to 0
@@ -58,7 +59,7 @@ port_pieces out in0 in3 in4 = (out ∷ []) ∷ (in0 ∷ []) ∷ (in3 ∷ []) ∷
 
 -- the divider and the watchdog
 unfoldable pub divider_fields : List Field
-divider_fields = number_to w16 6143 ∷ byte_to 1 ∷ byte_to 7 ∷ byte_to 2 ∷ []
+divider_fields = number_to w16 (DIVIDER_PERIOD - 1) ∷ byte_to 1 ∷ byte_to 7 ∷ byte_to 2 ∷ []
 
 abbrev pub pending_number : Pending → ℕ
 pending_number Nothing = 0
@@ -70,23 +71,17 @@ divider_pieces d = word d.phase ∷ flag d.irq ∷ (d.dog ∷ []) ∷ (pending_n
 
 -- no place inside a sequence: no clock is done, and there are six zeros
 unfoldable pub no_place_fields : List Field
-no_place_fields =
-    byte_to 0 ∷
-    record {
-      width = 6;
-      fits = λ piece. slice_index piece 0 == 0 && slice_index piece 1 == 0 && slice_index piece 2 == 0 &&
-          slice_index piece 3 == 0 && slice_index piece 4 == 0 && slice_index piece 5 == 0;
-    } ∷ []
+no_place_fields = byte_to 0 ∷ record { width = 6; range = six_zeros } ∷ []
 
 -- a place: the clocks that are done of the sequence, and six bytes, which are in range where the processor stands
 -- inside that sequence
-unfoldable pub place_fields : Bool → List Field
-place_fields inside = byte (λ n. nat_le 1 n && nat_le n 6) ∷ record { width = 6; fits = λ _. inside } ∷ []
+unfoldable pub place_fields : List Field
+place_fields = record { width = 1; range = byte_from_1 6 } ∷ record { width = 6; range = place } ∷ []
 
 -- the sequence, none where the processor is jammed, and the place inside it
-unfoldable pub middle_fields : Bool → ℕ → Bool → List Field
-middle_fields jammed sequence inside =
-    byte_to (if jammed then 0 else 3) ∷ (if sequence == 0 then no_place_fields else place_fields inside)
+unfoldable pub middle_fields : Bool → ℕ → List Field
+middle_fields jammed sequence =
+    byte_to (if jammed then 0 else 3) ∷ (if sequence == 0 then no_place_fields else place_fields)
 
 abbrev pub sequence_number : Sequence → ℕ
 sequence_number Opcode = 1
@@ -203,16 +198,17 @@ earom_pieces e = (e.addr ∷ []) ∷ (e.value ∷ []) ∷ (e.control ∷ []) ∷
 
 -- both memories
 unfoldable pub memory_fields : List Field
-memory_fields = any 2048 ∷ any 2048 ∷ []
+memory_fields = any RAM_LEN ∷ any VECTOR_RAM_LEN ∷ []
 
 -- the greatest clock: a board stands up to 16 clocks later than inside a sequence
 abbrev pub last_clock : ℕ → ℕ → ℕ
-last_clock version sequence = if version == 1 then 2 ^ 48 + 16 else (if sequence == 0 then 2 ^ 48 + 16 else 2 ^ 48)
+last_clock version sequence =
+    if version == 1 then CLOCK_LIMIT + 16 else (if sequence == 0 then CLOCK_LIMIT + 16 else CLOCK_LIMIT)
 
 -- the place in a version
-abbrev pub middle_of_version : ℕ → Bool → ℕ → Bool → List Field
-middle_of_version version jammed sequence inside =
-    if version == 1 then eight_fields else middle_fields jammed sequence inside
+abbrev pub middle_of_version : ℕ → Bool → ℕ → List Field
+middle_of_version version jammed sequence =
+    if version == 1 then eight_fields else middle_fields jammed sequence
 
 abbrev pub middle_in_version : ℕ → Option MidValue → List (List ℕ)
 middle_in_version version mid = if version == 1 then eight_pieces else middle_pieces mid
@@ -239,9 +235,9 @@ board_pieces version b =
 unfoldable pub processor_fields : ℕ → ℕ → List Field
 processor_fields last jammed = head_fields ++ (register_fields last ++ jam_fields jammed)
 
-unfoldable pub middle_part_fields : ℕ → Bool → ℕ → Bool → List Field
-middle_part_fields version jammed sequence inside =
-    port_fields ++ (divider_fields ++ (middle_of_version version jammed sequence inside ++ zero_fields))
+unfoldable pub middle_part_fields : ℕ → Bool → ℕ → List Field
+middle_part_fields version jammed sequence =
+    port_fields ++ (divider_fields ++ (middle_of_version version jammed sequence ++ zero_fields))
 
 unfoldable pub vg_fields : ℕ → List Field
 vg_fields phase = halted_fields ++ (pen_fields ++ (stack_fields ++ beam_fields phase))
@@ -252,12 +248,11 @@ pokey_fields = tone_fields ++ (pulse_fields ++ (level_fields ++ last_fields))
 unfoldable pub back_fields : ℕ → List Field
 back_fields phase = vg_fields phase ++ (pokey_fields ++ (pokey_fields ++ (earom_fields ++ memory_fields)))
 
--- the fields of a file of this version, whose ranges go by bytes 19, 30 and 45; inside tells whether its processor
--- stands inside a sequence
-unfoldable pub fields : ℕ → List ℕ → Bool → List Field
-fields version file inside =
+-- the fields of a file of this version, whose ranges go by bytes 19, 30 and 45
+unfoldable pub fields : ℕ → List ℕ → List Field
+fields version file =
     processor_fields (last_clock version (slice_index file 30)) (slice_index file 19) ++
-    (middle_part_fields version (slice_index file 19 == 1) (slice_index file 30) inside ++
+    (middle_part_fields version (slice_index file 19 == 1) (slice_index file 30) ++
     back_fields (slice_index file 45))
 
 -- the processor that a file tells

@@ -1,15 +1,30 @@
-use thiserror::Error;
+ghost use Rattle.std.specs.Prelude.{Some};
+ghost use Rattle.save_state.specs.Texts.{fault_text};
+
+use std::error::Error;
+use std::fmt;
 
 /// Why bytes are no saved board.
-///
-/// `Length` has the number of bytes, where it isn't 4,356; else `Version` has byte 0, where it is
-/// neither 1 nor 2; else `Field` has the offset of the first field that is out of its range.
-#[derive(Clone, Copy, Debug, PartialEq, Eq, Error)]
+#[derive(Clone, Copy, Debug, PartialEq, Eq)]
 pub enum StateFault {
-    #[error("length {0}")]
+    /// The number of bytes, where it isn't `STATE_LEN`.
     Length(usize),
-    #[error("version {0}")]
+    /// Else byte 0, where it is neither 1 nor 2.
     Version(u8),
-    #[error("field {0}")]
+    /// Else the offset of the first field that is out of its range.
     Field(usize),
 }
+
+impl fmt::Display for StateFault {
+    ghost output = { λ fault. Some (fault_text fault) };
+
+    fn fmt<W: fmt::Write>(&self, f: &mut fmt::Formatter<W>) -> fmt::Result {
+        match self {
+            StateFault::Length(n) => write!(f, "length {n}"),
+            StateFault::Version(version) => write!(f, "version {version}"),
+            StateFault::Field(at) => write!(f, "field {at}"),
+        }
+    }
+}
+
+impl Error for StateFault {}

@@ -1,10 +1,10 @@
-ghost use Rattle.std.specs.Prelude.{◌≡◌, ◌+◌, ◌-◌, ◌≤◌, ◌/◌, ◌%◌, ◌==◌, ℕ, [], ◌∷◌, None, IfOk, Ok, drop, length, pos, slice_index};
+ghost use Rattle.std.specs.Prelude.{◌≡◌, ◌+◌, ◌-◌, ◌≤◌, ◌/◌, ◌%◌, ◌==◌, [], ◌∷◌, None, IfOk, Ok, drop, length, slice_index};
 ghost use Rattle.std.specs.Int.{w16, w32, w64, from_bool};
 ghost use Rattle.board_base.specs.Ranges.{IsWithin};
 ghost use Rattle.cpu_table.specs.Opcodes.{row_of};
-ghost use Rattle.save_state.specs.Fields.{any, byte, byte_to, number_to, count_to, signed_to, flag, word, quad, long, signed};
+ghost use Rattle.save_state.specs.Fields.{flags, any, byte_to, number_to, count_to, signed_to, flag, word, quad, long, signed};
 ghost use Rattle.save_state.specs.StateBytes.{undocumented};
-ghost use Rattle.save_state.specs.Reading.{Gives, field_at};
+ghost use Rattle.save_state.specs.Walk.{Gives, read_field};
 
 use crate::STATE_LEN;
 use cpu_table::entry;
@@ -13,27 +13,27 @@ use cpu_table::entry;
 ///
 /// A field that is out of its range is told by its offset, by each of these functions.
 pub fn offset(bytes: &[u8]) -> usize
-    requires { length bytes.now ≤ 4356 }
-    ensures { result ≡ 4356 - length bytes.now }
+    requires { length bytes.now ≤ STATE_LEN }
+    ensures { result ≡ STATE_LEN - length bytes.now }
 {
     STATE_LEN - bytes.len()
 }
 
 /// Reads a byte of any value.
-#[tactic(auto, unfolding(crate::specs::Reading::field_at))]
+#[tactic(auto, unfolding(crate::specs::Walk::field_at))]
 pub fn read_any(bytes: &[u8]) -> (u8, &[u8])
     requires { 1 ≤ length bytes.now }
-    ensures field { field_at (any 1) bytes.now ≡ Ok (result.0 ∷ [], result.1.now) }
+    ensures field { read_field (any 1) bytes.now ≡ Ok (result.0 ∷ [], result.1.now) }
     ensures len { length result.1.now + 1 ≡ length bytes.now }
 {
     (bytes[0], &bytes[1..])
 }
 
 /// Reads so many bytes of any value.
-#[tactic(auto, unfolding(crate::specs::Reading::field_at))]
+#[tactic(auto, unfolding(crate::specs::Walk::field_at))]
 pub fn read_array<const N: usize>(bytes: &[u8]) -> ([u8; N], &[u8])
     requires { N ≤ length bytes.now }
-    ensures field { field_at (any N) bytes.now ≡ Ok (result.0, result.1.now) }
+    ensures field { read_field (any N) bytes.now ≡ Ok (result.0, result.1.now) }
     ensures len { length result.1.now + N ≡ length bytes.now }
 {
     let (front, rest) = bytes.split_at(N);
@@ -43,11 +43,11 @@ pub fn read_array<const N: usize>(bytes: &[u8]) -> ([u8; N], &[u8])
 }
 
 /// Reads a byte that is at most `greatest`.
-#[tactic(auto, unfolding(crate::specs::Reading::field_at))]
+#[tactic(auto, unfolding(crate::specs::Walk::field_at))]
 pub fn read_byte(bytes: &[u8], greatest: u8) -> Result<(u8, &[u8]), usize>
     requires some { 1 ≤ length bytes.now }
-    requires inside { length bytes.now ≤ 4356 }
-    ensures field { Gives (λ x. (x.0 ∷ [], x.1.now)) result (field_at (byte_to greatest) bytes.now) }
+    requires inside { length bytes.now ≤ STATE_LEN }
+    ensures field { Gives (λ x. (x.0 ∷ [], x.1.now)) result (read_field (byte_to greatest) bytes.now) }
     ensures value { IfOk result (λ x. slice_index bytes.now 0 ≡ x.0) }
     ensures rest { IfOk result (λ x. x.1.now ≡ drop 1 bytes.now) }
     ensures range { IfOk result (λ x. x.0 ≤ greatest) }
@@ -62,8 +62,8 @@ pub fn read_byte(bytes: &[u8], greatest: u8) -> Result<(u8, &[u8]), usize>
 /// Reads a byte that is 0.
 pub fn read_zero(bytes: &[u8]) -> Result<&[u8], usize>
     requires some { 1 ≤ length bytes.now }
-    requires inside { length bytes.now ≤ 4356 }
-    ensures field { Gives (λ x. (0 ∷ [], x.now)) result (field_at (byte_to 0) bytes.now) }
+    requires inside { length bytes.now ≤ STATE_LEN }
+    ensures field { Gives (λ x. (0 ∷ [], x.now)) result (read_field (byte_to 0) bytes.now) }
     ensures value { IfOk result (λ _. slice_index bytes.now 0 ≡ 0) }
     ensures rest { IfOk result (λ x. x.now ≡ drop 1 bytes.now) }
     ensures len { IfOk result (λ x. length x.now + 1 ≡ length bytes.now) }
@@ -75,8 +75,8 @@ pub fn read_zero(bytes: &[u8]) -> Result<&[u8], usize>
 /// Reads a flag.
 pub fn read_flag(bytes: &[u8]) -> Result<(bool, &[u8]), usize>
     requires some { 1 ≤ length bytes.now }
-    requires inside { length bytes.now ≤ 4356 }
-    ensures field { Gives (λ x. (flag x.0, x.1.now)) result (field_at (byte_to 1) bytes.now) }
+    requires inside { length bytes.now ≤ STATE_LEN }
+    ensures field { Gives (λ x. (flag x.0, x.1.now)) result (read_field (byte_to 1) bytes.now) }
     ensures value { IfOk result (λ x. slice_index bytes.now 0 ≡ from_bool x.0) }
     ensures len { IfOk result (λ x. length x.1.now + 1 ≡ length bytes.now) }
 {
@@ -85,11 +85,11 @@ pub fn read_flag(bytes: &[u8]) -> Result<(bool, &[u8]), usize>
 }
 
 /// Reads the processor's flags, of which bits 4 and 5 are clear.
-#[tactic(auto, unfolding(crate::specs::Reading::field_at))]
+#[tactic(auto, unfolding(crate::specs::Walk::field_at))]
 pub fn read_flags(bytes: &[u8]) -> Result<(u8, &[u8]), usize>
     requires some { 1 ≤ length bytes.now }
-    requires inside { length bytes.now ≤ 4356 }
-    ensures field { Gives (λ x. (x.0 ∷ [], x.1.now)) result (field_at (byte (λ p. p / 16 % 4 == 0)) bytes.now) }
+    requires inside { length bytes.now ≤ STATE_LEN }
+    ensures field { Gives (λ x. (x.0 ∷ [], x.1.now)) result (read_field (record { width = 1; range = flags }) bytes.now) }
     ensures range { IfOk result (λ x. x.0 / 16 % 4 ≡ 0) }
     ensures len { IfOk result (λ x. length x.1.now + 1 ≡ length bytes.now) }
 {
@@ -100,11 +100,11 @@ pub fn read_flags(bytes: &[u8]) -> Result<(u8, &[u8]), usize>
 }
 
 /// Reads an undocumented opcode.
-#[tactic(auto, unfolding(crate::specs::Reading::field_at, crate::specs::StateBytes::undocumented))]
+#[tactic(auto, unfolding(crate::specs::Walk::field_at, crate::specs::StateBytes::undocumented))]
 pub fn read_undocumented(bytes: &[u8]) -> Result<(u8, &[u8]), usize>
     requires some { 1 ≤ length bytes.now }
-    requires inside { length bytes.now ≤ 4356 }
-    ensures field { Gives (λ x. (x.0 ∷ [], x.1.now)) result (field_at undocumented bytes.now) }
+    requires inside { length bytes.now ≤ STATE_LEN }
+    ensures field { Gives (λ x. (x.0 ∷ [], x.1.now)) result (read_field undocumented bytes.now) }
     ensures range { IfOk result (λ x. row_of x.0 ≡ None) }
     ensures len { IfOk result (λ x. length x.1.now + 1 ≡ length bytes.now) }
 {
@@ -115,10 +115,10 @@ pub fn read_undocumented(bytes: &[u8]) -> Result<(u8, &[u8]), usize>
 }
 
 /// Reads a number of 16 bits.
-#[tactic(auto, unfolding(crate::specs::Reading::field_at))]
+#[tactic(auto, unfolding(crate::specs::Walk::field_at))]
 pub fn read_address(bytes: &[u8]) -> (u16, &[u8])
     requires { 2 ≤ length bytes.now }
-    ensures field { field_at (any 2) bytes.now ≡ Ok (word result.0, result.1.now) }
+    ensures field { read_field (any 2) bytes.now ≡ Ok (word result.0, result.1.now) }
     ensures len { length result.1.now + 2 ≡ length bytes.now }
 {
     let (front, rest) = bytes.split_at(2);
@@ -126,11 +126,11 @@ pub fn read_address(bytes: &[u8]) -> (u16, &[u8])
 }
 
 /// Reads a number of 16 bits that is at most `greatest`.
-#[tactic(auto, unfolding(crate::specs::Reading::field_at))]
+#[tactic(auto, unfolding(crate::specs::Walk::field_at))]
 pub fn read_word(bytes: &[u8], greatest: u16) -> Result<(u16, &[u8]), usize>
     requires some { 2 ≤ length bytes.now }
-    requires inside { length bytes.now ≤ 4356 }
-    ensures field { Gives (λ x. (word x.0, x.1.now)) result (field_at (number_to w16 greatest) bytes.now) }
+    requires inside { length bytes.now ≤ STATE_LEN }
+    ensures field { Gives (λ x. (word x.0, x.1.now)) result (read_field (number_to w16 greatest) bytes.now) }
     ensures range { IfOk result (λ x. x.0 ≤ greatest) }
     ensures len { IfOk result (λ x. length x.1.now + 2 ≡ length bytes.now) }
 {
@@ -143,11 +143,11 @@ pub fn read_word(bytes: &[u8], greatest: u16) -> Result<(u16, &[u8]), usize>
 }
 
 /// Reads a number of 32 bits that is at most `greatest`.
-#[tactic(auto, unfolding(crate::specs::Reading::field_at))]
+#[tactic(auto, unfolding(crate::specs::Walk::field_at))]
 pub fn read_quad(bytes: &[u8], greatest: u32) -> Result<(u32, &[u8]), usize>
     requires some { 4 ≤ length bytes.now }
-    requires inside { length bytes.now ≤ 4356 }
-    ensures field { Gives (λ x. (quad x.0, x.1.now)) result (field_at (number_to w32 greatest) bytes.now) }
+    requires inside { length bytes.now ≤ STATE_LEN }
+    ensures field { Gives (λ x. (quad x.0, x.1.now)) result (read_field (number_to w32 greatest) bytes.now) }
     ensures range { IfOk result (λ x. x.0 ≤ greatest) }
     ensures len { IfOk result (λ x. length x.1.now + 4 ≡ length bytes.now) }
 {
@@ -160,11 +160,11 @@ pub fn read_quad(bytes: &[u8], greatest: u32) -> Result<(u32, &[u8]), usize>
 }
 
 /// Reads a number of 64 bits that is at most `greatest`.
-#[tactic(auto, unfolding(crate::specs::Reading::field_at))]
+#[tactic(auto, unfolding(crate::specs::Walk::field_at))]
 pub fn read_long(bytes: &[u8], greatest: u64) -> Result<(u64, &[u8]), usize>
     requires some { 8 ≤ length bytes.now }
-    requires inside { length bytes.now ≤ 4356 }
-    ensures field { Gives (λ x. (long x.0, x.1.now)) result (field_at (number_to w64 greatest) bytes.now) }
+    requires inside { length bytes.now ≤ STATE_LEN }
+    ensures field { Gives (λ x. (long x.0, x.1.now)) result (read_field (number_to w64 greatest) bytes.now) }
     ensures range { IfOk result (λ x. x.0 ≤ greatest) }
     ensures len { IfOk result (λ x. length x.1.now + 8 ≡ length bytes.now) }
 {
@@ -179,11 +179,11 @@ pub fn read_long(bytes: &[u8], greatest: u64) -> Result<(u64, &[u8]), usize>
 }
 
 /// Reads a number of 16 bits from 1 to `greatest`.
-#[tactic(auto, unfolding(crate::specs::Reading::field_at))]
+#[tactic(auto, unfolding(crate::specs::Walk::field_at))]
 pub fn read_count(bytes: &[u8], greatest: u16) -> Result<(u16, &[u8]), usize>
     requires some { 2 ≤ length bytes.now }
-    requires inside { length bytes.now ≤ 4356 }
-    ensures field { Gives (λ x. (word x.0, x.1.now)) result (field_at (count_to w16 greatest) bytes.now) }
+    requires inside { length bytes.now ≤ STATE_LEN }
+    ensures field { Gives (λ x. (word x.0, x.1.now)) result (read_field (count_to w16 greatest) bytes.now) }
     ensures least { IfOk result (λ x. 1 ≤ x.0) }
     ensures range { IfOk result (λ x. x.0 ≤ greatest) }
     ensures len { IfOk result (λ x. length x.1.now + 2 ≡ length bytes.now) }
@@ -197,11 +197,11 @@ pub fn read_count(bytes: &[u8], greatest: u16) -> Result<(u16, &[u8]), usize>
 }
 
 /// Reads a number of 32 bits from 1 to `greatest`.
-#[tactic(auto, unfolding(crate::specs::Reading::field_at))]
+#[tactic(auto, unfolding(crate::specs::Walk::field_at))]
 pub fn read_pulses(bytes: &[u8], greatest: u32) -> Result<(u32, &[u8]), usize>
     requires some { 4 ≤ length bytes.now }
-    requires inside { length bytes.now ≤ 4356 }
-    ensures field { Gives (λ x. (quad x.0, x.1.now)) result (field_at (count_to w32 greatest) bytes.now) }
+    requires inside { length bytes.now ≤ STATE_LEN }
+    ensures field { Gives (λ x. (quad x.0, x.1.now)) result (read_field (count_to w32 greatest) bytes.now) }
     ensures least { IfOk result (λ x. 1 ≤ x.0) }
     ensures range { IfOk result (λ x. x.0 ≤ greatest) }
     ensures len { IfOk result (λ x. length x.1.now + 4 ≡ length bytes.now) }
@@ -215,12 +215,12 @@ pub fn read_pulses(bytes: &[u8], greatest: u32) -> Result<(u32, &[u8]), usize>
 }
 
 /// Reads a signed number of 32 bits that is no further than `greatest` from 0.
-#[tactic(auto, unfolding(crate::specs::Reading::field_at))]
+#[tactic(auto, unfolding(crate::specs::Walk::field_at))]
 pub fn read_signed(bytes: &[u8], greatest: u32) -> Result<(i32, &[u8]), usize>
     requires some { 4 ≤ length bytes.now }
-    requires inside { length bytes.now ≤ 4356 }
+    requires inside { length bytes.now ≤ STATE_LEN }
     requires small { greatest ≤ 1073741824 }
-    ensures field { Gives (λ x. (signed x.0, x.1.now)) result (field_at (signed_to greatest) bytes.now) }
+    ensures field { Gives (λ x. (signed x.0, x.1.now)) result (read_field (signed_to greatest) bytes.now) }
     ensures range { IfOk result (λ x. IsWithin greatest x.0) }
     ensures len { IfOk result (λ x. length x.1.now + 4 ≡ length bytes.now) }
 {

@@ -3,6 +3,7 @@
 
 mod fault;
 mod fields;
+mod range;
 mod read_cpu;
 mod read_devices;
 mod read_middle;

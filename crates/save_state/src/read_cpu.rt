@@ -2,19 +2,20 @@ ghost use Rattle.std.specs.Prelude.{◌≡◌, ◌+◌, ◌≤◌, ◌==◌, Non
 ghost use Rattle.std.specs.Option.{is_some};
 ghost use Rattle.cpu_table.specs.Opcodes.{row_of};
 ghost use Rattle.save_state.specs.StateBytes.{register_fields, register_pieces, jam_fields, jam_pieces};
-ghost use Rattle.save_state.specs.Reading.{Gives, read_all};
+ghost use Rattle.save_state.specs.Walk.{Gives, read_fields};
 
+use crate::STATE_LEN;
 use crate::fields::{
     read_address, read_any, read_flag, read_flags, read_long, read_undocumented, read_zero,
 };
 use board_base::CpuState;
 
 /// Reads the clock, which is at most `last`, and the registers.
-#[tactic(auto, unfolding(crate::specs::Reading::read_all, crate::specs::StateBytes::register_fields))]
+#[tactic(auto, unfolding(crate::specs::Walk::read_all, crate::specs::StateBytes::register_fields))]
 pub fn read_registers(bytes: &[u8], last: u64) -> Result<((u64, CpuState), &[u8]), usize>
     requires some { 15 ≤ length bytes.now }
-    requires inside { length bytes.now ≤ 4356 }
-    ensures fields { Gives (λ x. (register_pieces x.0.0 x.0.1, x.1.now)) result (read_all (register_fields last) bytes.now) }
+    requires inside { length bytes.now ≤ STATE_LEN }
+    ensures fields { Gives (λ x. (register_pieces x.0.0 x.0.1, x.1.now)) result (read_fields (register_fields last) bytes.now) }
     ensures clock { IfOk result (λ x. x.0.0 ≤ last) }
     ensures jam { IfOk result (λ x. x.0.1.jam ≡ None) }
     ensures mid { IfOk result (λ x. x.0.1.mid ≡ None) }
@@ -41,11 +42,11 @@ pub fn read_registers(bytes: &[u8], last: u64) -> Result<((u64, CpuState), &[u8]
 }
 
 /// Reads whether the processor is jammed, and by which opcode.
-#[tactic(auto, unfolding(crate::specs::Reading::read_all, crate::specs::StateBytes::jam_fields))]
+#[tactic(auto, unfolding(crate::specs::Walk::read_all, crate::specs::StateBytes::jam_fields))]
 pub fn read_jam(bytes: &[u8]) -> Result<(Option<u8>, &[u8]), usize>
     requires some { 2 ≤ length bytes.now }
-    requires inside { length bytes.now ≤ 4356 }
-    ensures fields { Gives (λ x. (jam_pieces x.0, x.1.now)) result (read_all (jam_fields (slice_index bytes.now 0)) bytes.now) }
+    requires inside { length bytes.now ≤ STATE_LEN }
+    ensures fields { Gives (λ x. (jam_pieces x.0, x.1.now)) result (read_fields (jam_fields (slice_index bytes.now 0)) bytes.now) }
     ensures jammed { IfOk result (λ x. (slice_index bytes.now 0 == 1) ≡ is_some x.0) }
     ensures undocumented { IfOk result (λ x. IfSome x.0 (λ o. row_of o ≡ None)) }
     ensures len { IfOk result (λ x. length x.1.now + 2 ≡ length bytes.now) }

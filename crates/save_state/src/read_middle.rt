@@ -2,18 +2,19 @@ ghost use Rattle.std.specs.Prelude.{◌≡◌, ◌+◌, ◌≤◌, ◌↔◌, []
 ghost use Rattle.std.specs.Option.{is_some};
 ghost use Rattle.cpu_core.specs.Places.{IsMiddle};
 ghost use Rattle.save_state.specs.StateBytes.{no_place_fields, place_fields, sequence_of, middle_at, middle_fields, middle_pieces, eight_fields, eight_pieces, zero_fields, zero_pieces};
-ghost use Rattle.save_state.specs.Reading.{Gives, field_at, read_all};
+ghost use Rattle.save_state.specs.Walk.{Gives, read_all, read_fields};
 
+use crate::STATE_LEN;
 use crate::fields::{offset, read_array, read_byte, read_zero};
 use board_base::{CpuState, Mid, Sequence};
 use cpu_core::is_middle;
 
 /// Reads eight zeros.
-#[tactic(auto, unfolding(crate::specs::Reading::read_all, crate::specs::StateBytes::eight_fields))]
+#[tactic(auto, unfolding(crate::specs::Walk::read_all, crate::specs::StateBytes::eight_fields))]
 pub fn read_eight_zeros(bytes: &[u8]) -> Result<&[u8], usize>
     requires some { 8 ≤ length bytes.now }
-    requires inside { length bytes.now ≤ 4356 }
-    ensures fields { Gives (λ x. (eight_pieces, x.now)) result (read_all eight_fields bytes.now) }
+    requires inside { length bytes.now ≤ STATE_LEN }
+    ensures fields { (inside : Bool) → Gives (λ x. (eight_pieces, x.now)) result (read_all inside eight_fields bytes.now) }
     ensures none { IfOk result (λ _. slice_index (drop 1 bytes.now) 0 ≡ 0) }
     ensures len { IfOk result (λ x. length x.now + 8 ≡ length bytes.now) }
 {
@@ -28,11 +29,11 @@ pub fn read_eight_zeros(bytes: &[u8]) -> Result<&[u8], usize>
 }
 
 /// Reads six zeros.
-#[tactic(auto, unfolding(crate::specs::Reading::read_all, crate::specs::StateBytes::zero_fields))]
+#[tactic(auto, unfolding(crate::specs::Walk::read_all, crate::specs::StateBytes::zero_fields))]
 pub fn read_six_zeros(bytes: &[u8]) -> Result<&[u8], usize>
     requires some { 6 ≤ length bytes.now }
-    requires inside { length bytes.now ≤ 4356 }
-    ensures fields { Gives (λ x. (zero_pieces, x.now)) result (read_all zero_fields bytes.now) }
+    requires inside { length bytes.now ≤ STATE_LEN }
+    ensures fields { Gives (λ x. (zero_pieces, x.now)) result (read_fields zero_fields bytes.now) }
     ensures len { IfOk result (λ x. length x.now + 6 ≡ length bytes.now) }
 {
     let rest = read_zero(bytes)?;
@@ -44,11 +45,11 @@ pub fn read_six_zeros(bytes: &[u8]) -> Result<&[u8], usize>
 }
 
 /// Reads that there is no place inside a sequence.
-#[tactic(auto, unfolding(crate::specs::Reading::read_all, crate::specs::Reading::field_at, crate::specs::StateBytes::no_place_fields))]
+#[tactic(auto, unfolding(crate::specs::Walk::read_all, crate::specs::Walk::field_at, crate::specs::StateBytes::no_place_fields))]
 fn read_no_place(bytes: &[u8]) -> Result<&[u8], usize>
     requires some { 7 ≤ length bytes.now }
-    requires inside { length bytes.now ≤ 4356 }
-    ensures fields { Gives (λ x. ((0 ∷ []) ∷ (0 ∷ 0 ∷ 0 ∷ 0 ∷ 0 ∷ 0 ∷ []) ∷ [], x.now)) result (read_all no_place_fields bytes.now) }
+    requires inside { length bytes.now ≤ STATE_LEN }
+    ensures fields { (inside : Bool) → Gives (λ x. ((0 ∷ []) ∷ (0 ∷ 0 ∷ 0 ∷ 0 ∷ 0 ∷ 0 ∷ []) ∷ [], x.now)) result (read_all inside no_place_fields bytes.now) }
     ensures none { IfOk result (λ _. slice_index bytes.now 0 ≡ 0) }
     ensures len { IfOk result (λ x. length x.now + 7 ≡ length bytes.now) }
 {
@@ -61,15 +62,15 @@ fn read_no_place(bytes: &[u8]) -> Result<&[u8], usize>
 }
 
 /// Reads how far a sequence has come.
-#[tactic(auto, using(crate::proofs::Inside::same_test), unfolding(crate::specs::Reading::read_all, crate::specs::Reading::field_at, crate::specs::StateBytes::place_fields))]
+#[tactic(auto, using(crate::proofs::Inside::same_test), unfolding(crate::specs::Walk::read_all, crate::specs::Walk::field_at, crate::specs::StateBytes::place_fields))]
 fn read_place<'a>(
     cpu: &CpuState,
     sequence: Sequence,
     bytes: &'a [u8],
 ) -> Result<(Mid, &'a [u8]), usize>
     requires some { 7 ≤ length bytes.now }
-    requires inside { length bytes.now ≤ 4356 }
-    ensures fields { (inside : Bool) → (IsTrue inside ↔ IsMiddle (record cpu.now { mid = Some (record { sequence = sequence; count = slice_index bytes.now 0; bytes = take 6 (drop 1 bytes.now) }) })) → Gives (λ x. ((x.0.count ∷ []) ∷ x.0.bytes ∷ [], x.1.now)) result (read_all (place_fields inside) bytes.now) }
+    requires inside { length bytes.now ≤ STATE_LEN }
+    ensures fields { (inside : Bool) → (IsTrue inside ↔ IsMiddle (record cpu.now { mid = Some (record { sequence = sequence; count = slice_index bytes.now 0; bytes = take 6 (drop 1 bytes.now) }) })) → Gives (λ x. ((x.0.count ∷ []) ∷ x.0.bytes ∷ [], x.1.now)) result (read_all inside place_fields bytes.now) }
     ensures sequence { IfOk result (λ x. x.0.sequence ≡ sequence) }
     ensures told { IfOk result (λ _. IsMiddle (record cpu.now { mid = Some (record { sequence = sequence; count = slice_index bytes.now 0; bytes = take 6 (drop 1 bytes.now) }) })) }
     ensures place { IfOk result (λ x. IsMiddle (record cpu.now { mid = Some x.0 })) }
@@ -107,11 +108,11 @@ fn sequence(number: u8) -> Sequence
 }
 
 /// Reads the place of a processor inside a sequence.
-#[tactic(auto, using(crate::proofs::Inside::no_middle), unfolding(crate::specs::Reading::read_all, crate::specs::StateBytes::middle_fields))]
+#[tactic(auto, using(crate::proofs::Inside::no_middle), unfolding(crate::specs::Walk::read_all, crate::specs::StateBytes::middle_fields))]
 pub fn read_middle<'a>(cpu: &CpuState, bytes: &'a [u8]) -> Result<(Option<Mid>, &'a [u8]), usize>
     requires some { 8 ≤ length bytes.now }
-    requires inside { length bytes.now ≤ 4356 }
-    ensures fields { (inside : Bool) → (IsTrue inside ↔ IsMiddle (record cpu.now { mid = Some (middle_at bytes.now) })) → Gives (λ x. (middle_pieces x.0, x.1.now)) result (read_all (middle_fields (is_some cpu.now.jam) (slice_index bytes.now 0) inside) bytes.now) }
+    requires inside { length bytes.now ≤ STATE_LEN }
+    ensures fields { (inside : Bool) → (IsTrue inside ↔ IsMiddle (record cpu.now { mid = Some (middle_at bytes.now) })) → Gives (λ x. (middle_pieces x.0, x.1.now)) result (read_all inside (middle_fields (is_some cpu.now.jam) (slice_index bytes.now 0)) bytes.now) }
     ensures place { IfOk result (λ x. IfSome x.0 (λ m. IsMiddle (record cpu.now { mid = Some m }))) }
     ensures none { IfOk result (λ x. slice_index bytes.now 0 ≡ 0 → x.0 ≡ None) }
     ensures decided { IfOk result (λ x. IsTrue (is_some x.0) ↔ IsMiddle (record cpu.now { mid = Some (middle_at bytes.now) })) }

@@ -1,16 +1,17 @@
 ghost use Rattle.std.specs.Prelude.{◌≡◌, ◌+◌, ◌<◌, ◌≤◌, All, IfOk, length};
 ghost use Rattle.save_state.specs.StateBytes.{tone_fields, tone_pieces, pulse_fields, pulse_pieces, last_fields, last_pieces, pokey_pieces};
-ghost use Rattle.save_state.specs.Reading.{Gives, read_all, pokey_at};
+ghost use Rattle.save_state.specs.Walk.{Gives, pokey_at, read_fields};
 
+use crate::STATE_LEN;
 use crate::fields::{read_any, read_array, read_byte, read_pulses, read_quad, read_word};
 use board_base::PokeyState;
 
 /// Reads the registers of a POKEY; all else is as at power-on.
-#[tactic(auto, unfolding(crate::specs::Reading::read_all, crate::specs::StateBytes::tone_fields))]
+#[tactic(auto, unfolding(crate::specs::Walk::read_all, crate::specs::StateBytes::tone_fields))]
 fn read_registers(bytes: &[u8]) -> Result<(PokeyState, &[u8]), usize>
     requires some { 22 ≤ length bytes.now }
-    requires inside { length bytes.now ≤ 4356 }
-    ensures fields { Gives (λ x. (tone_pieces x.0, x.1.now)) result (read_all tone_fields bytes.now) }
+    requires inside { length bytes.now ≤ STATE_LEN }
+    ensures fields { Gives (λ x. (tone_pieces x.0, x.1.now)) result (read_fields tone_fields bytes.now) }
     ensures len { IfOk result (λ x. length x.1.now + 22 ≡ length bytes.now) }
 {
     let (audf, rest) = read_array::<4>(bytes);
@@ -46,11 +47,11 @@ fn read_registers(bytes: &[u8]) -> Result<(PokeyState, &[u8]), usize>
 }
 
 /// Reads the pulses that are left of each channel.
-#[tactic(auto, unfolding(crate::specs::Reading::read_all, crate::specs::StateBytes::pulse_fields))]
+#[tactic(auto, unfolding(crate::specs::Walk::read_all, crate::specs::StateBytes::pulse_fields))]
 fn read_left(bytes: &[u8]) -> Result<([u32; 4], &[u8]), usize>
     requires some { 16 ≤ length bytes.now }
-    requires inside { length bytes.now ≤ 4356 }
-    ensures fields { Gives (λ x. (pulse_pieces x.0, x.1.now)) result (read_all pulse_fields bytes.now) }
+    requires inside { length bytes.now ≤ STATE_LEN }
+    ensures fields { Gives (λ x. (pulse_pieces x.0, x.1.now)) result (read_fields pulse_fields bytes.now) }
     ensures range { IfOk result (λ x. All (λ left. (1 ≤ left) × (left ≤ 65542)) x.0) }
     ensures len { IfOk result (λ x. length x.1.now + 16 ≡ length bytes.now) }
 {
@@ -62,11 +63,11 @@ fn read_left(bytes: &[u8]) -> Result<([u32; 4], &[u8]), usize>
 }
 
 /// Reads the level of each channel.
-#[tactic(auto, unfolding(crate::specs::Reading::read_all, crate::specs::StateBytes::last_fields))]
+#[tactic(auto, unfolding(crate::specs::Walk::read_all, crate::specs::StateBytes::last_fields))]
 fn read_last(bytes: &[u8]) -> Result<([u8; 4], &[u8]), usize>
     requires some { 4 ≤ length bytes.now }
-    requires inside { length bytes.now ≤ 4356 }
-    ensures fields { Gives (λ x. (last_pieces x.0, x.1.now)) result (read_all last_fields bytes.now) }
+    requires inside { length bytes.now ≤ STATE_LEN }
+    ensures fields { Gives (λ x. (last_pieces x.0, x.1.now)) result (read_fields last_fields bytes.now) }
     ensures range { IfOk result (λ x. All (λ level. level < 16) x.0) }
     ensures len { IfOk result (λ x. length x.1.now + 4 ≡ length bytes.now) }
 {
@@ -78,13 +79,14 @@ fn read_last(bytes: &[u8]) -> Result<([u8; 4], &[u8]), usize>
 }
 
 /// Reads a POKEY.
-#[tactic(auto, unfolding(crate::specs::Reading::pokey_at, crate::specs::Reading::read_all, crate::specs::StateBytes::level_fields))]
+#[tactic(auto, unfolding(crate::specs::Walk::pokey_at, crate::specs::Walk::read_all, crate::specs::StateBytes::level_fields))]
 pub fn read_pokey(bytes: &[u8]) -> Result<(PokeyState, &[u8]), usize>
     requires some { 53 ≤ length bytes.now }
-    requires inside { length bytes.now ≤ 4356 }
+    requires inside { length bytes.now ≤ STATE_LEN }
     ensures fields { Gives (λ x. (pokey_pieces x.0, x.1.now)) result (pokey_at bytes.now) }
     ensures len { IfOk result (λ x. length x.1.now + 53 ≡ length bytes.now) }
 {
+    // a `?` on a state beside a slice gets no generated proof, here and in reading.rt
     let (registers, rest) = match read_registers(bytes) {
         Ok(read) => read,
         Err(at) => return Err(at),

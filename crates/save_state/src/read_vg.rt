@@ -1,8 +1,9 @@
-ghost use Rattle.std.specs.Prelude.{◌≡◌, ◌≢◌, ◌+◌, ◌<◌, ◌≤◌, ◌^◌, ◌∷◌, [], All, IfOk, length, slice_index};
+ghost use Rattle.std.specs.Prelude.{◌≡◌, ◌≢◌, ◌+◌, ◌<◌, ◌≤◌, ◌∷◌, [], All, IfOk, length, slice_index};
 ghost use Rattle.save_state.specs.Fields.{word};
 ghost use Rattle.save_state.specs.StateBytes.{stack_pieces, stack_fields, left_field, pen_fields, vg_pieces};
-ghost use Rattle.save_state.specs.Reading.{Gives, field_at, read_all, vg_at};
+ghost use Rattle.save_state.specs.Walk.{Gives, vg_at, read_field, read_fields};
 
+use crate::STATE_LEN;
 use crate::fields::{
     read_any, read_array, read_byte, read_count, read_flag, read_signed, read_word,
 };
@@ -23,11 +24,11 @@ struct Pen {
 }
 
 /// Reads the stack.
-#[tactic(auto, unfolding(crate::specs::Reading::read_all, crate::specs::StateBytes::stack_fields))]
+#[tactic(auto, unfolding(crate::specs::Walk::read_all, crate::specs::StateBytes::stack_fields))]
 fn read_stack(bytes: &[u8]) -> Result<([u16; 4], &[u8]), usize>
     requires some { 8 ≤ length bytes.now }
-    requires inside { length bytes.now ≤ 4356 }
-    ensures fields { Gives (λ x. (stack_pieces x.0, x.1.now)) result (read_all stack_fields bytes.now) }
+    requires inside { length bytes.now ≤ STATE_LEN }
+    ensures fields { Gives (λ x. (stack_pieces x.0, x.1.now)) result (read_fields stack_fields bytes.now) }
     ensures range { IfOk result (λ x. All (λ to. to < 8192) x.0) }
     ensures len { IfOk result (λ x. length x.1.now + 8 ≡ length bytes.now) }
 {
@@ -41,8 +42,8 @@ fn read_stack(bytes: &[u8]) -> Result<([u16; 4], &[u8]), usize>
 /// Reads the clocks that are left of a vector.
 fn read_left(bytes: &[u8], phase: u8) -> Result<(u16, &[u8]), usize>
     requires some { 2 ≤ length bytes.now }
-    requires inside { length bytes.now ≤ 4356 }
-    ensures field { Gives (λ x. (word x.0, x.1.now)) result (field_at (left_field phase) bytes.now) }
+    requires inside { length bytes.now ≤ STATE_LEN }
+    ensures field { Gives (λ x. (word x.0, x.1.now)) result (read_field (left_field phase) bytes.now) }
     ensures drawing { IfOk result (λ x. phase ≡ 5 → 1 ≤ x.0) }
     ensures longest { IfOk result (λ x. x.0 ≤ 8192) }
     ensures resting { IfOk result (λ x. phase ≢ 5 → x.0 ≡ 0) }
@@ -56,11 +57,11 @@ fn read_left(bytes: &[u8], phase: u8) -> Result<(u16, &[u8]), usize>
 }
 
 /// Reads what the generator draws with.
-#[tactic(auto, unfolding(crate::specs::Reading::read_all, crate::specs::StateBytes::pen_fields))]
+#[tactic(auto, unfolding(crate::specs::Walk::read_all, crate::specs::StateBytes::pen_fields))]
 fn read_pen(bytes: &[u8]) -> Result<(Pen, &[u8]), usize>
     requires some { 13 ≤ length bytes.now }
-    requires inside { length bytes.now ≤ 4356 }
-    ensures fields { Gives (λ x. ((x.0.phase ∷ []) ∷ word x.0.pc ∷ (x.0.sp ∷ []) ∷ (x.0.colour ∷ []) ∷ (x.0.intensity ∷ []) ∷ (x.0.lin ∷ []) ∷ (x.0.bin ∷ []) ∷ (x.0.pen ∷ []) ∷ x.0.bytes ∷ [], x.1.now)) result (read_all pen_fields bytes.now) }
+    requires inside { length bytes.now ≤ STATE_LEN }
+    ensures fields { Gives (λ x. ((x.0.phase ∷ []) ∷ word x.0.pc ∷ (x.0.sp ∷ []) ∷ (x.0.colour ∷ []) ∷ (x.0.intensity ∷ []) ∷ (x.0.lin ∷ []) ∷ (x.0.bin ∷ []) ∷ (x.0.pen ∷ []) ∷ x.0.bytes ∷ [], x.1.now)) result (read_fields pen_fields bytes.now) }
     ensures value { IfOk result (λ x. slice_index bytes.now 0 ≡ x.0.phase) }
     ensures phase { IfOk result (λ x. x.0.phase ≤ 5) }
     ensures pc { IfOk result (λ x. x.0.pc ≤ 8191) }
@@ -95,10 +96,10 @@ fn read_pen(bytes: &[u8]) -> Result<(Pen, &[u8]), usize>
 }
 
 /// Reads the vector generator.
-#[tactic(auto, unfolding(crate::specs::Reading::vg_at, crate::specs::Reading::read_all, crate::specs::StateBytes::halted_fields, crate::specs::StateBytes::beam_fields))]
+#[tactic(auto, unfolding(crate::specs::Walk::vg_at, crate::specs::Walk::read_all, crate::specs::StateBytes::halted_fields, crate::specs::StateBytes::beam_fields))]
 pub fn read_vg(bytes: &[u8]) -> Result<(VgState, &[u8]), usize>
     requires some { 40 ≤ length bytes.now }
-    requires inside { length bytes.now ≤ 4356 }
+    requires inside { length bytes.now ≤ STATE_LEN }
     ensures fields { Gives (λ x. (vg_pieces x.0, x.1.now)) result (vg_at bytes.now) }
     ensures len { IfOk result (λ x. length x.1.now + 40 ≡ length bytes.now) }
 {

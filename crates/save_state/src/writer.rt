@@ -5,7 +5,7 @@ use crate::STATE_LEN;
 
 /// Writes a piece from the offset `at` on, and tells the offset after it.
 pub fn put(out: &mut [u8; STATE_LEN], at: usize, piece: &[u8]) -> usize
-    requires { at + length piece.now ≤ 4356 }
+    requires { at + length piece.now ≤ STATE_LEN }
     ensures bytes { take result out.new ≡ take at out.old ++ piece.now }
     ensures at { result ≡ at + length piece.now }
 {
@@ -16,7 +16,7 @@ pub fn put(out: &mut [u8; STATE_LEN], at: usize, piece: &[u8]) -> usize
 
 /// Writes a number of 16 bits, low byte first.
 pub fn put_word(out: &mut [u8; STATE_LEN], at: usize, number: u16) -> usize
-    requires { at + 2 ≤ 4356 }
+    requires { at + 2 ≤ STATE_LEN }
     ensures bytes { take result out.new ≡ take at out.old ++ word number }
     ensures at { result ≡ at + 2 }
 {
@@ -25,7 +25,7 @@ pub fn put_word(out: &mut [u8; STATE_LEN], at: usize, number: u16) -> usize
 
 /// Writes a number of 32 bits, low byte first.
 pub fn put_quad(out: &mut [u8; STATE_LEN], at: usize, number: u32) -> usize
-    requires { at + 4 ≤ 4356 }
+    requires { at + 4 ≤ STATE_LEN }
     ensures bytes { take result out.new ≡ take at out.old ++ quad number }
     ensures at { result ≡ at + 4 }
 {
@@ -34,7 +34,7 @@ pub fn put_quad(out: &mut [u8; STATE_LEN], at: usize, number: u32) -> usize
 
 /// Writes a number of 64 bits, low byte first.
 pub fn put_long(out: &mut [u8; STATE_LEN], at: usize, number: u64) -> usize
-    requires { at + 8 ≤ 4356 }
+    requires { at + 8 ≤ STATE_LEN }
     ensures bytes { take result out.new ≡ take at out.old ++ long number }
     ensures at { result ≡ at + 8 }
 {
@@ -43,7 +43,7 @@ pub fn put_long(out: &mut [u8; STATE_LEN], at: usize, number: u64) -> usize
 
 /// Writes a signed number of 32 bits, low byte first.
 pub fn put_signed(out: &mut [u8; STATE_LEN], at: usize, number: i32) -> usize
-    requires { at + 4 ≤ 4356 }
+    requires { at + 4 ≤ STATE_LEN }
     ensures bytes { take result out.new ≡ take at out.old ++ signed number }
     ensures at { result ≡ at + 4 }
 {

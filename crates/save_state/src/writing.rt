@@ -1,10 +1,12 @@
-ghost use Rattle.std.specs.Prelude.{◌≡◌, ◌+◌, ◌≤◌, ◌++◌, IfSome, None, length, take};
+ghost use Rattle.std.specs.Prelude.{◌≡◌, ◌+◌, ◌≤◌, ◌++◌, IfSome, None, take};
 ghost use Rattle.std.specs.List.{concat};
 ghost use Rattle.cpu_table.specs.Opcodes.{row_of};
 ghost use Rattle.cpu_core.specs.Places.{IsMiddle};
+ghost use Rattle.save_state.specs.Reading.{IsWhole};
 ghost use Rattle.save_state.specs.StateBytes.{pulse_pieces, jam_pieces, vg_pieces, pokey_pieces, earom_pieces, divider_pieces, middle_pieces, processor_pieces, state_bytes};
 
 use crate::STATE_LEN;
+use crate::range::keep_ranges;
 use crate::writer::{put, put_long, put_quad, put_signed, put_word};
 use board_base::{
     BoardState, CpuState, DividerState, EaromState, Mid, Pending, PokeyState, Sequence, VgState,
@@ -12,7 +14,7 @@ use board_base::{
 
 /// Writes whether the processor is jammed, and by which opcode.
 fn put_jam(out: &mut [u8; STATE_LEN], at: usize, jam: Option<u8>) -> usize
-    requires { at + 2 ≤ 4356 }
+    requires { at + 2 ≤ STATE_LEN }
     ensures bytes { take result out.new ≡ take at out.old ++ concat (jam_pieces jam) }
     ensures at { result ≡ at + 2 }
 {
@@ -24,7 +26,7 @@ fn put_jam(out: &mut [u8; STATE_LEN], at: usize, jam: Option<u8>) -> usize
 
 /// Writes the version, the clock and the processor.
 fn put_processor(out: &mut [u8; STATE_LEN], at: usize, clock: u64, cpu: &CpuState) -> usize
-    requires { at + 21 ≤ 4356 }
+    requires { at + 21 ≤ STATE_LEN }
     ensures bytes { take result out.new ≡ take at out.old ++ concat (processor_pieces 2 clock cpu.now) }
     ensures at { result ≡ at + 21 }
 {
@@ -37,7 +39,7 @@ fn put_processor(out: &mut [u8; STATE_LEN], at: usize, clock: u64, cpu: &CpuStat
 
 /// Writes the divider and the watchdog.
 fn put_divider(out: &mut [u8; STATE_LEN], at: usize, divider: &DividerState) -> usize
-    requires { at + 5 ≤ 4356 }
+    requires { at + 5 ≤ STATE_LEN }
     ensures bytes { take result out.new ≡ take at out.old ++ concat (divider_pieces divider.now) }
     ensures at { result ≡ at + 5 }
 {
@@ -52,7 +54,7 @@ fn put_divider(out: &mut [u8; STATE_LEN], at: usize, divider: &DividerState) -> 
 
 /// Writes how far a sequence has come.
 fn put_mid(out: &mut [u8; STATE_LEN], at: usize, mid: Option<Mid>) -> usize
-    requires { at + 8 ≤ 4356 }
+    requires { at + 8 ≤ STATE_LEN }
     ensures bytes { take result out.new ≡ take at out.old ++ concat (middle_pieces mid) }
     ensures at { result ≡ at + 8 }
 {
@@ -70,7 +72,7 @@ fn put_mid(out: &mut [u8; STATE_LEN], at: usize, mid: Option<Mid>) -> usize
 
 /// Writes the place inside a sequence.
 fn put_middle(out: &mut [u8; STATE_LEN], at: usize, cpu: &CpuState) -> usize
-    requires { at + 8 ≤ 4356 }
+    requires { at + 8 ≤ STATE_LEN }
     ensures bytes { take result out.new ≡ take at out.old ++ concat (middle_pieces cpu.now.mid) }
     ensures at { result ≡ at + 8 }
 {
@@ -79,7 +81,7 @@ fn put_middle(out: &mut [u8; STATE_LEN], at: usize, cpu: &CpuState) -> usize
 
 /// Writes the vector generator.
 fn put_vg(out: &mut [u8; STATE_LEN], at: usize, vg: &VgState) -> usize
-    requires { at + 40 ≤ 4356 }
+    requires { at + 40 ≤ STATE_LEN }
     ensures bytes { take result out.new ≡ take at out.old ++ concat (vg_pieces vg.now) }
     ensures at { result ≡ at + 40 }
 {
@@ -104,7 +106,7 @@ fn put_vg(out: &mut [u8; STATE_LEN], at: usize, vg: &VgState) -> usize
 
 /// Writes the pulses that are left of each channel.
 fn put_left(out: &mut [u8; STATE_LEN], at: usize, left: [u32; 4]) -> usize
-    requires { at + 16 ≤ 4356 }
+    requires { at + 16 ≤ STATE_LEN }
     ensures bytes { take result out.new ≡ take at out.old ++ concat (pulse_pieces left) }
     ensures at { result ≡ at + 16 }
 {
@@ -116,7 +118,7 @@ fn put_left(out: &mut [u8; STATE_LEN], at: usize, left: [u32; 4]) -> usize
 
 /// Writes a POKEY.
 fn put_pokey(out: &mut [u8; STATE_LEN], at: usize, pokey: &PokeyState) -> usize
-    requires { at + 53 ≤ 4356 }
+    requires { at + 53 ≤ STATE_LEN }
     ensures bytes { take result out.new ≡ take at out.old ++ concat (pokey_pieces pokey.now) }
     ensures at { result ≡ at + 53 }
 {
@@ -146,7 +148,7 @@ fn put_pokey(out: &mut [u8; STATE_LEN], at: usize, pokey: &PokeyState) -> usize
 
 /// Writes the EAROM.
 fn put_earom(out: &mut [u8; STATE_LEN], at: usize, earom: &EaromState) -> usize
-    requires { at + 70 ≤ 4356 }
+    requires { at + 70 ≤ STATE_LEN }
     ensures bytes { take result out.new ≡ take at out.old ++ concat (earom_pieces earom.now) }
     ensures at { result ≡ at + 70 }
 {
@@ -161,8 +163,10 @@ fn put_earom(out: &mut [u8; STATE_LEN], at: usize, earom: &EaromState) -> usize
 pub fn write(state: &BoardState, out: &mut [u8; STATE_LEN])
     requires undocumented { IfSome state.now.cpu.jam (λ o. row_of o ≡ None) }
     requires place { IfSome state.now.cpu.mid (λ _. IsMiddle state.now.cpu) }
-    ensures { out.new ≡ state_bytes state.now }
+    ensures bytes { out.new ≡ state_bytes state.now }
+    ensures range { IsWhole state.now }
 {
+    keep_ranges(state); // tells the ranges
     let at = put_processor(out, 0, state.clock, &state.cpu);
     let at = put(out, at, &[state.out, state.in0, state.in3, state.in4]);
     let at = put_divider(out, at, &state.divider);

@@ -1,5 +1,5 @@
 -- Each line takes the tokens one line on.
-use Rattle.std.proofs.Common.{◌≡◌, ◌+◌, ◌-◌, ◌∙◌, length, length-append, sym, ap, arith}
+use Rattle.std.proofs.Common.{◌≡◌, ◌+◌, ◌-◌, ◌∙◌, length, length-append, sym, ap, subst, arith}
 use Rattle.std.proofs.lemmas.Grind.{common_steps}
 use Rattle.std.proofs.lemmas.Result.{err_from_is_err_and}
 use Rattle.asm_text.specs.Lines.{lines_of}
@@ -7,7 +7,10 @@ use Rattle.asm_text.specs.Tokens.{onto, tokens_from}
 use Rattle.asm_text.proofs.Passing.{bad_line, line_passed, all_read, tokens_of-short}
 use Rattle.asm_text.proofs.Covering.{text_accounted}
 use Rattle.asm_text.proofs.Numbering.{text_numbered}
-use Rattle.asm_text.proofs.Standing.{StandIn-each, text_spans}
+use Rattle.asm_text.proofs.Standing.{text_spans}
+use Rattle.asm_text.proofs.Refusing.{text_refused}
+use Rattle.asm_text.specs.Answers.{Faults}
+use Rattle.asm_text.proofs.Apart.{text_apart}
 use Rattle.asm_text.proofs.scan.tokens.Goals as goal
 
 pub lines-preserved : goal.lines-preserved
@@ -31,6 +34,13 @@ returns-in_err-push_line-clause-tokens c =
     rw (p.1, p.2, same, ← c.lines.invariant.tokens)
     (bad_line c.lines.tokens.items c.lines.line (length c.args.text.now - length c.lines.rest.now) _ _ _ c.read_line.ensures.lines c.in_err-push_line.field-0.0 c.in_err-push_line.ensures.tokens)
 
+pub returns-in_err-push_line-clause-refused : goal.returns-in_err-push_line-clause-refused
+returns-in_err-push_line-clause-refused c =
+    let p = err_from_is_err_and c.from_residual.result c.from_residual.ensures.1 in
+    let told : Faults c.in_err-push_line.field-0.0 (onto c.lines.tokens.items (tokens_from c.lines.line (length c.args.text.now - length c.lines.rest.now) (lines_of c.lines.rest.now))) =
+    bad_line c.lines.tokens.items c.lines.line (length c.args.text.now - length c.lines.rest.now) _ _ _ c.read_line.ensures.lines c.in_err-push_line.field-0.0 c.in_err-push_line.ensures.tokens in
+    rw (p.1, p.2) (text_refused c.args.text.now c.in_err-push_line.field-0.0 (subst (λ r. Faults c.in_err-push_line.field-0.0 r) c.lines.invariant.tokens told))
+
 pub returns-clause-tokens : goal.returns-clause-tokens
 returns-clause-tokens c =
     let none : length c.lines.rest.now ≡ 0 = grind (arith, common_steps) in
@@ -49,7 +59,7 @@ returns-clause-lines c =
 pub returns-clause-each : goal.returns-clause-each
 returns-clause-each c =
     let none : length c.lines.rest.now ≡ 0 = grind (arith, common_steps) in
-    StandIn-each c.args.text.now 0 (length c.args.text.now) _ (text_spans c.args.text.now _ (sym (all_read _ _ _ _ _ c.lines.invariant.tokens none)))
+    text_apart c.args.text.now _ (sym (all_read _ _ _ _ _ c.lines.invariant.tokens none))
 
 pub returns-clause-all : goal.returns-clause-all
 returns-clause-all c =

@@ -6,7 +6,7 @@ use Rattle.std.proofs.lemmas.List.{nil_from_length}
 use Rattle.board_base.specs.Cpu.{CpuValue}
 use Rattle.cpu_core.specs.Places.{IsMiddle}
 use Rattle.save_state.specs.StateBytes.{processor_pieces, last_clock}
-use Rattle.save_state.specs.Reading.{board_at, processor_at}
+use Rattle.save_state.specs.Walk.{board_at, processor_at}
 use Rattle.save_state.proofs.Whole.{tells_processor, tells_jammed, tells_place}
 use Rattle.save_state.proofs.Clock.{last_most, middle_clock}
 use Rattle.save_state.proofs.reading.read_board.Goals as goal

@@ -1,10 +1,10 @@
-use Rattle.std.proofs.Common.{◌≡◌, refl, sym, ap, subst, ◌∙◌, drop, ℕ, List, Some, Bool}
+use Rattle.std.proofs.Common.{◌≡◌, refl, sym, ap, subst, ◌∙◌, drop, ℕ, List, Some, Bool, false}
 use Rattle.std.specs.Prelude.{◌↔◌, IsTrue}
 use Rattle.std.specs.Option.{is_some}
 use Rattle.board_base.specs.Cpu.{CpuValue}
 use Rattle.cpu_core.specs.Places.{IsMiddle}
 use Rattle.save_state.specs.StateBytes.{middle_at}
-use Rattle.save_state.specs.Reading.{middle_after}
+use Rattle.save_state.specs.Walk.{middle_after}
 use Rattle.save_state.proofs.Laws.{rest_ports, rest_divider}
 use Rattle.save_state.proofs.reading.read_front.Goals as goal
 
@@ -16,7 +16,7 @@ unfolding middle_after
 returns-in-Err-read_place-clause-fields c = λ inside h.
     let e1 = c.in_ok-out.ensures.fields in
     let e2 = c.in-Ok.ensures.fields in
-    let e : c.in-Ok.read.1.now ≡ drop 5 (drop 4 c.args.bytes.now) = rest_divider _ _ _ e2 ∙ ap (λ (x : List ℕ). drop 5 x) (rest_ports _ _ _ e1) in
+    let e : c.in-Ok.read.1.now ≡ drop 5 (drop 4 c.args.bytes.now) = rest_divider false _ _ _ e2 ∙ ap (λ (x : List ℕ). drop 5 x) (rest_ports false _ _ _ e1) in
     let place = c.in-Err-read_place.ensures.fields inside (moved c.args.cpu.now inside _ _ e h) in
     rw (e1, e2, place) refl
 
@@ -25,7 +25,7 @@ unfolding middle_after
 returns-in-Err-read_six_zeros-clause-fields c = λ inside h.
     let e1 = c.in_ok-out.ensures.fields in
     let e2 = c.in-Ok.ensures.fields in
-    let e : c.in-Ok.read.1.now ≡ drop 5 (drop 4 c.args.bytes.now) = rest_divider _ _ _ e2 ∙ ap (λ (x : List ℕ). drop 5 x) (rest_ports _ _ _ e1) in
+    let e : c.in-Ok.read.1.now ≡ drop 5 (drop 4 c.args.bytes.now) = rest_divider false _ _ _ e2 ∙ ap (λ (x : List ℕ). drop 5 x) (rest_ports false _ _ _ e1) in
     let place = c.in-Ok-read_place.ensures.fields inside (moved c.args.cpu.now inside _ _ e h) in
     let zeros = c.in-Err-read_six_zeros.ensures.fields in
     rw (e1, e2, place, zeros) refl
@@ -35,7 +35,7 @@ unfolding middle_after
 returns-in-Ok-read_six_zeros-clause-fields c = λ inside h.
     let e1 = c.in_ok-out.ensures.fields in
     let e2 = c.in-Ok.ensures.fields in
-    let e : c.in-Ok.read.1.now ≡ drop 5 (drop 4 c.args.bytes.now) = rest_divider _ _ _ e2 ∙ ap (λ (x : List ℕ). drop 5 x) (rest_ports _ _ _ e1) in
+    let e : c.in-Ok.read.1.now ≡ drop 5 (drop 4 c.args.bytes.now) = rest_divider false _ _ _ e2 ∙ ap (λ (x : List ℕ). drop 5 x) (rest_ports false _ _ _ e1) in
     let place = c.in-Ok-read_place.ensures.fields inside (moved c.args.cpu.now inside _ _ e h) in
     let zeros = c.in-Ok-read_six_zeros.ensures.fields in
     rw (e1, e2, place, zeros) refl
@@ -44,5 +44,5 @@ pub returns-in-Ok-read_six_zeros-clause-decided : goal.returns-in-Ok-read_six_ze
 returns-in-Ok-read_six_zeros-clause-decided c =
     let e1 = c.in_ok-out.ensures.fields in
     let e2 = c.in-Ok.ensures.fields in
-    let e : c.in-Ok.read.1.now ≡ drop 5 (drop 4 c.args.bytes.now) = rest_divider _ _ _ e2 ∙ ap (λ (x : List ℕ). drop 5 x) (rest_ports _ _ _ e1) in
+    let e : c.in-Ok.read.1.now ≡ drop 5 (drop 4 c.args.bytes.now) = rest_divider false _ _ _ e2 ∙ ap (λ (x : List ℕ). drop 5 x) (rest_ports false _ _ _ e1) in
     moved c.args.cpu.now (is_some c.in-Ok-read_place.read.0) _ _ (sym e) c.in-Ok-read_place.ensures.decided
