@@ -5,6 +5,7 @@ use Rattle.board_base.specs.declared.divider.Pending.TheVariants.{Nothing}
 use Rattle.board_base.specs.declared.cpu.Sequence.{Sequence}
 use Rattle.board_base.specs.declared.cpu.Sequence.TheVariants.{Opcode, Interrupt, Reset}
 use Rattle.board_base.specs.Cpu.{CpuValue, MidValue}
+use Rattle.cpu_alu.specs.Flags.{is_masked}
 use Rattle.cpu_core.specs.declared.replay.Next.{Next}
 use Rattle.cpu_core.specs.declared.replay.Next.TheVariants.{Read, Write, End}
 use Rattle.cpu_core.specs.Registers.{RegistersValue, registers_of}
@@ -33,10 +34,6 @@ accessed_by (End e) r q bytes w = record { cpu = e; wires = w }
 unfoldable pub accessed : RegistersValue → Sequence → List ℕ → Wires → Board
 accessed r q bytes w = accessed_by (next_of r q bytes) r q bytes w
 
--- flag I is set
-abbrev pub is_masked : CpuValue → Bool
-is_masked c = c.p / 2 ^ 2 % 2 == 1
-
 -- a reset is pending
 abbrev pub is_reset : Pending → Bool
 is_reset Nothing = false
@@ -45,7 +42,7 @@ is_reset _ = true
 -- what a fetch begins: a pending reset comes first, then an interrupt that isn't masked, then the instruction at pc
 abbrev pub sequence_due : CpuValue → Wires → Sequence
 sequence_due c w =
-    if is_reset w.divider.pending then Reset else (if w.divider.irq && not (is_masked c) then Interrupt else Opcode)
+    if is_reset w.divider.pending then Reset else (if w.divider.irq && not (is_masked c.p) then Interrupt else Opcode)
 
 -- what else the first clock of a sequence does
 abbrev pub begun : Sequence → Wires → Wires

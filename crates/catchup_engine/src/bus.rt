@@ -1,5 +1,4 @@
-ghost use Rattle.std.specs.Prelude.{◌≡◌, ◌+◌, ◌-◌, ◌*◌, ◌≤◌, ◌<◌, ◌^◌, true, false, length, drop, take, IfOk, IsSome, ◌++◌, ◌∷◌, []};
-ghost use Rattle.board_map.specs.Map.{region_of};
+ghost use Rattle.std.specs.Prelude.{◌≡◌, ◌+◌, ◌-◌, ◌*◌, ◌≤◌, ◌<◌, ◌^◌, true, false, length, IfOk, IsSome, ◌++◌, ◌∷◌, []};
 ghost use Rattle.catchup_engine.specs.Bus.{BusValue, BusStep, in_clock, room_of};
 ghost use Rattle.catchup_engine.specs.Wires.{Wires, ticked, byte_read, byte_put, reset_begun, wires_of, board_of};
 
@@ -52,6 +51,7 @@ impl Model for BoardBus {
     ghost use Rattle.std.specs.Prelude.{◌≡◌, ◌+◌, ◌-◌, ◌%◌, ◌≤◌, ◌<◌, ◌^◌, true, length};
     ghost use Rattle.board_base.specs.declared.board.TheConstants.{RAM_LEN};
     ghost use Rattle.board_base.specs.declared.divider.TheConstants.{DIVIDER_PERIOD};
+    ghost use Rattle.rom_image.specs.declared.image.TheConstants.{PROGRAM_ROM_LEN};
     ghost use Rattle.catchup_engine.specs.declared.bus.TheConstants.{TRAIL_ROOM};
     ghost use Rattle.catchup_engine.specs.Bus.{BusValue};
 
@@ -82,7 +82,7 @@ impl Model for BoardBus {
     } };
 
     ghost invariant = { λ a. (a.clock ≤ 2 ^ 49) × (a.divided ≤ a.clock) × (a.divider.phase < DIVIDER_PERIOD)
-        × (a.in0 < 64) × (length a.ram.items ≡ RAM_LEN) × (length a.program.items ≡ 28672)
+        × (a.in0 < 64) × (length a.ram.items ≡ RAM_LEN) × (length a.program.items ≡ PROGRAM_ROM_LEN)
         × (a.begun ≡ true → 1 ≤ a.clock)
         × (TRAIL_ROOM ≤ a.written.room) × (a.written.spare + length a.written.records ≡ a.written.room) };
 }

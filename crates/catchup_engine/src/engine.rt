@@ -1,7 +1,7 @@
-ghost use Rattle.std.specs.Prelude.{◌≡◌, ◌+◌, ◌-◌, ◌≤◌, ◌<◌, ◌^◌, ℕ, [], true, false, None, IsSome, IfSome, IfOk, length};
+ghost use Rattle.std.specs.Prelude.{◌≡◌, ◌+◌, ◌-◌, ◌≤◌, ◌<◌, ℕ, [], true, false, None, IsSome, IfSome, IfOk, length};
 ghost use Rattle.cpu_core.specs.Sequences.{start_of, Runs};
 ghost use Rattle.catchup_engine.specs.Bus.{BusStep, room_of};
-ghost use Rattle.catchup_engine.specs.Lockstep.{Board, begun, sequence_due, is_masked};
+ghost use Rattle.catchup_engine.specs.Lockstep.{Board, begun, sequence_due};
 ghost use Rattle.catchup_engine.specs.Run.{is_over, run_to, window_limit, cause_of, IsPlaced};
 ghost use Rattle.catchup_engine.specs.Turn.{Turned};
 ghost use Rattle.catchup_engine.specs.EngineValue.{HasNoRecords, cleared};
@@ -14,6 +14,7 @@ use crate::stop::Stop;
 use board_base::{
     BoardState, CLOCK_LIMIT, CpuState, DIVIDER_PERIOD, OutOfMemory, Pending, Sequence, Trails,
 };
+use cpu_alu::Flags;
 use cpu_core::Cpu;
 use rom_image::Image;
 use std::alloc::Global;
@@ -28,7 +29,7 @@ pub struct Engine {
 }
 
 impl Model for Engine {
-    ghost use Rattle.std.specs.Prelude.{◌≡◌, ◌+◌, ◌≤◌, ◌^◌, false, IsSome};
+    ghost use Rattle.std.specs.Prelude.{◌≡◌, ◌+◌, ◌≤◌, false, IsSome};
     ghost use Rattle.board_base.specs.declared.board.TheConstants.{CLOCK_LIMIT};
     ghost use Rattle.catchup_engine.specs.EngineValue.{EngineValue};
 
@@ -40,20 +41,13 @@ impl Model for Engine {
         × (IsSome e.cpu.mid → e.bus.wires.clock ≤ CLOCK_LIMIT) };
 }
 
-/// Whether interrupts are masked.
-fn masks_interrupts(state: &CpuState) -> bool
-    ensures { result ≡ is_masked state.now }
-{
-    state.p / 4 % 2 == 1
-}
-
 /// What a fetch begins in a clock whose ticks are done.
 fn due(cpu: &Cpu, bus: &BoardBus) -> Sequence
     ensures { result ≡ sequence_due cpu.now bus.now.wires }
 {
     if bus.pending() != Pending::Nothing {
         Sequence::Reset
-    } else if bus.irq() && !masks_interrupts(cpu.state()) {
+    } else if bus.irq() && !Flags::from_byte(cpu.state().p).interrupt {
         Sequence::Interrupt
     } else {
         Sequence::Opcode

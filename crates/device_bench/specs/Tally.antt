@@ -1,15 +1,8 @@
 -- What is counted of the records of a measure.
-use Rattle.std.specs.Prelude.{ℕ, ◌+◌, ◌-◌, ◌^◌, min, fold, List}
+use Rattle.std.specs.Prelude.{◌+◌, ◌-◌, ◌^◌, min, fold, List}
 use Rattle.board_base.specs.declared.record.Record.{Record}
-use Rattle.board_base.specs.declared.record.Record.TheVariants.{Stroke, Levels, Latch, WatchdogReset}
+use Rattle.board_base.specs.Records.{clock_of}
 use Rattle.device_bench.specs.declared.tally.Tally.{Tally}
-
--- the clock in which a record came
-abbrev pub clock_of : Record → ℕ
-clock_of (Stroke clock x0 y0 x1 y1 colour intensity) = clock
-clock_of (Levels clock l1 l2 l3 l4) = clock
-clock_of (Latch clock value) = clock
-clock_of (WatchdogReset clock) = clock
 
 -- a tally with one record more; its numbers stand still at the greatest of 64 bits
 unfoldable pub with_record : Tally → Record → Tally

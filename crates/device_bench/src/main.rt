@@ -1,4 +1,4 @@
-//! The speed of the fast devices beside the plain ones.
+//! The speed of the fast devices beside the plain ones, and of a bare processor.
 //!
 //! With no word on the command line it does a small fixed amount of work and prints sums, which are
 //! the same on every machine. With a number it does that many clocks of each kind, and prints speeds
@@ -7,10 +7,12 @@
 
 mod measure;
 mod picture;
+mod processor;
 mod report;
 mod shifts;
 mod sound;
 mod tally;
+mod work;
 
 use measure::Fault;
 use report::Report;
@@ -31,5 +33,7 @@ fn clocks_asked<R: env::Env + Alloc>(rt: &R) -> Result<Report, Fault> {
 fn main(rt: HostRuntime) -> Result<(), Fault> {
     let report = clocks_asked(&rt)?;
     report::pictures(&rt, rt.alloc(), report)?;
-    report::sounds(&rt, rt.alloc(), report)
+    report::sounds(&rt, rt.alloc(), report)?;
+    report::moves(&rt, rt.alloc(), report)?;
+    report::instructions(&rt, rt.alloc(), report)
 }

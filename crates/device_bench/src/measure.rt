@@ -1,11 +1,13 @@
-ghost use Rattle.std.specs.Prelude.{◌^◌, ◌≤◌};
+ghost use Rattle.std.specs.Prelude.{◌≤◌};
 
 use crate::picture::draw;
-use crate::shifts::{Registers, bare_shifts};
+use crate::processor::count;
+use crate::shifts::{Form, Registers};
 use crate::sound::play;
 use crate::tally::Tally;
+use crate::work::Work;
 use avg_device::VectorUnit;
-use board_base::{OutOfMemory, VectorMemory};
+use board_base::{CLOCK_LIMIT, CpuState, OutOfMemory, VectorMemory};
 use pokey_chip::SoundUnit;
 use std::alloc::Global;
 use std::io;
@@ -54,41 +56,55 @@ fn nanos_since<C: CpuClock>(clock: &C, start: Duration) -> io::Result<u64> {
     Ok(u64::try_from(spent.as_nanos()).unwrap_or(u64::MAX))
 }
 
-/// Times a generator that draws for this many clocks.
+/// Times a generator that draws for so many clocks.
 pub fn timed_drawing<C: CpuClock, V: VectorUnit>(
     clock: &C,
     alloc: Global,
     mut unit: V,
     memory: &VectorMemory,
-    clocks: u64,
-) -> Result<Timed<Tally>, Fault>
-    requires { clocks ≤ 2 ^ 48 }
-{
+    work: Work,
+) -> Result<Timed<Tally>, Fault> {
     let start = clock.thread_cpu_time()?;
-    let outcome = draw(alloc, &mut unit, memory, clocks)?;
+    let outcome = draw(alloc, &mut unit, memory, work)?;
     let nanos = nanos_since(clock, start)?;
     Ok(Timed { outcome, nanos })
 }
 
-/// Times a POKEY that plays for this many clocks.
+/// Times a POKEY that plays for so many clocks.
 pub fn timed_playing<C: CpuClock, S: SoundUnit>(
     clock: &C,
     alloc: Global,
     mut unit: S,
-    clocks: u64,
-) -> Result<Timed<Tally>, Fault>
-    requires { clocks ≤ 2 ^ 48 }
-{
+    work: Work,
+) -> Result<Timed<Tally>, Fault> {
     let start = clock.thread_cpu_time()?;
-    let outcome = play(alloc, &mut unit, clocks)?;
+    let outcome = play(alloc, &mut unit, work)?;
     let nanos = nanos_since(clock, start)?;
     Ok(Timed { outcome, nanos })
 }
 
-/// Times the four polynomial registers alone.
-pub fn timed_shifts<C: CpuClock>(clock: &C, clocks: u64) -> Result<Timed<Registers>, Fault> {
+/// Times the four polynomial registers alone, moved so many times in a form.
+pub fn timed_shifts<C: CpuClock>(
+    clock: &C,
+    form: Form,
+    clocks: u64,
+) -> Result<Timed<Registers>, Fault> {
     let start = clock.thread_cpu_time()?;
-    let outcome = bare_shifts(clocks);
+    let outcome = form.shifts(clocks);
+    let nanos = nanos_since(clock, start)?;
+    Ok(Timed { outcome, nanos })
+}
+
+/// Times a bare processor for so many rounds of its program.
+pub fn timed_counting<C: CpuClock>(
+    clock: &C,
+    alloc: Global,
+    rounds: u64,
+) -> Result<Timed<CpuState>, Fault>
+    requires { rounds ≤ CLOCK_LIMIT }
+{
+    let start = clock.thread_cpu_time()?;
+    let outcome = count(alloc, rounds)?;
     let nanos = nanos_since(clock, start)?;
     Ok(Timed { outcome, nanos })
 }

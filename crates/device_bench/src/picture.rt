@@ -1,16 +1,14 @@
-ghost use Rattle.std.specs.Prelude.{◌≡◌, ◌^◌, ◌≤◌, IfOk, OnOk};
+ghost use Rattle.std.specs.Prelude.{◌≡◌, IfOk, OnOk};
 ghost use Rattle.board_base.specs.Ticks.{made, ticks};
 ghost use Rattle.avg_device.specs.Tick.{vg_gives, vg_go, vg_tick};
 ghost use Rattle.device_bench.specs.Tally.{tally_of};
 
 use crate::tally::Tally;
+use crate::work::Work;
 use avg_decode::{VgWord, spell};
 use avg_device::VectorUnit;
 use board_base::{OutOfMemory, Trail, VectorMemory};
 use std::alloc::Global;
-
-/// The clocks of one call of a device: about those between two interrupts of the board.
-pub const SLICE: u64 = 6144;
 
 /// A picture that is drawn again and again, in the vector RAM.
 #[derive(Drop)]
@@ -85,24 +83,24 @@ pub fn long_vectors(alloc: Global) -> Result<VectorMemory, OutOfMemory> {
     Ok(picture.end())
 }
 
-/// Draws for this many clocks, from the first word on, and tells what strokes there were.
+/// Draws for so many clocks, from the first word on, and tells what strokes there were.
 #[tactic(auto, using(crate::proofs::Slices::drawn))]
 pub fn draw<V: VectorUnit>(
     alloc: Global,
     unit: &mut V,
     memory: &VectorMemory,
-    clocks: u64,
+    work: Work,
 ) -> Result<Tally, OutOfMemory>
-    requires { clocks ≤ 2 ^ 48 }
-    ensures state { OnOk result (V.device unit.new ≡ ticks (vg_tick memory.now) 0 clocks (vg_go (V.device unit.old))) }
-    ensures strokes { IfOk result (λ tally. tally ≡ tally_of (made (vg_tick memory.now) vg_gives 0 clocks (vg_go (V.device unit.old)))) }
+    ensures state { OnOk result (V.device unit.new ≡ ticks (vg_tick memory.now) 0 work.clocks (vg_go (V.device unit.old))) }
+    ensures strokes { IfOk result (λ tally. tally ≡ tally_of (made (vg_tick memory.now) vg_gives 0 work.clocks (vg_go (V.device unit.old)))) }
 {
-    let mut trail = Trail::new(alloc, SLICE as usize)?;
+    let Work { clocks, slice } = work;
+    let mut trail = Trail::new(alloc, slice as usize)?;
     let mut tally = Tally::new();
     let mut done = 0;
     unit.go();
     while done < clocks {
-        let n = (clocks - done).min(SLICE);
+        let n = (clocks - done).min(slice);
         unit.advance(memory, done, n, &mut trail);
         tally.take(trail.records());
         trail.clear();

@@ -1,19 +1,31 @@
-ghost use Rattle.std.specs.Prelude.{◌≡◌, ◌^◌, ◌≤◌};
+ghost use Rattle.std.specs.Prelude.{◌≡◌, ◌≤◌};
 ghost use Rattle.device_bench.specs.Report.{clocks_of};
 
-use crate::measure::{Fault, Timed, timed_drawing, timed_playing, timed_shifts};
+use crate::measure::{Fault, Timed, timed_counting, timed_drawing, timed_playing, timed_shifts};
 use crate::picture::{long_vectors, short_vectors};
-use crate::sound::{four_on_the_base_clock, one_on_the_chip_clock};
+use crate::processor::ROUND_CLOCKS;
+use crate::shifts::Form;
+use crate::sound::Tune;
 use crate::tally::Tally;
+use crate::work::{SLICE, Work};
 use avg_device::{FastVg, PlainVg};
-use board_base::VectorMemory;
+use board_base::{CLOCK_LIMIT, CpuState, VectorMemory};
 use pokey_chip::{FastPokey, PlainPokey};
 use std::alloc::Global;
 use std::io;
 use std::time::CpuClock;
 
+/// The fixed number of clocks for pictures: 10 of short vectors.
+const PICTURE_CLOCKS: u64 = 57_120;
+
+/// The fixed number of clocks for sounds: 3,000 pulses of the base clock, or 3,500 periods of 24.
+const SOUND_CLOCKS: u64 = 84_000;
+
+/// The fixed number of clocks for a processor: 50 rounds of its program.
+const PROCESSOR_CLOCKS: u64 = 64_100;
+
 /// What is printed: sums over a fixed number of clocks, or times of as many as were asked for, at
-/// most 2^48.
+/// most `CLOCK_LIMIT`.
 #[derive(Clone, Copy, Debug, PartialEq, Eq)]
 pub enum Report {
     Sums,
@@ -21,16 +33,19 @@ pub enum Report {
 }
 
 impl Report {
-    /// The clocks to be done, where `fixed` are those of the sums.
-    fn clocks(self, fixed: u64) -> u64
-        requires { fixed ≤ 2 ^ 48 }
-        ensures value { result ≡ clocks_of self fixed }
-        ensures most { result ≤ 2 ^ 48 }
+    /// The clocks to be done by calls of `slice` clocks, where `fixed` are those of the sums.
+    fn work(self, fixed: u64, slice: u64) -> Work
+        requires fixed { fixed ≤ CLOCK_LIMIT }
+        requires some { 1 ≤ slice }
+        requires room { slice ≤ SLICE }
+        ensures clocks { result.clocks ≡ clocks_of self fixed }
+        ensures slice { result.slice ≡ slice }
     {
-        match self {
+        let clocks = match self {
             Report::Sums => fixed,
-            Report::Times { clocks } => clocks.min(1 << 48),
-        }
+            Report::Times { clocks } => clocks.min(CLOCK_LIMIT),
+        };
+        Work { clocks, slice }
     }
 
     /// Prints what came of a device's work.
@@ -87,13 +102,13 @@ fn vectors<R: io::Print + CpuClock>(
     memory: &VectorMemory,
     fixed: u64,
 ) -> Result<(), Fault>
-    requires { fixed ≤ 2 ^ 48 }
+    requires { fixed ≤ CLOCK_LIMIT }
 {
-    let clocks = report.clocks(fixed);
-    let plain = timed_drawing(rt, alloc, PlainVg::new(), memory, clocks)?;
-    report.device(rt, "PlainVg", clocks, plain)?;
-    let fast = timed_drawing(rt, alloc, FastVg::new(), memory, clocks)?;
-    report.device(rt, "FastVg", clocks, fast)?;
+    let work = report.work(fixed, SLICE);
+    let plain = timed_drawing(rt, alloc, PlainVg::new(), memory, work)?;
+    report.device(rt, "PlainVg", work.clocks, plain)?;
+    let fast = timed_drawing(rt, alloc, FastVg::new(), memory, work)?;
+    report.device(rt, "FastVg", work.clocks, fast)?;
     report.ratio(rt, "FastVg to PlainVg", fast.nanos, plain.nanos)?;
     Ok(())
 }
@@ -105,61 +120,111 @@ pub fn pictures<R: io::Print + CpuClock>(
     report: Report,
 ) -> Result<(), Fault> {
     println!(rt; "300 short vectors")?;
-    vectors(rt, alloc, report, &short_vectors(alloc)?, 57_120)?;
+    vectors(rt, alloc, report, &short_vectors(alloc)?, PICTURE_CLOCKS)?;
     println!(rt; "30 long vectors")?;
     vectors(rt, alloc, report, &long_vectors(alloc)?, 123_042)
 }
 
-/// The fixed number of clocks for sounds: 3,000 pulses of the base clock, or 3,500 periods of 24.
-const SOUND_CLOCKS: u64 = 84_000;
-
-/// Compares a plain and a fast POKEY that were told what to play.
+/// Compares a plain and a fast POKEY that play the same, and tells the time of the fast one.
 fn pokeys<R: io::Print + CpuClock>(
     rt: &R,
     alloc: Global,
     report: Report,
-    plain: PlainPokey,
-    fast: FastPokey,
+    tune: Tune,
 ) -> Result<u64, Fault> {
-    let clocks = report.clocks(SOUND_CLOCKS);
-    let plain = timed_playing(rt, alloc, plain, clocks)?;
-    report.device(rt, "PlainPokey", clocks, plain)?;
-    let fast = timed_playing(rt, alloc, fast, clocks)?;
-    report.device(rt, "FastPokey", clocks, fast)?;
+    println!(rt; "{}", tune.name())?;
+    let work = report.work(SOUND_CLOCKS, SLICE);
+    let (mut plain, mut fast) = (PlainPokey::new(), FastPokey::new());
+    tune.tell(&mut plain);
+    tune.tell(&mut fast);
+    let plain = timed_playing(rt, alloc, plain, work)?;
+    report.device(rt, "PlainPokey", work.clocks, plain)?;
+    let fast = timed_playing(rt, alloc, fast, work)?;
+    report.device(rt, "FastPokey", work.clocks, fast)?;
     report.ratio(rt, "FastPokey to PlainPokey", fast.nanos, plain.nanos)?;
     Ok(fast.nanos)
 }
 
-/// Plays four channels on the base clock and then one on the chip clock, and shifts the polynomial
-/// registers alone.
-pub fn sounds<R: io::Print + CpuClock>(rt: &R, alloc: Global, report: Report) -> Result<(), Fault> {
-    println!(rt; "four channels on the base clock")?;
-    let (mut plain, mut fast) = (PlainPokey::new(), FastPokey::new());
-    four_on_the_base_clock(&mut plain);
-    four_on_the_base_clock(&mut fast);
-    let four = pokeys(rt, alloc, report, plain, fast)?;
-    println!(rt; "one channel on the chip clock")?;
-    let (mut plain, mut fast) = (PlainPokey::new(), FastPokey::new());
-    one_on_the_chip_clock(&mut plain);
-    one_on_the_chip_clock(&mut fast);
-    let one = pokeys(rt, alloc, report, plain, fast)?;
-    println!(rt; "the four polynomial registers alone")?;
-    let clocks = report.clocks(SOUND_CLOCKS);
-    let bare = timed_shifts(rt, clocks)?;
-    let registers = bare.outcome;
+/// Shifts the polynomial registers alone, and tells the time.
+fn registers<R: io::Print + CpuClock>(rt: &R, report: Report, form: Form) -> Result<u64, Fault> {
+    let clocks = report.work(SOUND_CLOCKS, SLICE).clocks;
+    let timed = timed_shifts(rt, form, clocks)?;
+    let registers = timed.outcome;
+    let name = form.name();
     println!(rt;
-        "after {clocks} clocks: {} {} {} {}",
+        "{name} after {clocks} clocks: {} {} {} {}",
         registers.four, registers.five, registers.nine, registers.seventeen
     )?;
     if report != Report::Sums {
-        speed(rt, "shifts", clocks, bare.nanos)?;
+        speed(rt, name, clocks, timed.nanos)?;
     }
+    Ok(timed.nanos)
+}
+
+/// Plays each tune, and shifts the polynomial registers alone.
+pub fn sounds<R: io::Print + CpuClock>(rt: &R, alloc: Global, report: Report) -> Result<(), Fault> {
+    let four = pokeys(rt, alloc, report, Tune::FourOnTheBaseClock)?;
+    let one = pokeys(rt, alloc, report, Tune::OneOnTheChipClock)?;
+    pokeys(rt, alloc, report, Tune::ShortestOnTheBaseClock)?;
+    pokeys(rt, alloc, report, Tune::ShortestOnTheChipClock)?;
+    println!(rt; "the four polynomial registers alone")?;
+    registers(rt, report, Form::Plain)?;
+    let bare = registers(rt, report, Form::Folded)?;
     report.ratio(
         rt,
-        "FastPokey with four channels to shifts",
+        "FastPokey with four channels to folded shifts",
         four,
-        bare.nanos,
+        bare,
     )?;
-    report.ratio(rt, "FastPokey with one channel to shifts", one, bare.nanos)?;
+    report.ratio(rt, "FastPokey with one channel to folded shifts", one, bare)?;
+    Ok(())
+}
+
+/// Moves both fast devices by calls of so many clocks.
+fn moves_of<R: io::Print + CpuClock>(
+    rt: &R,
+    alloc: Global,
+    report: Report,
+    memory: &VectorMemory,
+    slice: u64,
+) -> Result<(), Fault>
+    requires some { 1 ≤ slice }
+    requires room { slice ≤ SLICE }
+{
+    println!(rt; "moves of {slice} clocks")?;
+    let work = report.work(PICTURE_CLOCKS, slice);
+    let drawn = timed_drawing(rt, alloc, FastVg::new(), memory, work)?;
+    report.device(rt, "FastVg", work.clocks, drawn)?;
+    let work = report.work(SOUND_CLOCKS, slice);
+    let mut unit = FastPokey::new();
+    Tune::FourOnTheBaseClock.tell(&mut unit);
+    let played = timed_playing(rt, alloc, unit, work)?;
+    report.device(rt, "FastPokey", work.clocks, played)?;
+    Ok(())
+}
+
+/// Draws short vectors and plays four channels on the base clock, by shorter and longer calls.
+pub fn moves<R: io::Print + CpuClock>(rt: &R, alloc: Global, report: Report) -> Result<(), Fault> {
+    let memory = short_vectors(alloc)?;
+    moves_of(rt, alloc, report, &memory, 4)?;
+    moves_of(rt, alloc, report, &memory, 13)?;
+    moves_of(rt, alloc, report, &memory, 100)?;
+    moves_of(rt, alloc, report, &memory, 6000)
+}
+
+/// Runs a bare processor.
+pub fn instructions<R: io::Print + CpuClock>(
+    rt: &R,
+    alloc: Global,
+    report: Report,
+) -> Result<(), Fault> {
+    let rounds = report.work(PROCESSOR_CLOCKS, SLICE).clocks / ROUND_CLOCKS;
+    let clocks = rounds * ROUND_CLOCKS;
+    let timed = timed_counting(rt, alloc, rounds)?;
+    let CpuState { pc, x, .. } = timed.outcome;
+    println!(rt; "a processor on a bus without a log: {clocks} clocks, pc {pc}, x {x}")?;
+    if report != Report::Sums {
+        speed(rt, "processor", clocks, timed.nanos)?;
+    }
     Ok(())
 }

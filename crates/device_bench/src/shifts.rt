@@ -52,9 +52,9 @@ impl Registers {
 }
 
 /// The registers after this many clocks from all ones, with nothing else done in a clock: the limit
-/// for a POKEY that does each clock.
+/// for a POKEY that moves the plain registers.
 #[tactic(auto, using(crate::proofs::Slices::shifts))]
-pub fn bare_shifts(clocks: u64) -> Registers
+fn bare_shifts(clocks: u64) -> Registers
     ensures four { result.four ≡ times (shifted Four) clocks 15 }
     ensures five { result.five ≡ times (shifted Five) clocks 31 }
     ensures nine { result.nine ≡ times (shifted Nine) clocks 511 }
@@ -65,4 +65,55 @@ pub fn bare_shifts(clocks: u64) -> Registers
         registers = registers.shifted();
     }
     registers
+}
+
+/// The same by shifts of the folded form: the limit for a POKEY that moves its registers so.
+#[tactic(auto, using(crate::proofs::Slices::shifts))]
+fn folded_shifts(clocks: u64) -> Registers
+    ensures four { result.four ≡ times (shifted Four) clocks 15 }
+    ensures five { result.five ≡ times (shifted Five) clocks 31 }
+    ensures nine { result.nine ≡ times (shifted Nine) clocks 511 }
+    ensures seventeen { result.seventeen ≡ times (shifted Seventeen) clocks 131071 }
+{
+    let mut four = Poly::Four.fold(0xF);
+    let mut five = Poly::Five.fold(0x1F);
+    let mut nine = Poly::Nine.fold(0x1FF);
+    let mut seventeen = Poly::Seventeen.fold(0x1FFFF);
+    for done in 0..clocks {
+        four = Poly::Four.shift_folded(four);
+        five = Poly::Five.shift_folded(five);
+        nine = Poly::Nine.shift_folded(nine);
+        seventeen = Poly::Seventeen.shift_folded(seventeen);
+    }
+    Registers {
+        four: Poly::Four.fold(four) as u8,
+        five: Poly::Five.fold(five) as u8,
+        nine: Poly::Nine.fold(nine) as u16,
+        seventeen: Poly::Seventeen.fold(seventeen),
+    }
+}
+
+/// A form of the registers.
+#[derive(Clone, Copy, Debug, PartialEq, Eq)]
+pub enum Form {
+    Plain,
+    Folded,
+}
+
+impl Form {
+    /// What its shifts are called in a report.
+    pub fn name(self) -> &'static str {
+        match self {
+            Form::Plain => "plain shifts",
+            Form::Folded => "folded shifts",
+        }
+    }
+
+    /// The registers after so many shifts in this form.
+    pub fn shifts(self, clocks: u64) -> Registers {
+        match self {
+            Form::Plain => bare_shifts(clocks),
+            Form::Folded => folded_shifts(clocks),
+        }
+    }
 }

@@ -1,5 +1,5 @@
 ghost use Rattle.std.specs.Prelude.{◌≡◌, fold};
-ghost use Rattle.device_bench.specs.Tally.{clock_of, empty_tally, with_record};
+ghost use Rattle.device_bench.specs.Tally.{empty_tally, with_record};
 
 use board_base::Record;
 
@@ -25,7 +25,7 @@ impl Tally {
     {
         Tally {
             records: self.records.saturating_add(1),
-            sum: self.sum.saturating_add(clock_of(seen)),
+            sum: self.sum.saturating_add(seen.clock()),
         }
     }
 
@@ -36,17 +36,5 @@ impl Tally {
         for seen in records {
             *self = self.count(*seen);
         }
-    }
-}
-
-/// The clock in which a record came.
-fn clock_of(seen: Record) -> u64
-    ensures { result ≡ clock_of seen }
-{
-    match seen {
-        Record::Stroke { clock, .. }
-        | Record::Levels { clock, .. }
-        | Record::Latch { clock, .. }
-        | Record::WatchdogReset { clock } => clock,
     }
 }

@@ -2,7 +2,9 @@
 use Rattle.std.specs.Prelude.{ℕ, ◌+◌, List, [], ◌++◌, length, take, codes, nat_lt, ◌==◌, Option, Some, None, Result, Ok, Err, if◌then◌else◌}
 use Rattle.rom_image.specs.declared.image.TheConstants.{IMAGE_LEN}
 use Rattle.tape_ports.specs.declared.tape.TheConstants.{TAPE_LIMIT}
+use Rattle.rom_image.specs.declared.fault.ImageFault.TheVariants.{Length}
 use Rattle.tape_ports.specs.declared.fault.LineCause.{LineCause}
+use Rattle.tape_ports.specs.declared.fault.TapeFault.TheVariants.{TooLong, BadLine}
 use Rattle.tape_ports.specs.Tape.{TapeValue}
 use Rattle.tape_ports.specs.Grammar.{tape_of}
 use Rattle.board_base.specs.Board.{board_at_power_on}
@@ -13,7 +15,7 @@ use Rattle.catchup_engine.specs.Lockstep.{Board}
 use Rattle.catchup_engine.specs.Run.{run_to}
 use Rattle.log_text.specs.LogText.{merged_text}
 use Rattle.gravitar_program.specs.declared.cause.Cause.{Cause}
-use Rattle.gravitar_program.specs.declared.cause.Cause.TheVariants.{Absent, Length, TooLong, Line}
+use Rattle.gravitar_program.specs.declared.cause.Cause.TheVariants.{Absent, Image, Tape}
 use Rattle.gravitar_program.specs.Causes.{cause_text}
 use Rattle.gravitar_program.specs.Events.{Event, sending}
 use Rattle.gravitar_program.specs.LastLine.{ended_by, last_text, ending_of, status_of_ending}
@@ -62,15 +64,15 @@ read_as name (Err cause) = Err (refused 4 (note_text name (cause_text cause)))
 
 -- an image has one length
 unfoldable pub image_read : List ℕ → Result (List ℕ) Cause
-image_read bytes = if length bytes == IMAGE_LEN then Ok bytes else Err (Length (length bytes))
+image_read bytes = if length bytes == IMAGE_LEN then Ok bytes else Err (Image (Length (length bytes)))
 
 -- the tape of a text, or the cause of its refusal
 abbrev pub tape_or_cause : Result TapeValue (ℕ × LineCause) → Result TapeValue Cause
 tape_or_cause (Ok tape) = Ok tape
-tape_or_cause (Err fault) = Err (Line fault.0 fault.1)
+tape_or_cause (Err fault) = Err (Tape (BadLine fault.0 fault.1))
 
 unfoldable pub tape_read : List ℕ → Result TapeValue Cause
-tape_read bytes = if nat_lt TAPE_LIMIT (length bytes) then Err TooLong else tape_or_cause (tape_of bytes)
+tape_read bytes = if nat_lt TAPE_LIMIT (length bytes) then Err (Tape TooLong) else tape_or_cause (tape_of bytes)
 
 unfoldable pub image_file : Files → List ℕ → Result (List ℕ) Outcome
 image_file files name = and_then (first_bytes name IMAGE_LEN (files name)) (λ bytes. read_as name (image_read bytes))

@@ -7,7 +7,7 @@ pub record Names : Type 0 where
   pub image : List ℕ
   pub tape : List ℕ
 
--- a name is a word that isn't empty and doesn't begin with two dashes
+-- any word names a file, but the empty one and those with two dashes in front
 abbrev pub is_name : List ℕ → Bool
 is_name word = nat_lt 0 (length word) && not (starts_with nat_eq word (codes "--"))
 

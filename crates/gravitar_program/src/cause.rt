@@ -1,11 +1,10 @@
-use std::fmt;
-use tape_ports::LineCause;
+use rom_image::ImageFault;
+use tape_ports::TapeFault;
 
-/// Why a file is refused.
+/// Why a file is refused: it isn't there, or its reader refuses its bytes.
 #[derive(Clone, Copy, Debug)]
 pub enum Cause {
     Absent,
-    Length(usize),
-    TooLong,
-    Line(u64, LineCause),
+    Image(ImageFault),
+    Tape(TapeFault),
 }

@@ -10,9 +10,8 @@ impl fmt::Display for Cause {
     fn fmt<W: fmt::Write>(&self, f: &mut fmt::Formatter<W>) -> fmt::Result {
         match self {
             Cause::Absent => f.write_str("absent"),
-            Cause::Length(n) => write!(f, "length {n}"),
-            Cause::TooLong => f.write_str("too long"),
-            Cause::Line(line, cause) => write!(f, "line {line}: {cause}"),
+            Cause::Image(fault) => write!(f, "{fault}"),
+            Cause::Tape(fault) => write!(f, "{fault}"),
         }
     }
 }

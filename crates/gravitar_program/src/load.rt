@@ -1,4 +1,4 @@
-ghost use Rattle.std.specs.Prelude.{◌≡◌, ◌≤◌, ℕ, [], false, length, nat_lt, IfOk, IfErr, IfSome, Err, Ok, string_bytes};
+ghost use Rattle.std.specs.Prelude.{◌≡◌, ℕ, [], false, length, nat_lt, IfOk, IfErr, IfSome, Err, Ok, string_bytes};
 ghost use Rattle.gravitar_program.specs.Causes.{cause_text};
 ghost use Rattle.gravitar_program.specs.Outcome.{note_text, first_bytes, read_as, image_read, tape_read, image_file, tape_file, both_files};
 ghost use Rattle.gravitar_program.specs.Stages.{Gives, StageFaults, StageAbsences, IsBadOrMemory};
@@ -61,7 +61,7 @@ fn read_image(alloc: Global, name: &str, bytes: &[u8]) -> Result<Image, Stop>
 {
     match Image::read(alloc, bytes) {
         Ok(image) => Ok(image),
-        Err(ImageFault::Length(n)) => Err(bad(alloc, name, Cause::Length(n))),
+        Err(ImageFault::Length(n)) => Err(bad(alloc, name, Cause::Image(ImageFault::Length(n)))),
         Err(ImageFault::OutOfMemory) => Err(Stop::NoMemory),
     }
 }
@@ -74,8 +74,12 @@ fn read_tape(alloc: Global, name: &str, bytes: &[u8]) -> Result<Tape, Stop>
 {
     match Tape::read(alloc, bytes) {
         Ok(tape) => Ok(tape),
-        Err(TapeFault::TooLong) => Err(bad(alloc, name, Cause::TooLong)),
-        Err(TapeFault::BadLine { line, cause }) => Err(bad(alloc, name, Cause::Line(line, cause))),
+        Err(TapeFault::TooLong) => Err(bad(alloc, name, Cause::Tape(TapeFault::TooLong))),
+        Err(TapeFault::BadLine { line, cause }) => Err(bad(
+            alloc,
+            name,
+            Cause::Tape(TapeFault::BadLine { line, cause }),
+        )),
         Err(TapeFault::OutOfMemory) => Err(Stop::NoMemory),
     }
 }

@@ -1,6 +1,5 @@
 ghost use Rattle.std.specs.Prelude.{◌≡◌, ◌≢◌, ◌≤◌, ◌<◌, ◌↔◌, ◌⊎◌, [], ◌∷◌, IfSome, IfOk, Contains, None};
 ghost use Rattle.outside_io.specs.Causes.{Rose};
-ghost use Rattle.catchup_engine.specs.Run.{run_to};
 ghost use Rattle.gravitar_program.specs.Words.{command_of};
 ghost use Rattle.gravitar_program.specs.Events.{Did, DidFirst};
 ghost use Rattle.gravitar_program.specs.LastLine.{status_of_ending};
@@ -64,8 +63,8 @@ fn perform<S: Shelf, O: Sink>(
 ///
 /// 0: done. 2: the words are of no form. 3: the board is jammed at the end. 4: a file is bad. 5: a
 /// file is absent. 6: a fault of the shelf or of the output. 7: no memory. 8: the tape has entries,
-/// which aren't applied yet. All memory is taken before the first clock and the first write; after
-/// a fault nothing is written. A failed write to the notes changes no status.
+/// which aren't applied yet. A run takes its memory before it moves or writes anything, and writes
+/// nothing behind a fault. What becomes of the notes has no part in the status.
 pub fn gravitar<S: Shelf, O: Sink, N: Sink>(
     alloc: Global,
     words: &Words,
@@ -73,7 +72,7 @@ pub fn gravitar<S: Shelf, O: Sink, N: Sink>(
     out: &mut O,
     notes: &mut N,
 ) -> u8
-    // Where the status is neither 6 nor 7, all is as defined.
+    // Without a fault and with memory, all is as defined.
     ensures outcome { result ≢ 6 → result ≢ 7 → IfSome (S.files shelf.old) (λ files.
         (result ≡ (outcome_of words.now files).status)
         × Did (outcome_of words.now files).events (O.taken out.old) (O.taken out.new) (S.stores shelf.old) (S.stores shelf.new)) }

@@ -1,4 +1,4 @@
-ghost use Rattle.std.specs.Prelude.{◌≡◌, ◌≤◌, ◌<◌, ◌^◌, ℕ, [], IfOk, Ok};
+ghost use Rattle.std.specs.Prelude.{◌≡◌, ◌≤◌, ◌<◌, ℕ, [], IfOk, Ok};
 ghost use Rattle.catchup_engine.specs.Lockstep.{Board};
 ghost use Rattle.gravitar_program.specs.OneList.{LogIsOneList};
 ghost use Rattle.outside_io.specs.Causes.{HasCause};
