@@ -182,10 +182,6 @@ divider_back d more h = same_divider d _ _ _ (from_le_bytes-to_le_bytes_2 d.phas
 abbrev jam_of : List (List ℕ) → Option ℕ
 jam_of ps = cond (one ps 0 == 1) (Some (one ps 1)) None
 
-jam_back : (jam : Option ℕ) (more : List (List ℕ)) → jam_of (jam_pieces jam ++ more) ≡ jam
-jam_back None more = refl
-jam_back (Some o) more = refl
-
 abbrev mid_of : List (List ℕ) → Option MidValue
 mid_of ps = cond (one ps 0 == 0) None (Some (record { sequence = sequence_of (one ps 0); count = one ps 1; bytes = piece ps 2 }))
 
@@ -261,9 +257,6 @@ back_of b = back_pieces b.vg b.sound1 b.sound2 b.earom b.ram b.vram
 abbrev pieces_with : ℕ → BoardValue → Option ℕ → List (List ℕ) → List (List ℕ)
 pieces_with version b jam ms =
     (head_pieces version ++ register_pieces b.clock b.cpu ++ jam_pieces jam) ++ ((port_pieces b.out b.in0 b.in3 b.in4 ++ divider_pieces b.divider ++ ms ++ zero_pieces) ++ back_of b)
-
-abbrev memories : BoardValue → List (List ℕ)
-memories b = b.ram ∷ b.vram ∷ []
 
 second_back : (b : BoardValue) (jam : Option ℕ) (mid : Option MidValue) → IsWhole b → board_of 3 mid_of (pieces_with 2 b jam (middle_pieces mid)) ≡ with_cpu b jam mid
 second_back b None None h = parts_back b None None None None [] [] [] [] [] h refl refl

@@ -1,8 +1,8 @@
 //! The bytes of a saved board.
 #![tactic(auto)]
 
+mod cursor;
 mod fault;
-mod fields;
 mod range;
 mod read_cpu;
 mod read_devices;

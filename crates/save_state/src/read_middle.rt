@@ -4,83 +4,73 @@ ghost use Rattle.cpu_core.specs.Places.{IsMiddle};
 ghost use Rattle.save_state.specs.StateBytes.{no_place_fields, place_fields, sequence_of, middle_at, middle_fields, middle_pieces, eight_fields, eight_pieces, zero_fields, zero_pieces};
 ghost use Rattle.save_state.specs.Walk.{Gives, read_all, read_fields};
 
-use crate::STATE_LEN;
-use crate::fields::{offset, read_array, read_byte, read_zero};
+use crate::cursor::Cursor;
 use board_base::{CpuState, Mid, Sequence};
 use cpu_core::is_middle;
 
 /// Reads eight zeros.
 #[tactic(auto, unfolding(crate::specs::Walk::read_all, crate::specs::StateBytes::eight_fields))]
-pub fn read_eight_zeros(bytes: &[u8]) -> Result<&[u8], usize>
-    requires some { 8 ≤ length bytes.now }
-    requires inside { length bytes.now ≤ STATE_LEN }
-    ensures fields { (inside : Bool) → Gives (λ x. (eight_pieces, x.now)) result (read_all inside eight_fields bytes.now) }
-    ensures none { IfOk result (λ _. slice_index (drop 1 bytes.now) 0 ≡ 0) }
-    ensures len { IfOk result (λ x. length x.now + 8 ≡ length bytes.now) }
+pub fn read_eight_zeros(cursor: &mut Cursor) -> Result<(), usize>
+    requires some { 8 ≤ length cursor.old }
+    ensures fields { (inside : Bool) → Gives (λ _. (eight_pieces, cursor.new)) result (read_all inside eight_fields cursor.old) }
+    ensures none { IfOk result (λ _. slice_index (drop 1 cursor.old) 0 ≡ 0) }
+    ensures len { IfOk result (λ _. length cursor.new + 8 ≡ length cursor.old) }
 {
-    let rest = read_zero(bytes)?;
-    let rest = read_zero(rest)?;
-    let rest = read_zero(rest)?;
-    let rest = read_zero(rest)?;
-    let rest = read_zero(rest)?;
-    let rest = read_zero(rest)?;
-    let rest = read_zero(rest)?;
-    read_zero(rest)
+    cursor.read_zero()?;
+    cursor.read_zero()?;
+    cursor.read_zero()?;
+    cursor.read_zero()?;
+    cursor.read_zero()?;
+    cursor.read_zero()?;
+    cursor.read_zero()?;
+    cursor.read_zero()
 }
 
 /// Reads six zeros.
 #[tactic(auto, unfolding(crate::specs::Walk::read_all, crate::specs::StateBytes::zero_fields))]
-pub fn read_six_zeros(bytes: &[u8]) -> Result<&[u8], usize>
-    requires some { 6 ≤ length bytes.now }
-    requires inside { length bytes.now ≤ STATE_LEN }
-    ensures fields { Gives (λ x. (zero_pieces, x.now)) result (read_fields zero_fields bytes.now) }
-    ensures len { IfOk result (λ x. length x.now + 6 ≡ length bytes.now) }
+pub fn read_six_zeros(cursor: &mut Cursor) -> Result<(), usize>
+    requires some { 6 ≤ length cursor.old }
+    ensures fields { Gives (λ _. (zero_pieces, cursor.new)) result (read_fields zero_fields cursor.old) }
+    ensures len { IfOk result (λ _. length cursor.new + 6 ≡ length cursor.old) }
 {
-    let rest = read_zero(bytes)?;
-    let rest = read_zero(rest)?;
-    let rest = read_zero(rest)?;
-    let rest = read_zero(rest)?;
-    let rest = read_zero(rest)?;
-    read_zero(rest)
+    cursor.read_zero()?;
+    cursor.read_zero()?;
+    cursor.read_zero()?;
+    cursor.read_zero()?;
+    cursor.read_zero()?;
+    cursor.read_zero()
 }
 
 /// Reads that there is no place inside a sequence.
 #[tactic(auto, unfolding(crate::specs::Walk::read_all, crate::specs::Walk::field_at, crate::specs::StateBytes::no_place_fields))]
-fn read_no_place(bytes: &[u8]) -> Result<&[u8], usize>
-    requires some { 7 ≤ length bytes.now }
-    requires inside { length bytes.now ≤ STATE_LEN }
-    ensures fields { (inside : Bool) → Gives (λ x. ((0 ∷ []) ∷ (0 ∷ 0 ∷ 0 ∷ 0 ∷ 0 ∷ 0 ∷ []) ∷ [], x.now)) result (read_all inside no_place_fields bytes.now) }
-    ensures none { IfOk result (λ _. slice_index bytes.now 0 ≡ 0) }
-    ensures len { IfOk result (λ x. length x.now + 7 ≡ length bytes.now) }
+fn read_no_place(cursor: &mut Cursor) -> Result<(), usize>
+    requires some { 7 ≤ length cursor.old }
+    ensures fields { (inside : Bool) → Gives (λ _. ((0 ∷ []) ∷ (0 ∷ 0 ∷ 0 ∷ 0 ∷ 0 ∷ 0 ∷ []) ∷ [], cursor.new)) result (read_all inside no_place_fields cursor.old) }
+    ensures none { IfOk result (λ _. slice_index cursor.old 0 ≡ 0) }
+    ensures len { IfOk result (λ _. length cursor.new + 7 ≡ length cursor.old) }
 {
-    let rest = read_zero(bytes)?;
-    let (six, after) = read_array::<6>(rest);
+    cursor.read_zero()?;
+    let at = cursor.offset();
+    let six = cursor.read_array::<6>();
     if six != [0; 6] {
-        return Err(offset(rest));
+        return Err(at);
     }
-    Ok(after)
+    Ok(())
 }
 
 /// Reads how far a sequence has come.
 #[tactic(auto, using(crate::proofs::Inside::same_test), unfolding(crate::specs::Walk::read_all, crate::specs::Walk::field_at, crate::specs::StateBytes::place_fields))]
-fn read_place<'a>(
-    cpu: &CpuState,
-    sequence: Sequence,
-    bytes: &'a [u8],
-) -> Result<(Mid, &'a [u8]), usize>
-    requires some { 7 ≤ length bytes.now }
-    requires inside { length bytes.now ≤ STATE_LEN }
-    ensures fields { (inside : Bool) → (IsTrue inside ↔ IsMiddle (record cpu.now { mid = Some (record { sequence = sequence; count = slice_index bytes.now 0; bytes = take 6 (drop 1 bytes.now) }) })) → Gives (λ x. ((x.0.count ∷ []) ∷ x.0.bytes ∷ [], x.1.now)) result (read_all inside place_fields bytes.now) }
-    ensures sequence { IfOk result (λ x. x.0.sequence ≡ sequence) }
-    ensures told { IfOk result (λ _. IsMiddle (record cpu.now { mid = Some (record { sequence = sequence; count = slice_index bytes.now 0; bytes = take 6 (drop 1 bytes.now) }) })) }
-    ensures place { IfOk result (λ x. IsMiddle (record cpu.now { mid = Some x.0 })) }
-    ensures len { IfOk result (λ x. length x.1.now + 7 ≡ length bytes.now) }
+fn read_place(cpu: &CpuState, sequence: Sequence, cursor: &mut Cursor) -> Result<Mid, usize>
+    requires some { 7 ≤ length cursor.old }
+    ensures fields { (inside : Bool) → (IsTrue inside ↔ IsMiddle (record cpu.now { mid = Some (record { sequence = sequence; count = slice_index cursor.old 0; bytes = take 6 (drop 1 cursor.old) }) })) → Gives (λ x. ((x.count ∷ []) ∷ x.bytes ∷ [], cursor.new)) result (read_all inside place_fields cursor.old) }
+    ensures sequence { IfOk result (λ x. x.sequence ≡ sequence) }
+    ensures told { IfOk result (λ _. IsMiddle (record cpu.now { mid = Some (record { sequence = sequence; count = slice_index cursor.old 0; bytes = take 6 (drop 1 cursor.old) }) })) }
+    ensures place { IfOk result (λ x. IsMiddle (record cpu.now { mid = Some x })) }
+    ensures len { IfOk result (λ _. length cursor.new + 7 ≡ length cursor.old) }
 {
-    let count = bytes[0];
-    if count == 0 || count > 6 {
-        return Err(offset(bytes));
-    }
-    let (six, rest) = read_array::<6>(&bytes[1..]);
+    let count = cursor.read_byte_from_1(6)?;
+    let at = cursor.offset();
+    let six = cursor.read_array::<6>();
     let mid = Mid {
         sequence,
         count,
@@ -91,9 +81,9 @@ fn read_place<'a>(
         ..*cpu
     };
     if !is_middle(&inside) {
-        return Err(offset(&bytes[1..]));
+        return Err(at);
     }
-    Ok((mid, rest))
+    Ok(mid)
 }
 
 /// The sequence that a number from 1 to 3 tells.
@@ -109,23 +99,20 @@ fn sequence(number: u8) -> Sequence
 
 /// Reads the place of a processor inside a sequence.
 #[tactic(auto, using(crate::proofs::Inside::no_middle), unfolding(crate::specs::Walk::read_all, crate::specs::StateBytes::middle_fields))]
-pub fn read_middle<'a>(cpu: &CpuState, bytes: &'a [u8]) -> Result<(Option<Mid>, &'a [u8]), usize>
-    requires some { 8 ≤ length bytes.now }
-    requires inside { length bytes.now ≤ STATE_LEN }
-    ensures fields { (inside : Bool) → (IsTrue inside ↔ IsMiddle (record cpu.now { mid = Some (middle_at bytes.now) })) → Gives (λ x. (middle_pieces x.0, x.1.now)) result (read_all inside (middle_fields (is_some cpu.now.jam) (slice_index bytes.now 0)) bytes.now) }
-    ensures place { IfOk result (λ x. IfSome x.0 (λ m. IsMiddle (record cpu.now { mid = Some m }))) }
-    ensures none { IfOk result (λ x. slice_index bytes.now 0 ≡ 0 → x.0 ≡ None) }
-    ensures decided { IfOk result (λ x. IsTrue (is_some x.0) ↔ IsMiddle (record cpu.now { mid = Some (middle_at bytes.now) })) }
-    ensures len { IfOk result (λ x. length x.1.now + 8 ≡ length bytes.now) }
+pub fn read_middle(cpu: &CpuState, cursor: &mut Cursor) -> Result<Option<Mid>, usize>
+    requires some { 8 ≤ length cursor.old }
+    ensures fields { (inside : Bool) → (IsTrue inside ↔ IsMiddle (record cpu.now { mid = Some (middle_at cursor.old) })) → Gives (λ x. (middle_pieces x, cursor.new)) result (read_all inside (middle_fields (is_some cpu.now.jam) (slice_index cursor.old 0)) cursor.old) }
+    ensures place { IfOk result (λ x. IfSome x (λ m. IsMiddle (record cpu.now { mid = Some m }))) }
+    ensures none { IfOk result (λ x. slice_index cursor.old 0 ≡ 0 → x ≡ None) }
+    ensures decided { IfOk result (λ x. IsTrue (is_some x) ↔ IsMiddle (record cpu.now { mid = Some (middle_at cursor.old) })) }
+    ensures len { IfOk result (λ _. length cursor.new + 8 ≡ length cursor.old) }
 {
     let greatest = if cpu.jam.is_some() { 0 } else { 3 };
-    let (number, rest) = read_byte(bytes, greatest)?;
+    let number = cursor.read_byte(greatest)?;
     if number == 0 {
-        let rest = read_no_place(rest)?;
-        return Ok((None, rest));
+        read_no_place(cursor)?;
+        return Ok(None);
     }
-    match read_place(cpu, sequence(number), rest) {
-        Ok((mid, rest)) => Ok((Some(mid), rest)),
-        Err(at) => Err(at),
-    }
+    let mid = read_place(cpu, sequence(number), cursor)?;
+    Ok(Some(mid))
 }

@@ -3,10 +3,7 @@ ghost use Rattle.save_state.specs.Fields.{word};
 ghost use Rattle.save_state.specs.StateBytes.{stack_pieces, stack_fields, left_field, pen_fields, vg_pieces};
 ghost use Rattle.save_state.specs.Walk.{Gives, vg_at, read_field, read_fields};
 
-use crate::STATE_LEN;
-use crate::fields::{
-    read_any, read_array, read_byte, read_count, read_flag, read_signed, read_word,
-};
+use crate::cursor::Cursor;
 use board_base::VgState;
 
 /// What the generator draws with, its program and the word under way.
@@ -25,62 +22,59 @@ struct Pen {
 
 /// Reads the stack.
 #[tactic(auto, unfolding(crate::specs::Walk::read_all, crate::specs::StateBytes::stack_fields))]
-fn read_stack(bytes: &[u8]) -> Result<([u16; 4], &[u8]), usize>
-    requires some { 8 ≤ length bytes.now }
-    requires inside { length bytes.now ≤ STATE_LEN }
-    ensures fields { Gives (λ x. (stack_pieces x.0, x.1.now)) result (read_fields stack_fields bytes.now) }
-    ensures range { IfOk result (λ x. All (λ to. to < 8192) x.0) }
-    ensures len { IfOk result (λ x. length x.1.now + 8 ≡ length bytes.now) }
+fn read_stack(cursor: &mut Cursor) -> Result<[u16; 4], usize>
+    requires some { 8 ≤ length cursor.old }
+    ensures fields { Gives (λ x. (stack_pieces x, cursor.new)) result (read_fields stack_fields cursor.old) }
+    ensures range { IfOk result (λ x. All (λ to. to < 8192) x) }
+    ensures len { IfOk result (λ _. length cursor.new + 8 ≡ length cursor.old) }
 {
-    let (first, rest) = read_word(bytes, 8191)?;
-    let (second, rest) = read_word(rest, 8191)?;
-    let (third, rest) = read_word(rest, 8191)?;
-    let (fourth, rest) = read_word(rest, 8191)?;
-    Ok(([first, second, third, fourth], rest))
+    let first = cursor.read_word(8191)?;
+    let second = cursor.read_word(8191)?;
+    let third = cursor.read_word(8191)?;
+    let fourth = cursor.read_word(8191)?;
+    Ok([first, second, third, fourth])
 }
 
 /// Reads the clocks that are left of a vector.
-fn read_left(bytes: &[u8], phase: u8) -> Result<(u16, &[u8]), usize>
-    requires some { 2 ≤ length bytes.now }
-    requires inside { length bytes.now ≤ STATE_LEN }
-    ensures field { Gives (λ x. (word x.0, x.1.now)) result (read_field (left_field phase) bytes.now) }
-    ensures drawing { IfOk result (λ x. phase ≡ 5 → 1 ≤ x.0) }
-    ensures longest { IfOk result (λ x. x.0 ≤ 8192) }
-    ensures resting { IfOk result (λ x. phase ≢ 5 → x.0 ≡ 0) }
-    ensures len { IfOk result (λ x. length x.1.now + 2 ≡ length bytes.now) }
+fn read_left(cursor: &mut Cursor, phase: u8) -> Result<u16, usize>
+    requires some { 2 ≤ length cursor.old }
+    ensures field { Gives (λ x. (word x, cursor.new)) result (read_field (left_field phase) cursor.old) }
+    ensures drawing { IfOk result (λ x. phase ≡ 5 → 1 ≤ x) }
+    ensures longest { IfOk result (λ x. x ≤ 8192) }
+    ensures resting { IfOk result (λ x. phase ≢ 5 → x ≡ 0) }
+    ensures len { IfOk result (λ _. length cursor.new + 2 ≡ length cursor.old) }
 {
     if phase == 5 {
-        read_count(bytes, 8192)
+        cursor.read_count(8192)
     } else {
-        read_word(bytes, 0)
+        cursor.read_word(0)
     }
 }
 
 /// Reads what the generator draws with.
 #[tactic(auto, unfolding(crate::specs::Walk::read_all, crate::specs::StateBytes::pen_fields))]
-fn read_pen(bytes: &[u8]) -> Result<(Pen, &[u8]), usize>
-    requires some { 13 ≤ length bytes.now }
-    requires inside { length bytes.now ≤ STATE_LEN }
-    ensures fields { Gives (λ x. ((x.0.phase ∷ []) ∷ word x.0.pc ∷ (x.0.sp ∷ []) ∷ (x.0.colour ∷ []) ∷ (x.0.intensity ∷ []) ∷ (x.0.lin ∷ []) ∷ (x.0.bin ∷ []) ∷ (x.0.pen ∷ []) ∷ x.0.bytes ∷ [], x.1.now)) result (read_fields pen_fields bytes.now) }
-    ensures value { IfOk result (λ x. slice_index bytes.now 0 ≡ x.0.phase) }
-    ensures phase { IfOk result (λ x. x.0.phase ≤ 5) }
-    ensures pc { IfOk result (λ x. x.0.pc ≤ 8191) }
-    ensures sp { IfOk result (λ x. x.0.sp ≤ 3) }
-    ensures colour { IfOk result (λ x. x.0.colour ≤ 7) }
-    ensures intensity { IfOk result (λ x. x.0.intensity ≤ 15) }
-    ensures bin { IfOk result (λ x. x.0.bin ≤ 7) }
-    ensures pen { IfOk result (λ x. x.0.pen ≤ 15) }
-    ensures len { IfOk result (λ x. length x.1.now + 13 ≡ length bytes.now) }
+fn read_pen(cursor: &mut Cursor) -> Result<Pen, usize>
+    requires some { 13 ≤ length cursor.old }
+    ensures fields { Gives (λ x. ((x.phase ∷ []) ∷ word x.pc ∷ (x.sp ∷ []) ∷ (x.colour ∷ []) ∷ (x.intensity ∷ []) ∷ (x.lin ∷ []) ∷ (x.bin ∷ []) ∷ (x.pen ∷ []) ∷ x.bytes ∷ [], cursor.new)) result (read_fields pen_fields cursor.old) }
+    ensures value { IfOk result (λ x. slice_index cursor.old 0 ≡ x.phase) }
+    ensures phase { IfOk result (λ x. x.phase ≤ 5) }
+    ensures pc { IfOk result (λ x. x.pc ≤ 8191) }
+    ensures sp { IfOk result (λ x. x.sp ≤ 3) }
+    ensures colour { IfOk result (λ x. x.colour ≤ 7) }
+    ensures intensity { IfOk result (λ x. x.intensity ≤ 15) }
+    ensures bin { IfOk result (λ x. x.bin ≤ 7) }
+    ensures pen { IfOk result (λ x. x.pen ≤ 15) }
+    ensures len { IfOk result (λ _. length cursor.new + 13 ≡ length cursor.old) }
 {
-    let (phase, rest) = read_byte(bytes, 5)?;
-    let (pc, rest) = read_word(rest, 8191)?;
-    let (sp, rest) = read_byte(rest, 3)?;
-    let (colour, rest) = read_byte(rest, 7)?;
-    let (intensity, rest) = read_byte(rest, 15)?;
-    let (lin, rest) = read_any(rest);
-    let (bin, rest) = read_byte(rest, 7)?;
-    let (pen, rest) = read_byte(rest, 15)?;
-    let (bytes, rest) = read_array::<4>(rest);
+    let phase = cursor.read_byte(5)?;
+    let pc = cursor.read_word(8191)?;
+    let sp = cursor.read_byte(3)?;
+    let colour = cursor.read_byte(7)?;
+    let intensity = cursor.read_byte(15)?;
+    let lin = cursor.read_any();
+    let bin = cursor.read_byte(7)?;
+    let pen = cursor.read_byte(15)?;
+    let bytes = cursor.read_array::<4>();
     let pen = Pen {
         phase,
         pc,
@@ -92,25 +86,24 @@ fn read_pen(bytes: &[u8]) -> Result<(Pen, &[u8]), usize>
         pen,
         bytes,
     };
-    Ok((pen, rest))
+    Ok(pen)
 }
 
 /// Reads the vector generator.
 #[tactic(auto, unfolding(crate::specs::Walk::vg_at, crate::specs::Walk::read_all, crate::specs::StateBytes::halted_fields, crate::specs::StateBytes::beam_fields))]
-pub fn read_vg(bytes: &[u8]) -> Result<(VgState, &[u8]), usize>
-    requires some { 40 ≤ length bytes.now }
-    requires inside { length bytes.now ≤ STATE_LEN }
-    ensures fields { Gives (λ x. (vg_pieces x.0, x.1.now)) result (vg_at bytes.now) }
-    ensures len { IfOk result (λ x. length x.1.now + 40 ≡ length bytes.now) }
+pub fn read_vg(cursor: &mut Cursor) -> Result<VgState, usize>
+    requires some { 40 ≤ length cursor.old }
+    ensures fields { Gives (λ x. (vg_pieces x, cursor.new)) result (vg_at cursor.old) }
+    ensures len { IfOk result (λ _. length cursor.new + 40 ≡ length cursor.old) }
 {
-    let (halted, rest) = read_flag(bytes)?;
-    let (pen, rest) = read_pen(rest)?;
-    let (stack, rest) = read_stack(rest)?;
-    let (x, rest) = read_signed(rest, 1 << 30)?;
-    let (y, rest) = read_signed(rest, 1 << 30)?;
-    let (dx, rest) = read_signed(rest, 1 << 27)?;
-    let (dy, rest) = read_signed(rest, 1 << 27)?;
-    let (left, rest) = read_left(rest, pen.phase)?;
+    let halted = cursor.read_flag()?;
+    let pen = read_pen(cursor)?;
+    let stack = read_stack(cursor)?;
+    let x = cursor.read_signed(1 << 30)?;
+    let y = cursor.read_signed(1 << 30)?;
+    let dx = cursor.read_signed(1 << 27)?;
+    let dy = cursor.read_signed(1 << 27)?;
+    let left = read_left(cursor, pen.phase)?;
     let bytes = pen.bytes;
     let vg = VgState {
         halted,
@@ -130,5 +123,5 @@ pub fn read_vg(bytes: &[u8]) -> Result<(VgState, &[u8]), usize>
         dy,
         left,
     };
-    Ok((vg, rest))
+    Ok(vg)
 }

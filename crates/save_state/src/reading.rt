@@ -8,8 +8,8 @@ ghost use Rattle.save_state.specs.Reading.{IsWhole, Spells, ReadsState};
 ghost use Rattle.board_base.specs.Board.{BoardValue};
 
 use crate::STATE_LEN;
+use crate::cursor::Cursor;
 use crate::fault::StateFault;
-use crate::fields::{offset, read_any, read_array, read_byte};
 use crate::range::keep_ranges;
 use crate::read_cpu::{read_jam, read_registers};
 use crate::read_devices::{read_divider, read_earom};
@@ -22,34 +22,33 @@ use board_base::{BoardState, CpuState, DividerState, EaromState, Mid, PokeyState
 
 /// Reads the version and the letters that begin a file.
 #[tactic(auto, unfolding(crate::specs::Walk::read_all, crate::specs::Walk::field_at, crate::specs::StateBytes::head_fields))]
-fn read_head(bytes: &[u8]) -> Result<&[u8], usize>
-    requires some { 4 ≤ length bytes.now }
-    requires inside { length bytes.now ≤ STATE_LEN }
-    ensures fields { Gives (λ x. ((slice_index bytes.now 0 ∷ []) ∷ (71 ∷ 86 ∷ 83 ∷ []) ∷ [], x.now)) result (read_fields head_fields bytes.now) }
-    ensures len { IfOk result (λ x. length x.now + 4 ≡ length bytes.now) }
+fn read_head(cursor: &mut Cursor) -> Result<(), usize>
+    requires some { 4 ≤ length cursor.old }
+    ensures fields { Gives (λ _. ((slice_index cursor.old 0 ∷ []) ∷ (71 ∷ 86 ∷ 83 ∷ []) ∷ [], cursor.new)) result (read_fields head_fields cursor.old) }
+    ensures len { IfOk result (λ _. length cursor.new + 4 ≡ length cursor.old) }
 {
-    let (_version, rest) = read_any(bytes);
-    let (letters, after) = read_array::<3>(rest);
+    let _version = cursor.read_any();
+    let at = cursor.offset();
+    let letters = cursor.read_array::<3>();
     if letters != *b"GVS" {
-        return Err(offset(rest));
+        return Err(at);
     }
-    Ok(after)
+    Ok(())
 }
 
 /// Reads the output latch and the ports: `out`, `in0`, `in3` and `in4`.
 #[tactic(auto, unfolding(crate::specs::Walk::read_all, crate::specs::StateBytes::port_fields))]
-fn read_ports(bytes: &[u8]) -> Result<([u8; 4], &[u8]), usize>
-    requires some { 4 ≤ length bytes.now }
-    requires inside { length bytes.now ≤ STATE_LEN }
-    ensures fields { Gives (λ x. (port_pieces (slice_index x.0 0) (slice_index x.0 1) (slice_index x.0 2) (slice_index x.0 3), x.1.now)) result (read_fields port_fields bytes.now) }
-    ensures in0 { IfOk result (λ x. slice_index x.0 1 ≤ 63) }
-    ensures len { IfOk result (λ x. length x.1.now + 4 ≡ length bytes.now) }
+fn read_ports(cursor: &mut Cursor) -> Result<[u8; 4], usize>
+    requires some { 4 ≤ length cursor.old }
+    ensures fields { Gives (λ x. (port_pieces (slice_index x 0) (slice_index x 1) (slice_index x 2) (slice_index x 3), cursor.new)) result (read_fields port_fields cursor.old) }
+    ensures in0 { IfOk result (λ x. slice_index x 1 ≤ 63) }
+    ensures len { IfOk result (λ _. length cursor.new + 4 ≡ length cursor.old) }
 {
-    let (out, rest) = read_any(bytes);
-    let (in0, rest) = read_byte(rest, 0x3F)?;
-    let (in3, rest) = read_any(rest);
-    let (in4, rest) = read_any(rest);
-    Ok(([out, in0, in3, in4], rest))
+    let out = cursor.read_any();
+    let in0 = cursor.read_byte(0x3F)?;
+    let in3 = cursor.read_any();
+    let in4 = cursor.read_any();
+    Ok([out, in0, in3, in4])
 }
 
 /// The greatest clock of a version, by the number of its sequence.
@@ -87,120 +86,87 @@ struct Back {
 
 /// Reads the place inside a sequence, which version 1 doesn't have.
 #[tactic(auto, using(crate::proofs::Inside::no_middle))]
-fn read_place<'a>(
-    version: u8,
-    cpu: &CpuState,
-    bytes: &'a [u8],
-) -> Result<(Option<Mid>, &'a [u8]), usize>
-    requires some { 8 ≤ length bytes.now }
-    requires inside { length bytes.now ≤ STATE_LEN }
-    ensures fields { (inside : Bool) → (IsTrue inside ↔ IsMiddle (record cpu.now { mid = Some (middle_at bytes.now) })) → Gives (λ x. (middle_in_version version x.0, x.1.now)) result (read_all inside (middle_of_version version (is_some cpu.now.jam) (slice_index bytes.now 0)) bytes.now) }
-    ensures place { IfOk result (λ x. IfSome x.0 (λ m. IsMiddle (record cpu.now { mid = Some m }))) }
-    ensures first { version ≡ 1 → IfOk result (λ x. x.0 ≡ None) }
-    ensures none { IfOk result (λ x. slice_index bytes.now 0 ≡ 0 → x.0 ≡ None) }
-    ensures decided { IfOk result (λ x. IsTrue (is_some x.0) ↔ IsMiddle (record cpu.now { mid = Some (middle_at bytes.now) })) }
-    ensures len { IfOk result (λ x. length x.1.now + 8 ≡ length bytes.now) }
+fn read_place(version: u8, cpu: &CpuState, cursor: &mut Cursor) -> Result<Option<Mid>, usize>
+    requires some { 8 ≤ length cursor.old }
+    ensures fields { (inside : Bool) → (IsTrue inside ↔ IsMiddle (record cpu.now { mid = Some (middle_at cursor.old) })) → Gives (λ x. (middle_in_version version x, cursor.new)) result (read_all inside (middle_of_version version (is_some cpu.now.jam) (slice_index cursor.old 0)) cursor.old) }
+    ensures place { IfOk result (λ x. IfSome x (λ m. IsMiddle (record cpu.now { mid = Some m }))) }
+    ensures first { version ≡ 1 → IfOk result (λ x. x ≡ None) }
+    ensures none { IfOk result (λ x. slice_index cursor.old 0 ≡ 0 → x ≡ None) }
+    ensures decided { IfOk result (λ x. IsTrue (is_some x) ↔ IsMiddle (record cpu.now { mid = Some (middle_at cursor.old) })) }
+    ensures len { IfOk result (λ _. length cursor.new + 8 ≡ length cursor.old) }
 {
     if version == 1 {
-        let rest = read_eight_zeros(bytes)?;
-        return Ok((None, rest));
+        read_eight_zeros(cursor)?;
+        return Ok(None);
     }
-    read_middle(cpu, bytes)
+    read_middle(cpu, cursor)
 }
 
 /// Reads the clock and the processor, which stands inside no sequence yet.
 #[tactic(auto, unfolding(crate::specs::Walk::processor_at))]
-fn read_processor(version: u8, bytes: &[u8]) -> Result<((u64, CpuState), &[u8]), usize>
-    requires some { length bytes.now ≡ STATE_LEN }
-    requires version { slice_index bytes.now 0 ≡ version }
-    ensures fields { Gives (λ x. (processor_pieces version x.0.0 x.0.1, x.1.now)) result (processor_at version (last_clock version (slice_index bytes.now 30)) bytes.now) }
-    ensures clock { IfOk result (λ x. x.0.0 ≤ last_clock version (slice_index bytes.now 30)) }
-    ensures undocumented { IfOk result (λ x. IfSome x.0.1.jam (λ o. row_of o ≡ None)) }
-    ensures mid { IfOk result (λ x. x.0.1.mid ≡ None) }
-    ensures len { IfOk result (λ x. length x.1.now + 21 ≡ length bytes.now) }
+fn read_processor(version: u8, cursor: &mut Cursor) -> Result<(u64, CpuState), usize>
+    requires some { length cursor.old ≡ STATE_LEN }
+    requires version { slice_index cursor.old 0 ≡ version }
+    ensures fields { Gives (λ x. (processor_pieces version x.0 x.1, cursor.new)) result (processor_at version (last_clock version (slice_index cursor.old 30)) cursor.old) }
+    ensures clock { IfOk result (λ x. x.0 ≤ last_clock version (slice_index cursor.old 30)) }
+    ensures undocumented { IfOk result (λ x. IfSome x.1.jam (λ o. row_of o ≡ None)) }
+    ensures mid { IfOk result (λ x. x.1.mid ≡ None) }
+    ensures len { IfOk result (λ _. length cursor.new + 21 ≡ length cursor.old) }
 {
-    let rest = read_head(bytes)?;
-    let last = greatest_clock(version, bytes[30]);
-    let ((clock, cpu), rest) = match read_registers(rest, last) {
-        Ok(read) => read,
-        Err(at) => return Err(at),
-    };
-    let (jam, rest) = read_jam(rest)?;
-    Ok(((clock, CpuState { jam, ..cpu }), rest))
+    let last = greatest_clock(version, cursor.peek(30));
+    read_head(cursor)?;
+    let (clock, cpu) = read_registers(cursor, last)?;
+    let jam = read_jam(cursor)?;
+    Ok((clock, CpuState { jam, ..cpu }))
 }
 
 /// Reads the ports, the divider and the place inside a sequence.
 #[tactic(auto, using(crate::proofs::Laws::rest_ports, crate::proofs::Laws::rest_divider), unfolding(crate::specs::Walk::middle_after))]
-fn read_front<'a>(version: u8, cpu: &CpuState, bytes: &'a [u8]) -> Result<(Front, &'a [u8]), usize>
-    requires some { 23 ≤ length bytes.now }
-    requires inside { length bytes.now ≤ STATE_LEN }
-    ensures fields { (inside : Bool) → (IsTrue inside ↔ IsMiddle (record cpu.now { mid = Some (middle_at (drop 5 (drop 4 bytes.now))) })) → Gives (λ x. (middle_part version x.0.out x.0.in0 x.0.in3 x.0.in4 x.0.divider x.0.mid, x.1.now)) result (middle_after version (is_some cpu.now.jam) inside bytes.now) }
-    ensures in0 { IfOk result (λ x. x.0.in0 ≤ 63) }
-    ensures place { IfOk result (λ x. IfSome x.0.mid (λ m. IsMiddle (record cpu.now { mid = Some m }))) }
-    ensures first { version ≡ 1 → IfOk result (λ x. x.0.mid ≡ None) }
-    ensures none { IfOk result (λ x. slice_index (drop 5 (drop 4 bytes.now)) 0 ≡ 0 → x.0.mid ≡ None) }
-    ensures decided { IfOk result (λ x. IsTrue (is_some x.0.mid) ↔ IsMiddle (record cpu.now { mid = Some (middle_at (drop 5 (drop 4 bytes.now))) })) }
-    ensures len { IfOk result (λ x. length x.1.now + 23 ≡ length bytes.now) }
+fn read_front(version: u8, cpu: &CpuState, cursor: &mut Cursor) -> Result<Front, usize>
+    requires some { 23 ≤ length cursor.old }
+    ensures fields { (inside : Bool) → (IsTrue inside ↔ IsMiddle (record cpu.now { mid = Some (middle_at (drop 5 (drop 4 cursor.old))) })) → Gives (λ x. (middle_part version x.out x.in0 x.in3 x.in4 x.divider x.mid, cursor.new)) result (middle_after version (is_some cpu.now.jam) inside cursor.old) }
+    ensures in0 { IfOk result (λ x. x.in0 ≤ 63) }
+    ensures place { IfOk result (λ x. IfSome x.mid (λ m. IsMiddle (record cpu.now { mid = Some m }))) }
+    ensures first { version ≡ 1 → IfOk result (λ x. x.mid ≡ None) }
+    ensures none { IfOk result (λ x. slice_index (drop 5 (drop 4 cursor.old)) 0 ≡ 0 → x.mid ≡ None) }
+    ensures decided { IfOk result (λ x. IsTrue (is_some x.mid) ↔ IsMiddle (record cpu.now { mid = Some (middle_at (drop 5 (drop 4 cursor.old))) })) }
+    ensures len { IfOk result (λ _. length cursor.new + 23 ≡ length cursor.old) }
 {
-    let ([out, in0, in3, in4], rest) = read_ports(bytes)?;
-    let (divider, rest) = match read_divider(rest) {
-        Ok(read) => read,
-        Err(at) => return Err(at),
-    };
-    let (mid, rest) = match read_place(version, cpu, rest) {
-        Ok(read) => read,
-        Err(at) => return Err(at),
-    };
-    match read_six_zeros(rest) {
-        Ok(rest) => {
-            let front = Front {
-                out,
-                in0,
-                in3,
-                in4,
-                divider,
-                mid,
-            };
-            Ok((front, rest))
-        }
-        Err(at) => Err(at),
-    }
+    let [out, in0, in3, in4] = read_ports(cursor)?;
+    let divider = read_divider(cursor)?;
+    let mid = read_place(version, cpu, cursor)?;
+    read_six_zeros(cursor)?;
+    Ok(Front {
+        out,
+        in0,
+        in3,
+        in4,
+        divider,
+        mid,
+    })
 }
 
 /// Reads the devices behind the processor's bus, and both memories.
 #[tactic(auto, unfolding(crate::specs::Walk::back_at, crate::specs::Walk::read_all, crate::specs::StateBytes::memory_fields))]
-fn read_back(bytes: &[u8]) -> Result<(Back, &[u8]), usize>
-    requires { length bytes.now ≡ 4312 }
-    ensures fields { Gives (λ x. (back_pieces x.0.vg x.0.sound1 x.0.sound2 x.0.earom x.0.ram x.0.vram, x.1.now)) result (back_at bytes.now) }
-    ensures len { IfOk result (λ x. length x.1.now ≡ 0) }
+fn read_back(cursor: &mut Cursor) -> Result<Back, usize>
+    requires { length cursor.old ≡ 4312 }
+    ensures fields { Gives (λ x. (back_pieces x.vg x.sound1 x.sound2 x.earom x.ram x.vram, cursor.new)) result (back_at cursor.old) }
+    ensures len { IfOk result (λ _. length cursor.new ≡ 0) }
 {
-    let (vg, rest) = match read_vg(bytes) {
-        Ok(read) => read,
-        Err(at) => return Err(at),
-    };
-    let (sound1, rest) = match read_pokey(rest) {
-        Ok(read) => read,
-        Err(at) => return Err(at),
-    };
-    let (sound2, rest) = match read_pokey(rest) {
-        Ok(read) => read,
-        Err(at) => return Err(at),
-    };
-    let (earom, rest) = match read_earom(rest) {
-        Ok(read) => read,
-        Err(at) => return Err(at),
-    };
-    let (ram, rest) = read_array::<RAM_LEN>(rest);
-    let (vram, rest) = read_array::<VECTOR_RAM_LEN>(rest);
-    let back = Back {
+    let vg = read_vg(cursor)?;
+    let sound1 = read_pokey(cursor)?;
+    let sound2 = read_pokey(cursor)?;
+    let earom = read_earom(cursor)?;
+    let ram = cursor.read_array::<RAM_LEN>();
+    let vram = cursor.read_array::<VECTOR_RAM_LEN>();
+    Ok(Back {
         vg,
         sound1,
         sound2,
         earom,
         ram,
         vram,
-    };
-    Ok((back, rest))
+    })
 }
 
 /// Reads a file of one of the two versions.
@@ -214,18 +180,10 @@ fn read_board(version: u8, bytes: &[u8]) -> Result<BoardState, usize>
     ensures undocumented { IfOk result (λ b. IfSome b.cpu.jam (λ o. row_of o ≡ None)) }
     ensures place { IfOk result (λ b. IfSome b.cpu.mid (λ _. IsMiddle b.cpu)) }
 {
-    let ((clock, cpu), rest) = match read_processor(version, bytes) {
-        Ok(read) => read,
-        Err(at) => return Err(at),
-    };
-    let (front, rest) = match read_front(version, &cpu, rest) {
-        Ok(read) => read,
-        Err(at) => return Err(at),
-    };
-    let (back, _end) = match read_back(rest) {
-        Ok(read) => read,
-        Err(at) => return Err(at),
-    };
+    let mut cursor = Cursor::new(bytes);
+    let (clock, cpu) = read_processor(version, &mut cursor)?;
+    let front = read_front(version, &cpu, &mut cursor)?;
+    let back = read_back(&mut cursor)?;
     let cpu = CpuState {
         mid: front.mid,
         ..cpu
