@@ -1,11 +1,12 @@
 ghost use Rattle.std.specs.Prelude.{◌≡◌, ℕ, ◌+◌, ◌^◌, ◌≤◌, List, length};
 ghost use Rattle.board_base.specs.Counts.{Counted};
+ghost use Rattle.board_base.specs.Records.{MadeBetween};
 ghost use Rattle.board_base.specs.Ticks.{made, ticks};
 ghost use Rattle.board_base.specs.Trail.{Extended};
 ghost use Rattle.board_base.specs.Vg.{VgValue};
 ghost use Rattle.avg_device.specs.Tick.{vg_gives, vg_go, vg_reset, vg_tick};
 
-use board_base::{Clocked, Trail, VectorMemory, VgState};
+use board_base::{Clocked, Part, Trail, VectorMemory, VgState};
 
 /// A vector generator. This project's own profile.
 pub trait VectorUnit: Clocked {
@@ -47,9 +48,13 @@ pub trait VectorUnit: Clocked {
 }
 
 /// A clock gives one stroke at most, so that a move has room where its trail has room for as many
-/// records as there are clocks. It tells a law, and does nothing.
+/// records as there are clocks; and each stroke is of its own clock. It tells a law, and does
+/// nothing.
 #[tactic(auto, using(crate::proofs::ManyTicks::few_records))]
 pub fn one_record_a_clock()
     ensures clock { (at : ℕ) → (v : VgValue) → length (vg_gives at v) ≤ 1 }
     ensures clocks { (memory : List ℕ) → (from : ℕ) → (n : ℕ) → (v : VgValue) → length (made (vg_tick memory) vg_gives from n v) ≤ n }
+    ensures stroke { (at : ℕ) → (v : VgValue) → MadeBetween Part.Generator at (vg_gives at v) (at + 1) }
+    ensures strokes { (memory : List ℕ) → (from : ℕ) → (n : ℕ) → (v : VgValue)
+        → MadeBetween Part.Generator from (made (vg_tick memory) vg_gives from n v) (from + n) }
 {}

@@ -1,2 +1,3 @@
 pub mod TickLaws
 pub mod ExtendedLaws
+pub mod RecordLaws

@@ -1,5 +1,5 @@
 -- Records, the parts that make them, and what the trails of these parts hold. They are this project's own.
-use Rattle.std.specs.Prelude.{ℕ, List, All}
+use Rattle.std.specs.Prelude.{ℕ, ◌≤◌, ◌<◌, List, [], ◌∷◌, All}
 use Rattle.std.specs.List.Sorted.{IsNonDecreasingBy}
 use Rattle.board_base.specs.declared.part.Part.{Part}
 use Rattle.board_base.specs.declared.part.Part.TheVariants.{Generator, Pokey1, Pokey2, Board}
@@ -26,3 +26,9 @@ Makes _ _ = ⊥
 pub record IsTrailOf (part : Part) (records : List Record) : Type 0 where
   pub clocks : IsNonDecreasingBy clock_of records
   pub kinds : All (Makes part) records
+
+-- records of a part that were made from one clock to another, which isn't in it any more, in the order of their clocks
+abbrev pub MadeBetween : Part → ℕ → List Record → ℕ → Type 0
+MadeBetween part from [] to = from ≤ to
+MadeBetween part from (made ∷ records) to =
+    Makes part made × (from ≤ clock_of made) × (clock_of made < to) × MadeBetween part (clock_of made) records to

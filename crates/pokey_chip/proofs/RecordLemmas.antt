@@ -3,7 +3,11 @@ use Rattle.std.proofs.Common.{◌≡◌, ℕ, ◌+◌, ◌-◌, ◌≤◌, Bool,
 use Rattle.std.specs.Cmp.Lexicographic.{pointwise}
 use Rattle.board_base.proofs.ExtendedLaws.{Extended-none, Extended-more}
 use Rattle.board_base.proofs.TickLaws.{made-more, made-next, made-zero, length-made, ticks-times}
+use Rattle.board_base.proofs.RecordLaws.{made-ticks}
+use Rattle.board_base.specs.declared.part.Part.{Part}
+use Rattle.board_base.specs.declared.part.Part.TheVariants.{Pokey1, Pokey2}
 use Rattle.board_base.specs.declared.record.Record.TheVariants.{Levels}
+use Rattle.board_base.specs.Records.{Makes, MadeBetween}
 use Rattle.board_base.specs.Pokey.{PokeyValue}
 use Rattle.board_base.specs.Ticks.{times}
 use Rattle.board_base.specs.Trail.{TrailValue, Extended}
@@ -42,7 +46,45 @@ gives-one clock p = one-change clock p.last (pokey_tick p).last
 pub length-levels : (from n : ℕ) (p : PokeyValue) → length (levels_made from n p) ≤ n
 length-levels from n p = length-made (λ _. pokey_tick) pokey_gives from n p gives-one
 
-pub ruleset few_records = (gives-one, length-levels)
+-- a POKEY's records are levels of their clocks, whichever of the two it is
+pub record MakesLevels (part : Part) : Type 0 where
+  pub kind : (clock l1 l2 l3 l4 : ℕ) → Makes part (Levels clock l1 l2 l3 l4)
+
+first-is : MakesLevels Pokey1
+first-is = record { kind = λ clock l1 l2 l3 l4. tt }
+
+second-is : MakesLevels Pokey2
+second-is = record { kind = λ clock l1 l2 l3 l4. tt }
+
+change-made : (part : Part) → MakesLevels part → (clock : ℕ) (before now : List ℕ) → MadeBetween part clock (change clock before now) (clock + 1)
+unfolding change
+change-made part is clock before now = by_change (pointwise nat_eq now before)
+  where
+    by_change : (b : Bool) → MadeBetween part clock (if b then [] else (Levels clock (slice_index now 0) (slice_index now 1) (slice_index now 2) (slice_index now 3) ∷ [])) (clock + 1)
+    by_change true = omega arith
+    by_change false =
+        (is.kind clock (slice_index now 0) (slice_index now 1) (slice_index now 2) (slice_index now 3), omega arith, omega arith, omega arith)
+
+gives-made : (part : Part) → MakesLevels part → (clock : ℕ) (p : PokeyValue) → MadeBetween part clock (pokey_gives clock p) (clock + 1)
+unfolding pokey_gives
+gives-made part is clock p = change-made part is clock p.last (pokey_tick p).last
+
+levels-between : (part : Part) → MakesLevels part → (from n : ℕ) (p : PokeyValue) → MadeBetween part from (levels_made from n p) (from + n)
+levels-between part is from n p = made-ticks part (λ _. pokey_tick) pokey_gives (gives-made part is) from n p
+
+pub gives-made1 : (clock : ℕ) (p : PokeyValue) → MadeBetween Pokey1 clock (pokey_gives clock p) (clock + 1)
+gives-made1 = gives-made Pokey1 first-is
+
+pub gives-made2 : (clock : ℕ) (p : PokeyValue) → MadeBetween Pokey2 clock (pokey_gives clock p) (clock + 1)
+gives-made2 = gives-made Pokey2 second-is
+
+pub levels-between1 : (from n : ℕ) (p : PokeyValue) → MadeBetween Pokey1 from (levels_made from n p) (from + n)
+levels-between1 = levels-between Pokey1 first-is
+
+pub levels-between2 : (from n : ℕ) (p : PokeyValue) → MadeBetween Pokey2 from (levels_made from n p) (from + n)
+levels-between2 = levels-between Pokey2 second-is
+
+pub ruleset few_records = (gives-one, length-levels, gives-made1, gives-made2, levels-between1, levels-between2)
 
 -- one clock more, for a POKEY that lags behind a clock
 pub levels-next : (from to : ℕ) (p : PokeyValue) → from ≤ to

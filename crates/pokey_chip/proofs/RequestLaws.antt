@@ -12,7 +12,7 @@ use Rattle.bit_words.specs.Bits.{is_bit}
 use Rattle.bit_words.specs.Sooner.{sooner_of}
 use Rattle.pokey_chip.specs.Pulses.{has_pulse, pulses_of, asks, HasNoUnderflow, MakesNoRequest, NoneRequests, FirstFails}
 use Rattle.pokey_chip.specs.Tick.{base_pulses, channel_ticked, channels_ticked, clocked, left_of, pokey_tick, pot_counted, requested, turned, underflows, with_bit, with_left}
-use Rattle.pokey_chip.specs.Quiet.{requests_after, IsEverQuiet, IsQuietBefore}
+use Rattle.pokey_chip.specs.Quiet.{requests_after, IsEverQuiet, IsQuietBefore, AnswersEachLag, comes_within}
 use Rattle.pokey_chip.proofs.KeptLaws.{kept}
 use Rattle.pokey_chip.proofs.UnderflowLaws.{calm-before, calm-now, calm-then, left-fallen, no-underflow, has-spare}
 
@@ -232,14 +232,9 @@ loud-test irqst n lag e h = grind (arith, nat_tests)
 below-seven : (start at now : ℕ) → start < 8 → at ≤ start → at ≢ 7 → now ≤ at → now < 7
 below-seven start at now a b c d = omega arith
 
--- whether a clock comes within so many
-abbrev pub comes_within : ℕ → Option ℕ → Bool
-comes_within lag None = false
-comes_within lag (Some n) = nat_le n lag
-
 -- a POKEY that lags has a request exactly where its answer is not above the lag
 pub requests-within : (p : PokeyValue) → p.irqst < 8 → (r : Option ℕ) → MatchOption r (IsEverQuiet p) (IsQuietBefore p)
-    → (lag : ℕ) → (requests_after lag p == 7) ≡ not (comes_within lag r)
+    → AnswersEachLag p r
 requests-within p small None quiet lag = rw (quiet lag) refl
 requests-within p small (Some n) quiet lag = within (cases_lt lag n)
   where
@@ -250,4 +245,4 @@ requests-within p small (Some n) quiet lag = within (cases_lt lag n)
         let now : requests_after lag p ≤ requests_after n p = rw e at (never-rises n (lag - n) p) in
         loud-test (requests_after lag p) n lag (below-seven p.irqst (requests_after n p) (requests_after lag p) small (from-start n p) quiet.stands now) h
 
-pub ruleset requests = (quiet-answer, quiet-now)
+pub ruleset requests = (quiet-answer, quiet-now, requests-within)

@@ -1,5 +1,5 @@
 ghost use Rattle.std.specs.Prelude.{◌≡◌, MatchOption};
-ghost use Rattle.pokey_chip.specs.Quiet.{IsEverQuiet, IsQuietBefore};
+ghost use Rattle.pokey_chip.specs.Quiet.{AnswersEachLag, IsEverQuiet, IsQuietBefore};
 ghost use Rattle.pokey_chip.specs.Pulses.{asks, FirstFails, HasNoUnderflow, MakesNoRequest, NoneRequests};
 
 use crate::channel::Channel;
@@ -59,7 +59,8 @@ fn next_request(state: &PokeyState) -> Option<u64>
 /// The clocks up to and with the first after which a request stands, while no register is written.
 #[tactic(auto, using(crate::proofs::RequestLaws::requests))]
 pub(crate) fn quiet_clocks(state: &PokeyState) -> Option<u64>
-    ensures { MatchOption result (IsEverQuiet state.now) (λ n. IsQuietBefore state.now n) }
+    ensures exact { MatchOption result (IsEverQuiet state.now) (λ n. IsQuietBefore state.now n) }
+    ensures lagging { AnswersEachLag state.now result }
 {
     if state.irqst != 7 {
         return Some(0);

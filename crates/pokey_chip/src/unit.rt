@@ -1,13 +1,14 @@
 ghost use Rattle.std.specs.Prelude.{◌≡◌, ℕ, ◌+◌, ◌^◌, ◌<◌, ◌≤◌, length, MatchOption};
 ghost use Rattle.board_base.specs.Counts.{Counted};
 ghost use Rattle.board_base.specs.Pokey.{PokeyValue};
+ghost use Rattle.board_base.specs.Records.{MadeBetween};
 ghost use Rattle.board_base.specs.Ticks.{times};
 ghost use Rattle.board_base.specs.Trail.{Extended};
-ghost use Rattle.pokey_chip.specs.Quiet.{IsEverQuiet, IsQuietBefore};
+ghost use Rattle.pokey_chip.specs.Quiet.{AnswersEachLag, IsEverQuiet, IsQuietBefore};
 ghost use Rattle.pokey_chip.specs.Registers.{pot_set, register_read, register_written};
 ghost use Rattle.pokey_chip.specs.Tick.{levels_made, pokey_gives, pokey_tick};
 
-use board_base::{Clocked, PokeyState, Trail};
+use board_base::{Clocked, Part, PokeyState, Trail};
 
 /// A POKEY (C012294 data sheet; the pots, joined pairs and the order within a clock are this
 /// project's own profile).
@@ -49,7 +50,8 @@ pub trait SoundUnit: Clocked {
     /// The clocks up to and with the first after which a request stands (IRQST isn't all ones), while
     /// no register is written; 0 where one stands already.
     fn quiet(&self) -> Option<u64>
-        ensures { MatchOption result (IsEverQuiet (device self.now)) (λ n. IsQuietBefore (device self.now) n) };
+        ensures exact { MatchOption result (IsEverQuiet (device self.now)) (λ n. IsQuietBefore (device self.now) n) }
+        ensures lagging { AnswersEachLag (device self.now) result };
 
     /// The state as it stands.
     fn state(&self) -> PokeyState
@@ -57,9 +59,14 @@ pub trait SoundUnit: Clocked {
 }
 
 /// A clock gives one record at most, so that a move has room where its trail has room for as many
-/// records as there are clocks. It tells a law, and does nothing.
+/// records as there are clocks; and each record is of its own clock. It tells a law, and does
+/// nothing.
 #[tactic(auto, using(crate::proofs::RecordLemmas::few_records))]
 pub fn one_record_a_clock()
     ensures clock { (at : ℕ) → (p : PokeyValue) → length (pokey_gives at p) ≤ 1 }
     ensures clocks { (from : ℕ) → (n : ℕ) → (p : PokeyValue) → length (levels_made from n p) ≤ n }
+    ensures level { (at : ℕ) → (p : PokeyValue)
+        → MadeBetween Part.Pokey1 at (pokey_gives at p) (at + 1) × MadeBetween Part.Pokey2 at (pokey_gives at p) (at + 1) }
+    ensures levels { (from : ℕ) → (n : ℕ) → (p : PokeyValue)
+        → MadeBetween Part.Pokey1 from (levels_made from n p) (from + n) × MadeBetween Part.Pokey2 from (levels_made from n p) (from + n) }
 {}

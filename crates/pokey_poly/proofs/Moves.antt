@@ -3,7 +3,7 @@ use Rattle.std.proofs.Common.{◌≡◌, ℕ, ◌+◌, ◌*◌, ◌/◌, ◌%◌
 use Rattle.std.proofs.Math.Bool.{xor}
 use Rattle.std.proofs.Math.Nat.{two-pow-succ, div-div-eq-div-mul}
 use Rattle.std.specs.Int.Bits.{or_shifted_r}
-use Rattle.std.proofs.lemmas.Nat.{and_mask, pow_below, xor_lt}
+use Rattle.std.proofs.lemmas.Nat.{and_mask, pow_below}
 use Rattle.std.proofs.lemmas.Nat.Bits.{bit_at-lt, bit_at_lowest, bit_at_xor}
 use Rattle.std.specs.Int.{bit_at, from_bool}
 use Rattle.std.specs.List.{range_with_len}
@@ -33,10 +33,6 @@ number-from (suc width) a r b h =
     let doubled : 2 ^ suc width ≡ 2 ^ width + 2 ^ width = two-pow-succ width in
     let half : r / 2 ^ (a + 1) < 2 ^ width = rw (halved r a) (omega arith) in
     rw (from-is_bit r a, number-from width (a + 1) r b half, halved r a, doubled) (omega arith)
-
--- the exclusive or of two digits
-digit-xor : (u v : ℕ) → u < 2 → v < 2 → bit_xor u v ≡ (u + v) % 2
-digit-xor u v hu hv = omega (arith, bit_at_xor u v 0, xor_lt 1 u v hu hv)
 
 sum-xor : (a b : Bool) → from_bool (xor a b) ≡ (from_bool a + from_bool b) % 2
 unfolding xor
