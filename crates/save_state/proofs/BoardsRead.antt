@@ -16,7 +16,8 @@ use Rattle.board_base.specs.declared.divider.Pending.{Pending}
 use Rattle.board_base.specs.declared.divider.Pending.TheVariants.{Nothing, Power, Watchdog}
 use Rattle.board_base.specs.Cpu.{cpu_at_power_on}
 use Rattle.cpu_core.specs.Places.{IsMiddle}
-use Rattle.save_state.specs.StateBytes.{head_fields, register_fields, jam_fields, undocumented, port_fields, divider_fields, middle_of_version, middle_fields, eight_fields, no_place_fields, place_fields, zero_fields, head_pieces, register_pieces, jam_pieces, port_pieces, divider_pieces, pending_number, sequence_number, sequence_of, middle_at, middle_pieces, eight_pieces, zero_pieces, processor_pieces, back_pieces, board_pieces, processor_of, last_clock}
+use Rattle.save_state.specs.StateBytes.{pending_number, sequence_number, number_of, sequence_of, middle_at, board_pieces, processor_of, last_clock}
+use Rattle.save_state.specs.Sections.{head_fields, register_fields, jam_fields, undocumented, port_fields, divider_fields, middle_of_version, middle_fields, eight_fields, place_fields, zero_fields, head_pieces, register_pieces, jam_pieces, port_pieces, divider_pieces, middle_pieces, eight_pieces, zero_pieces, processor_pieces, back_pieces}
 use Rattle.save_state.specs.Walk.{next, read_all, processor_at, middle_after, back_at, board_at}
 use Rattle.save_state.specs.Reading.{IsWholeCpu, IsWhole}
 use Rattle.save_state.proofs.Laws.{AreSpelled, spelled_read}
@@ -78,13 +79,8 @@ unfolding AreSpelled eight_fields
 eight_spelled cpu =
     ((refl, omega arith), ((refl, omega arith), ((refl, omega arith), ((refl, omega arith), ((refl, omega arith), ((refl, omega arith), ((refl, omega arith), ((refl, omega arith), tt))))))))
 
--- the number of a sequence, none being 0
-abbrev number_of : Option MidValue → ℕ
-number_of None = 0
-number_of (Some m) = sequence_number m.sequence
-
 none_spelled : (cpu : CpuValue) (jammed : Bool) → AreSpelled cpu (middle_fields jammed 0) (middle_pieces None)
-unfolding AreSpelled middle_fields no_place_fields
+unfolding AreSpelled middle_fields place_fields
 none_spelled cpu true = ((refl, omega arith), ((refl, omega arith), ((refl, (refl, refl, refl, refl, refl, refl)), tt)))
 none_spelled cpu false = ((refl, omega arith), ((refl, omega arith), ((refl, (refl, refl, refl, refl, refl, refl)), tt)))
 

@@ -1,15 +1,19 @@
 -- Fields that stand one after another.
-use Rattle.std.proofs.Common.{◌≡◌, ℕ, ◌+◌, ◌-◌, ◌≤◌, Bool, true, false, cond, List, [], ◌∷◌, ◌++◌, length, take, drop, Result, Ok, Err, refl, sym, ap, subst, ◌∙◌, append_assoc, arith}
+use Rattle.std.proofs.Common.{◌≡◌, ℕ, ◌+◌, ◌-◌, ◌≤◌, ◌==◌, ◌&&◌, Bool, true, false, cond, List, [], ◌∷◌, ◌++◌, All, length, take, drop, Result, Ok, Err, refl, sym, ap, subst, ◌∙◌, append_assoc, arith}
 use Rattle.std.specs.List.{concat}
 use Rattle.std.proofs.lemmas.List.{take_at, drop_at, take-append-drop, drop-drop, length-drop}
 use Rattle.std.proofs.lemmas.Bool.Decides.{not_from_Decides}
 use Rattle.std.specs.Bool.{Decides}
+use Rattle.std.proofs.lemmas.Bool.{eqb-true}
+use Rattle.std.proofs.lemmas.List.Elements.{All-cons, All-nil}
 use Rattle.board_base.specs.Cpu.{CpuValue}
+use Rattle.board_base.specs.Board.{BoardValue}
 use Rattle.cpu_core.specs.Places.{IsMiddle}
-use Rattle.save_state.specs.Fields.{Field, Fits, widths}
-use Rattle.save_state.specs.StateBytes.{port_fields, divider_fields}
+use Rattle.save_state.specs.Fields.{Field, Range, Row, Fits, fields_of, pieces_of}
+use Rattle.save_state.specs.StateBytes.{processor_of, facts_of}
+use Rattle.save_state.specs.Sections.{port_fields, divider_fields}
 use Rattle.save_state.specs.Walk.{◌>>=◌, next, is_fit, told, field_at, read_all}
-use Rattle.save_state.specs.Reading.{IsFirstBroken}
+use Rattle.save_state.specs.Reading.{Holds, IsFirstBroken}
 use Rattle.save_state.proofs.RangeTests.{decides_fit}
 
 abbrev Read : Type 0
@@ -103,6 +107,11 @@ read_spelled inside (f ∷ fs) bytes ps rest e =
     let front : bytes ≡ a.0.0 ++ a.0.1 = sym (take-append-drop f.width bytes) ∙ ap (λ (x : List ℕ). x ++ drop f.width bytes) g.0 ∙ ap (λ (x : List ℕ). a.0.0 ++ x) g.1 in
     front ∙ ap (λ (x : List ℕ). a.0.0 ++ x) more ∙ sym (append_assoc a.0.0 (concat b.0.0) b.0.1) ∙ ap (λ (x : List ℕ). concat (a.0.0 ∷ b.0.0) ++ x) h.1 ∙ ap (λ (ps : List (List ℕ)). concat ps ++ rest) h.0
 
+-- how many bytes fields have
+unfoldable pub widths : List Field → ℕ
+widths [] = 0
+widths (f ∷ fs) = f.width + widths fs
+
 -- what is left after fields
 pub read_rest : (inside : Bool) (fs : List Field) (bytes : List ℕ) (ps : List (List ℕ)) (rest : List ℕ) → read_all inside fs bytes ≡ Ok (ps, rest) → rest ≡ drop (widths fs) bytes
 unfolding read_all field_at widths
@@ -129,60 +138,90 @@ bind_err p (Err d) e h = cc
 broken_here : (k o : ℕ) → cond {A = Read} false (Ok ([], [])) (Err k) ≡ Err o → k ≡ o
 broken_here k o h = cc
 
-abbrev chosen_field : Bool → List ℕ → List ℕ → ℕ → Result (List ℕ × List ℕ) ℕ
-chosen_field t p rest k = cond t (Ok (p, rest)) (Err k)
+-- rows stand one after another, from this offset to that
+abbrev pub are_in_order : ℕ → ℕ → List (Row BoardValue) → Bool
+are_in_order from to [] = from == to
+are_in_order from to (r ∷ rs) = r.at == from && are_in_order (from + r.width) to rs
 
--- the first broken field, where so many bytes stand before these fields
-abbrev Found : CpuValue → List Field → List ℕ → ℕ → ℕ → Type 0
-Found cpu fs bytes before o = (at : ℕ) × (o ≡ before + at) × IsFirstBroken cpu fs bytes at
+both : (a b : Bool) → (a && b) ≡ true → (a ≡ true) × (b ≡ true)
+both true true e = (refl, refl)
+both true false e = absurd cc
+both false b e = absurd cc
 
-found_later : (cpu : CpuValue) (f : Field) (fs : List Field) (bytes : List ℕ) (k o : ℕ) → Fits cpu f.range (take f.width bytes)
-    → Found cpu fs (drop f.width bytes) (k + f.width) o → Found cpu (f ∷ fs) bytes k o
-unfolding widths
-found_later cpu f fs bytes k o fit later = (
-  f.width + later.0,
-  omega (arith, later.1),
-  record {
-    before = f ∷ later.2.before;
-    broken = later.2.broken;
-    after = later.2.after;
-    order = ap (λ (x : List Field). f ∷ x) later.2.order;
-    good = (fit, later.2.good);
-    bad = subst (λ (x : List ℕ). ¬ Fits cpu later.2.broken.range (take later.2.broken.width x)) (drop-drop (widths later.2.before) f.width bytes) later.2.bad;
-    offset = ap (λ (n : ℕ). f.width + n) later.2.offset;
-  },
-)
+ends_later : (from to : ℕ) (rs : List (Row BoardValue)) → are_in_order from to rs ≡ true → from ≤ to
+ends_later from to [] h = let e : from ≡ to = eqb-true from to h in omega (arith, e)
+ends_later from to (r ∷ rs) h =
+    let later : from + r.width ≤ to = ends_later (from + r.width) to rs (both (r.at == from) (are_in_order (from + r.width) to rs) h).1 in
+    omega (arith, later)
 
-found_here : (cpu : CpuValue) (f : Field) (fs : List Field) (bytes : List ℕ) (k o : ℕ) → ¬ Fits cpu f.range (take f.width bytes) → k ≡ o → Found cpu (f ∷ fs) bytes k o
-unfolding widths
-found_here cpu f fs bytes k o bad e = (
-  0,
-  omega (arith, e),
-  record { before = []; broken = f; after = fs; order = refl; good = tt; bad = bad; offset = refl },
-)
+broken_later : (version : ℕ) (file : List ℕ) (r : Row BoardValue) (rs : List (Row BoardValue)) (o : ℕ) → Holds version file r → IsFirstBroken version file rs o → IsFirstBroken version file (r ∷ rs) o
+broken_later version file r rs o fit later = record {
+  before = r ∷ later.before;
+  broken = later.broken;
+  after = later.after;
+  order = ap (λ (x : List (Row BoardValue)). r ∷ x) later.order;
+  good = All-cons (Holds version file) r later.before fit later.good;
+  bad = later.bad;
+  here = later.here;
+}
 
-broken_on : (cpu : CpuValue) (inside : Bool) (f : Field) (fs : List Field) (bytes : List ℕ) (k o : ℕ) (t : Bool) → Decides t (Fits cpu f.range (take f.width bytes))
-    → (chosen_field t (take f.width bytes) (drop f.width bytes) k >>= λ first. after_one first.0 (read_all inside fs first.1)) ≡ Err o
-    → (read_all inside fs (drop f.width bytes) ≡ Err o → Found cpu fs (drop f.width bytes) (k + f.width) o) → Found cpu (f ∷ fs) bytes k o
-broken_on cpu inside f fs bytes k o true d e later =
-    found_later cpu f fs bytes k o (d.0 refl) (later (bind_err (take f.width bytes) (read_all inside fs (drop f.width bytes)) o e))
-broken_on cpu inside f fs bytes k o false d e later =
-    found_here cpu f fs bytes k o (not_from_Decides false d refl) (broken_here k o e)
+broken_on : (version : ℕ) (inside : Bool) (file : List ℕ) (r : Row BoardValue) (rs : List (Row BoardValue)) (bytes rest : List ℕ) (k o : ℕ) (t : Bool) → Decides t (Holds version file r) → k ≡ r.at
+    → (cond {A = Result (List ℕ × List ℕ) ℕ} t (Ok (bytes, rest)) (Err k) >>= λ first. after_one first.0 (read_all inside (fields_of (facts_of version file) rs) first.1)) ≡ Err o
+    → (read_all inside (fields_of (facts_of version file) rs) rest ≡ Err o → IsFirstBroken version file rs o) → IsFirstBroken version file (r ∷ rs) o
+broken_on version inside file r rs bytes rest k o true d at e later =
+    broken_later version file r rs o (d.0 refl) (later (bind_err bytes (read_all inside (fields_of (facts_of version file) rs) rest) o e))
+broken_on version inside file r rs bytes rest k o false d at e later =
+    record { before = []; broken = r; after = rs; order = refl; good = All-nil (Holds version file); bad = not_from_Decides false d refl; here = sym (broken_here k o e) ∙ at }
 
--- the fault of a read is the first broken field
-pub read_broken : (cpu : CpuValue) (inside : Bool) → Decides inside (IsMiddle cpu) → (fs : List Field) (bytes : List ℕ) (o : ℕ) → length bytes ≤ 4356 → widths fs ≤ length bytes
-    → read_all inside fs bytes ≡ Err o → Found cpu fs bytes (4356 - length bytes) o
-unfolding read_all field_at widths
-read_broken cpu inside d [] bytes o short long e = absurd cc
-read_broken cpu inside d (f ∷ fs) bytes o short long e =
-    let len : length (drop f.width bytes) ≡ length bytes - f.width = length-drop f.width bytes in
-    let at : 4356 - length (drop f.width bytes) ≡ 4356 - length bytes + f.width = omega arith in
-    broken_on cpu inside f fs bytes (4356 - length bytes) o (is_fit (told inside f.range) f.range (take f.width bytes)) (decides_fit cpu inside d f.range (take f.width bytes)) e
-    (λ (h : read_all inside fs (drop f.width bytes) ≡ Err o). subst (λ (k : ℕ). Found cpu fs (drop f.width bytes) k o) at (read_broken cpu inside d fs (drop f.width bytes) o (omega arith) (omega arith) h))
+-- the fault of a read is the offset of the first broken row
+pub read_broken : (version : ℕ) (inside : Bool) (file : List ℕ) → Decides inside (IsMiddle (processor_of file)) → length file ≡ 4356 → (rs : List (Row BoardValue)) (from o : ℕ)
+    → are_in_order from 4356 rs ≡ true → read_all inside (fields_of (facts_of version file) rs) (drop from file) ≡ Err o → IsFirstBroken version file rs o
+unfolding read_all field_at
+read_broken version inside file d len [] from o h e = absurd cc
+read_broken version inside file d len (r ∷ rs) from o h e =
+    let two = both (r.at == from) (are_in_order (from + r.width) 4356 rs) h in
+    let at : r.at ≡ from = eqb-true r.at from two.0 in
+    let short : from ≤ 4356 = ends_later from 4356 (r ∷ rs) h in
+    let left : length (drop from file) ≡ length file - from = length-drop from file in
+    let here : 4356 - length (drop from file) ≡ r.at = omega (arith, at, short, left, len) in
+    let piece : List ℕ = take r.width (drop from file) in
+    let decides : Decides (is_fit (told inside (r.range (facts_of version file))) (r.range (facts_of version file)) piece) (Holds version file r) =
+    subst (λ (n : ℕ). Decides (is_fit (told inside (r.range (facts_of version file))) (r.range (facts_of version file)) piece) (Fits (processor_of file) (r.range (facts_of version file)) (take r.width (drop n file)))) (sym at)
+    (decides_fit (processor_of file) inside d (r.range (facts_of version file)) piece) in
+    broken_on version inside file r rs piece (drop r.width (drop from file)) (4356 - length (drop from file)) o
+    (is_fit (told inside (r.range (facts_of version file))) (r.range (facts_of version file)) piece) decides here e
+    (λ (h2 : read_all inside (fields_of (facts_of version file) rs) (drop r.width (drop from file)) ≡ Err o).
+    read_broken version inside file d len rs (from + r.width) o two.1 (subst (λ (x : List ℕ). read_all inside (fields_of (facts_of version file) rs) x ≡ Err o) (drop-drop r.width from file) h2))
 
--- all of a file's fields
-pub file_broken : (cpu : CpuValue) (inside : Bool) → Decides inside (IsMiddle cpu) → (fs : List Field) (bytes : List ℕ) (o : ℕ) → length bytes ≡ 4356 → widths fs ≤ 4356
-    → read_all inside fs bytes ≡ Err o → IsFirstBroken cpu fs bytes o
-file_broken cpu inside d fs bytes o len wide e =
-    let found : Found cpu fs bytes (4356 - length bytes) o = read_broken cpu inside d fs bytes o (omega arith) (omega arith) e in
-    subst (λ (n : ℕ). IsFirstBroken cpu fs bytes n) (omega (arith, found.1)) found.2
+-- what was read of rows is in their ranges, and stands at their offsets
+abbrev pub Stands : ℕ → List ℕ → BoardValue → Row BoardValue → Type 0
+Stands version file b r = Holds version file r × (take r.width (drop r.at file) ≡ r.spelled b)
+
+same_first : (p q : List ℕ) (ps qs : List (List ℕ)) → p ∷ ps ≡ q ∷ qs → (p ≡ q) × (ps ≡ qs)
+same_first p q ps qs e = (cc, cc)
+
+same_read : (r : Read) (ps qs : List (List ℕ)) (x y : List ℕ) → r ≡ Ok (ps, x) → ps ≡ qs → x ≡ y → r ≡ Ok (qs, y)
+same_read r ps qs x y e f g = rw (e, f, g) refl
+
+pub read_stand : (version : ℕ) (inside : Bool) (file : List ℕ) (b : BoardValue) → Decides inside (IsMiddle (processor_of file)) → (rs : List (Row BoardValue)) (from : ℕ) (rest : List ℕ)
+    → are_in_order from 4356 rs ≡ true → read_all inside (fields_of (facts_of version file) rs) (drop from file) ≡ Ok (pieces_of rs b, rest) → All (Stands version file b) rs
+unfolding read_all field_at
+read_stand version inside file b d [] from rest h e = All-nil (Stands version file b)
+read_stand version inside file b d (r ∷ rs) from rest h e =
+    let range : Range = r.range (facts_of version file) in
+    let two = both (r.at == from) (are_in_order (from + r.width) 4356 rs) h in
+    let at : r.at ≡ from = eqb-true r.at from two.0 in
+    let fs : List Field = fields_of (facts_of version file) rs in
+    let piece : List ℕ = take r.width (drop from file) in
+    let one = bind_ok (field_at (told inside range) (record { width = r.width; range = range }) (drop from file)) (λ first. read_all inside fs first.1 >>= λ others. Ok (first.0 ∷ others.0, others.1)) (r.spelled b ∷ pieces_of rs b, rest) e in
+    let more = bind_ok (read_all inside fs one.0.1) (λ others. Ok (one.0.0 ∷ others.0, others.1)) (r.spelled b ∷ pieces_of rs b, rest) one.2 in
+    let fit = chosen (is_fit (told inside range) range piece) (piece, drop r.width (drop from file)) one.0 (4356 - length (drop from file)) one.1 in
+    let g = pairs_same (piece, drop r.width (drop from file)) one.0 fit.1 in
+    let k = pairs_same (one.0.0 ∷ more.0.0, more.0.1) (r.spelled b ∷ pieces_of rs b, rest) (ok_same (one.0.0 ∷ more.0.0, more.0.1) (r.spelled b ∷ pieces_of rs b, rest) more.2) in
+    let l = same_first one.0.0 (r.spelled b) more.0.0 (pieces_of rs b) k.0 in
+    let here : Fits (processor_of file) range piece × (piece ≡ r.spelled b) = ((decides_fit (processor_of file) inside d range piece).0 fit.0, g.0 ∙ l.0) in
+    let there : Stands version file b r = subst (λ (n : ℕ). Fits (processor_of file) range (take r.width (drop n file)) × (take r.width (drop n file) ≡ r.spelled b)) (sym at) here in
+    let next_bytes : one.0.1 ≡ drop (from + r.width) file = sym g.1 ∙ drop-drop r.width from file in
+    let later : read_all inside fs (drop (from + r.width) file) ≡ Ok (pieces_of rs b, rest) =
+    subst (λ (x : List ℕ). read_all inside fs x ≡ Ok (pieces_of rs b, rest)) next_bytes (same_read (read_all inside fs one.0.1) more.0.0 (pieces_of rs b) more.0.1 rest more.1 l.1 k.1) in
+    All-cons (Stands version file b) r rs there (read_stand version inside file b d rs (from + r.width) rest two.1 later)

@@ -20,9 +20,12 @@ use Rattle.board_base.specs.declared.divider.Pending.{Pending}
 use Rattle.board_base.specs.declared.divider.Pending.TheVariants.{Nothing, Power, Watchdog}
 use Rattle.cpu_core.specs.Places.{IsMiddle}
 use Rattle.save_state.specs.Fields.{signed, word, long}
-use Rattle.save_state.specs.StateBytes.{head_pieces, register_pieces, port_pieces, zero_pieces, back_pieces, processor_of, pending_number, sequence_number, sequence_of, divider_pieces, stack_pieces, vg_pieces, pokey_pieces, pulse_pieces, earom_pieces, jam_pieces, middle_pieces, eight_pieces, board_pieces, state_bytes, first_state_bytes}
+use Rattle.save_state.specs.StateBytes.{processor_of, pending_number, sequence_number, sequence_of, table, board_pieces, state_bytes, first_state_bytes}
+use Rattle.save_state.specs.Sections.{head_pieces, register_pieces, port_pieces, zero_pieces, back_pieces, divider_pieces, stack_pieces, vg_pieces, pokey_pieces, pulse_pieces, earom_pieces, jam_pieces, middle_pieces, eight_pieces}
 use Rattle.save_state.specs.Walk.{board_at}
-use Rattle.save_state.specs.Reading.{IsWhole, Spells}
+use Rattle.save_state.specs.Reading.{IsWhole, Spells, HasFields}
+use Rattle.save_state.proofs.Laws.{read_stand}
+use Rattle.save_state.proofs.Whole.{fields, board_is, offsets}
 use Rattle.save_state.proofs.BoardsRead.{first_read, second_read}
 use Rattle.save_state.proofs.Signed.{signed_back}
 use Rattle.save_state.proofs.Decided.{of_middle}
@@ -329,3 +332,22 @@ its_fields file b at h (inl e) broken =
 its_fields file b at h (inr e) broken =
     let m = of_middle (processor_of file) in
     not_err (board_at 1 m.0 file) (board_pieces 1 b) at (first_told file b m.0 h e.0 m.1) (subst (λ (v : ℕ). board_at v m.0 file ≡ Err at) (first_version file b e.0) (broken m.0 m.1))
+
+-- what spells a board has each field of it at its offset
+stand : (version : ℕ) (file : List ℕ) (b : BoardValue) (inside : Bool) → Decides inside (IsMiddle (processor_of file)) → board_at version inside file ≡ Ok (board_pieces version b, []) → HasFields version file b
+unfolding HasFields fields
+stand version file b inside d e = read_stand version inside file b d (table version) 0 [] (offsets version) (sym (board_is version inside file) ∙ e)
+
+pub has_fields : (file : List ℕ) (b : BoardValue) → IsWhole b → Spells file b → HasFields (slice_index file 0) file b
+has_fields file b h (inl e) =
+    let m = of_middle (processor_of file) in
+    subst (λ (v : ℕ). HasFields v file b) (sym (second_version file b e)) (stand 2 file b m.0 m.1 (second_told file b m.0 h e m.1))
+has_fields file b h (inr e) =
+    let m = of_middle (processor_of file) in
+    subst (λ (v : ℕ). HasFields v file b) (sym (first_version file b e.0)) (stand 1 file b m.0 m.1 (first_told file b m.0 h e.0 m.1))
+
+-- the same of the bytes that are written
+pub written_fields : (file : List ℕ) (b : BoardValue) → IsWhole b → file ≡ state_bytes b → HasFields 2 file b
+written_fields file b h e =
+    let m = of_middle (processor_of file) in
+    stand 2 file b m.0 m.1 (second_told file b m.0 h e m.1)

@@ -4,7 +4,8 @@ use Rattle.std.specs.List.{concat}
 use Rattle.std.proofs.lemmas.List.{append-nil}
 use Rattle.std.proofs.lemmas.List.Folds.{concat-append}
 use Rattle.board_base.specs.Board.{BoardValue}
-use Rattle.save_state.specs.StateBytes.{processor_pieces, port_pieces, divider_pieces, middle_pieces, zero_pieces, vg_pieces, pokey_pieces, earom_pieces, state_bytes}
+use Rattle.save_state.specs.StateBytes.{state_bytes}
+use Rattle.save_state.specs.Sections.{processor_pieces, port_pieces, divider_pieces, middle_pieces, zero_pieces, vg_pieces, pokey_pieces, earom_pieces}
 
 all_parts : (p o d i z v k l e : List (List ℕ)) (r s : List ℕ)
     → (((((((((concat p ++ concat o) ++ concat d) ++ concat i) ++ concat z) ++ concat v) ++ concat k) ++ concat l) ++ concat e) ++ r) ++ s

@@ -1,5 +1,5 @@
 -- A board in range is read from the bytes that spell it.
-use Rattle.std.proofs.Common.{◌≡◌, ℕ, ◌==◌, ◌<◌, ◌≤◌, ◌^◌, ℤ, Bool, true, false, cond, List, [], ◌∷◌, ◌++◌, All, length, Ok, Result, refl, sym, ap, subst, ◌∙◌, append_assoc, arith}
+use Rattle.std.proofs.Common.{◌≡◌, ℕ, ◌==◌, ◌<◌, ◌≤◌, ◌^◌, ℤ, Bool, true, false, List, [], ◌∷◌, ◌++◌, All, length, Ok, Result, refl, sym, ap, subst, ◌∙◌, append_assoc, arith}
 use Rattle.std.specs.Bool.{Decides}
 use Rattle.std.specs.List.{concat, slice_index}
 use Rattle.std.specs.Int.{w16, w32, w64, from_le_bytes, from_bool, cast_signed, cast_unsigned}
@@ -17,8 +17,9 @@ use Rattle.board_base.specs.Earom.{EaromValue, IsEarom}
 use Rattle.board_base.specs.Pokey.{PokeyValue, IsPokey}
 use Rattle.board_base.specs.Vg.{VgValue, IsVg}
 use Rattle.cpu_core.specs.Places.{IsMiddle}
-use Rattle.save_state.specs.Fields.{Field, Fits, count_to, number_to, flag, word, quad, long, signed}
-use Rattle.save_state.specs.StateBytes.{halted_fields, pen_fields, stack_fields, beam_fields, tone_fields, pulse_fields, level_fields, last_fields, earom_fields, memory_fields, stack_pieces, beam_pieces, vg_pieces, tone_pieces, pulse_pieces, level_pieces, last_pieces, pokey_pieces, earom_pieces, back_pieces}
+use Rattle.save_state.specs.StateBytes.{left_range}
+use Rattle.save_state.specs.Fields.{Field, Fits, flag, word, quad, long, signed}
+use Rattle.save_state.specs.Sections.{halted_fields, pen_fields, stack_fields, beam_fields, tone_fields, pulse_fields, level_fields, last_fields, earom_fields, memory_fields, stack_pieces, beam_pieces, vg_pieces, tone_pieces, pulse_pieces, level_pieces, last_pieces, pokey_pieces, earom_pieces, back_pieces}
 use Rattle.save_state.specs.Walk.{◌>>=◌, next, read_all, vg_at, pokey_at, back_at}
 use Rattle.save_state.specs.Reading.{IsWhole}
 use Rattle.save_state.proofs.Laws.{AreSpelled, spelled_read}
@@ -133,8 +134,7 @@ stack_spelled cpu stack len h =
       ),
     )
 
-left_by : (cpu : CpuValue) (b : Bool) (n : ℕ) → (b ≡ true → 1 ≤ n) → n ≤ 8192 → (b ≡ false → n ≡ 0)
-    → (length (word n) ≡ (cond b (count_to w16 8192) (number_to w16 0)).width) × Fits cpu (cond b (count_to w16 8192) (number_to w16 0)).range (word n)
+left_by : (cpu : CpuValue) (b : Bool) (n : ℕ) → (b ≡ true → 1 ≤ n) → n ≤ 8192 → (b ≡ false → n ≡ 0) → (length (word n) ≡ 2) × Fits cpu (left_range b) (word n)
 left_by cpu true n least most none = (refl, (word_least n (omega arith) (least refl), word_most n 8192 (omega arith) most))
 left_by cpu false n least most none = (refl, word_most n 0 (omega arith) (omega (arith, none refl)))
 

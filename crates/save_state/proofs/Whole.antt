@@ -1,15 +1,32 @@
 -- The parts of a file, as fields that stand one after another.
-use Rattle.std.proofs.Common.{◌≡◌, ℕ, ◌+◌, ◌==◌, ◌<◌, ◌^◌, Bool, true, false, cond, List, [], ◌∷◌, ◌++◌, drop, Option, Some, None, Ok, refl, sym, ap, ◌∙◌, arith}
+use Rattle.std.proofs.Common.{◌≡◌, ℕ, ◌==◌, ◌<◌, ◌^◌, Bool, true, false, cond, List, [], ◌∷◌, ◌++◌, drop, Option, Some, None, Ok, refl, sym, ap, ◌∙◌}
 use Rattle.std.specs.List.{concat, slice_index}
 use Rattle.std.proofs.lemmas.List.{get_or-drop, drop-drop}
 use Rattle.std.proofs.lemmas.Nat.{from_le_bytes-to_le_bytes_2}
 use Rattle.std.specs.Option.{is_some}
-use Rattle.std.specs.Int.{w16}
 use Rattle.board_base.specs.Cpu.{CpuValue}
-use Rattle.save_state.specs.Fields.{Field, byte_to, signed_to, count_to, number_to, widths}
-use Rattle.save_state.specs.StateBytes.{head_fields, register_fields, jam_fields, port_fields, divider_fields, middle_of_version, zero_fields, halted_fields, pen_fields, stack_fields, left_field, beam_fields, tone_fields, pulse_fields, level_fields, last_fields, earom_fields, memory_fields, middle_at, processor_of, processor_pieces, head_pieces, register_pieces, jam_pieces, processor_fields, vg_fields, pokey_fields, back_fields, middle_part_fields, fields, last_clock, undocumented, eight_fields, no_place_fields, place_fields, middle_fields}
+use Rattle.save_state.specs.Fields.{Field, byte_to, signed_to, fields_of}
+use Rattle.save_state.specs.StateBytes.{middle_at, processor_of, last_clock, facts_of, table, opcode_range, left_range, front_rows, middle_rows, back_rows}
+use Rattle.save_state.specs.Sections.{head_fields, register_fields, jam_fields, port_fields, divider_fields, middle_of_version, zero_fields, halted_fields, pen_fields, stack_fields, beam_fields, tone_fields, pulse_fields, level_fields, last_fields, earom_fields, memory_fields, processor_pieces, head_pieces, register_pieces, jam_pieces, eight_fields, place_fields, middle_fields}
 use Rattle.save_state.specs.Walk.{next, read_all, processor_at, middle_after, vg_at, pokey_at, back_at, board_at}
-use Rattle.save_state.proofs.Laws.{join, read_append, read_rest, read_spelled, rest_ports, rest_divider}
+use Rattle.save_state.proofs.Laws.{join, read_append, read_rest, read_spelled, rest_ports, rest_divider, widths, are_in_order}
+
+-- the sections of the table, joined
+unfoldable pub processor_fields : ℕ → ℕ → List Field
+processor_fields last jammed = head_fields ++ (register_fields last ++ jam_fields jammed)
+
+unfoldable pub middle_part_fields : ℕ → Bool → ℕ → List Field
+middle_part_fields version jammed sequence =
+    port_fields ++ (divider_fields ++ (middle_of_version version jammed sequence ++ zero_fields))
+
+unfoldable pub vg_fields : ℕ → List Field
+vg_fields phase = halted_fields ++ (pen_fields ++ (stack_fields ++ beam_fields phase))
+
+unfoldable pub pokey_fields : List Field
+pokey_fields = tone_fields ++ (pulse_fields ++ (level_fields ++ last_fields))
+
+unfoldable pub back_fields : ℕ → List Field
+back_fields phase = vg_fields phase ++ (pokey_fields ++ (pokey_fields ++ (earom_fields ++ memory_fields)))
 
 rest_head : (bytes : List ℕ) (ps : List (List ℕ)) (rest : List ℕ) → read_all false head_fields bytes ≡ Ok (ps, rest) → rest ≡ drop 4 bytes
 unfolding widths head_fields
@@ -109,9 +126,9 @@ plain_zeros : (inside : Bool) (bytes : List ℕ) → read_all false zero_fields 
 unfolding read_all zero_fields
 plain_zeros inside bytes = refl
 
-plain_front_by : (inside b : Bool) (last : ℕ) (bytes : List ℕ) → read_all false (head_fields ++ (register_fields last ++ (byte_to 1 ∷ cond b undocumented (byte_to 0) ∷ []))) bytes
-    ≡ read_all inside (head_fields ++ (register_fields last ++ (byte_to 1 ∷ cond b undocumented (byte_to 0) ∷ []))) bytes
-unfolding read_all head_fields register_fields undocumented
+plain_front_by : (inside b : Bool) (last : ℕ) (bytes : List ℕ) → read_all false (head_fields ++ (register_fields last ++ (byte_to 1 ∷ record { width = 1; range = opcode_range b } ∷ []))) bytes
+    ≡ read_all inside (head_fields ++ (register_fields last ++ (byte_to 1 ∷ record { width = 1; range = opcode_range b } ∷ []))) bytes
+unfolding read_all head_fields register_fields
 plain_front_by inside true last bytes = refl
 plain_front_by inside false last bytes = refl
 
@@ -119,7 +136,7 @@ plain_processor : (inside : Bool) (last jammed : ℕ) (bytes : List ℕ) → rea
 unfolding processor_fields jam_fields
 plain_processor inside last jammed bytes = plain_front_by inside (jammed == 1) last bytes
 
-plain_left : (inside b : Bool) (bytes : List ℕ) → read_all false (cond b (count_to w16 8192) (number_to w16 0) ∷ []) bytes ≡ read_all inside (cond b (count_to w16 8192) (number_to w16 0) ∷ []) bytes
+plain_left : (inside b : Bool) (bytes : List ℕ) → read_all false (record { width = 2; range = left_range b } ∷ []) bytes ≡ read_all inside (record { width = 2; range = left_range b } ∷ []) bytes
 unfolding read_all
 plain_left inside true bytes = refl
 plain_left inside false bytes = refl
@@ -127,7 +144,7 @@ plain_left inside false bytes = refl
 plain_beam : (inside : Bool) (phase : ℕ) (bytes : List ℕ) → read_all false (beam_fields phase) bytes ≡ read_all inside (beam_fields phase) bytes
 unfolding beam_fields
 plain_beam inside phase bytes =
-    plain_join inside (signed_to 1073741824 ∷ signed_to 1073741824 ∷ signed_to 134217728 ∷ signed_to 134217728 ∷ []) (left_field phase ∷ [])
+    plain_join inside (signed_to 1073741824 ∷ signed_to 1073741824 ∷ signed_to 134217728 ∷ signed_to 134217728 ∷ []) (record { width = 2; range = left_range (phase == 5) } ∷ [])
     (plain_signed inside) (plain_left inside (phase == 5)) bytes
 
 plain_vg : (inside : Bool) (phase : ℕ) (bytes : List ℕ) → read_all false (vg_fields phase) bytes ≡ read_all inside (vg_fields phase) bytes
@@ -192,33 +209,50 @@ tells_jammed version last clock c file rest e = ap (λ (x : List ℕ). slice_ind
 pub tells_place : (version last clock : ℕ) (c : CpuValue) (file rest : List ℕ) → processor_at version last file ≡ Ok (processor_pieces version clock c, rest) → slice_index file 30 ≡ slice_index (drop 5 (drop 4 rest)) 0
 tells_place version last clock c file rest e = ap (λ (x : List ℕ). slice_index x 30) (spelled_front version last clock c file rest e) ∙ told_place version clock c c.jam rest
 
-opcode_width : (b : Bool) → (cond b undocumented (byte_to 0)).width ≡ 1
-unfolding undocumented
-opcode_width true = refl
-opcode_width false = refl
-
 rest_processor : (inside : Bool) (last jammed : ℕ) (bytes : List ℕ) (ps : List (List ℕ)) (rest : List ℕ) → read_all inside (processor_fields last jammed) bytes ≡ Ok (ps, rest) → rest ≡ drop 21 bytes
 unfolding widths processor_fields head_fields register_fields jam_fields
-rest_processor inside last jammed bytes ps rest e =
-    read_rest inside (processor_fields last jammed) bytes ps rest e
-    ∙ ap (λ (w : ℕ). drop (1 + (3 + (8 + (2 + (1 + (1 + (1 + (1 + (1 + (1 + (w + 0))))))))))) bytes) (opcode_width (jammed == 1))
+rest_processor inside last jammed bytes ps rest e = read_rest inside (processor_fields last jammed) bytes ps rest e
 
-middle_width : (a b jammed : Bool) → widths (port_fields ++ (divider_fields ++ (cond a eight_fields (byte_to (cond jammed 0 3) ∷ cond b no_place_fields place_fields) ++ zero_fields))) ≡ 23
-unfolding widths port_fields divider_fields eight_fields no_place_fields place_fields zero_fields
-middle_width true b jammed = refl
-middle_width false true jammed = refl
-middle_width false false jammed = refl
+middle_width : (one jammed idle : Bool) → widths (port_fields ++ (divider_fields ++ (cond one eight_fields (byte_to (cond jammed 0 3) ∷ place_fields idle) ++ zero_fields))) ≡ 23
+unfolding widths port_fields divider_fields eight_fields place_fields zero_fields
+middle_width true jammed idle = refl
+middle_width false jammed idle = refl
 
 rest_middle : (version : ℕ) (jammed : Bool) (sequence : ℕ) (inside : Bool) (bytes : List ℕ) (ps : List (List ℕ)) (rest : List ℕ)
     → read_all inside (middle_part_fields version jammed sequence) bytes ≡ Ok (ps, rest) → rest ≡ drop 23 bytes
 unfolding middle_part_fields middle_fields
 rest_middle version jammed sequence inside bytes ps rest e =
     read_rest inside (middle_part_fields version jammed sequence) bytes ps rest e
-    ∙ ap (λ (w : ℕ). drop w bytes) (middle_width (version == 1) (sequence == 0) jammed)
+    ∙ ap (λ (w : ℕ). drop w bytes) (middle_width (version == 1) jammed (sequence == 0))
+
+-- the offset of each row is the sum of the widths before it, and all have 4356 bytes
+order_by : (version : ℕ) (one : Bool) → are_in_order 0 4356 (front_rows version ++ middle_rows one ++ back_rows) ≡ true
+order_by version true = refl
+order_by version false = refl
+
+pub offsets : (version : ℕ) → are_in_order 0 4356 (table version) ≡ true
+offsets version = order_by version (version == 1)
+
+-- the table's fields are those of its sections
+unfoldable pub fields : ℕ → List ℕ → List Field
+fields version file = fields_of (facts_of version file) (table version)
+
+sections_by : (version : ℕ) (one : Bool) (last jammed sequence phase : ℕ)
+    → processor_fields last jammed ++ ((port_fields ++ (divider_fields ++ (cond one eight_fields (middle_fields (jammed == 1) sequence) ++ zero_fields))) ++ back_fields phase)
+    ≡ fields_of (record { last = last; jammed = jammed == 1; idle = sequence == 0; drawing = phase == 5 }) (front_rows version ++ middle_rows one ++ back_rows)
+unfolding processor_fields head_fields register_fields jam_fields port_fields divider_fields eight_fields middle_fields place_fields zero_fields back_fields vg_fields halted_fields pen_fields stack_fields beam_fields pokey_fields tone_fields pulse_fields level_fields last_fields earom_fields memory_fields
+sections_by version true last jammed sequence phase = refl
+sections_by version false last jammed sequence phase = refl
+
+sections : (version : ℕ) (file : List ℕ)
+    → processor_fields (last_clock version (slice_index file 30)) (slice_index file 19) ++ (middle_part_fields version (slice_index file 19 == 1) (slice_index file 30) ++ back_fields (slice_index file 45))
+    ≡ fields version file
+unfolding fields middle_part_fields
+sections version file = sections_by version (version == 1) (last_clock version (slice_index file 30)) (slice_index file 19) (slice_index file 30) (slice_index file 45)
 
 -- a file is read as all its fields
 pub board_is : (version : ℕ) (inside : Bool) (file : List ℕ) → board_at version inside file ≡ read_all inside (fields version file) file
-unfolding board_at fields
+unfolding board_at
 board_is version inside file =
     let last : ℕ = last_clock version (slice_index file 30) in
     let jammed : Bool = slice_index file 19 == 1 in
@@ -238,54 +272,4 @@ board_is version inside file =
     let phase : slice_index (drop 1 rest2) 0 ≡ slice_index file 45 =
     get_or-drop 1 rest2 0 0 ∙ ap (λ (x : List ℕ). slice_index x 1) later ∙ get_or-drop 23 rest 1 0 ∙ ap (λ (x : List ℕ). slice_index x 24) after ∙ get_or-drop 21 file 24 0 in
     back_is rest2 ∙ plain_back inside (slice_index (drop 1 rest2) 0) rest2 ∙ ap (λ (n : ℕ). read_all inside (back_fields n) rest2) phase))
-
-widths-append : (fs gs : List Field) → widths (fs ++ gs) ≡ widths fs + widths gs
-unfolding widths
-widths-append [] gs = omega arith
-widths-append (f ∷ fs) gs = rw (widths-append fs gs) (omega arith)
-
-left_width : (b : Bool) → (cond b (count_to w16 8192) (number_to w16 0)).width ≡ 2
-left_width true = refl
-left_width false = refl
-
-processor_width : (last jammed : ℕ) → widths (processor_fields last jammed) ≡ 21
-unfolding widths processor_fields head_fields register_fields jam_fields
-processor_width last jammed = ap (λ (w : ℕ). 1 + (3 + (8 + (2 + (1 + (1 + (1 + (1 + (1 + (1 + (w + 0))))))))))) (opcode_width (jammed == 1))
-
-middle_part_width : (version : ℕ) (jammed : Bool) (sequence : ℕ) → widths (middle_part_fields version jammed sequence) ≡ 23
-unfolding middle_part_fields middle_fields
-middle_part_width version jammed sequence = middle_width (version == 1) (sequence == 0) jammed
-
-beam_width : (phase : ℕ) → widths (beam_fields phase) ≡ 18
-unfolding widths beam_fields
-beam_width phase = ap (λ (w : ℕ). 4 + (4 + (4 + (4 + (w + 0))))) (left_width (phase == 5))
-
-vg_width : (phase : ℕ) → widths (vg_fields phase) ≡ 40
-unfolding widths vg_fields halted_fields pen_fields stack_fields
-vg_width phase = omega (arith, beam_width phase)
-
-pokey_width : widths pokey_fields ≡ 53
-unfolding widths pokey_fields tone_fields pulse_fields level_fields last_fields
-pokey_width = refl
-
-end_width : widths (earom_fields ++ memory_fields) ≡ 4166
-unfolding widths earom_fields memory_fields
-end_width = refl
-
-back_width : (phase : ℕ) → widths (back_fields phase) ≡ 4312
-unfolding back_fields
-back_width phase =
-    rw (widths-append (vg_fields phase) (pokey_fields ++ (pokey_fields ++ (earom_fields ++ memory_fields))), widths-append pokey_fields (pokey_fields ++ (earom_fields ++ memory_fields)), widths-append pokey_fields (earom_fields ++ memory_fields))
-    (omega (arith, vg_width phase, pokey_width, end_width))
-
-pub all_width : (version : ℕ) (file : List ℕ) → widths (fields version file) ≡ 4356
-unfolding fields
-all_width version file =
-    let last : ℕ = last_clock version (slice_index file 30) in
-    let jammed : Bool = slice_index file 19 == 1 in
-    let p : List Field = processor_fields last (slice_index file 19) in
-    let m : List Field = middle_part_fields version jammed (slice_index file 30) in
-    let b : List Field = back_fields (slice_index file 45) in
-    let e : widths (p ++ (m ++ b)) ≡ widths p + widths (m ++ b) = widths-append p (m ++ b) in
-    let f : widths (m ++ b) ≡ widths m + widths b = widths-append m b in
-    omega (arith, e, f, processor_width last (slice_index file 19), middle_part_width version jammed (slice_index file 30), back_width (slice_index file 45))
+    ∙ ap (λ (fs : List Field). read_all inside fs file) (sections version file)

@@ -1,5 +1,6 @@
--- The fields of a format of fixed lengths: how many bytes each has, and which bytes are in its range.
-use Rattle.std.specs.Prelude.{◌≡◌, ◌≤◌, ℕ, ◌/◌, ◌%◌, ℤ, Bool, List, [], ◌∷◌, ◌+◌, take, drop, slice_index, None}
+-- The fields of a format of fixed lengths: where each stands, how many bytes it has, which bytes are in its range, and how
+-- it is spelled.
+use Rattle.std.specs.Prelude.{◌≡◌, ◌≤◌, ℕ, ◌/◌, ◌%◌, ℤ, Bool, List, [], ◌∷◌, ◌+◌, map, slice_index, None}
 use Rattle.std.specs.Int.{Width, w16, w32, w64, byte_len, from_le_bytes, to_le_bytes, cast_signed, cast_unsigned, from_bool}
 use Rattle.board_base.specs.Cpu.{CpuValue}
 use Rattle.board_base.specs.Ranges.{IsWithin}
@@ -78,12 +79,41 @@ long n = to_le_bytes w64 n
 abbrev pub signed : ℤ → List ℕ
 signed z = to_le_bytes w32 (cast_unsigned w32 z)
 
--- these fields, one after another from the first of the bytes on, are all in range
-abbrev pub AllFit : CpuValue → List Field → List ℕ → Type 0
-AllFit cpu [] bytes = Unit {0}
-AllFit cpu (f ∷ fs) bytes = Fits cpu f.range (take f.width bytes) × AllFit cpu fs (drop f.width bytes)
+-- what ranges go by in a file: the greatest clock, whether the processor is jammed, whether it stands inside no sequence,
+-- and whether a vector is being drawn
+pub record Facts : Type 0 where
+  pub last : ℕ
+  pub jammed : Bool
+  pub idle : Bool
+  pub drawing : Bool
 
--- how many bytes fields have
-unfoldable pub widths : List Field → ℕ
-widths [] = 0
-widths (f ∷ fs) = f.width + widths fs
+-- a row of a table: the offset of a field and the number of its bytes, its range, and how it is spelled
+pub record Row (V : Type 0) : Type 0 where
+  pub at : ℕ
+  pub width : ℕ
+  pub range : Facts → Range
+  pub spelled : V → List ℕ
+
+-- at an offset, a field
+abbrev pub row : {V : Type 0} → ℕ → Field → (V → List ℕ) → Row V
+row at f spelled = record { at = at; width = f.width; range = λ _. f.range; spelled = spelled }
+
+-- at an offset, so many bytes, whose range goes by the file
+abbrev pub row_by : {V : Type 0} → ℕ → ℕ → (Facts → Range) → (V → List ℕ) → Row V
+row_by at width range spelled = record { at = at; width = width; range = range; spelled = spelled }
+
+-- the rows of what is a part of something
+abbrev pub rows_of : {V W : Type 0} → (W → V) → List (Row V) → List (Row W)
+rows_of part rows = map (λ r. record { at = r.at; width = r.width; range = r.range; spelled = λ w. r.spelled (part w) }) rows
+
+-- the same rows, so many bytes further on
+abbrev pub rows_at : {V : Type 0} → ℕ → List (Row V) → List (Row V)
+rows_at n rows = map (λ r. record { at = n + r.at; width = r.width; range = r.range; spelled = r.spelled }) rows
+
+-- the fields of a table, in a file that tells this
+abbrev pub fields_of : {V : Type 0} → Facts → List (Row V) → List Field
+fields_of facts rows = map (λ r. record { width = r.width; range = r.range facts }) rows
+
+-- the bytes of each field of a table, as a value has them
+abbrev pub pieces_of : {V : Type 0} → List (Row V) → V → List (List ℕ)
+pieces_of rows value = map (λ r. r.spelled value) rows

@@ -1,5 +1,6 @@
 pub mod Fields
 pub mod Reading
+pub mod Sections
 pub mod StateBytes
 pub mod Texts
 pub mod Walk

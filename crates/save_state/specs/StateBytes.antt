@@ -1,5 +1,6 @@
--- The format of a saved board: its fields in order, and how a board is spelled in them. This project's own profile.
+-- The format of a saved board: a table of its fields. This project's own profile.
 use Rattle.std.specs.Prelude.{ℕ, ◌+◌, ◌-◌, Bool, ◌==◌, if◌then◌else◌, List, [], ◌∷◌, ◌++◌, slice_index, take, drop, Option, Some, None}
+use Rattle.std.specs.Option.{is_some}
 use Rattle.std.specs.List.{concat}
 use Rattle.std.specs.Int.{w16, w32, w64, from_le_bytes}
 use Rattle.board_base.specs.Board.{BoardValue}
@@ -15,79 +16,281 @@ use Rattle.board_base.specs.declared.cpu.Sequence.{Sequence}
 use Rattle.board_base.specs.declared.cpu.Sequence.TheVariants.{Opcode, Interrupt, Reset}
 use Rattle.board_base.specs.declared.divider.Pending.{Pending}
 use Rattle.board_base.specs.declared.divider.Pending.TheVariants.{Nothing, Power, Watchdog}
-use Rattle.save_state.specs.Fields.{Field, letters, six_zeros, flags, undocumented_opcode, byte_from_1, place, any, byte_to, number_to, count_to, signed_to, flag, word, quad, long, signed}
+use Rattle.save_state.specs.Fields.{Range, letters, six_zeros, flags, undocumented_opcode, byte_at_most, byte_from_1, number_at_most, number_from_1, place, any, byte_to, number_to, count_to, signed_to, flag, word, quad, long, signed, Facts, Row, row, row_by, rows_of, rows_at, pieces_of}
 
--- the version, and the letters G, V and S
-unfoldable pub head_fields : List Field
-head_fields =
-    any 1 ∷
-    record { width = 3; range = letters } ∷
-    []
-
-abbrev pub head_pieces : ℕ → List (List ℕ)
-head_pieces version = (version ∷ []) ∷ (0x47 ∷ 0x56 ∷ 0x53 ∷ []) ∷ []
-
--- the clock, up to this one, and the registers: pc, a, x, y, s, and p with bits 4 and 5 clear
-unfoldable pub register_fields : ℕ → List Field
-register_fields last =
-    number_to w64 last ∷ any 2 ∷ any 1 ∷ any 1 ∷ any 1 ∷ any 1 ∷ record { width = 1; range = flags } ∷ []
-
-abbrev pub register_pieces : ℕ → CpuValue → List (List ℕ)
-register_pieces clock c =
-    long clock ∷ word c.pc ∷ (c.a ∷ []) ∷ (c.x ∷ []) ∷ (c.y ∷ []) ∷ (c.s ∷ []) ∷ (c.p ∷ []) ∷ []
-
--- whether the processor is jammed, and by which undocumented opcode
-unfoldable pub undocumented : Field
-undocumented = record { width = 1; range = undocumented_opcode }
-
-abbrev pub opcode_field : ℕ → Field
-opcode_field jammed = if jammed == 1 then undocumented else byte_to 0
-
-unfoldable pub jam_fields : ℕ → List Field
-jam_fields jammed = byte_to 1 ∷ opcode_field jammed ∷ []
-
-abbrev pub jam_pieces : Option ℕ → List (List ℕ)
-jam_pieces None = (0 ∷ []) ∷ (0 ∷ []) ∷ []
-jam_pieces (Some o) = (1 ∷ []) ∷ (o ∷ []) ∷ []
-
--- the output latch, and the three ports
-unfoldable pub port_fields : List Field
-port_fields = any 1 ∷ byte_to 63 ∷ any 1 ∷ any 1 ∷ []
-
-abbrev pub port_pieces : ℕ → ℕ → ℕ → ℕ → List (List ℕ)
-port_pieces out in0 in3 in4 = (out ∷ []) ∷ (in0 ∷ []) ∷ (in3 ∷ []) ∷ (in4 ∷ []) ∷ []
-
--- the divider and the watchdog
-unfoldable pub divider_fields : List Field
-divider_fields = number_to w16 (DIVIDER_PERIOD - 1) ∷ byte_to 1 ∷ byte_to 7 ∷ byte_to 2 ∷ []
-
+-- the number of a pending reset
 abbrev pub pending_number : Pending → ℕ
 pending_number Nothing = 0
 pending_number Power = 1
 pending_number Watchdog = 2
 
-abbrev pub divider_pieces : DividerValue → List (List ℕ)
-divider_pieces d = word d.phase ∷ flag d.irq ∷ (d.dog ∷ []) ∷ (pending_number d.pending ∷ []) ∷ []
-
--- no place inside a sequence: no clock is done, and there are six zeros
-unfoldable pub no_place_fields : List Field
-no_place_fields = byte_to 0 ∷ record { width = 6; range = six_zeros } ∷ []
-
--- a place: the clocks that are done of the sequence, and six bytes, which are in range where the processor stands
--- inside that sequence
-unfoldable pub place_fields : List Field
-place_fields = record { width = 1; range = byte_from_1 6 } ∷ record { width = 6; range = place } ∷ []
-
--- the sequence, none where the processor is jammed, and the place inside it
-unfoldable pub middle_fields : Bool → ℕ → List Field
-middle_fields jammed sequence =
-    byte_to (if jammed then 0 else 3) ∷ (if sequence == 0 then no_place_fields else place_fields)
-
+-- the number of a sequence, none being 0
 abbrev pub sequence_number : Sequence → ℕ
 sequence_number Opcode = 1
 sequence_number Interrupt = 2
 sequence_number Reset = 3
 
+abbrev pub number_of : Option MidValue → ℕ
+number_of None = 0
+number_of (Some m) = sequence_number m.sequence
+
+-- the opcode that jams, the clocks that are done of a sequence, and their six bytes, all 0 where there are none
+abbrev pub opcode_of : Option ℕ → ℕ
+opcode_of None = 0
+opcode_of (Some o) = o
+
+abbrev pub count_of : Option MidValue → ℕ
+count_of None = 0
+count_of (Some m) = m.count
+
+abbrev pub bytes_of : Option MidValue → List ℕ
+bytes_of None = 0 ∷ 0 ∷ 0 ∷ 0 ∷ 0 ∷ 0 ∷ []
+bytes_of (Some m) = m.bytes
+
+-- the ranges of these: the opcode is an undocumented one, and the bytes are such that the processor can stand there
+abbrev pub opcode_range : Bool → Range
+opcode_range jammed = if jammed then undocumented_opcode else byte_at_most 0
+
+abbrev pub count_range : Bool → Range
+count_range idle = if idle then byte_at_most 0 else byte_from_1 6
+
+abbrev pub bytes_range : Bool → Range
+bytes_range idle = if idle then six_zeros else place
+
+-- the range of the clocks that are left of a vector
+abbrev pub left_range : Bool → Range
+left_range drawing = if drawing then number_from_1 w16 8192 else number_at_most w16 0
+
+-- the output latch and the three ports
+pub record Ports : Type 0 where
+  pub out : ℕ
+  pub in0 : ℕ
+  pub in3 : ℕ
+  pub in4 : ℕ
+
+-- a byte that is 0, whatever the board is
+abbrev pub zero_at : ℕ → Row (Unit {0})
+zero_at at = row at (byte_to 0) (λ _. 0 ∷ [])
+
+-- The table: of each field its offset, its bytes and their range, and how a board has it.
+
+-- the version, and the letters G, V and S
+abbrev pub head_rows : List (Row ℕ)
+head_rows =
+    row 0 (any 1) (λ version. version ∷ []) ∷
+    row 1 (record { width = 3; range = letters }) (λ version. 0x47 ∷ 0x56 ∷ 0x53 ∷ []) ∷
+    []
+
+-- the clocks done
+abbrev pub clock_rows : List (Row ℕ)
+clock_rows = row_by 4 8 (λ facts. number_at_most w64 facts.last) (λ clock. long clock) ∷ []
+
+-- the registers: pc, a, x, y, s, and p with bits 4 and 5 clear
+abbrev pub register_rows : List (Row CpuValue)
+register_rows =
+    row 12 (any 2) (λ c. word c.pc) ∷
+    row 14 (any 1) (λ c. c.a ∷ []) ∷
+    row 15 (any 1) (λ c. c.x ∷ []) ∷
+    row 16 (any 1) (λ c. c.y ∷ []) ∷
+    row 17 (any 1) (λ c. c.s ∷ []) ∷
+    row 18 (record { width = 1; range = flags }) (λ c. c.p ∷ []) ∷
+    []
+
+-- whether the processor is jammed, and by which undocumented opcode
+abbrev pub jam_rows : List (Row (Option ℕ))
+jam_rows =
+    row 19 (byte_to 1) (λ jam. flag (is_some jam)) ∷
+    row_by 20 1 (λ facts. opcode_range facts.jammed) (λ jam. opcode_of jam ∷ []) ∷
+    []
+
+-- the output latch, and the three ports
+abbrev pub port_rows : List (Row Ports)
+port_rows =
+    row 21 (any 1) (λ p. p.out ∷ []) ∷
+    row 22 (byte_to 63) (λ p. p.in0 ∷ []) ∷
+    row 23 (any 1) (λ p. p.in3 ∷ []) ∷
+    row 24 (any 1) (λ p. p.in4 ∷ []) ∷
+    []
+
+-- the divider and the watchdog
+abbrev pub divider_rows : List (Row DividerValue)
+divider_rows =
+    row 25 (number_to w16 (DIVIDER_PERIOD - 1)) (λ d. word d.phase) ∷
+    row 27 (byte_to 1) (λ d. flag d.irq) ∷
+    row 28 (byte_to 7) (λ d. d.dog ∷ []) ∷
+    row 29 (byte_to 2) (λ d. pending_number d.pending ∷ []) ∷
+    []
+
+-- the sequence that the processor stands inside, which is none where it is jammed
+abbrev pub sequence_rows : List (Row (Option MidValue))
+sequence_rows = row_by 30 1 (λ facts. byte_at_most (if facts.jammed then 0 else 3)) (λ mid. number_of mid ∷ []) ∷ []
+
+-- the place inside it: the clocks that are done of it, and their bytes
+abbrev pub place_rows : List (Row (Option MidValue))
+place_rows =
+    row_by 31 1 (λ facts. count_range facts.idle) (λ mid. count_of mid ∷ []) ∷
+    row_by 32 6 (λ facts. bytes_range facts.idle) (λ mid. bytes_of mid) ∷
+    []
+
+-- version 1 has eight zeros in place of the sequence and the place
+abbrev pub eight_rows : List (Row (Unit {0}))
+eight_rows = zero_at 30 ∷ zero_at 31 ∷ zero_at 32 ∷ zero_at 33 ∷ zero_at 34 ∷ zero_at 35 ∷ zero_at 36 ∷ zero_at 37 ∷ []
+
+-- six zeros
+abbrev pub zero_rows : List (Row (Unit {0}))
+zero_rows = zero_at 38 ∷ zero_at 39 ∷ zero_at 40 ∷ zero_at 41 ∷ zero_at 42 ∷ zero_at 43 ∷ []
+
+-- the vector generator: whether it is halted
+abbrev pub halted_rows : List (Row VgValue)
+halted_rows = row 44 (byte_to 1) (λ v. flag v.halted) ∷ []
+
+-- its program, what it draws with, and the word under way
+abbrev pub pen_rows : List (Row VgValue)
+pen_rows =
+    row 45 (byte_to 5) (λ v. v.phase ∷ []) ∷
+    row 46 (number_to w16 8191) (λ v. word v.pc) ∷
+    row 48 (byte_to 3) (λ v. v.sp ∷ []) ∷
+    row 49 (byte_to 7) (λ v. v.colour ∷ []) ∷
+    row 50 (byte_to 15) (λ v. v.intensity ∷ []) ∷
+    row 51 (any 1) (λ v. v.lin ∷ []) ∷
+    row 52 (byte_to 7) (λ v. v.bin ∷ []) ∷
+    row 53 (byte_to 15) (λ v. v.pen ∷ []) ∷
+    row 54 (any 4) (λ v. v.bytes) ∷
+    []
+
+-- its stack of four
+abbrev pub stack_rows : List (Row (List ℕ))
+stack_rows =
+    row 58 (number_to w16 8191) (λ stack. word (slice_index stack 0)) ∷
+    row 60 (number_to w16 8191) (λ stack. word (slice_index stack 1)) ∷
+    row 62 (number_to w16 8191) (λ stack. word (slice_index stack 2)) ∷
+    row 64 (number_to w16 8191) (λ stack. word (slice_index stack 3)) ∷
+    []
+
+-- the beam, the vector being drawn, and the clocks that are left of it, in phase 5 alone
+abbrev pub beam_rows : List (Row VgValue)
+beam_rows =
+    row 66 (signed_to 1073741824) (λ v. signed v.x) ∷
+    row 70 (signed_to 1073741824) (λ v. signed v.y) ∷
+    row 74 (signed_to 134217728) (λ v. signed v.dx) ∷
+    row 78 (signed_to 134217728) (λ v. signed v.dy) ∷
+    row_by 82 2 (λ facts. left_range facts.drawing) (λ v. word v.left) ∷
+    []
+
+-- all of it
+abbrev pub vg_rows : List (Row VgValue)
+vg_rows = halted_rows ++ pen_rows ++ rows_of (λ v. v.stack) stack_rows ++ beam_rows
+
+-- a POKEY, from its own first byte: its registers, its requests, its polynomial registers and its prescalers
+abbrev pub tone_rows : List (Row PokeyValue)
+tone_rows =
+    row 0 (any 4) (λ p. p.audf) ∷
+    row 4 (any 4) (λ p. p.audc) ∷
+    row 8 (any 1) (λ p. p.audctl ∷ []) ∷
+    row 9 (any 1) (λ p. p.skctl ∷ []) ∷
+    row 10 (byte_to 7) (λ p. p.irqen ∷ []) ∷
+    row 11 (byte_to 7) (λ p. p.irqst ∷ []) ∷
+    row 12 (byte_to 15) (λ p. p.poly4 ∷ []) ∷
+    row 13 (byte_to 31) (λ p. p.poly5 ∷ []) ∷
+    row 14 (number_to w16 511) (λ p. word p.poly9) ∷
+    row 16 (number_to w32 131071) (λ p. quad p.poly17) ∷
+    row 20 (byte_to 27) (λ p. p.pre28 ∷ []) ∷
+    row 21 (byte_to 113) (λ p. p.pre114 ∷ []) ∷
+    []
+
+-- the pulses that are left of each of its channels
+abbrev pub pulse_rows : List (Row (List ℕ))
+pulse_rows =
+    row 22 (count_to w32 65542) (λ left. quad (slice_index left 0)) ∷
+    row 26 (count_to w32 65542) (λ left. quad (slice_index left 1)) ∷
+    row 30 (count_to w32 65542) (λ left. quad (slice_index left 2)) ∷
+    row 34 (count_to w32 65542) (λ left. quad (slice_index left 3)) ∷
+    []
+
+-- its tone and high-pass bits, and its pots
+abbrev pub level_rows : List (Row PokeyValue)
+level_rows =
+    row 38 (byte_to 15) (λ p. p.tone ∷ []) ∷
+    row 39 (byte_to 3) (λ p. p.pass ∷ []) ∷
+    row 40 (byte_to 228) (λ p. p.pot ∷ []) ∷
+    row 41 (any 8) (λ p. p.targets) ∷
+    []
+
+-- the levels of its channels
+abbrev pub last_rows : List (Row (List ℕ))
+last_rows =
+    row 49 (byte_to 15) (λ last. slice_index last 0 ∷ []) ∷
+    row 50 (byte_to 15) (λ last. slice_index last 1 ∷ []) ∷
+    row 51 (byte_to 15) (λ last. slice_index last 2 ∷ []) ∷
+    row 52 (byte_to 15) (λ last. slice_index last 3 ∷ []) ∷
+    []
+
+-- all of it
+abbrev pub pokey_rows : List (Row PokeyValue)
+pokey_rows = tone_rows ++ rows_of (λ p. p.left) pulse_rows ++ level_rows ++ rows_of (λ p. p.last) last_rows
+
+-- the EAROM
+abbrev pub earom_rows : List (Row EaromValue)
+earom_rows =
+    row 190 (byte_to 63) (λ e. e.addr ∷ []) ∷
+    row 191 (any 1) (λ e. e.value ∷ []) ∷
+    row 192 (byte_to 15) (λ e. e.control ∷ []) ∷
+    row 193 (number_to w16 1512) (λ e. word e.hold) ∷
+    row 195 (any 1) (λ e. e.out ∷ []) ∷
+    row 196 (any 64) (λ e. e.cells) ∷
+    []
+
+-- both memories
+abbrev pub memory_rows : List (Row BoardValue)
+memory_rows =
+    row 260 (any RAM_LEN) (λ b. b.ram) ∷
+    row 2308 (any VECTOR_RAM_LEN) (λ b. b.vram) ∷
+    []
+
+-- all fields up to the sequence
+abbrev pub front_rows : ℕ → List (Row BoardValue)
+front_rows version =
+    rows_of (λ b. version) head_rows ++
+    rows_of (λ b. b.clock) clock_rows ++
+    rows_of (λ b. b.cpu) register_rows ++
+    rows_of (λ b. b.cpu.jam) jam_rows ++
+    rows_of (λ b. record { out = b.out; in0 = b.in0; in3 = b.in3; in4 = b.in4 }) port_rows ++
+    rows_of (λ b. b.divider) divider_rows
+
+-- all fields after the place, where each POKEY stands at its own offset
+abbrev pub back_rows : List (Row BoardValue)
+back_rows =
+    rows_of (λ b. tt) zero_rows ++
+    rows_of (λ b. b.vg) vg_rows ++
+    rows_at 84 (rows_of (λ b. b.sound1) pokey_rows) ++
+    rows_at 137 (rows_of (λ b. b.sound2) pokey_rows) ++
+    rows_of (λ b. b.earom) earom_rows ++
+    memory_rows
+
+-- the sequence and the place, which version 1 doesn't have
+abbrev pub middle_rows : Bool → List (Row BoardValue)
+middle_rows first =
+    if first then rows_of (λ b. tt) eight_rows else rows_of (λ b. b.cpu.mid) (sequence_rows ++ place_rows)
+
+-- the table of a version: all fields of a board, in order
+abbrev pub table : ℕ → List (Row BoardValue)
+table version = front_rows version ++ middle_rows (version == 1) ++ back_rows
+
+-- the greatest clock: a board stands up to 16 clocks later than inside a sequence
+abbrev pub last_clock : ℕ → ℕ → ℕ
+last_clock version sequence =
+    if version == 1 then CLOCK_LIMIT + 16 else (if sequence == 0 then CLOCK_LIMIT + 16 else CLOCK_LIMIT)
+
+-- what the ranges of a file of this version go by: bytes 19, 30 and 45
+abbrev pub facts_of : ℕ → List ℕ → Facts
+facts_of version file = record {
+  last = last_clock version (slice_index file 30);
+  jammed = slice_index file 19 == 1;
+  idle = slice_index file 30 == 0;
+  drawing = slice_index file 45 == 5;
+}
+
+-- the sequence that a number from 1 to 3 tells
 abbrev pub sequence_of : ℕ → Sequence
 sequence_of n = if n == 1 then Opcode else (if n == 2 then Interrupt else Reset)
 
@@ -95,165 +298,6 @@ sequence_of n = if n == 1 then Opcode else (if n == 2 then Interrupt else Reset)
 abbrev pub middle_at : List ℕ → MidValue
 middle_at bytes =
     record { sequence = sequence_of (slice_index bytes 0); count = slice_index (drop 1 bytes) 0; bytes = take 6 (drop 1 (drop 1 bytes)) }
-
-abbrev pub middle_pieces : Option MidValue → List (List ℕ)
-middle_pieces None = (0 ∷ []) ∷ (0 ∷ []) ∷ (0 ∷ 0 ∷ 0 ∷ 0 ∷ 0 ∷ 0 ∷ []) ∷ []
-middle_pieces (Some m) = (sequence_number m.sequence ∷ []) ∷ (m.count ∷ []) ∷ m.bytes ∷ []
-
--- version 1 has eight zeros there
-unfoldable pub eight_fields : List Field
-eight_fields =
-    byte_to 0 ∷ byte_to 0 ∷ byte_to 0 ∷ byte_to 0 ∷ byte_to 0 ∷ byte_to 0 ∷ byte_to 0 ∷ byte_to 0 ∷ []
-
-abbrev pub eight_pieces : List (List ℕ)
-eight_pieces =
-    (0 ∷ []) ∷ (0 ∷ []) ∷ (0 ∷ []) ∷ (0 ∷ []) ∷ (0 ∷ []) ∷ (0 ∷ []) ∷ (0 ∷ []) ∷ (0 ∷ []) ∷ []
-
--- six zeros
-unfoldable pub zero_fields : List Field
-zero_fields = byte_to 0 ∷ byte_to 0 ∷ byte_to 0 ∷ byte_to 0 ∷ byte_to 0 ∷ byte_to 0 ∷ []
-
-abbrev pub zero_pieces : List (List ℕ)
-zero_pieces = (0 ∷ []) ∷ (0 ∷ []) ∷ (0 ∷ []) ∷ (0 ∷ []) ∷ (0 ∷ []) ∷ (0 ∷ []) ∷ []
-
--- the vector generator: its program, what it draws with, and the word under way
-unfoldable pub halted_fields : List Field
-halted_fields = byte_to 1 ∷ []
-
-unfoldable pub pen_fields : List Field
-pen_fields =
-    byte_to 5 ∷ number_to w16 8191 ∷ byte_to 3 ∷ byte_to 7 ∷ byte_to 15 ∷ any 1 ∷ byte_to 7 ∷ byte_to 15 ∷
-    any 4 ∷ []
-
-abbrev pub pen_pieces : VgValue → List (List ℕ)
-pen_pieces v =
-    flag v.halted ∷ (v.phase ∷ []) ∷ word v.pc ∷ (v.sp ∷ []) ∷ (v.colour ∷ []) ∷ (v.intensity ∷ []) ∷ (v.lin ∷ []) ∷
-    (v.bin ∷ []) ∷ (v.pen ∷ []) ∷ v.bytes ∷ []
-
--- its stack of four
-unfoldable pub stack_fields : List Field
-stack_fields = number_to w16 8191 ∷ number_to w16 8191 ∷ number_to w16 8191 ∷ number_to w16 8191 ∷ []
-
-abbrev pub stack_pieces : List ℕ → List (List ℕ)
-stack_pieces stack =
-    word (slice_index stack 0) ∷ word (slice_index stack 1) ∷ word (slice_index stack 2) ∷ word (slice_index stack 3) ∷ []
-
--- the beam, the vector being drawn, and the clocks that are left of it, in phase 5 alone
-abbrev pub left_field : ℕ → Field
-left_field phase = if phase == 5 then count_to w16 8192 else number_to w16 0
-
-unfoldable pub beam_fields : ℕ → List Field
-beam_fields phase =
-    signed_to 1073741824 ∷ signed_to 1073741824 ∷ signed_to 134217728 ∷ signed_to 134217728 ∷ left_field phase ∷ []
-
-abbrev pub beam_pieces : VgValue → List (List ℕ)
-beam_pieces v = signed v.x ∷ signed v.y ∷ signed v.dx ∷ signed v.dy ∷ word v.left ∷ []
-
-abbrev pub vg_pieces : VgValue → List (List ℕ)
-vg_pieces v = pen_pieces v ++ stack_pieces v.stack ++ beam_pieces v
-
--- a POKEY: its registers, its requests, its polynomial registers and its prescalers
-unfoldable pub tone_fields : List Field
-tone_fields =
-    any 4 ∷ any 4 ∷ any 1 ∷ any 1 ∷ byte_to 7 ∷ byte_to 7 ∷ byte_to 15 ∷ byte_to 31 ∷ number_to w16 511 ∷
-    number_to w32 131071 ∷ byte_to 27 ∷ byte_to 113 ∷ []
-
-abbrev pub tone_pieces : PokeyValue → List (List ℕ)
-tone_pieces p =
-    p.audf ∷ p.audc ∷ (p.audctl ∷ []) ∷ (p.skctl ∷ []) ∷ (p.irqen ∷ []) ∷ (p.irqst ∷ []) ∷ (p.poly4 ∷ []) ∷
-    (p.poly5 ∷ []) ∷ word p.poly9 ∷ quad p.poly17 ∷ (p.pre28 ∷ []) ∷ (p.pre114 ∷ []) ∷ []
-
--- the pulses that are left of each of its channels
-unfoldable pub pulse_fields : List Field
-pulse_fields = count_to w32 65542 ∷ count_to w32 65542 ∷ count_to w32 65542 ∷ count_to w32 65542 ∷ []
-
-abbrev pub pulse_pieces : List ℕ → List (List ℕ)
-pulse_pieces left =
-    quad (slice_index left 0) ∷ quad (slice_index left 1) ∷ quad (slice_index left 2) ∷ quad (slice_index left 3) ∷ []
-
--- its tone and high-pass bits, and its pots
-unfoldable pub level_fields : List Field
-level_fields = byte_to 15 ∷ byte_to 3 ∷ byte_to 228 ∷ any 8 ∷ []
-
-abbrev pub level_pieces : PokeyValue → List (List ℕ)
-level_pieces p = (p.tone ∷ []) ∷ (p.pass ∷ []) ∷ (p.pot ∷ []) ∷ p.targets ∷ []
-
--- the levels of its channels
-unfoldable pub last_fields : List Field
-last_fields = byte_to 15 ∷ byte_to 15 ∷ byte_to 15 ∷ byte_to 15 ∷ []
-
-abbrev pub last_pieces : List ℕ → List (List ℕ)
-last_pieces last =
-    (slice_index last 0 ∷ []) ∷ (slice_index last 1 ∷ []) ∷ (slice_index last 2 ∷ []) ∷ (slice_index last 3 ∷ []) ∷ []
-
-abbrev pub pokey_pieces : PokeyValue → List (List ℕ)
-pokey_pieces p = tone_pieces p ++ pulse_pieces p.left ++ level_pieces p ++ last_pieces p.last
-
--- the EAROM
-unfoldable pub earom_fields : List Field
-earom_fields = byte_to 63 ∷ any 1 ∷ byte_to 15 ∷ number_to w16 1512 ∷ any 1 ∷ any 64 ∷ []
-
-abbrev pub earom_pieces : EaromValue → List (List ℕ)
-earom_pieces e = (e.addr ∷ []) ∷ (e.value ∷ []) ∷ (e.control ∷ []) ∷ word e.hold ∷ (e.out ∷ []) ∷ e.cells ∷ []
-
--- both memories
-unfoldable pub memory_fields : List Field
-memory_fields = any RAM_LEN ∷ any VECTOR_RAM_LEN ∷ []
-
--- the greatest clock: a board stands up to 16 clocks later than inside a sequence
-abbrev pub last_clock : ℕ → ℕ → ℕ
-last_clock version sequence =
-    if version == 1 then CLOCK_LIMIT + 16 else (if sequence == 0 then CLOCK_LIMIT + 16 else CLOCK_LIMIT)
-
--- the place in a version
-abbrev pub middle_of_version : ℕ → Bool → ℕ → List Field
-middle_of_version version jammed sequence =
-    if version == 1 then eight_fields else middle_fields jammed sequence
-
-abbrev pub middle_in_version : ℕ → Option MidValue → List (List ℕ)
-middle_in_version version mid = if version == 1 then eight_pieces else middle_pieces mid
-
-abbrev pub processor_pieces : ℕ → ℕ → CpuValue → List (List ℕ)
-processor_pieces version clock c = head_pieces version ++ register_pieces clock c ++ jam_pieces c.jam
-
-abbrev pub middle_part : ℕ → ℕ → ℕ → ℕ → ℕ → DividerValue → Option MidValue → List (List ℕ)
-middle_part version out in0 in3 in4 d mid =
-    port_pieces out in0 in3 in4 ++ divider_pieces d ++ middle_in_version version mid ++ zero_pieces
-
-abbrev pub back_pieces : VgValue → PokeyValue → PokeyValue → EaromValue → List ℕ → List ℕ → List (List ℕ)
-back_pieces vg sound1 sound2 earom ram vram =
-    vg_pieces vg ++ pokey_pieces sound1 ++ pokey_pieces sound2 ++ earom_pieces earom ++ ram ∷ vram ∷ []
-
--- a board in a version
-abbrev pub board_pieces : ℕ → BoardValue → List (List ℕ)
-board_pieces version b =
-    processor_pieces version b.clock b.cpu ++
-    (middle_part version b.out b.in0 b.in3 b.in4 b.divider b.cpu.mid ++
-    back_pieces b.vg b.sound1 b.sound2 b.earom b.ram b.vram)
-
--- the groups of fields, joined
-unfoldable pub processor_fields : ℕ → ℕ → List Field
-processor_fields last jammed = head_fields ++ (register_fields last ++ jam_fields jammed)
-
-unfoldable pub middle_part_fields : ℕ → Bool → ℕ → List Field
-middle_part_fields version jammed sequence =
-    port_fields ++ (divider_fields ++ (middle_of_version version jammed sequence ++ zero_fields))
-
-unfoldable pub vg_fields : ℕ → List Field
-vg_fields phase = halted_fields ++ (pen_fields ++ (stack_fields ++ beam_fields phase))
-
-unfoldable pub pokey_fields : List Field
-pokey_fields = tone_fields ++ (pulse_fields ++ (level_fields ++ last_fields))
-
-unfoldable pub back_fields : ℕ → List Field
-back_fields phase = vg_fields phase ++ (pokey_fields ++ (pokey_fields ++ (earom_fields ++ memory_fields)))
-
--- the fields of a file of this version, whose ranges go by bytes 19, 30 and 45
-unfoldable pub fields : ℕ → List ℕ → List Field
-fields version file =
-    processor_fields (last_clock version (slice_index file 30)) (slice_index file 19) ++
-    (middle_part_fields version (slice_index file 19 == 1) (slice_index file 30) ++
-    back_fields (slice_index file 45))
 
 -- the processor that a file tells
 abbrev pub processor_of : List ℕ → CpuValue
@@ -268,9 +312,14 @@ processor_of file = record {
   mid = Some (middle_at (drop 30 file));
 }
 
--- the bytes of a board, in version 2; and in version 1, of a board whose processor stands inside no sequence
+-- the bytes of each field of a board, in a version
+abbrev pub board_pieces : ℕ → BoardValue → List (List ℕ)
+board_pieces version b = pieces_of (table version) b
+
+-- the bytes of a board, in version 2
 abbrev pub state_bytes : BoardValue → List ℕ
 state_bytes b = concat (board_pieces 2 b)
 
+-- and in version 1, of a board whose processor stands inside no sequence
 abbrev pub first_state_bytes : BoardValue → List ℕ
 first_state_bytes b = concat (board_pieces 1 b)

@@ -6,7 +6,8 @@ use Rattle.std.specs.Option.{is_none}
 use Rattle.save_state.specs.declared.TheConstants.{STATE_LEN}
 use Rattle.cpu_table.specs.Opcodes.{row_of}
 use Rattle.save_state.specs.Fields.{Range, anything, byte_at_most, byte_from_1, number_at_most, number_from_1, signed_within, letters, six_zeros, flags, undocumented_opcode, place, Field}
-use Rattle.save_state.specs.StateBytes.{halted_fields, pen_fields, stack_fields, beam_fields, tone_fields, pulse_fields, level_fields, last_fields, head_fields, register_fields, jam_fields, port_fields, divider_fields, middle_of_version, zero_fields, earom_fields, memory_fields, last_clock}
+use Rattle.save_state.specs.StateBytes.{last_clock}
+use Rattle.save_state.specs.Sections.{halted_fields, pen_fields, stack_fields, beam_fields, tone_fields, pulse_fields, level_fields, last_fields, head_fields, register_fields, jam_fields, port_fields, divider_fields, middle_of_version, zero_fields, earom_fields, memory_fields}
 
 -- the test of a range
 abbrev pub is_fit : Bool → Range → List ℕ → Bool

@@ -27,7 +27,7 @@ impl<'a> Cursor<'a> {
     ghost use Rattle.board_base.specs.Ranges.{IsWithin};
     ghost use Rattle.cpu_table.specs.Opcodes.{row_of};
     ghost use Rattle.save_state.specs.Fields.{flags, any, byte_from_1, byte_to, number_to, count_to, signed_to, flag, word, quad, long, signed};
-    ghost use Rattle.save_state.specs.StateBytes.{undocumented};
+    ghost use Rattle.save_state.specs.Sections.{undocumented};
     ghost use Rattle.save_state.specs.Walk.{Gives, read_field};
 
     /// A cursor at the first of a file's bytes.
@@ -156,7 +156,7 @@ impl<'a> Cursor<'a> {
     }
 
     /// Reads an undocumented opcode.
-    #[tactic(auto, unfolding(crate::specs::Walk::field_at, crate::specs::StateBytes::undocumented))]
+    #[tactic(auto, unfolding(crate::specs::Walk::field_at, crate::specs::Sections::undocumented))]
     pub fn read_undocumented(&mut self) -> Result<u8, usize>
         requires { 1 ≤ length self.old }
         ensures field { Gives (λ x. (x ∷ [], self.new)) result (read_field undocumented self.old) }

@@ -1,14 +1,14 @@
 ghost use Rattle.std.specs.Prelude.{◌≡◌, ◌+◌, ◌≤◌, ◌==◌, None, IfOk, IfSome, length, slice_index};
 ghost use Rattle.std.specs.Option.{is_some};
 ghost use Rattle.cpu_table.specs.Opcodes.{row_of};
-ghost use Rattle.save_state.specs.StateBytes.{register_fields, register_pieces, jam_fields, jam_pieces};
+ghost use Rattle.save_state.specs.Sections.{register_fields, register_pieces, jam_fields, jam_pieces};
 ghost use Rattle.save_state.specs.Walk.{Gives, read_fields};
 
 use crate::cursor::Cursor;
 use board_base::CpuState;
 
 /// Reads the clock, which is at most `last`, and the registers.
-#[tactic(auto, unfolding(crate::specs::Walk::read_all, crate::specs::StateBytes::register_fields))]
+#[tactic(auto, unfolding(crate::specs::Walk::read_all, crate::specs::Sections::register_fields))]
 pub fn read_registers(cursor: &mut Cursor, last: u64) -> Result<(u64, CpuState), usize>
     requires some { 15 ≤ length cursor.old }
     ensures fields { Gives (λ x. (register_pieces x.0 x.1, cursor.new)) result (read_fields (register_fields last) cursor.old) }
@@ -38,7 +38,7 @@ pub fn read_registers(cursor: &mut Cursor, last: u64) -> Result<(u64, CpuState),
 }
 
 /// Reads whether the processor is jammed, and by which opcode.
-#[tactic(auto, unfolding(crate::specs::Walk::read_all, crate::specs::StateBytes::jam_fields))]
+#[tactic(auto, unfolding(crate::specs::Walk::read_all, crate::specs::Sections::jam_fields, crate::specs::Sections::undocumented))]
 pub fn read_jam(cursor: &mut Cursor) -> Result<Option<u8>, usize>
     requires some { 2 ≤ length cursor.old }
     ensures fields { Gives (λ x. (jam_pieces x, cursor.new)) result (read_fields (jam_fields (slice_index cursor.old 0)) cursor.old) }

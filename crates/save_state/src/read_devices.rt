@@ -1,5 +1,5 @@
 ghost use Rattle.std.specs.Prelude.{◌≡◌, ◌+◌, ◌≤◌, IfOk, length};
-ghost use Rattle.save_state.specs.StateBytes.{divider_fields, divider_pieces, earom_fields, earom_pieces};
+ghost use Rattle.save_state.specs.Sections.{divider_fields, divider_pieces, earom_fields, earom_pieces};
 ghost use Rattle.save_state.specs.Walk.{Gives, read_fields};
 
 use crate::cursor::Cursor;
@@ -7,7 +7,7 @@ use board_base::divider::DIVIDER_PERIOD;
 use board_base::{DividerState, EaromState, Pending};
 
 /// Reads the divider and the watchdog.
-#[tactic(auto, unfolding(crate::specs::Walk::read_all, crate::specs::StateBytes::divider_fields))]
+#[tactic(auto, unfolding(crate::specs::Walk::read_all, crate::specs::Sections::divider_fields))]
 pub fn read_divider(cursor: &mut Cursor) -> Result<DividerState, usize>
     requires some { 5 ≤ length cursor.old }
     ensures fields { Gives (λ x. (divider_pieces x, cursor.new)) result (read_fields divider_fields cursor.old) }
@@ -31,7 +31,7 @@ pub fn read_divider(cursor: &mut Cursor) -> Result<DividerState, usize>
 }
 
 /// Reads the EAROM.
-#[tactic(auto, unfolding(crate::specs::Walk::read_all, crate::specs::StateBytes::earom_fields))]
+#[tactic(auto, unfolding(crate::specs::Walk::read_all, crate::specs::Sections::earom_fields))]
 pub fn read_earom(cursor: &mut Cursor) -> Result<EaromState, usize>
     requires some { 70 ≤ length cursor.old }
     ensures fields { Gives (λ x. (earom_pieces x, cursor.new)) result (read_fields earom_fields cursor.old) }

@@ -1,12 +1,12 @@
 ghost use Rattle.std.specs.Prelude.{◌≡◌, ◌+◌, ◌<◌, ◌≤◌, All, IfOk, length};
-ghost use Rattle.save_state.specs.StateBytes.{tone_fields, tone_pieces, pulse_fields, pulse_pieces, last_fields, last_pieces, pokey_pieces};
+ghost use Rattle.save_state.specs.Sections.{tone_fields, tone_pieces, pulse_fields, pulse_pieces, last_fields, last_pieces, pokey_pieces};
 ghost use Rattle.save_state.specs.Walk.{Gives, pokey_at, read_fields};
 
 use crate::cursor::Cursor;
 use board_base::PokeyState;
 
 /// Reads the registers of a POKEY; all else is as at power-on.
-#[tactic(auto, unfolding(crate::specs::Walk::read_all, crate::specs::StateBytes::tone_fields))]
+#[tactic(auto, unfolding(crate::specs::Walk::read_all, crate::specs::Sections::tone_fields))]
 fn read_registers(cursor: &mut Cursor) -> Result<PokeyState, usize>
     requires some { 22 ≤ length cursor.old }
     ensures fields { Gives (λ x. (tone_pieces x, cursor.new)) result (read_fields tone_fields cursor.old) }
@@ -42,7 +42,7 @@ fn read_registers(cursor: &mut Cursor) -> Result<PokeyState, usize>
 }
 
 /// Reads the pulses that are left of each channel.
-#[tactic(auto, unfolding(crate::specs::Walk::read_all, crate::specs::StateBytes::pulse_fields))]
+#[tactic(auto, unfolding(crate::specs::Walk::read_all, crate::specs::Sections::pulse_fields))]
 fn read_left(cursor: &mut Cursor) -> Result<[u32; 4], usize>
     requires some { 16 ≤ length cursor.old }
     ensures fields { Gives (λ x. (pulse_pieces x, cursor.new)) result (read_fields pulse_fields cursor.old) }
@@ -57,7 +57,7 @@ fn read_left(cursor: &mut Cursor) -> Result<[u32; 4], usize>
 }
 
 /// Reads the level of each channel.
-#[tactic(auto, unfolding(crate::specs::Walk::read_all, crate::specs::StateBytes::last_fields))]
+#[tactic(auto, unfolding(crate::specs::Walk::read_all, crate::specs::Sections::last_fields))]
 fn read_last(cursor: &mut Cursor) -> Result<[u8; 4], usize>
     requires some { 4 ≤ length cursor.old }
     ensures fields { Gives (λ x. (last_pieces x, cursor.new)) result (read_fields last_fields cursor.old) }
@@ -72,7 +72,7 @@ fn read_last(cursor: &mut Cursor) -> Result<[u8; 4], usize>
 }
 
 /// Reads a POKEY.
-#[tactic(auto, unfolding(crate::specs::Walk::pokey_at, crate::specs::Walk::read_all, crate::specs::StateBytes::level_fields))]
+#[tactic(auto, unfolding(crate::specs::Walk::pokey_at, crate::specs::Walk::read_all, crate::specs::Sections::level_fields))]
 pub fn read_pokey(cursor: &mut Cursor) -> Result<PokeyState, usize>
     requires some { 53 ≤ length cursor.old }
     ensures fields { Gives (λ x. (pokey_pieces x, cursor.new)) result (pokey_at cursor.old) }

@@ -1,6 +1,6 @@
 ghost use Rattle.std.specs.Prelude.{◌≡◌, ◌≢◌, ◌+◌, ◌<◌, ◌≤◌, ◌∷◌, [], All, IfOk, length, slice_index};
 ghost use Rattle.save_state.specs.Fields.{word};
-ghost use Rattle.save_state.specs.StateBytes.{stack_pieces, stack_fields, left_field, pen_fields, vg_pieces};
+ghost use Rattle.save_state.specs.Sections.{stack_pieces, stack_fields, left_field, pen_fields, vg_pieces};
 ghost use Rattle.save_state.specs.Walk.{Gives, vg_at, read_field, read_fields};
 
 use crate::cursor::Cursor;
@@ -21,7 +21,7 @@ struct Pen {
 }
 
 /// Reads the stack.
-#[tactic(auto, unfolding(crate::specs::Walk::read_all, crate::specs::StateBytes::stack_fields))]
+#[tactic(auto, unfolding(crate::specs::Walk::read_all, crate::specs::Sections::stack_fields))]
 fn read_stack(cursor: &mut Cursor) -> Result<[u16; 4], usize>
     requires some { 8 ≤ length cursor.old }
     ensures fields { Gives (λ x. (stack_pieces x, cursor.new)) result (read_fields stack_fields cursor.old) }
@@ -52,7 +52,7 @@ fn read_left(cursor: &mut Cursor, phase: u8) -> Result<u16, usize>
 }
 
 /// Reads what the generator draws with.
-#[tactic(auto, unfolding(crate::specs::Walk::read_all, crate::specs::StateBytes::pen_fields))]
+#[tactic(auto, unfolding(crate::specs::Walk::read_all, crate::specs::Sections::pen_fields))]
 fn read_pen(cursor: &mut Cursor) -> Result<Pen, usize>
     requires some { 13 ≤ length cursor.old }
     ensures fields { Gives (λ x. ((x.phase ∷ []) ∷ word x.pc ∷ (x.sp ∷ []) ∷ (x.colour ∷ []) ∷ (x.intensity ∷ []) ∷ (x.lin ∷ []) ∷ (x.bin ∷ []) ∷ (x.pen ∷ []) ∷ x.bytes ∷ [], cursor.new)) result (read_fields pen_fields cursor.old) }
@@ -90,7 +90,7 @@ fn read_pen(cursor: &mut Cursor) -> Result<Pen, usize>
 }
 
 /// Reads the vector generator.
-#[tactic(auto, unfolding(crate::specs::Walk::vg_at, crate::specs::Walk::read_all, crate::specs::StateBytes::halted_fields, crate::specs::StateBytes::beam_fields))]
+#[tactic(auto, unfolding(crate::specs::Walk::vg_at, crate::specs::Walk::read_all, crate::specs::Sections::halted_fields, crate::specs::Sections::beam_fields))]
 pub fn read_vg(cursor: &mut Cursor) -> Result<VgState, usize>
     requires some { 40 ≤ length cursor.old }
     ensures fields { Gives (λ x. (vg_pieces x, cursor.new)) result (vg_at cursor.old) }

@@ -2,7 +2,8 @@ ghost use Rattle.std.specs.Prelude.{◌≡◌, ◌+◌, ◌≤◌, ◌↔◌, []
 ghost use Rattle.std.specs.Option.{is_some};
 ghost use Rattle.cpu_table.specs.Opcodes.{row_of};
 ghost use Rattle.cpu_core.specs.Places.{IsMiddle};
-ghost use Rattle.save_state.specs.StateBytes.{head_fields, port_fields, port_pieces, last_clock, middle_of_version, middle_in_version, middle_at, middle_part, processor_pieces, back_pieces, board_pieces, processor_of};
+ghost use Rattle.save_state.specs.StateBytes.{last_clock, middle_at, processor_of};
+ghost use Rattle.save_state.specs.Sections.{head_fields, port_fields, port_pieces, middle_of_version, middle_in_version, middle_part, processor_pieces, back_pieces, pieces_in_parts};
 ghost use Rattle.save_state.specs.Walk.{Gives, read_all, processor_at, middle_after, back_at, board_at, read_fields};
 ghost use Rattle.save_state.specs.Reading.{IsWhole, Spells, ReadsState};
 ghost use Rattle.board_base.specs.Board.{BoardValue};
@@ -21,7 +22,7 @@ use board_base::vector_memory::VECTOR_RAM_LEN;
 use board_base::{BoardState, CpuState, DividerState, EaromState, Mid, PokeyState, VgState};
 
 /// Reads the version and the letters that begin a file.
-#[tactic(auto, unfolding(crate::specs::Walk::read_all, crate::specs::Walk::field_at, crate::specs::StateBytes::head_fields))]
+#[tactic(auto, unfolding(crate::specs::Walk::read_all, crate::specs::Walk::field_at, crate::specs::Sections::head_fields))]
 fn read_head(cursor: &mut Cursor) -> Result<(), usize>
     requires some { 4 ≤ length cursor.old }
     ensures fields { Gives (λ _. ((slice_index cursor.old 0 ∷ []) ∷ (71 ∷ 86 ∷ 83 ∷ []) ∷ [], cursor.new)) result (read_fields head_fields cursor.old) }
@@ -37,7 +38,7 @@ fn read_head(cursor: &mut Cursor) -> Result<(), usize>
 }
 
 /// Reads the output latch and the ports: `out`, `in0`, `in3` and `in4`.
-#[tactic(auto, unfolding(crate::specs::Walk::read_all, crate::specs::StateBytes::port_fields))]
+#[tactic(auto, unfolding(crate::specs::Walk::read_all, crate::specs::Sections::port_fields))]
 fn read_ports(cursor: &mut Cursor) -> Result<[u8; 4], usize>
     requires some { 4 ≤ length cursor.old }
     ensures fields { Gives (λ x. (port_pieces (slice_index x 0) (slice_index x 1) (slice_index x 2) (slice_index x 3), cursor.new)) result (read_fields port_fields cursor.old) }
@@ -147,7 +148,7 @@ fn read_front(version: u8, cpu: &CpuState, cursor: &mut Cursor) -> Result<Front,
 }
 
 /// Reads the devices behind the processor's bus, and both memories.
-#[tactic(auto, unfolding(crate::specs::Walk::back_at, crate::specs::Walk::read_all, crate::specs::StateBytes::memory_fields))]
+#[tactic(auto, unfolding(crate::specs::Walk::back_at, crate::specs::Walk::read_all, crate::specs::Sections::memory_fields))]
 fn read_back(cursor: &mut Cursor) -> Result<Back, usize>
     requires { length cursor.old ≡ 4312 }
     ensures fields { Gives (λ x. (back_pieces x.vg x.sound1 x.sound2 x.earom x.ram x.vram, cursor.new)) result (back_at cursor.old) }
@@ -174,7 +175,7 @@ fn read_back(cursor: &mut Cursor) -> Result<Back, usize>
 fn read_board(version: u8, bytes: &[u8]) -> Result<BoardState, usize>
     requires some { length bytes.now ≡ STATE_LEN }
     requires version { slice_index bytes.now 0 ≡ version }
-    ensures fields { (inside : Bool) → (IsTrue inside ↔ IsMiddle (processor_of bytes.now)) → Gives (λ b. (board_pieces version b, [])) result (board_at version inside bytes.now) }
+    ensures fields { (inside : Bool) → (IsTrue inside ↔ IsMiddle (processor_of bytes.now)) → Gives (λ b. (pieces_in_parts version b, [])) result (board_at version inside bytes.now) }
     ensures first { version ≡ 1 → IfOk result (λ b. b.cpu.mid ≡ None) }
     ensures decided { IfOk result (λ b. IsTrue (is_some b.cpu.mid) ↔ IsMiddle (processor_of bytes.now)) }
     ensures undocumented { IfOk result (λ b. IfSome b.cpu.jam (λ o. row_of o ≡ None)) }

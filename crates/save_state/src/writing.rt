@@ -2,8 +2,9 @@ ghost use Rattle.std.specs.Prelude.{◌≡◌, ◌+◌, ◌≤◌, ◌++◌, IfS
 ghost use Rattle.std.specs.List.{concat};
 ghost use Rattle.cpu_table.specs.Opcodes.{row_of};
 ghost use Rattle.cpu_core.specs.Places.{IsMiddle};
-ghost use Rattle.save_state.specs.Reading.{IsWhole};
-ghost use Rattle.save_state.specs.StateBytes.{pulse_pieces, jam_pieces, vg_pieces, pokey_pieces, earom_pieces, divider_pieces, middle_pieces, processor_pieces, state_bytes};
+ghost use Rattle.save_state.specs.Reading.{IsWhole, HasFields};
+ghost use Rattle.save_state.specs.StateBytes.{state_bytes};
+ghost use Rattle.save_state.specs.Sections.{pulse_pieces, jam_pieces, vg_pieces, pokey_pieces, earom_pieces, divider_pieces, middle_pieces, processor_pieces};
 
 use crate::STATE_LEN;
 use crate::range::keep_ranges;
@@ -164,6 +165,7 @@ pub fn write(state: &BoardState, out: &mut [u8; STATE_LEN])
     requires undocumented { IfSome state.now.cpu.jam (λ o. row_of o ≡ None) }
     requires place { IfSome state.now.cpu.mid (λ _. IsMiddle state.now.cpu) }
     ensures bytes { out.new ≡ state_bytes state.now }
+    ensures fields { HasFields 2 out.new state.now }
     ensures range { IsWhole state.now }
 {
     keep_ranges(state); // tells the ranges

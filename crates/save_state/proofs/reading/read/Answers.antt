@@ -1,16 +1,17 @@
 use Rattle.std.proofs.Common.{ap, Ok}
 use Rattle.std.specs.List.{slice_index}
 use Rattle.save_state.proofs.Faults.{read_ok, breaks, one_of_two}
-use Rattle.save_state.proofs.OneBoard.{one_board, its_fields}
+use Rattle.save_state.proofs.OneBoard.{one_board, its_fields, has_fields}
 use Rattle.save_state.proofs.reading.read.Goals as goal
 
 pub returns-in-Ok-clause-reads : goal.returns-in-Ok-clause-reads
-returns-in-Ok-clause-reads c = (
-  c.if-bytes-ne-STATE_LEN.false,
-  read_ok (slice_index c.args.bytes.now 0) c.args.bytes.now c.in-Ok.state (one_of_two _ c.else-version-ne1.either) c.in-Ok.ensures.first c.in-Ok.ensures.decided
-      c.in-Ok.ensures.fields,
-  c.keep_ranges.ensures,
-)
+returns-in-Ok-clause-reads c =
+    let here = read_ok (slice_index c.args.bytes.now 0) c.args.bytes.now c.in-Ok.state (one_of_two _ c.else-version-ne1.either) c.in-Ok.ensures.first c.in-Ok.ensures.decided c.in-Ok.ensures.fields in (
+      c.if-bytes-ne-STATE_LEN.false,
+      here,
+      c.keep_ranges.ensures,
+      has_fields c.args.bytes.now c.in-Ok.state c.keep_ranges.ensures here,
+    )
 
 pub returns-in-Ok-clause-again : goal.returns-in-Ok-clause-again
 returns-in-Ok-clause-again c = λ b whole spelled.

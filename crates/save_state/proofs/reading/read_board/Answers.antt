@@ -6,7 +6,8 @@ use Rattle.std.proofs.lemmas.List.{nil_from_length}
 use Rattle.std.proofs.lemmas.Result.{err_from_is_err_and}
 use Rattle.board_base.specs.Cpu.{CpuValue}
 use Rattle.cpu_core.specs.Places.{IsMiddle}
-use Rattle.save_state.specs.StateBytes.{processor_pieces, last_clock}
+use Rattle.save_state.specs.StateBytes.{last_clock}
+use Rattle.save_state.specs.Sections.{processor_pieces}
 use Rattle.save_state.specs.Walk.{board_at, processor_at}
 use Rattle.save_state.proofs.Whole.{tells_processor, tells_jammed, tells_place}
 use Rattle.save_state.proofs.Clock.{last_most, middle_clock}

@@ -1,7 +1,7 @@
 use Rattle.std.proofs.Common.{◌≡◌, ◌++◌, take, subst}
 use Rattle.std.specs.List.{concat}
 use Rattle.board_base.specs.Cpu.{CpuValue}
-use Rattle.save_state.specs.StateBytes.{middle_pieces}
+use Rattle.save_state.specs.Sections.{middle_pieces}
 use Rattle.save_state.proofs.writing.put_middle.Goals as goal
 
 pub returns-clause-bytes : goal.returns-clause-bytes

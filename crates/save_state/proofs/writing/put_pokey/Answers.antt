@@ -1,7 +1,7 @@
 use Rattle.std.proofs.Common.{◌≡◌, ◌++◌, take, subst, append_assoc}
 use Rattle.std.specs.List.{concat}
 use Rattle.board_base.specs.Pokey.{PokeyValue}
-use Rattle.save_state.specs.StateBytes.{pokey_pieces}
+use Rattle.save_state.specs.Sections.{pokey_pieces}
 use Rattle.save_state.proofs.writing.put_pokey.Goals as goal
 
 pub returns-clause-bytes : goal.returns-clause-bytes

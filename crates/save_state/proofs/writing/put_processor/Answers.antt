@@ -1,7 +1,7 @@
 use Rattle.std.proofs.Common.{◌≡◌, ◌++◌, take, subst, append_assoc}
 use Rattle.std.specs.List.{concat}
 use Rattle.board_base.specs.Cpu.{CpuValue}
-use Rattle.save_state.specs.StateBytes.{processor_pieces}
+use Rattle.save_state.specs.Sections.{processor_pieces}
 use Rattle.save_state.proofs.writing.put_processor.Goals as goal
 
 pub returns-clause-bytes : goal.returns-clause-bytes

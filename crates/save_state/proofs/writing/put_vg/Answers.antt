@@ -1,7 +1,7 @@
 use Rattle.std.proofs.Common.{◌≡◌, ◌++◌, take, ◌^◌, subst, append_assoc, arith}
 use Rattle.std.specs.List.{concat}
 use Rattle.board_base.specs.Vg.{VgValue}
-use Rattle.save_state.specs.StateBytes.{vg_pieces}
+use Rattle.save_state.specs.Sections.{vg_pieces}
 use Rattle.save_state.proofs.Signed.{signed_back}
 use Rattle.save_state.proofs.writing.put_vg.Goals as goal
 
