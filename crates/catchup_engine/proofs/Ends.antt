@@ -1,338 +1,241 @@
--- Each run ends: a sequence comes to its end within seven clocks, and a run within six clocks after its limit.
-use Rattle.std.proofs.Common.{◌≡◌, ℕ, ◌+◌, ◌≤◌, ◌<◌, Bool, true, false, ◌&&◌, ◌||◌, nat_le, is_some, is_none, List, [], ◌∷◌, ◌++◌, length, Option, Some, None, IfSome, zero, suc, refl, sym, ap, ◌∙◌, arith, length-append, inl, inr, ◌⊎◌, add-zero}
-use Rattle.std.proofs.lemmas.Bool.{leb-false, lt-leb}
-use Rattle.board_base.specs.declared.cpu.Sequence.{Sequence}
+-- Each run ends, and may be cut in two: a run to a clock takes the clocks up to it, and a run to a boundary six more at most.
+use Rattle.std.proofs.Common.{◌≡◌, ℕ, ◌+◌, ◌-◌, ◌≤◌, ◌<◌, Bool, true, false, ◌&&◌, ◌||◌, nat_le, is_some, is_none, List, length, Option, Some, None, IfSome, zero, suc, refl, ap, ◌∙◌, arith, inl, inr, ◌⊎◌, if◌then◌else◌}
+use Rattle.std.proofs.lemmas.Bool.{cases_lt}
+use Rattle.std.proofs.lemmas.Bool.Decides.{nat_tests}
 use Rattle.board_base.specs.Cpu.{MidValue}
-use Rattle.cpu_core.specs.declared.replay.Next.{Next}
-use Rattle.cpu_core.specs.declared.replay.Next.TheVariants.{Read, Write, End}
-use Rattle.cpu_core.specs.Registers.{RegistersValue, registers_of}
-use Rattle.cpu_core.specs.Course.{Access, read_of, write_of}
-use Rattle.cpu_core.specs.Sequences.{next_of, start_of, IsAccess, IsEnd}
-use Rattle.cpu_core.specs.Places.{stopped, given_by}
-use Rattle.cpu_core.proofs.LengthLemmas.{six_before_end}
-use Rattle.cpu_core.proofs.EndLemmas.{end-closes}
-use Rattle.catchup_engine.specs.Wires.{Wires, ticked, byte_read, byte_put}
-use Rattle.catchup_engine.specs.Lockstep.{Board, accessed, accessed_by, sequence_due, begun, step}
-use Rattle.catchup_engine.specs.Bus.{BusValue, BusStep, in_clock}
-use Rattle.catchup_engine.specs.Run.{is_over, most_steps, run_to, IsPlaced}
-use Rattle.catchup_engine.specs.Turn.{Through}
-use Rattle.catchup_engine.proofs.Steps.{board_after, accessed-is, step-access, inside-access}
-use Rattle.catchup_engine.proofs.Clocks.{step-clock, through-clock}
-use Rattle.catchup_engine.proofs.Turns.{next-first, step-fetch, step-resume, end_or_not}
-use Rattle.catchup_engine.proofs.Runs.{Reached, through-reached, reached-append, run_to-is}
-use Rattle.catchup_engine.proofs.RunsOn.{open-before}
+use Rattle.cpu_core.specs.Places.{given_by}
+use Rattle.tape_ports.specs.declared.entry.TapeEntry.{TapeEntry}
+use Rattle.catchup_engine.specs.Lockstep.{Board, step}
+use Rattle.catchup_engine.specs.Run.{stepped, steps_until, is_over, is_at, is_cut, boundary_steps, clock_steps, cut_steps, to_boundary, run, to_cut, IsPlaced}
+use Rattle.catchup_engine.proofs.Clocks.{step-clock, stepped-clock}
+use Rattle.catchup_engine.proofs.Places.{StandsAt, next_count, step-at, step-placed, run-placed, to_boundary-placed}
+use Rattle.catchup_engine.proofs.Runs.{steps-none, steps-few, steps-ended, steps-split, stepped-add}
 
--- wires of which the clock has or hasn't begun
-abbrev wired : Bool → Wires → BusValue
-wired begun w = record { wires = w; begun = begun; room = 0 }
+-- the tests of the three runs, over a jam, whether the board stands at a boundary, and its clock
+at-clock : (jam : Option ℕ) (cut clock : ℕ) → cut ≤ clock → is_some jam || nat_le cut clock ≡ true
+at-clock jam cut clock h = grind (arith, nat_tests)
 
--- the access that is due can be made
-record Makes (next : Next) (s : BusValue) : Type 0 where
-  value : ℕ
-  access : Access
-  then_s : Wires
-  is : IsAccess next value access
-  did : BusStep access s (wired false then_s)
+cut-clock : (jam : Option ℕ) (boundary : Bool) (cut wrap clock : ℕ) → cut ≤ clock
+    → is_some jam || (nat_le cut clock || (boundary && nat_le wrap clock)) ≡ true
+cut-clock jam boundary cut wrap clock h = grind (arith, nat_tests)
 
-makes-by : (next : Next) (s : BusValue) → s.room ≡ 0 → (IsEnd next → ⊥) → Makes next s
-makes-by (Read a) s none due = record {
-  value = byte_read a (in_clock s.begun s.wires);
-  access = read_of a (byte_read a (in_clock s.begun s.wires));
-  then_s = in_clock s.begun s.wires;
-  is = refl;
-  did = (refl, refl, refl, sym none);
-}
-makes-by (Write a v) s none due = record {
-  value = v;
-  access = write_of a v;
-  then_s = byte_put a v (in_clock s.begun s.wires);
-  is = (refl, refl);
-  did = (refl, refl, sym none);
-}
-makes-by (End e) s none due = absurd (due tt)
+over-clock : (jam : Option ℕ) (limit clock : ℕ) → limit ≤ clock → is_some jam || (true && nat_le limit clock) ≡ true
+over-clock jam limit clock h = grind (arith, nat_tests)
 
--- some steps through the inside of a sequence, at most so many, lead to its end
-record EndsSoon (most : ℕ) (b : Board) : Type 0 where
-  count : ℕ
-  last : Board
-  through : Through count b last
-  boundary : last.cpu.mid ≡ None
-  few : count ≤ most
+-- a run to a later clock goes on where one to an earlier clock does
+at-later : (jam : Option ℕ) (x y clock : ℕ) → x ≤ y → is_some jam || nat_le x clock ≡ false → is_some jam || nat_le y clock ≡ false
+at-later jam x y clock h e = grind (arith, nat_tests)
 
-end-by : (next : Next) (r : RegistersValue) (q : Sequence) (bytes : List ℕ) → next_of r q bytes ≡ next → IsEnd next
-    → (stopped r q bytes next).mid ≡ None
-end-by (End e) r q bytes is end = end-closes r q bytes e is
-end-by (Read a) r q bytes is end = absurd end
-end-by (Write a v) r q bytes is end = absurd end
+over-later : (jam : Option ℕ) (boundary : Bool) (x y clock : ℕ) → x ≤ y → is_some jam || (boundary && nat_le x clock) ≡ false
+    → is_some jam || (boundary && nat_le y clock) ≡ false
+over-later jam boundary x y clock h e = grind (arith, nat_tests)
 
-inside_step : (n : ℕ) (r : RegistersValue) (q : Sequence) (bytes : List ℕ) (w : Wires) → 7 ≤ length bytes + suc n
-    → ((more : List ℕ) (v : Wires) → 7 ≤ length more + n → EndsSoon n (board_after r q more v))
-    → Makes (next_of r q bytes) (wired false w) → EndsSoon (suc n) (board_after r q bytes w)
-inside_step n r q bytes w enough again m =
-    let longer : length (bytes ++ m.value ∷ []) ≡ length bytes + 1 = length-append bytes (m.value ∷ []) in
-    let rest = again (bytes ++ m.value ∷ []) m.then_s (omega arith) in
-    let less = rest.few in
-    record {
-      count = suc rest.count;
-      last = rest.last;
-      through = (
-        inside-access r q bytes m.value m.access w m.is,
-        rw (step-access r q bytes m.value m.access (wired false w) (wired false m.then_s) m.is m.did refl) rest.through,
-      );
-      boundary = rest.boundary;
-      few = omega arith;
-    }
+at-over : (jam : Option ℕ) (boundary : Bool) (x y clock : ℕ) → x ≤ y → is_some jam || nat_le x clock ≡ false
+    → is_some jam || (boundary && nat_le y clock) ≡ false
+at-over jam boundary x y clock h e = grind (arith, nat_tests)
 
-inside-ends : (n : ℕ) (r : RegistersValue) (q : Sequence) (bytes : List ℕ) (w : Wires) → 7 ≤ length bytes + n → EndsSoon n (board_after r q bytes w)
-inside-ends zero r q bytes w enough =
-    elim (end_or_not (next_of r q bytes)) [
-      | inl end ↦ record {
-        count = 0;
-        last = board_after r q bytes w;
-        through = refl;
-        boundary = end-by (next_of r q bytes) r q bytes refl end;
-        few = omega arith;
-      }
-      | inr due ↦ let short = six_before_end r q bytes due in absurd (omega arith)
-    ]
-inside-ends (suc n) r q bytes w enough =
-    elim (end_or_not (next_of r q bytes)) [
-      | inl end ↦ record {
-        count = 0;
-        last = board_after r q bytes w;
-        through = refl;
-        boundary = end-by (next_of r q bytes) r q bytes refl end;
-        few = omega arith;
-      }
-      | inr due ↦
-          inside_step n r q bytes w enough (λ more v long. inside-ends n r q more v long)
-          (makes-by (next_of r q bytes) (wired false w) refl due)
-    ]
+cut-at : (jam : Option ℕ) (boundary : Bool) (cut wrap clock : ℕ)
+    → is_some jam || (nat_le cut clock || (boundary && nat_le wrap clock)) ≡ false → is_some jam || nat_le cut clock ≡ false
+cut-at jam boundary cut wrap clock e = grind (arith, nat_tests)
 
-in_clock-true : (w : Wires) → in_clock true w ≡ w
-unfolding in_clock
-in_clock-true w = refl
-
-in_clock-false : (w : Wires) → in_clock false w ≡ ticked w
-unfolding in_clock
-in_clock-false w = refl
-
--- what comes after a step that makes an access
-after-access : (n : ℕ) (b : Board) (r : RegistersValue) (q : Sequence) (bytes : List ℕ) (s : BusValue)
-    → step b ≡ accessed r q bytes (in_clock s.begun s.wires) → Makes (next_of r q bytes) s → 6 ≤ length bytes + n → EndsSoon n (step b)
-after-access n b r q bytes s first m enough =
-    let here : step b ≡ board_after r q (bytes ++ m.value ∷ []) m.then_s =
-    first ∙ accessed-is r q bytes m.value m.access s (wired false m.then_s) m.is m.did in
-    let longer : length (bytes ++ m.value ∷ []) ≡ length bytes + 1 = length-append bytes (m.value ∷ []) in
-    rw here (inside-ends n r q (bytes ++ m.value ∷ []) m.then_s (omega arith))
-
--- a sequence that begins ends within six clocks more
-boundary-ends : (b : Board) → b.cpu.mid ≡ None → EndsSoon 6 (step b)
-boundary-ends b boundary =
-    let q = sequence_due b.cpu (ticked b.wires) in
-    let r = start_of q b.cpu in
-    let first : step b ≡ accessed r q [] (in_clock true (begun q (ticked b.wires))) =
-    step-fetch b.cpu b.wires boundary ∙ ap (accessed r q []) (sym (in_clock-true (begun q (ticked b.wires)))) in
-    elim (end_or_not (next_of r q [])) [
-      | inl end ↦ absurd (first-due (next_of r q []) r q refl end)
-      | inr due ↦ after-access 6 b r q [] (wired true (begun q (ticked b.wires))) first
-          (makes-by (next_of r q []) (wired true (begun q (ticked b.wires))) refl due) (omega arith)
-    ]
+-- where a run to a boundary is over, a later one is over too, or its limit is still to come
+over-or-before : (jam : Option ℕ) (boundary : Bool) (x y clock : ℕ) → is_some jam || (boundary && nat_le x clock) ≡ true
+    → (is_some jam || (boundary && nat_le y clock) ≡ true) ⊎ (clock < y)
+over-or-before jam boundary x y clock e =
+    elim (cases_lt clock y) [ inl before ↦ inr before | inr past ↦ inl (past-over jam boundary x y clock e past) ]
   where
-    first-due : (next : Next) (r : RegistersValue) (q : Sequence) → next_of r q [] ≡ next → IsEnd next → ⊥
-    first-due (End e) r q is end = next-first r q e is
-    first-due (Read a) r q is end = end
-    first-due (Write a v) r q is end = end
+    past-over : (jam : Option ℕ) (boundary : Bool) (x y clock : ℕ) → is_some jam || (boundary && nat_le x clock) ≡ true → y ≤ clock
+        → is_some jam || (boundary && nat_le y clock) ≡ true
+    past-over jam boundary x y clock e past = grind (arith, nat_tests)
 
--- a step from a sequence that was complete already
-ended-step : (b : Board) (r : RegistersValue) (q : Sequence) (bytes : List ℕ) (w : Wires) (next : Next) → next_of r q bytes ≡ next
-    → IsEnd next → step b ≡ accessed_by next r q bytes w → EndsSoon 5 (step b)
-ended-step b r q bytes w (End e) is end first = record {
-  count = 0;
-  last = step b;
-  through = refl;
-  boundary = ap (λ (k : Board). k.cpu.mid) first ∙ end-closes r q bytes e is;
-  few = omega arith;
-}
-ended-step b r q bytes w (Read a) is end first = absurd end
-ended-step b r q bytes w (Write a v) is end first = absurd end
+not-boundary : (jam : Option ℕ) (boundary : Bool) (limit clock : ℕ) → limit ≤ clock → is_some jam || (boundary && nat_le limit clock) ≡ false
+    → boundary ≡ false
+not-boundary jam boundary limit clock h e = grind (arith, nat_tests)
 
-accessed-opens : (r : RegistersValue) (q : Sequence) (bytes : List ℕ) (w : Wires) → accessed r q bytes w ≡ accessed_by (next_of r q bytes) r q bytes w
-unfolding accessed
-accessed-opens r q bytes w = refl
+-- inside a sequence the steps left to its end are so many at most
+abbrev EndsWithin : ℕ → Option MidValue → Type 0
+EndsWithin n mid = IfSome mid (λ m. (1 ≤ n) × (7 ≤ length (given_by m) + n))
 
--- a sequence under way ends within five clocks more
-middle-ends : (b : Board) (m : MidValue) → b.cpu.mid ≡ Some m → 1 ≤ length (given_by m) → EndsSoon 5 (step b)
-middle-ends b m inside some =
-    let r = registers_of b.cpu in
-    let first : step b ≡ accessed r m.sequence (given_by m) (in_clock false b.wires) =
-    step-resume b.cpu m b.wires inside ∙ ap (accessed r m.sequence (given_by m)) (sym (in_clock-false b.wires)) in
-    elim (end_or_not (next_of r m.sequence (given_by m))) [
-      | inl end ↦
-          ended-step b r m.sequence (given_by m) (in_clock false b.wires) (next_of r m.sequence (given_by m)) refl end
-          (first ∙ accessed-opens r m.sequence (given_by m) (in_clock false b.wires))
-      | inr due ↦ after-access 5 b r m.sequence (given_by m) (wired false b.wires) first
-          (makes-by (next_of r m.sequence (given_by m)) (wired false b.wires) refl due) (omega arith)
-    ]
+within-none : (jam : Option ℕ) (mid : Option MidValue) (limit clock : ℕ) → EndsWithin 0 mid → limit ≤ clock
+    → is_some jam || (is_none mid && nat_le limit clock) ≡ true
+within-none jam None limit clock within h = over-clock jam limit clock h
+within-none jam (Some m) limit clock within h = let some = within.0 in absurd (omega arith)
 
--- a run that ends
-pub record EndsRun (limit : ℕ) (b : Board) : Type 0 where
-  pub count : ℕ
-  pub last : Board
-  pub reached : Reached limit count b last
-  pub over : is_over limit last ≡ true
-  pub clock : last.wires.clock ≡ b.wires.clock + count
-  pub few : (count ≡ 0) ⊎ (b.wires.clock + count ≤ limit + 6)
-  pub placed : IsPlaced last
+within-next : (n : ℕ) (before after : Option MidValue) → StandsAt (next_count before) after → EndsWithin (suc n) before
+    → is_none before ≡ false → EndsWithin n after
+within-next n None after at within inside = cc
+within-next n (Some k) None at within inside = tt
+within-next n (Some k) (Some m) at within inside =
+    let one = at.0 in
+    let short = at.1 in
+    let left = within.1 in
+    ((omega arith), (omega arith))
 
-here-ends : (limit : ℕ) (b : Board) → is_over limit b ≡ true → IsPlaced b → EndsRun limit b
-here-ends limit b over placed = record {
-  count = 0;
-  last = b;
-  reached = refl;
-  over = over;
-  clock = sym (add-zero b.wires.clock);
-  few = inl refl;
-  placed = placed;
-}
+within-first : (n : ℕ) (mid : Option MidValue) → IfSome mid (λ m. 1 ≤ length (given_by m)) → 6 ≤ n → EndsWithin n mid
+within-first n None placed few = tt
+within-first n (Some m) placed few = ((omega arith), (omega arith))
 
-placed-boundary : (b : Board) → b.cpu.mid ≡ None → IsPlaced b
-placed-boundary b boundary = rw boundary tt
+module _ (entries : List TapeEntry) where
+  -- after the clocks up to its end a run to a clock is over, whatever the board
+  pub run-ended : (cut : ℕ) (b : Board) → is_at cut (run entries cut b) ≡ true
+  unfolding run
+  run-ended cut b =
+      let last = stepped entries (clock_steps entries cut b) b in
+      let all = stepped-clock entries (clock_steps entries cut b) b in
+      elim (steps-ended entries (is_at cut) (cut - b.wires.clock) b) [
+        | inl over ↦ over
+        | inr full ↦ at-clock last.cpu.jam cut last.wires.clock (omega arith)
+      ]
 
--- some steps and then a run from a boundary
-then-ends : (limit most : ℕ) (b : Board) → is_over limit b ≡ false → (soon : EndsSoon most (step b)) → b.wires.clock + suc most ≤ limit + 6
-    → EndsRun limit soon.last → EndsRun limit b
-then-ends limit most b open_yet soon near rest =
-    let one = step-clock b in
-    let some = through-clock soon.count (step b) soon.last soon.through in
-    let then_clock = rest.clock in
-    let less = soon.few in
-    record {
-      count = suc soon.count + rest.count;
-      last = rest.last;
-      reached =
-          reached-append limit (suc soon.count) rest.count b soon.last rest.last
-          (open_yet, through-reached limit soon.count (step b) soon.last soon.through) rest.reached;
-      over = rest.over;
-      clock = omega arith;
-      few = inr (elim rest.few [ inl none ↦ omega arith | inr within ↦ omega arith ]);
-      placed = rest.placed;
-    }
+  -- and so is one that ends with a window too
+  pub to_cut-ended : (cut wrap : ℕ) (b : Board) → is_cut cut wrap (to_cut entries cut wrap b) ≡ true
+  unfolding to_cut
+  to_cut-ended cut wrap b =
+      let last = stepped entries (cut_steps entries cut wrap b) b in
+      let all = stepped-clock entries (cut_steps entries cut wrap b) b in
+      elim (steps-ended entries (is_cut cut wrap) (cut - b.wires.clock) b) [
+        | inl over ↦ over
+        | inr full ↦ cut-clock last.cpu.jam (is_none last.cpu.mid) cut wrap last.wires.clock (omega arith)
+      ]
 
-run-step : (limit : ℕ) (b : Board) → b.cpu.mid ≡ None → (over : Bool) → is_over limit b ≡ over
-    → ((soon : EndsSoon 6 (step b)) → b.wires.clock < limit → EndsRun limit soon.last) → EndsRun limit b
-run-step limit b boundary true e again = here-ends limit b e (placed-boundary b boundary)
-run-step limit b boundary false e again =
-    let before = open-before limit b boundary e in
-    let soon = boundary-ends b boundary in
-    then-ends limit 6 b e soon (omega arith) (again soon before)
+  over-step : (limit n : ℕ) (b : Board) (t : Bool) → is_over limit b ≡ t
+      → (t ≡ false → is_over limit (stepped entries n (step entries b)) ≡ true)
+      → is_over limit (stepped entries (if t then 0 else suc n) b) ≡ true
+  unfolding stepped
+  over-step limit n b true e rest = e
+  over-step limit n b false e rest = rest refl
 
--- a run from a boundary ends
-boundary-run : (fuel limit : ℕ) (b : Board) → b.cpu.mid ≡ None → limit ≤ b.wires.clock + fuel → EndsRun limit b
-boundary-run zero limit b boundary near = run-step limit b boundary (is_over limit b) refl (λ soon before. absurd (omega arith))
-boundary-run (suc fuel) limit b boundary near =
-    run-step limit b boundary (is_over limit b) refl (λ soon before.
-    boundary-run fuel limit soon.last soon.boundary
-    (let one = step-clock b in let some = through-clock soon.count (step b) soon.last soon.through in omega arith))
+  -- from the limit on a run to a boundary lasts to the end of the sequence
+  soon-over : (limit most : ℕ) (b : Board) → limit ≤ b.wires.clock → EndsWithin most b.cpu.mid
+      → is_over limit (stepped entries (steps_until entries (is_over limit) most b) b) ≡ true
+  unfolding steps_until stepped
+  soon-over limit zero b past within = within-none b.cpu.jam b.cpu.mid limit b.wires.clock within past
+  soon-over limit (suc most) b past within =
+      over-step limit (steps_until entries (is_over limit) most (step entries b)) b (is_over limit b) refl
+      (λ open_yet. soon-over limit most (step entries b) (let one = step-clock entries b in omega arith)
+      (within-next most b.cpu.mid (step entries b).cpu.mid (step-at entries b) within
+      (not-boundary b.cpu.jam (is_none b.cpu.mid) limit b.wires.clock past open_yet)))
 
--- a run from a board at which a run to an earlier limit is over ends
-later-run : (early limit : ℕ) (b : Board) → is_over early b ≡ true → IsPlaced b → EndsRun limit b
-later-run early limit b over placed = by_jam b.cpu.jam b.cpu.mid refl refl over
-  where
-    by_jam : (jam : Option ℕ) (mid : Option MidValue) → b.cpu.jam ≡ jam → b.cpu.mid ≡ mid
-        → is_some jam || (is_none mid && nat_le early b.wires.clock) ≡ true → EndsRun limit b
-    by_jam (Some o) mid e f h = here-ends limit b (rw e refl) placed
-    by_jam None None e f h = boundary-run limit limit b f (omega arith)
-    by_jam None (Some m) e f h = cc
+  -- a run to a boundary has steps enough
+  over-within : (limit far most : ℕ) (b : Board) → IsPlaced b → limit ≤ b.wires.clock + far → far + 6 ≤ most
+      → is_over limit (stepped entries (steps_until entries (is_over limit) most b) b) ≡ true
+  unfolding steps_until
+  over-within limit zero most b placed near few = soon-over limit most b (omega arith) (within-first most b.cpu.mid placed (omega arith))
+  over-within limit (suc far) zero b placed near few = absurd (omega arith)
+  over-within limit (suc far) (suc most) b placed near few =
+      over-step limit (steps_until entries (is_over limit) most (step entries b)) b (is_over limit b) refl
+      (λ open_yet. over-within limit far most (step entries b) (step-placed entries b) (let one = step-clock entries b in omega arith) (omega arith))
 
--- a run that ends, from any board
-pub record EndsWithin (limit : ℕ) (b : Board) : Type 0 where
-  pub count : ℕ
-  pub last : Board
-  pub reached : Reached limit count b last
-  pub over : is_over limit last ≡ true
-  pub clock : last.wires.clock ≡ b.wires.clock + count
-  pub few : count ≤ most_steps limit b
-  pub placed : IsPlaced last
+  -- at its end a run to a boundary is over
+  pub to_boundary-over : (limit : ℕ) (b : Board) → IsPlaced b → is_over limit (to_boundary entries limit b) ≡ true
+  unfolding to_boundary
+  to_boundary-over limit b placed =
+      over-within limit (limit - b.wires.clock) ((limit - b.wires.clock) + 6) b placed (omega arith) (omega arith)
 
-few-of : (limit : ℕ) (b : Board) (run : EndsRun limit b) → run.count ≤ most_steps limit b
-few-of limit b run = elim run.few [ inl none ↦ omega arith | inr within ↦ omega arith ]
+  -- it takes as many clocks as steps
+  pub to_boundary-clock : (limit : ℕ) (b : Board) → (to_boundary entries limit b).wires.clock ≡ b.wires.clock + boundary_steps entries limit b
+  unfolding to_boundary
+  to_boundary-clock limit b = stepped-clock entries (boundary_steps entries limit b) b
 
-within-of : (limit : ℕ) (b : Board) → EndsRun limit b → EndsWithin limit b
-within-of limit b run = record {
-  count = run.count;
-  last = run.last;
-  reached = run.reached;
-  over = run.over;
-  clock = run.clock;
-  few = elim run.few [ inl none ↦ omega arith | inr within ↦ omega arith ];
-  placed = run.placed;
-}
+  -- a run to a boundary has six clocks after its limit at most
+  pub boundary_steps-few : (limit : ℕ) (b : Board) → boundary_steps entries limit b ≤ (limit - b.wires.clock) + 6
+  boundary_steps-few limit b = steps-few entries (is_over limit) ((limit - b.wires.clock) + 6) b
 
-middle-run : (limit : ℕ) (b : Board) → is_over limit b ≡ false → (soon : EndsSoon 5 (step b)) → EndsRun limit soon.last → EndsWithin limit b
-middle-run limit b open_yet soon rest =
-    let one = step-clock b in
-    let some = through-clock soon.count (step b) soon.last soon.through in
-    let then_clock = rest.clock in
-    let less = soon.few in
-    record {
-      count = suc soon.count + rest.count;
-      last = rest.last;
-      reached =
-          reached-append limit (suc soon.count) rest.count b soon.last rest.last
-          (open_yet, through-reached limit soon.count (step b) soon.last soon.through) rest.reached;
-      over = rest.over;
-      clock = omega arith;
-      few = elim rest.few [ inl none ↦ omega arith | inr within ↦ omega arith ];
-      placed = rest.placed;
-    }
+  -- and so does a run to a clock, which are those up to its end at most
+  pub run-clock : (cut : ℕ) (b : Board) → (run entries cut b).wires.clock ≡ b.wires.clock + clock_steps entries cut b
+  unfolding run
+  run-clock cut b = stepped-clock entries (clock_steps entries cut b) b
 
--- each run ends
-pub run-ends : (limit : ℕ) (b : Board) → IsPlaced b → EndsWithin limit b
-run-ends limit b placed = by_mid b.cpu.mid (is_over limit b) refl refl placed
-  where
-    by_mid : (mid : Option MidValue) (over : Bool) → b.cpu.mid ≡ mid → is_over limit b ≡ over → IfSome mid (λ m. 1 ≤ length (given_by m))
-        → EndsWithin limit b
-    by_mid mid true e f h = within-of limit b (here-ends limit b f placed)
-    by_mid None false e f h = within-of limit b (boundary-run limit limit b e (omega arith))
-    by_mid (Some m) false e f h =
-        let soon = middle-ends b m e h in
-        middle-run limit b f soon (boundary-run limit limit soon.last soon.boundary (omega arith))
+  pub clock_steps-few : (cut : ℕ) (b : Board) → clock_steps entries cut b ≤ cut - b.wires.clock
+  clock_steps-few cut b = steps-few entries (is_at cut) (cut - b.wires.clock) b
 
-over-earlier : (x y : ℕ) (b : Board) → x ≤ y → is_over x b ≡ false → is_over y b ≡ false
-over-earlier x y b h e = earlier b.cpu.jam b.cpu.mid e
-  where
-    earlier : (jam : Option ℕ) (mid : Option MidValue) → is_some jam || (is_none mid && nat_le x b.wires.clock) ≡ false
-        → is_some jam || (is_none mid && nat_le y b.wires.clock) ≡ false
-    earlier (Some o) mid e = cc
-    earlier None (Some m) e = refl
-    earlier None None e = let before = leb-false x b.wires.clock e in lt-leb y b.wires.clock (omega arith)
+  pub to_cut-clock : (cut wrap : ℕ) (b : Board) → (to_cut entries cut wrap b).wires.clock ≡ b.wires.clock + cut_steps entries cut wrap b
+  unfolding to_cut
+  to_cut-clock cut wrap b = stepped-clock entries (cut_steps entries cut wrap b) b
 
-reached-later : (x y n : ℕ) (b last : Board) → x ≤ y → Reached x n b last → Reached y n b last
-reached-later x y zero b last h r = r
-reached-later x y (suc n) b last h r = (over-earlier x y b h r.0, reached-later x y n (step b) last h r.1)
+  pub cut_steps-few : (cut wrap : ℕ) (b : Board) → cut_steps entries cut wrap b ≤ cut - b.wires.clock
+  cut_steps-few cut wrap b = steps-few entries (is_cut cut wrap) (cut - b.wires.clock) b
 
--- a run to y is a run to x and then one to y
-pub run_to-split : (x y : ℕ) (b : Board) → x ≤ y → IsPlaced b → run_to y b ≡ run_to y (run_to x b)
-run_to-split x y b h placed =
-    let first = run-ends x b placed in
-    let second = later-run x y first.last first.over first.placed in
-    let first_few = first.few in
-    let first_clock = first.clock in
-    let to_first : run_to x b ≡ first.last = run_to-is x first.count b first.last first.reached first.over first.few in
-    let to_second : run_to y first.last ≡ second.last =
-    run_to-is y second.count first.last second.last second.reached second.over (few-of y first.last second) in
-    let all : Reached y (first.count + second.count) b second.last =
-    reached-append y first.count second.count b first.last second.last
-    (reached-later x y first.count b first.last h first.reached) second.reached in
-    let few : first.count + second.count ≤ most_steps y b =
-    elim second.few [ inl none ↦ omega arith | inr within ↦ omega arith ] in
-    run_to-is y (first.count + second.count) b second.last all second.over few ∙ sym (ap (run_to y) to_first ∙ to_second)
+  -- a run to y takes as many steps as one to x and then one to y
+  pub run-split-steps : (x y : ℕ) (b : Board) → x ≤ y
+      → clock_steps entries y b ≡ clock_steps entries x b + clock_steps entries y (run entries x b)
+  unfolding run
+  run-split-steps x y b h =
+      let n = clock_steps entries x b in
+      let few = clock_steps-few x b in
+      let all = stepped-clock entries n b in
+      let rest = clock_steps-few y (stepped entries n b) in
+      steps-split entries (is_at y) (is_at x) (λ c e. at-later c.cpu.jam x y c.wires.clock h e) n (x - b.wires.clock)
+      (y - (stepped entries n b).wires.clock) (y - b.wires.clock) b refl (run-ended y (stepped entries n b)) (omega arith)
 
--- at its end a run is over
-pub run_to-over : (limit : ℕ) (b : Board) → IsPlaced b → is_over limit (run_to limit b) ≡ true
-run_to-over limit b placed =
-    let run = run-ends limit b placed in
-    ap (is_over limit) (run_to-is limit run.count b run.last run.reached run.over run.few) ∙ run.over
+  -- and leads to the same board
+  pub run-split : (x y : ℕ) (b : Board) → x ≤ y → run entries y b ≡ run entries y (run entries x b)
+  unfolding run
+  run-split x y b h =
+      ap (λ k. stepped entries k b) (run-split-steps x y b h)
+      ∙ stepped-add entries (clock_steps entries x b) (clock_steps entries y (run entries x b)) b
 
-pub ruleset splits = (run_to-split, run_to-over)
+  -- the same for a run to a boundary after one to a clock
+  pub boundary-run-steps : (x y : ℕ) (b : Board) → x ≤ y → IsPlaced b
+      → boundary_steps entries y b ≡ clock_steps entries x b + boundary_steps entries y (run entries x b)
+  unfolding run to_boundary
+  boundary-run-steps x y b h placed =
+      let n = clock_steps entries x b in
+      let few = clock_steps-few x b in
+      let all = stepped-clock entries n b in
+      let rest = boundary_steps-few y (stepped entries n b) in
+      steps-split entries (is_over y) (is_at x) (λ c e. at-over c.cpu.jam (is_none c.cpu.mid) x y c.wires.clock h e) n (x - b.wires.clock)
+      ((y - (stepped entries n b).wires.clock) + 6) ((y - b.wires.clock) + 6) b refl
+      (to_boundary-over y (stepped entries n b) (run-placed entries x b placed)) (omega arith)
+
+  pub boundary-run : (x y : ℕ) (b : Board) → x ≤ y → IsPlaced b → to_boundary entries y b ≡ to_boundary entries y (run entries x b)
+  unfolding run to_boundary
+  boundary-run x y b h placed =
+      ap (λ k. stepped entries k b) (boundary-run-steps x y b h placed)
+      ∙ stepped-add entries (clock_steps entries x b) (boundary_steps entries y (run entries x b)) b
+
+  -- for a run to a boundary after another
+  pub boundary-split-steps : (x y : ℕ) (b : Board) → x ≤ y → IsPlaced b
+      → boundary_steps entries y b ≡ boundary_steps entries x b + boundary_steps entries y (to_boundary entries x b)
+  unfolding to_boundary
+  boundary-split-steps x y b h placed =
+      let n = boundary_steps entries x b in
+      let last = stepped entries n b in
+      let few = boundary_steps-few x b in
+      let all = stepped-clock entries n b in
+      let rest = boundary_steps-few y last in
+      steps-split entries (is_over y) (is_over x) (λ c e. over-later c.cpu.jam (is_none c.cpu.mid) x y c.wires.clock h e) n ((x - b.wires.clock) + 6)
+      ((y - last.wires.clock) + 6) ((y - b.wires.clock) + 6) b refl
+      (to_boundary-over y last (to_boundary-placed entries x b placed))
+      (elim (over-or-before last.cpu.jam (is_none last.cpu.mid) x y last.wires.clock (to_boundary-over x b placed)) [
+        | inl over ↦ let none = steps-none entries (is_over y) ((y - last.wires.clock) + 6) last over in omega arith
+        | inr before ↦ omega arith
+      ])
+
+  pub boundary-split : (x y : ℕ) (b : Board) → x ≤ y → IsPlaced b → to_boundary entries y b ≡ to_boundary entries y (to_boundary entries x b)
+  unfolding to_boundary
+  boundary-split x y b h placed =
+      ap (λ k. stepped entries k b) (boundary-split-steps x y b h placed)
+      ∙ stepped-add entries (boundary_steps entries x b) (boundary_steps entries y (to_boundary entries x b)) b
+
+  -- and for a run to a clock after one that may have ended with a window
+  pub run-cut-steps : (cut wrap : ℕ) (b : Board)
+      → clock_steps entries cut b ≡ cut_steps entries cut wrap b + clock_steps entries cut (to_cut entries cut wrap b)
+  unfolding run to_cut
+  run-cut-steps cut wrap b =
+      let n = cut_steps entries cut wrap b in
+      let few = cut_steps-few cut wrap b in
+      let all = stepped-clock entries n b in
+      let rest = clock_steps-few cut (stepped entries n b) in
+      steps-split entries (is_at cut) (is_cut cut wrap) (λ c e. cut-at c.cpu.jam (is_none c.cpu.mid) cut wrap c.wires.clock e) n (cut - b.wires.clock)
+      (cut - (stepped entries n b).wires.clock) (cut - b.wires.clock) b refl (run-ended cut (stepped entries n b)) (omega arith)
+
+  pub run-cut : (cut wrap : ℕ) (b : Board) → run entries cut b ≡ run entries cut (to_cut entries cut wrap b)
+  unfolding run to_cut
+  run-cut cut wrap b =
+      ap (λ k. stepped entries k b) (run-cut-steps cut wrap b)
+      ∙ stepped-add entries (cut_steps entries cut wrap b) (clock_steps entries cut (to_cut entries cut wrap b)) b
+
+pub ruleset splits = (run-ended, to_cut-ended, to_boundary-over, run-split, boundary-run, boundary-split, run-cut)
+
+pub ruleset split_steps = (run-split-steps, boundary-run-steps, boundary-split-steps, run-cut-steps)

@@ -1,200 +1,172 @@
--- The records of the board's trail come in the order of their clocks, and the other trails have none so far.
-use Rattle.std.proofs.Common.{◌≡◌, ℕ, ◌+◌, ◌-◌, ◌≤◌, List, [], ◌∷◌, ◌++◌, Option, Some, None, refl, arith}
+-- A clock adds one record of each part at most, so that the records of a part come in the order of their clocks.
+use Rattle.std.proofs.Common.{◌≡◌, ℕ, ◌+◌, ◌≤◌, List, [], ◌∷◌, ◌++◌, length, Option, Some, None, zero, suc, refl, sym, subst, ◌∙◌, arith, append-nil}
 use Rattle.board_base.specs.declared.cpu.Sequence.{Sequence}
 use Rattle.board_base.specs.declared.cpu.Sequence.TheVariants.{Opcode, Interrupt, Reset}
 use Rattle.board_base.specs.declared.divider.Pending.{Pending}
 use Rattle.board_base.specs.declared.divider.Pending.TheVariants.{Nothing, Power, Watchdog}
+use Rattle.board_base.specs.declared.part.Part.TheVariants as part
 use Rattle.board_base.specs.declared.record.Record.{Record}
-use Rattle.board_base.specs.declared.record.Record.TheVariants.{Stroke, Levels, Latch, WatchdogReset}
+use Rattle.board_base.specs.declared.record.Record.TheVariants.{Latch, WatchdogReset}
 use Rattle.board_base.specs.Cpu.{CpuValue, MidValue}
-use Rattle.board_base.proofs.TickLaws.{ticks-keep}
+use Rattle.board_base.specs.Records.{MadeBetween}
+use Rattle.board_base.proofs.RecordLaws.{made-append}
 use Rattle.board_map.specs.declared.map.Region.{Region}
 use Rattle.board_map.specs.declared.map.Region.TheVariants as region
 use Rattle.board_map.specs.Map.{region_of}
+use Rattle.avg_device.specs.Tick.{vg_gives}
+use Rattle.avg_device.proofs.ManyTicks.{vg_gives-few, vg_gives-made}
+use Rattle.pokey_chip.specs.Tick.{pokey_gives}
+use Rattle.pokey_chip.proofs.RecordLemmas.{gives-one, gives-made1, gives-made2}
 use Rattle.cpu_core.specs.declared.replay.Next.{Next}
 use Rattle.cpu_core.specs.declared.replay.Next.TheVariants.{Read, Write, End}
 use Rattle.cpu_core.specs.Registers.{RegistersValue, registers_of}
 use Rattle.cpu_core.specs.Sequences.{next_of, start_of}
 use Rattle.cpu_core.specs.Places.{given_by}
-use Rattle.catchup_engine.specs.Wires.{Wires, ticked, put_in, byte_put, reset_by, reset_begun}
-use Rattle.catchup_engine.specs.Lockstep.{Board, accessed, accessed_by, sequence_due, begun, fetched, moved, step}
-use Rattle.catchup_engine.specs.Run.{is_over, steps_until, most_steps, run_to}
-use Rattle.catchup_engine.specs.Order.{MadeBetween}
+use Rattle.tape_ports.specs.declared.entry.TapeEntry.{TapeEntry}
+use Rattle.tape_ports.specs.Due.{due_at}
+use Rattle.catchup_engine.specs.Wires.{Wires, applied, devices_ticked, ticked, put_in, byte_put, reset_by, reset_begun}
+use Rattle.catchup_engine.specs.Lockstep.{Board, accessed, accessed_by, sequence_due, begun, fetched_board, moved, step}
+use Rattle.catchup_engine.specs.Run.{stepped, run, to_boundary, to_cut, clock_steps, boundary_steps, cut_steps}
+use Rattle.catchup_engine.specs.Order.{records_of, AreMadeBetween, AddsOneClock}
+use Rattle.catchup_engine.proofs.Clocks.{applied-keeps, step-clock}
 
--- what each step keeps, a run keeps
-pub run_to-keep : (P : Board → Type 0) → ((b : Board) → P b → P (step b)) → (limit : ℕ) (b : Board) → P b → P (run_to limit b)
-unfolding run_to
-run_to-keep P keep limit b p =
-    ticks-keep (λ _. step) P (λ _ c h. keep c h) 0 (steps_until (is_over limit) (most_steps limit b) b) b p
+-- one record more on the board's own trail at most, of this clock, and no other
+record AddsOne (w v : Wires) : Type 0 where
+  added : List Record
+  clock : v.clock ≡ w.clock
+  strokes : v.strokes ≡ w.strokes
+  levels1 : v.levels1 ≡ w.levels1
+  levels2 : v.levels2 ≡ w.levels2
+  written : v.written ≡ w.written ++ added
+  made : MadeBetween part.Board w.clock added (w.clock + 1)
+  few : length added ≤ 1
 
-pub made-later : (from to later : ℕ) (records : List Record) → MadeBetween from records to → to ≤ later → MadeBetween from records later
-made-later from to later [] m h = omega arith
-made-later from to later (Latch clock value ∷ records) m h = (m.0, (let a = m.1 in omega arith), made-later clock to later records m.2 h)
-made-later from to later (WatchdogReset clock ∷ records) m h = (m.0, (let a = m.1 in omega arith), made-later clock to later records m.2 h)
-made-later from to later (Stroke clock x0 y0 x1 y1 colour intensity ∷ records) m h = m
-made-later from to later (Levels clock l1 l2 l3 l4 ∷ records) m h = m
-
--- one latch write more, and one reset more
-pub made-latch : (from at value : ℕ) (records : List Record) → MadeBetween from records at → MadeBetween from (records ++ Latch at value ∷ []) (at + 1)
-made-latch from at value [] m = (m, omega arith, omega arith)
-made-latch from at value (Latch clock v ∷ records) m = (m.0, (let a = m.1 in omega arith), made-latch clock at value records m.2)
-made-latch from at value (WatchdogReset clock ∷ records) m = (m.0, (let a = m.1 in omega arith), made-latch clock at value records m.2)
-made-latch from at value (Stroke clock x0 y0 x1 y1 colour intensity ∷ records) m = m
-made-latch from at value (Levels clock l1 l2 l3 l4 ∷ records) m = m
-
-pub made-reset : (from at : ℕ) (records : List Record) → MadeBetween from records at → MadeBetween from (records ++ WatchdogReset at ∷ []) (at + 1)
-made-reset from at [] m = (m, omega arith, omega arith)
-made-reset from at (Latch clock v ∷ records) m = (m.0, (let a = m.1 in omega arith), made-reset clock at records m.2)
-made-reset from at (WatchdogReset clock ∷ records) m = (m.0, (let a = m.1 in omega arith), made-reset clock at records m.2)
-made-reset from at (Stroke clock x0 y0 x1 y1 colour intensity ∷ records) m = m
-made-reset from at (Levels clock l1 l2 l3 l4 ∷ records) m = m
-
-made-within : (from to : ℕ) (records : List Record) → MadeBetween from records to → from ≤ to
-made-within from to [] m = m
-made-within from to (Latch clock v ∷ records) m = let a = m.0 in let b = m.1 in omega arith
-made-within from to (WatchdogReset clock ∷ records) m = let a = m.0 in let b = m.1 in omega arith
-made-within from to (Stroke clock x0 y0 x1 y1 colour intensity ∷ records) m = absurd m
-made-within from to (Levels clock l1 l2 l3 l4 ∷ records) m = absurd m
-
-made-earlier : (earlier from to : ℕ) (records : List Record) → earlier ≤ from → MadeBetween from records to → MadeBetween earlier records to
-made-earlier earlier from to [] h m = omega arith
-made-earlier earlier from to (Latch clock v ∷ records) h m = ((let a = m.0 in omega arith), m.1, m.2)
-made-earlier earlier from to (WatchdogReset clock ∷ records) h m = ((let a = m.0 in omega arith), m.1, m.2)
-made-earlier earlier from to (Stroke clock x0 y0 x1 y1 colour intensity ∷ records) h m = m
-made-earlier earlier from to (Levels clock l1 l2 l3 l4 ∷ records) h m = m
-
--- what was made up to a clock, and what was made from it on
-pub made-append : (from between to : ℕ) (first rest : List Record) → MadeBetween from first between → MadeBetween between rest to
-    → MadeBetween from (first ++ rest) to
-made-append from between to [] rest m n = made-earlier from between to rest m n
-made-append from between to (Latch clock v ∷ first) rest m n =
-    (m.0, (let a = made-within between to rest n in let b = m.1 in omega arith), made-append clock between to first rest m.2 n)
-made-append from between to (WatchdogReset clock ∷ first) rest m n =
-    (m.0, (let a = made-within between to rest n in let b = m.1 in omega arith), made-append clock between to first rest m.2 n)
-made-append from between to (Stroke clock x0 y0 x1 y1 colour intensity ∷ first) rest m n = absurd m
-made-append from between to (Levels clock l1 l2 l3 l4 ∷ first) rest m n = absurd m
-
--- the records of a board's trail were made before its clock, and no other part has made any
-pub record IsInOrder (from : ℕ) (b : Board) : Type 0 where
-  pub written : MadeBetween from b.wires.written b.wires.clock
-  pub strokes : b.wires.strokes ≡ []
-  pub levels1 : b.wires.levels1 ≡ []
-  pub levels2 : b.wires.levels2 ≡ []
-
--- the same within a clock that has begun
-record IsBegun (from clock : ℕ) (w : Wires) : Type 0 where
-  clocked : w.clock ≡ clock + 1
-  written : MadeBetween from w.written clock
-  strokes : w.strokes ≡ []
-  levels1 : w.levels1 ≡ []
-  levels2 : w.levels2 ≡ []
-
--- and at its end
-record IsDone (from clock : ℕ) (w : Wires) : Type 0 where
-  clocked : w.clock ≡ clock + 1
-  written : MadeBetween from w.written (clock + 1)
-  strokes : w.strokes ≡ []
-  levels1 : w.levels1 ≡ []
-  levels2 : w.levels2 ≡ []
-
-done-of : (from clock : ℕ) (w : Wires) → IsBegun from clock w → IsDone from clock w
-done-of from clock w b = record {
-  clocked = b.clocked;
-  written = made-later from clock (clock + 1) w.written b.written (omega arith);
-  strokes = b.strokes;
-  levels1 = b.levels1;
-  levels2 = b.levels2;
+adds-none : (w v : Wires) → v.clock ≡ w.clock → v.strokes ≡ w.strokes → v.levels1 ≡ w.levels1 → v.levels2 ≡ w.levels2 → v.written ≡ w.written
+    → AddsOne w v
+adds-none w v clock strokes levels1 levels2 written = record {
+  added = [];
+  clock = clock;
+  strokes = strokes;
+  levels1 = levels1;
+  levels2 = levels2;
+  written = written ∙ sym (append-nil w.written);
+  made = omega arith;
+  few = omega arith;
 }
 
-put_in-done : (r : Region) (value from clock : ℕ) (w : Wires) → IsBegun from clock w → IsDone from clock (put_in r value w)
-put_in-done (region.Ram k) value from clock w b = done-of from clock (put_in (region.Ram k) value w) (record {
-  clocked = b.clocked;
-  written = b.written;
-  strokes = b.strokes;
-  levels1 = b.levels1;
-  levels2 = b.levels2;
-})
-put_in-done (region.VectorRam k) value from clock w b = done-of from clock (put_in (region.VectorRam k) value w) (record {
-  clocked = b.clocked;
-  written = b.written;
-  strokes = b.strokes;
-  levels1 = b.levels1;
-  levels2 = b.levels2;
-})
-put_in-done region.In4 value from clock w b =
-    let at : w.clock - 1 ≡ clock = (let e = b.clocked in omega arith) in
-    record {
-      clocked = b.clocked;
-      written = rw at (made-latch from clock value w.written b.written);
-      strokes = b.strokes;
-      levels1 = b.levels1;
-      levels2 = b.levels2;
-    }
-put_in-done _ value from clock w b = done-of from clock w b
+put_in-adds : (r : Region) (value : ℕ) (w : Wires) → AddsOne w (put_in r value w)
+put_in-adds (region.Ram k) value w = adds-none w (put_in (region.Ram k) value w) refl refl refl refl refl
+put_in-adds (region.VectorRam k) value w = adds-none w (put_in (region.VectorRam k) value w) refl refl refl refl refl
+put_in-adds region.In4 value w = record {
+  added = Latch w.clock value ∷ [];
+  clock = refl;
+  strokes = refl;
+  levels1 = refl;
+  levels2 = refl;
+  written = refl;
+  made = (tt, omega arith, omega arith, omega arith);
+  few = omega arith;
+}
+put_in-adds _ value w = adds-none w _ refl refl refl refl refl
 
-accessed_by-done : (next : Next) (r : RegistersValue) (q : Sequence) (bytes : List ℕ) (from clock : ℕ) (w : Wires) → IsBegun from clock w
-    → IsDone from clock (accessed_by next r q bytes w).wires
+accessed_by-adds : (next : Next) (r : RegistersValue) (q : Sequence) (bytes : List ℕ) (w : Wires) → AddsOne w (accessed_by next r q bytes w).wires
 unfolding byte_put
-accessed_by-done (Read a) r q bytes from clock w b = done-of from clock w b
-accessed_by-done (Write a v) r q bytes from clock w b = put_in-done (region_of a) v from clock w b
-accessed_by-done (End e) r q bytes from clock w b = done-of from clock w b
+accessed_by-adds (Read a) r q bytes w = adds-none w w refl refl refl refl refl
+accessed_by-adds (Write a v) r q bytes w = put_in-adds (region_of a) v w
+accessed_by-adds (End e) r q bytes w = adds-none w w refl refl refl refl refl
 
-accessed-done : (r : RegistersValue) (q : Sequence) (bytes : List ℕ) (from clock : ℕ) (w : Wires) → IsBegun from clock w
-    → IsDone from clock (accessed r q bytes w).wires
+accessed-adds : (r : RegistersValue) (q : Sequence) (bytes : List ℕ) (w : Wires) → AddsOne w (accessed r q bytes w).wires
 unfolding accessed
-accessed-done r q bytes from clock w b = accessed_by-done (next_of r q bytes) r q bytes from clock w b
+accessed-adds r q bytes w = accessed_by-adds (next_of r q bytes) r q bytes w
 
-reset_by-done : (p : Pending) (from clock : ℕ) (w : Wires) → IsBegun from clock w → IsDone from clock (reset_by p w)
-reset_by-done Nothing from clock w b = done-of from clock w b
-reset_by-done Power from clock w b = done-of from clock (reset_by Power w) (record {
-  clocked = b.clocked;
-  written = b.written;
-  strokes = b.strokes;
-  levels1 = b.levels1;
-  levels2 = b.levels2;
-})
-reset_by-done Watchdog from clock w b =
-    let at : w.clock - 1 ≡ clock = (let e = b.clocked in omega arith) in
-    record {
-      clocked = b.clocked;
-      written = rw at (made-reset from clock w.written b.written);
-      strokes = b.strokes;
-      levels1 = b.levels1;
-      levels2 = b.levels2;
-    }
+reset_by-adds : (p : Pending) (w : Wires) → AddsOne w (reset_by p w)
+reset_by-adds Nothing w = adds-none w (reset_by Nothing w) refl refl refl refl refl
+reset_by-adds Power w = adds-none w (reset_by Power w) refl refl refl refl refl
+reset_by-adds Watchdog w = record {
+  added = WatchdogReset w.clock ∷ [];
+  clock = refl;
+  strokes = refl;
+  levels1 = refl;
+  levels2 = refl;
+  written = refl;
+  made = (tt, omega arith, omega arith, omega arith);
+  few = omega arith;
+}
 
 -- a sequence begins with a read
-first-done : (q : Sequence) (r : RegistersValue) (from clock : ℕ) (w : Wires) → IsBegun from clock w
-    → IsDone from clock (accessed r q [] (begun q w)).wires
+first-adds : (q : Sequence) (r : RegistersValue) (w : Wires) → AddsOne w (begun q (accessed r q [] w)).wires
 unfolding accessed next_of reset_begun
-first-done Opcode r from clock w b = done-of from clock w b
-first-done Interrupt r from clock w b = done-of from clock w b
-first-done Reset r from clock w b = reset_by-done w.divider.pending from clock w b
+first-adds Opcode r w = adds-none w w refl refl refl refl refl
+first-adds Interrupt r w = adds-none w w refl refl refl refl refl
+first-adds Reset r w = reset_by-adds w.divider.pending w
 
-moved-done : (mid : Option MidValue) (c : CpuValue) (from clock : ℕ) (w : Wires) → IsBegun from clock w
-    → IsDone from clock (moved mid c w).wires
-unfolding fetched
-moved-done None c from clock w b = first-done (sequence_due c w) (start_of (sequence_due c w) c) from clock w b
-moved-done (Some mid) c from clock w b = accessed-done (registers_of c) mid.sequence (given_by mid) from clock w b
+moved-adds : (mid : Option MidValue) (c : CpuValue) (w : Wires) → AddsOne w (moved mid c w).wires
+unfolding fetched_board
+moved-adds None c w = first-adds (sequence_due c w) (start_of (sequence_due c w) c) w
+moved-adds (Some mid) c w = accessed-adds (registers_of c) mid.sequence (given_by mid) w
 
--- each step keeps the order
-pub step-in_order : (from : ℕ) (b : Board) → IsInOrder from b → IsInOrder from (step b)
-unfolding step ticked
-step-in_order from b h =
-    let done = moved-done b.cpu.mid b.cpu from b.wires.clock (ticked b.wires) (record {
-      clocked = refl;
-      written = h.written;
-      strokes = h.strokes;
-      levels1 = h.levels1;
-      levels2 = h.levels2;
-    }) in
+-- what a step adds
+pub adds-one : (entries : List TapeEntry) (b : Board) → AddsOneClock entries b
+unfolding step ticked devices_ticked
+adds-one entries b =
+    let w = applied (due_at b.wires.clock entries) b.wires in
+    let same = applied-keeps (due_at b.wires.clock entries) b.wires in
+    let one = moved-adds b.cpu.mid b.cpu (devices_ticked w) in
     record {
-      written = rw done.clocked done.written;
-      strokes = done.strokes;
-      levels1 = done.levels1;
-      levels2 = done.levels2;
+      added = record {
+        strokes = vg_gives b.wires.clock w.vg;
+        levels1 = pokey_gives b.wires.clock w.sound1;
+        levels2 = pokey_gives b.wires.clock w.sound2;
+        written = one.added;
+      };
+      made = record {
+        strokes = vg_gives-made b.wires.clock w.vg;
+        levels1 = gives-made1 b.wires.clock w.sound1;
+        levels2 = gives-made2 b.wires.clock w.sound2;
+        written = subst (λ at. MadeBetween part.Board at one.added (at + 1)) same.clock one.made;
+      };
+      after =
+          rw (one.strokes, one.levels1, one.levels2, one.written, same.strokes, same.levels1, same.levels2, same.written, same.clock) refl;
+      few_strokes = vg_gives-few b.wires.clock w.vg;
+      few_levels1 = gives-one b.wires.clock w.sound1;
+      few_levels2 = gives-one b.wires.clock w.sound2;
+      few_written = one.few;
     }
 
--- a run keeps the order
-pub run_to-in_order : (from limit : ℕ) (b : Board) → IsInOrder from b → IsInOrder from (run_to limit b)
-run_to-in_order from limit b h = run_to-keep (IsInOrder from) (step-in_order from) limit b h
+-- each step keeps the order
+pub step-made : (entries : List TapeEntry) (from : ℕ) (b : Board) → AreMadeBetween from (records_of b) b.wires.clock
+    → AreMadeBetween from (records_of (step entries b)) (step entries b).wires.clock
+step-made entries from b m =
+    let one = adds-one entries b in
+    let at = b.wires.clock in
+    rw (step-clock entries b, one.after) (record {
+      strokes = made-append part.Generator from at (at + 1) b.wires.strokes one.added.strokes m.strokes one.made.strokes;
+      levels1 = made-append part.Pokey1 from at (at + 1) b.wires.levels1 one.added.levels1 m.levels1 one.made.levels1;
+      levels2 = made-append part.Pokey2 from at (at + 1) b.wires.levels2 one.added.levels2 m.levels2 one.made.levels2;
+      written = made-append part.Board from at (at + 1) b.wires.written one.added.written m.written one.made.written;
+    })
+
+-- n steps keep it
+pub stepped-made : (entries : List TapeEntry) (from n : ℕ) (b : Board) → AreMadeBetween from (records_of b) b.wires.clock
+    → AreMadeBetween from (records_of (stepped entries n b)) (stepped entries n b).wires.clock
+unfolding stepped
+stepped-made entries from zero b m = m
+stepped-made entries from (suc n) b m = stepped-made entries from n (step entries b) (step-made entries from b m)
+
+-- and so do the three runs
+pub run-made : (entries : List TapeEntry) (from cut : ℕ) (b : Board) → AreMadeBetween from (records_of b) b.wires.clock
+    → AreMadeBetween from (records_of (run entries cut b)) (run entries cut b).wires.clock
+unfolding run
+run-made entries from cut b m = stepped-made entries from (clock_steps entries cut b) b m
+
+pub to_boundary-made : (entries : List TapeEntry) (from limit : ℕ) (b : Board) → AreMadeBetween from (records_of b) b.wires.clock
+    → AreMadeBetween from (records_of (to_boundary entries limit b)) (to_boundary entries limit b).wires.clock
+unfolding to_boundary
+to_boundary-made entries from limit b m = stepped-made entries from (boundary_steps entries limit b) b m
+
+pub to_cut-made : (entries : List TapeEntry) (from cut wrap : ℕ) (b : Board) → AreMadeBetween from (records_of b) b.wires.clock
+    → AreMadeBetween from (records_of (to_cut entries cut wrap b)) (to_cut entries cut wrap b).wires.clock
+unfolding to_cut
+to_cut-made entries from cut wrap b m = stepped-made entries from (cut_steps entries cut wrap b) b m
+
+pub ruleset orders = adds-one

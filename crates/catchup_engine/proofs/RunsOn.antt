@@ -1,114 +1,342 @@
--- A run that is under way.
-use Rattle.std.proofs.Common.{◌≡◌, ℕ, ◌+◌, ◌≤◌, ◌<◌, true, false, ◌&&◌, ◌||◌, nat_le, is_some, is_none, Option, Some, None, IsSome, IfSome, length, List, [], suc, refl, sym, ap, ◌∙◌, arith, rules, add-zero}
-use Rattle.std.proofs.lemmas.Bool.{leb-false}
+-- A run that is under way, turn by turn.
+use Rattle.std.proofs.Common.{◌≡◌, ℕ, ◌+◌, ◌-◌, ◌^◌, ◌≤◌, ◌<◌, Bool, true, false, ◌&&◌, ◌||◌, nat_le, is_some, is_none, List, [], length, Option, Some, None, IsSome, IfSome, suc, zero, inl, inr, ◌⊎◌, refl, sym, ap, ◌∙◌, arith, rules, add-zero}
+use Rattle.std.proofs.lemmas.Bool.{leb-false, lt-leb}
 use Rattle.board_base.specs.declared.record.Record.{Record}
 use Rattle.board_base.specs.Cpu.{CpuValue, MidValue}
 use Rattle.cpu_core.specs.Places.{IsMiddle}
+use Rattle.tape_ports.specs.declared.entry.TapeEntry.{TapeEntry}
+use Rattle.catchup_engine.specs.Budget.{budget, counted}
+use Rattle.catchup_engine.specs.Bus.{BusValue, room_of}
 use Rattle.catchup_engine.specs.Lockstep.{Board, step}
-use Rattle.catchup_engine.specs.Run.{is_over, most_steps, run_to}
-use Rattle.catchup_engine.specs.Turn.{Turned}
-use Rattle.catchup_engine.specs.EngineValue.{EngineValue}
-use Rattle.catchup_engine.proofs.Runs.{Reached, through-reached, reached-append, run_to-is}
+use Rattle.catchup_engine.specs.Run.{stepped, is_over, is_cut, boundary_steps, cut_steps}
+use Rattle.catchup_engine.specs.Runs.{over_bus, BoundaryRun, CutRun, IsInRange}
+use Rattle.catchup_engine.specs.Turn.{Goes, IsInside, Through, TurnedBus}
+use Rattle.catchup_engine.proofs.Budgets.{budget-add}
+use Rattle.catchup_engine.proofs.Clocks.{through-clock}
+use Rattle.catchup_engine.proofs.Runs.{Reached, reached-append, stepped-is, steps_until-is, through-reached, to_boundary-is, to_cut-is}
 
--- from start some steps have led to a boundary or a jam, none of them from a board at which the run is over
-pub record RunsOn (limit : ℕ) (start now : EngineValue) : Type 0 where
+-- from c and s some steps have led to e and t, none of them from a board that is as asked
+pub record RunsOn (entries : List TapeEntry) (asked : Board → Bool) (c : CpuValue) (s t : BusValue) (e : CpuValue) : Type 0 where
   pub count : ℕ
-  pub reached : Reached limit count start.board now.board
-  pub clock : now.board.wires.clock ≡ start.board.wires.clock + count
-  pub written : length now.board.wires.written ≤ length start.board.wires.written + count
-  pub few : count ≤ most_steps limit start.board
-  pub boundary : now.board.cpu.mid ≡ None
-  pub room : now.room ≡ start.room
+  pub reached : Reached entries asked count (over_bus c s) (over_bus e t)
+  pub clock : t.wires.clock ≡ s.wires.clock + count
+  pub written : length t.wires.written ≤ length s.wires.written + count
+  pub paid : t.calls ≤ s.calls + budget entries count (over_bus c s)
+  pub goes : Goes s t
 
--- a run from a boundary has made no step yet
-pub starts : (limit : ℕ) (start : EngineValue) → start.board.cpu.mid ≡ None → RunsOn limit start start
-starts limit start boundary = record {
+no-budget : (entries : List TapeEntry) (b : Board) → budget entries 0 b ≡ 0
+unfolding counted
+no-budget entries b = refl
+
+-- no step is made yet
+pub starts : (entries : List TapeEntry) (asked : Board → Bool) (c : CpuValue) (s : BusValue) → s.begun ≡ false → RunsOn entries asked c s s c
+starts entries asked c s level = record {
   count = 0;
   reached = refl;
-  clock = sym (add-zero start.board.wires.clock);
+  clock = sym (add-zero s.wires.clock);
   written = omega arith;
-  few = omega arith;
-  boundary = boundary;
-  room = refl;
+  paid = omega arith;
+  goes = record { more = omega arith; rooms = refl; until = omega arith; level = level };
 }
 
--- the steps of a turn
-turn-reached : (limit before : ℕ) (b last : Board) → is_over limit b ≡ false → (t : Turned before b last) → Reached limit (suc t.count) b last
-turn-reached limit before b last open_yet t = (open_yet, through-reached limit t.count (step b) last t.through)
+-- a turn more
+pub goes_on : (entries : List TapeEntry) (asked : Board → Bool) (clocks : ℕ) (c : CpuValue) (s t u : BusValue) (e f : CpuValue)
+    → (run : RunsOn entries asked c s t e) → asked (over_bus e t) ≡ false → (turned : TurnedBus entries clocks e t u f)
+    → Reached entries asked turned.turned.count (step entries (over_bus e t)) (over_bus f u)
+    → RunsOn entries asked c s u f
+goes_on entries asked clocks c s t u e f run open_yet turned reached =
+    let n = run.count in
+    let m = turned.turned.count in
+    let all : Reached entries asked (suc m) (over_bus e t) (over_bus f u) = (open_yet, reached) in
+    let clock = run.clock in
+    let clock_then = turned.turned.clock in
+    let written = run.written in
+    let written_then = turned.turned.written in
+    let paid = run.paid in
+    let paid_then = turned.turned.paid in
+    let here : stepped entries n (over_bus c s) ≡ over_bus e t = stepped-is entries asked n (over_bus c s) (over_bus e t) run.reached in
+    let whole : budget entries (n + suc m) (over_bus c s) ≡ budget entries n (over_bus c s) + budget entries (suc m) (over_bus e t) =
+    budget-add entries n (suc m) (over_bus c s) ∙ ap (λ (b : Board). budget entries n (over_bus c s) + budget entries (suc m) b) here in
+    let more_first = run.goes.more in
+    let more_then = turned.goes.more in
+    let until_first = run.goes.until in
+    let until_then = turned.goes.until in
+    record {
+      count = n + suc m;
+      reached = reached-append entries asked n (suc m) (over_bus c s) (over_bus e t) (over_bus f u) run.reached all;
+      clock = omega arith;
+      written = omega arith;
+      paid = omega arith;
+      goes = record { more = omega arith; rooms = turned.goes.rooms ∙ run.goes.rooms; until = omega arith; level = turned.goes.level };
+    }
 
-pub middle-open : (limit : ℕ) (b : Board) → IsSome b.cpu.mid → b.cpu.jam ≡ None → is_over limit b ≡ false
-middle-open limit b inside running = grind (arith, rules)
+-- a run to a boundary that stands at one
+pub record AtBoundary (entries : List TapeEntry) (limit : ℕ) (c : CpuValue) (s t : BusValue) (e : CpuValue) : Type 0 where
+  pub run : RunsOn entries (is_over limit) c s t e
+  pub few : run.count ≤ (limit - s.wires.clock) + 6
+  pub boundary : e.mid ≡ None
+  pub range : IsInRange e t
+
+pub boundary-starts : (entries : List TapeEntry) (limit : ℕ) (c : CpuValue) (s : BusValue) → s.begun ≡ false → c.mid ≡ None → IsInRange c s
+    → AtBoundary entries limit c s s c
+boundary-starts entries limit c s level boundary range = record {
+  run = record {
+    count = 0;
+    reached = refl;
+    clock = sym (add-zero s.wires.clock);
+    written = omega arith;
+    paid = omega arith;
+    goes = record { more = omega arith; rooms = refl; until = omega arith; level = level };
+  };
+  few = omega arith;
+  boundary = boundary;
+  range = range;
+}
+
+none-of : (mid : Option MidValue) → (IsSome mid → ⊥) → mid ≡ None
+none-of None h = refl
+none-of (Some m) h = absurd (h (search rules))
+
+pub some-of : (mid : Option MidValue) → is_some mid ≡ true → IsSome mid
+some-of None h = cc
+some-of (Some m) h = search rules
+
+pub none-is : (mid : Option MidValue) → is_some mid ≡ false → mid ≡ None
+none-is None h = refl
+none-is (Some m) h = cc
+
+-- seven clocks end each sequence
+turn-ends : (entries : List TapeEntry) (e f : CpuValue) (t u : BusValue) → TurnedBus entries 7 e t u f → f.mid ≡ None
+turn-ends entries e f t u turned = none-of f.mid (λ some.
+    let stops = turned.stops some in
+    let short = turned.short some in
+    absurd (omega arith))
 
 middle-running : (c : CpuValue) (mid : Option MidValue) → c.mid ≡ mid → IsSome mid → IfSome mid (λ _. IsMiddle c) → c.jam ≡ None
 middle-running c None e inside place = cc
 middle-running c (Some m) e inside place = place.0
 
--- a run from inside a sequence has ended it first
-pub resumes : (limit : ℕ) (start now : EngineValue) → IsSome start.board.cpu.mid
-    → IfSome start.board.cpu.mid (λ _. IsMiddle start.board.cpu) → Turned 1 start.board now.board → now.board.cpu.mid ≡ None
-    → now.room ≡ start.room → RunsOn limit start now
-resumes limit start now inside place turned boundary room =
-    let running = middle-running start.board.cpu start.board.cpu.mid refl inside place in
-    let few = turned.few in
-    record {
-      count = suc turned.count;
-      reached = turn-reached limit 1 start.board now.board (middle-open limit start.board inside running) turned;
-      clock = turned.clock;
-      written = turned.written;
-      few = omega arith;
-      boundary = boundary;
-      room = room;
-    }
+pub running-inside : (c : CpuValue) → IsSome c.mid → IfSome c.mid (λ _. IsMiddle c) → c.jam ≡ None
+running-inside c inside place = middle-running c c.mid refl inside place
 
--- at a boundary a run that isn't over stands before its limit
-pub open-before : (limit : ℕ) (b : Board) → b.cpu.mid ≡ None → is_over limit b ≡ false → b.wires.clock < limit
-open-before limit b boundary open_yet = before b.cpu.jam b.cpu.mid boundary open_yet
+middle-open : (limit : ℕ) (b : Board) → IsSome b.cpu.mid → b.cpu.jam ≡ None → is_over limit b ≡ false
+middle-open limit b inside running = grind (arith, rules)
+
+-- at a boundary a run that isn't over stands before its limit, and isn't jammed
+pub record IsBefore (limit : ℕ) (b : Board) : Type 0 where
+  pub clock : b.wires.clock < limit
+  pub running : b.cpu.jam ≡ None
+
+pub open-before : (limit : ℕ) (b : Board) → b.cpu.mid ≡ None → is_over limit b ≡ false → IsBefore limit b
+open-before limit b boundary open_yet = before b.cpu.jam b.cpu.mid refl boundary open_yet
   where
-    before : (jam : Option ℕ) (mid : Option MidValue) → mid ≡ None → is_some jam || (is_none mid && nat_le limit b.wires.clock) ≡ false
-        → b.wires.clock < limit
-    before (Some o) mid e h = cc
-    before None None e h = leb-false limit b.wires.clock h
-    before None (Some m) e h = cc
+    before : (jam : Option ℕ) (mid : Option MidValue) → b.cpu.jam ≡ jam → mid ≡ None → is_some jam || (is_none mid && nat_le limit b.wires.clock) ≡ false
+        → IsBefore limit b
+    before (Some o) mid f e h = cc
+    before None None f e h = record { clock = leb-false limit b.wires.clock h; running = f }
+    before None (Some m) f e h = cc
 
--- a run goes on by one turn
-pub goes_on : (limit : ℕ) (start now next : EngineValue) → RunsOn limit start now → is_over limit now.board ≡ false
-    → Turned 0 now.board next.board → next.board.cpu.mid ≡ None → next.room ≡ now.room → RunsOn limit start next
-goes_on limit start now next run open_yet turned boundary room =
-    let before = open-before limit now.board run.boundary open_yet in
-    let clock = run.clock in
-    let written = run.written in
-    let few = turned.few in
-    let clock_then = turned.clock in
-    let written_then = turned.written in
+-- a run from inside a sequence has ended it first
+pub boundary-resumes : (entries : List TapeEntry) (limit : ℕ) (c : CpuValue) (s u : BusValue) (f : CpuValue) → s.begun ≡ false → IsSome c.mid
+    → IfSome c.mid (λ _. IsMiddle c) → IsInRange c s → TurnedBus entries 7 c s u f → AtBoundary entries limit c s u f
+boundary-resumes entries limit c s u f level inside place range turned =
+    let running = running-inside c inside place in
+    let open_yet = middle-open limit (over_bus c s) inside running in
+    let ends = turn-ends entries c f s u turned in
+    let some = turned.inside inside in
+    let few = turned.turned.few in
+    let early = range.middle inside in
+    let clock = turned.turned.clock in
+    let one = no-budget entries (over_bus c s) in
     record {
-      count = run.count + suc turned.count;
-      reached =
-          reached-append limit run.count (suc turned.count) start.board now.board next.board run.reached
-          (turn-reached limit 0 now.board next.board open_yet turned);
-      clock = omega arith;
-      written = omega arith;
+      run = record {
+        count = suc turned.turned.count;
+        reached = (open_yet, through-reached entries limit turned.turned.count (step entries (over_bus c s)) (over_bus f u) turned.turned.through);
+        clock = clock;
+        written = turned.turned.written;
+        paid = turned.turned.paid;
+        goes = turned.goes;
+      };
       few = omega arith;
-      boundary = boundary;
-      room = room ∙ run.room;
+      boundary = ends;
+      range = record { clock = omega arith; middle = λ some. none-some f.mid ends some };
     }
+  where
+    none-some : (mid : Option MidValue) → mid ≡ None → IsSome mid → u.wires.clock ≤ 2 ^ 48
+    none-some None e some = cc
+    none-some (Some m) e some = cc
+
+-- a run that goes on by one turn
+pub boundary-goes_on : (entries : List TapeEntry) (limit : ℕ) (c : CpuValue) (s t u : BusValue) (e f : CpuValue) → limit ≤ 2 ^ 48
+    → AtBoundary entries limit c s t e → is_over limit (over_bus e t) ≡ false → TurnedBus entries 7 e t u f → AtBoundary entries limit c s u f
+boundary-goes_on entries limit c s t u e f last at open_yet turned =
+    let before = open-before limit (over_bus e t) at.boundary open_yet in
+    let early = before.clock in
+    let ends = turn-ends entries e f t u turned in
+    let few = turned.turned.few in
+    let clock = at.run.clock in
+    let clock_then = turned.turned.clock in
+    let reached = through-reached entries limit turned.turned.count (step entries (over_bus e t)) (over_bus f u) turned.turned.through in
+    let run = goes_on entries (is_over limit) 7 c s t u e f at.run open_yet turned reached in
+    let clock_now = run.clock in
+    record {
+      run = run;
+      few = omega arith;
+      boundary = ends;
+      range = record { clock = omega arith; middle = λ some. none-some f.mid ends some };
+    }
+  where
+    none-some : (mid : Option MidValue) → mid ≡ None → IsSome mid → u.wires.clock ≤ 2 ^ 48
+    none-some None e some = cc
+    none-some (Some m) e some = cc
 
 -- a run that is over has come to the board of its definition
-pub is_run : (limit : ℕ) (start now : EngineValue) → RunsOn limit start now → is_over limit now.board ≡ true
-    → now.board ≡ run_to limit start.board
-is_run limit start now run over = sym (run_to-is limit run.count start.board now.board run.reached over run.few)
+pub boundary-ends : (entries : List TapeEntry) (limit : ℕ) (c : CpuValue) (s t : BusValue) (e : CpuValue) → AtBoundary entries limit c s t e
+    → is_over limit (over_bus e t) ≡ true → BoundaryRun entries limit c s t e
+boundary-ends entries limit c s t e at over =
+    let steps : boundary_steps entries limit (over_bus c s) ≡ at.run.count =
+    steps_until-is entries (is_over limit) at.run.count ((limit - s.wires.clock) + 6) (over_bus c s) (over_bus e t) at.run.reached over at.few in
+    let clock = at.run.clock in
+    record {
+      board = sym (to_boundary-is entries limit at.run.count (over_bus c s) (over_bus e t) at.run.reached over at.few);
+      over = over;
+      boundary = at.boundary;
+      paid = rw steps at.run.paid;
+      goes = at.run.goes;
+      range = at.range;
+      later = omega arith;
+    }
 
 -- in a window there is room for the records of one turn more
-pub window-room : (limit : ℕ) (start now : EngineValue) → RunsOn limit start now → is_over limit now.board ≡ false
-    → limit ≤ start.board.wires.clock + 6144 → start.board.wires.written ≡ [] → 6160 ≤ start.room
-    → length now.board.wires.written + 8 ≤ now.room
-window-room limit start now run open_yet window none room =
-    let before = open-before limit now.board run.boundary open_yet in
+pub window-room : (entries : List TapeEntry) (asked : Board → Bool) (limit : ℕ) (c : CpuValue) (s t : BusValue) (e : CpuValue) → RunsOn entries asked c s t e
+    → t.wires.clock < limit → limit ≤ s.wires.clock + 6144 → t.wires.clock ≤ 2 ^ 48 + 16 → s.wires.written ≡ []
+    → s.wires.clock + 6160 ≤ s.until → 6160 ≤ s.rooms.board → 9 ≤ room_of t
+window-room entries asked limit c s t e run before window range none until room =
     let clock = run.clock in
     let written = run.written in
-    let empty : length start.board.wires.written ≡ 0 = ap (λ (records : List Record). length records) none in
-    let same = run.room in
+    let empty : length s.wires.written ≡ 0 = ap (λ (records : List Record). length records) none in
+    let later = run.goes.until in
+    let same : t.rooms.board ≡ s.rooms.board = ap (λ r. r.board) run.goes.rooms in
     omega arith
 
-pub none_of : (mid : Option MidValue) → is_some mid ≡ false → mid ≡ None
-none_of None h = refl
-none_of (Some m) h = cc
+pub start-room : (s : BusValue) → s.wires.clock ≤ 2 ^ 48 + 16 → s.wires.written ≡ [] → s.wires.clock + 6160 ≤ s.until → 6160 ≤ s.rooms.board → 9 ≤ room_of s
+start-room s range none until room =
+    let empty : length s.wires.written ≡ 0 = ap (λ (records : List Record). length records) none in
+    omega arith
+
+-- a run to a cut
+pub record AtCut (entries : List TapeEntry) (cut wrap : ℕ) (c : CpuValue) (s t : BusValue) (e : CpuValue) : Type 0 where
+  pub run : RunsOn entries (is_cut cut wrap) c s t e
+  pub few : run.count ≤ cut - s.wires.clock
+  pub range : IsInRange e t
+  pub inside : IsSome e.mid → (t.wires.clock ≡ s.wires.clock) ⊎ (cut ≤ t.wires.clock)
+
+pub cut-starts : (entries : List TapeEntry) (cut wrap : ℕ) (c : CpuValue) (s : BusValue) → s.begun ≡ false → IsInRange c s → AtCut entries cut wrap c s s c
+cut-starts entries cut wrap c s level range = record {
+  run = record {
+    count = 0;
+    reached = refl;
+    clock = sym (add-zero s.wires.clock);
+    written = omega arith;
+    paid = omega arith;
+    goes = record { more = omega arith; rooms = refl; until = omega arith; level = level };
+  };
+  few = omega arith;
+  range = range;
+  inside = λ some. inl refl;
+}
+
+-- a run to a cut that isn't over stands before it, and isn't jammed
+pub cut-before : (cut wrap : ℕ) (b : Board) → is_cut cut wrap b ≡ false → IsBefore cut b
+cut-before cut wrap b open_yet = before b.cpu.jam (nat_le cut b.wires.clock) refl refl open_yet
+  where
+    before : (jam : Option ℕ) (at : Bool) → b.cpu.jam ≡ jam → nat_le cut b.wires.clock ≡ at
+        → is_some jam || (at || (is_none b.cpu.mid && nat_le wrap b.wires.clock)) ≡ false → IsBefore cut b
+    before (Some o) at f e h = cc
+    before None true f e h = cc
+    before None false f e h = record { clock = leb-false cut b.wires.clock e; running = f }
+
+-- at a boundary it stands before the wrap too
+cut-near : (cut wrap : ℕ) (b : Board) → is_cut cut wrap b ≡ false → b.cpu.mid ≡ None → b.wires.clock < wrap
+cut-near cut wrap b open_yet boundary = near b.cpu.jam (nat_le cut b.wires.clock) b.cpu.mid boundary open_yet
+  where
+    near : (jam : Option ℕ) (at : Bool) (mid : Option MidValue) → mid ≡ None
+        → is_some jam || (at || (is_none mid && nat_le wrap b.wires.clock)) ≡ false → b.wires.clock < wrap
+    near (Some o) at mid e h = cc
+    near None true mid e h = cc
+    near None false None e h = leb-false wrap b.wires.clock h
+    near None false (Some m) e h = cc
+
+inside-open : (cut wrap : ℕ) (b : Board) → IsInside b → b.wires.clock < cut → is_cut cut wrap b ≡ false
+inside-open cut wrap b inside before = by_parts b.cpu.jam b.cpu.mid inside.running inside.middle (lt-leb cut b.wires.clock before)
+  where
+    by_parts : (jam : Option ℕ) (mid : Option MidValue) → jam ≡ None → IsSome mid → nat_le cut b.wires.clock ≡ false
+        → is_some jam || (nat_le cut b.wires.clock || (is_none mid && nat_le wrap b.wires.clock)) ≡ false
+    by_parts (Some o) mid e some h = cc
+    by_parts None None e some h = cc
+    by_parts None (Some m) e some h = rw h refl
+
+-- steps through the inside of a sequence, which end at the cut at the latest
+through-cut : (entries : List TapeEntry) (cut wrap n : ℕ) (b last : Board) → Through entries n b last → last.wires.clock ≤ cut
+    → Reached entries (is_cut cut wrap) n b last
+through-cut entries cut wrap zero b last e within = e
+through-cut entries cut wrap (suc n) b last t within =
+    let clock = through-clock entries (suc n) b last t in
+    (inside-open cut wrap b t.0 (omega arith), through-cut entries cut wrap n (step entries b) last t.1 within)
+
+-- a turn that isn't to go past the cut
+pub cut-goes_on : (entries : List TapeEntry) (cut wrap clocks : ℕ) (c : CpuValue) (s t u : BusValue) (e f : CpuValue) → cut ≤ 2 ^ 48
+    → AtCut entries cut wrap c s t e → is_cut cut wrap (over_bus e t) ≡ false → t.wires.clock + clocks ≤ cut
+    → (clocks ≡ 7) ⊎ (t.wires.clock + clocks ≡ cut) → TurnedBus entries clocks e t u f → AtCut entries cut wrap c s u f
+cut-goes_on entries cut wrap clocks c s t u e f last at open_yet within all turned =
+    let most = turned.at_most in
+    let reached = through-cut entries cut wrap turned.turned.count (step entries (over_bus e t)) (over_bus f u) turned.turned.through (omega arith) in
+    let run = goes_on entries (is_cut cut wrap) clocks c s t u e f at.run open_yet turned reached in
+    let clock = run.clock in
+    record {
+      run = run;
+      few = omega arith;
+      range = record { clock = omega arith; middle = λ some. omega arith };
+      inside = λ some. (
+          let stops = turned.stops some in
+          let short = turned.short some in
+          elim all [
+            | inl whole ↦ absurd (omega arith)
+            | inr last_clock ↦ inr (omega arith)
+          ]
+          );
+    }
+
+pub cut-ends : (entries : List TapeEntry) (cut wrap : ℕ) (c : CpuValue) (s t : BusValue) (e : CpuValue) → AtCut entries cut wrap c s t e
+    → is_cut cut wrap (over_bus e t) ≡ true → CutRun entries cut wrap c s t e
+cut-ends entries cut wrap c s t e at over =
+    let steps : cut_steps entries cut wrap (over_bus c s) ≡ at.run.count =
+    steps_until-is entries (is_cut cut wrap) at.run.count (cut - s.wires.clock) (over_bus c s) (over_bus e t) at.run.reached over at.few in
+    let clock = at.run.clock in
+    record {
+      board = sym (to_cut-is entries cut wrap at.run.count (over_bus c s) (over_bus e t) at.run.reached over at.few);
+      over = over;
+      paid = rw steps at.run.paid;
+      goes = at.run.goes;
+      range = at.range;
+      later = omega arith;
+    }
+
+-- before a cut that comes in a window there is room for the records of one turn more
+pub cut-room : (entries : List TapeEntry) (cut wrap clocks : ℕ) (c : CpuValue) (s t : BusValue) (e : CpuValue) → AtCut entries cut wrap c s t e
+    → is_cut cut wrap (over_bus e t) ≡ false → cut ≤ 2 ^ 48 → wrap ≤ s.wires.clock + 6144 → s.wires.written ≡ []
+    → s.wires.clock + 6160 ≤ s.until → 6160 ≤ s.rooms.board → clocks ≤ 7 → clocks + 2 ≤ room_of t
+cut-room entries cut wrap clocks c s t e at open_yet last window none until room few =
+    let before = (cut-before cut wrap (over_bus e t) open_yet).clock in
+    let near : t.wires.clock < s.wires.clock + 6145 = by_mid e.mid refl (cut-near cut wrap (over_bus e t) open_yet) in
+    let clock = at.run.clock in
+    let written = at.run.written in
+    let empty : length s.wires.written ≡ 0 = ap (λ (records : List Record). length records) none in
+    let later = at.run.goes.until in
+    let same : t.rooms.board ≡ s.rooms.board = ap (λ r. r.board) at.run.goes.rooms in
+    omega arith
+  where
+    by_mid : (mid : Option MidValue) → e.mid ≡ mid → (e.mid ≡ None → t.wires.clock < wrap) → t.wires.clock < s.wires.clock + 6145
+    by_mid None is early = let h = early is in omega arith
+    by_mid (Some m) is early = let before = (cut-before cut wrap (over_bus e t) open_yet).clock in
+        elim (at.inside (rw is (search rules))) [ inl here ↦ omega arith | inr there ↦ absurd (omega arith) ]

@@ -1,5 +1,7 @@
--- A turn: the rest of a sequence, or a whole one.
-use Rattle.std.proofs.Common.{◌≡◌, ℕ, ◌+◌, ◌≤◌, true, false, List, [], ◌∷◌, ◌++◌, length, Some, None, IfSome, refl, sym, ap, ◌∙◌, subst, arith, append_assoc, length-append, append-nil, inl, inr, ◌⊎◌}
+-- A turn: the rest of a sequence, a whole one, or as much of it as there are clocks for.
+use Rattle.std.proofs.Common.{◌≡◌, ◌≢◌, ℕ, ◌+◌, ◌-◌, ◌*◌, ◌<◌, ◌≤◌, true, false, List, [], ◌∷◌, ◌++◌, length, Option, Some, None, IfSome, IsSome, refl, sym, ap, ◌∙◌, subst, arith, append_assoc, length-append, append-nil, inl, inr, ◌⊎◌, suc, if◌then◌else◌, rules}
+use Rattle.std.specs.Int.{from_bool}
+use Rattle.std.proofs.lemmas.List.{length-take-le}
 use Rattle.board_base.specs.declared.cpu.Sequence.{Sequence}
 use Rattle.board_base.specs.declared.cpu.Sequence.TheVariants.{Opcode, Interrupt, Reset}
 use Rattle.board_base.specs.Cpu.{CpuValue, MidValue}
@@ -7,237 +9,534 @@ use Rattle.cpu_core.specs.declared.replay.Next.{Next}
 use Rattle.cpu_core.specs.declared.replay.Next.TheVariants.{Read, Write, End}
 use Rattle.cpu_core.specs.Registers.{RegistersValue, registers_of}
 use Rattle.cpu_core.specs.Course.{Access, read_of, write_of}
-use Rattle.cpu_core.specs.Sequences.{next_of, start_of, IsEnd, Moves, Runs}
-use Rattle.cpu_core.specs.Places.{standing, stopped, given_by, Advances, IsPlace, IsMiddle}
-use Rattle.std.proofs.lemmas.List.{length-take-le}
+use Rattle.cpu_core.specs.Sequences.{next_of, start_of, IsAccess, IsEnd, Moves, Runs}
+use Rattle.cpu_core.specs.Places.{standing, stopped, paused, given_by, Advances, IsPlace, IsMiddle}
 use Rattle.cpu_core.proofs.LengthLemmas.{six_before_end}
 use Rattle.cpu_core.proofs.PlaceLemmas.{place_due}
-use Rattle.catchup_engine.specs.Wires.{Wires, ticked}
-use Rattle.catchup_engine.specs.Lockstep.{Board, accessed, sequence_due, begun, fetched, step}
-use Rattle.catchup_engine.specs.Bus.{BusValue, BusStep, in_clock}
-use Rattle.catchup_engine.specs.Turn.{Through, Turned}
-use Rattle.catchup_engine.proofs.Steps.{board_after, accessed-is, moves-through, moves-length, begun-false}
-use Rattle.catchup_engine.proofs.Clocks.{step-clock, through-clock, step-written, through-written}
+use Rattle.tape_ports.specs.declared.entry.TapeEntry.{TapeEntry}
+use Rattle.catchup_engine.specs.Wires.{Wires, line_of, reset_begun, ticked}
+use Rattle.catchup_engine.specs.Lockstep.{Board, accessed, access_in, begun, clocked, due_access, fetched_board, made_by, sequence_due, step}
+use Rattle.catchup_engine.specs.Budget.{begins_reset, budget, counted, device_access, price, reaches_device, reset_count, ticks_price}
+use Rattle.catchup_engine.specs.Bus.{BusValue, BusStep, Fits, at_clock, done_clock, in_clock}
+use Rattle.tape_ports.specs.Tape.{TapeValue}
+use Rattle.catchup_engine.proofs.TapeLaws.{ticked-quiet}
+use Rattle.catchup_engine.specs.Turn.{Goes, ReadsOpcode, Resets, Through, Turned, TurnedBus}
+use Rattle.catchup_engine.proofs.Clocks.{step-clock, through-clock, step-written, through-written, reset_by-clock}
+use Rattle.catchup_engine.proofs.Steps.{board_after, accessed-is, in_clock-level, moves-length, moves-went, same-access, stays-of, Went}
 
--- where the bus makes the accesses left, the board makes them in its steps
-turned-by : (b : Board) (r : RegistersValue) (q : Sequence) (given : List ℕ) (v : ℕ) (more : List ℕ) (s t : BusValue)
-    → Moves BusStep r q given (v ∷ more) s t → length given ≤ 7 → step b ≡ accessed r q given (in_clock s.begun s.wires)
-    → Turned (length given) b (board_after r q (given ++ v ∷ more) t.wires)
-turned-by b r q given v more s t (x, m, is, did, rest) few first =
-    let here : step b ≡ board_after r q (given ++ v ∷ []) m.wires = first ∙ accessed-is r q given v x s m is did in
-    let e : (given ++ v ∷ []) ++ more ≡ given ++ v ∷ more = append_assoc given (v ∷ []) more in
-    let later = rw e at (moves-through r q (given ++ v ∷ []) more m t rest (begun-false x s m did)) in
-    let through : Through (length more) (step b) (board_after r q (given ++ v ∷ more) t.wires) = rw here later in
+-- the first clock of a turn: one step of the board, and an access of the bus
+pub record First (entries : List TapeEntry) (b : Board) (r : RegistersValue) (q : Sequence) (bytes : List ℕ) (s m : BusValue) : Type 0 where
+  pub step : step entries b ≡ board_after r q bytes m.wires
+  pub paid : m.calls ≤ s.calls + price entries b
+  pub goes : Goes s m
+
+goes-on : (entries : List TapeEntry) (n : ℕ) (b last : Board) (s m t : BusValue) → Goes s m → Went entries n b last m t → Goes s t
+goes-on entries n b last s m t first rest =
+    let more_first = first.more in
+    let more_then = rest.more in
+    let until_first = first.until in
+    let until_then = rest.until in
+    record { more = omega arith; rooms = rest.rooms ∙ first.rooms; until = omega arith; level = rest.level }
+
+budget-more : (entries : List TapeEntry) (n : ℕ) (b : Board) → budget entries (suc n) b ≡ price entries b + budget entries n (step entries b)
+unfolding counted
+budget-more entries n b = refl
+
+-- the first clock, and the accesses after it
+turned-by : (entries : List TapeEntry) (b : Board) (r : RegistersValue) (q : Sequence) (bytes more : List ℕ) (before : ℕ) (s m t : BusValue)
+    → First entries b r q bytes s m → Went entries (length more) (board_after r q bytes m.wires) (board_after r q (bytes ++ more) t.wires) m t
+    → before + suc (length more) ≤ 7 → Turned entries before b (board_after r q (bytes ++ more) t.wires) s.calls t.calls
+turned-by entries b r q bytes more before s m t first rest few =
+    let last = board_after r q (bytes ++ more) t.wires in
+    let through : Through entries (length more) (step entries b) last = rw first.step rest.through in
+    let paid_first = first.paid in
+    let paid_then : t.calls ≤ m.calls + budget entries (length more) (step entries b) = rw first.step rest.paid in
+    let whole = budget-more entries (length more) b in
+    let clock_first = step-clock entries b in
+    let clock_then = through-clock entries (length more) (step entries b) last through in
+    let written_first = step-written entries b in
+    let written_then = through-written entries (length more) (step entries b) last through in
     record {
       count = length more;
       through = through;
-      few = moves-length r q given (v ∷ more) s t (x, m, is, did, rest) few;
-      clock =
-          let after_one = step-clock b in
-          let after_all = through-clock (length more) (step b) (board_after r q (given ++ v ∷ more) t.wires) through in
-          omega arith;
-      written =
-          let after_one = step-written b in
-          let after_all = through-written (length more) (step b) (board_after r q (given ++ v ∷ more) t.wires) through in
-          omega arith;
+      few = few;
+      clock = omega arith;
+      written = omega arith;
+      paid = omega arith;
     }
 
--- each sequence begins with an access
-pub next-first : (r : RegistersValue) (q : Sequence) (e : CpuValue) → next_of r q [] ≡ End e → ⊥
-unfolding next_of
-next-first r Opcode e h = cc
-next-first r Interrupt e h = cc
-next-first r Reset e h = cc
-
-in_clock-begun : (s : BusValue) → s.begun ≡ true → in_clock s.begun s.wires ≡ s.wires
-unfolding in_clock
-in_clock-begun s begun = rw begun refl
-
-in_clock-level : (s : BusValue) → s.begun ≡ false → in_clock s.begun s.wires ≡ ticked s.wires
-unfolding in_clock
-in_clock-level s level = rw level refl
-
-pub step-fetch : (c : CpuValue) (w : Wires) → c.mid ≡ None
-    → step (record { cpu = c; wires = w })
-    ≡ accessed (start_of (sequence_due c (ticked w)) c) (sequence_due c (ticked w)) [] (begun (sequence_due c (ticked w)) (ticked w))
-unfolding step fetched
-step-fetch c w boundary = rw boundary refl
-
-fetch-by : (c : CpuValue) (w : Wires) (q : Sequence) (bytes : List ℕ) (s t : BusValue) (e : CpuValue)
-    → c.mid ≡ None → q ≡ sequence_due c (ticked w) → s.begun ≡ true → s.wires ≡ begun q (ticked w)
-    → Moves BusStep (start_of q c) q [] bytes s t → next_of (start_of q c) q bytes ≡ End e
-    → Turned 0 (record { cpu = c; wires = w }) (record { cpu = e; wires = t.wires })
-fetch-by c w q [] s t e boundary due begun_true wires moves ends = absurd (next-first (start_of q c) q e ends)
-fetch-by c w q (v ∷ more) s t e boundary due begun_true wires moves ends =
-    let first : step (record { cpu = c; wires = w }) ≡ accessed (start_of q c) q [] (in_clock s.begun s.wires) =
-    rw (in_clock-begun s begun_true, wires, due) (step-fetch c w boundary) in
-    let done : standing (start_of q c) q (v ∷ more) ≡ e = ap (stopped (start_of q c) q (v ∷ more)) ends in
-    subst (λ (k : CpuValue). Turned 0 (record { cpu = c; wires = w }) (record { cpu = k; wires = t.wires })) done
-    (turned-by (record { cpu = c; wires = w }) (start_of q c) q [] v more s t moves (omega arith) first)
-
--- a whole sequence from a boundary is a turn
-pub fetch-turned : (c : CpuValue) (w : Wires) (q : Sequence) (s t : BusValue) (e : CpuValue)
-    → c.mid ≡ None → q ≡ sequence_due c (ticked w) → s.begun ≡ true → s.wires ≡ begun q (ticked w)
-    → Runs BusStep (start_of q c) q s t e
-    → Turned 0 (record { cpu = c; wires = w }) (record { cpu = e; wires = t.wires })
-fetch-turned c w q s t e boundary due begun_true wires runs =
-    fetch-by c w q runs.bytes s t e boundary due begun_true wires runs.moves runs.ends
-
-pub step-resume : (c : CpuValue) (m : MidValue) (w : Wires) → c.mid ≡ Some m
-    → step (record { cpu = c; wires = w }) ≡ accessed (registers_of c) m.sequence (given_by m) (ticked w)
-unfolding step
-step-resume c m w inside = rw inside refl
+turned-clock : (entries : List TapeEntry) (b : Board) (r : RegistersValue) (q : Sequence) (bytes more : List ℕ) (s m t : BusValue)
+    → First entries b r q bytes s m → Went entries (length more) (board_after r q bytes m.wires) (board_after r q (bytes ++ more) t.wires) m t
+    → t.wires.clock ≡ b.wires.clock + suc (length more)
+turned-clock entries b r q bytes more s m t first rest =
+    let last = board_after r q (bytes ++ more) t.wires in
+    let through : Through entries (length more) (step entries b) last = rw first.step rest.through in
+    let clock_first = step-clock entries b in
+    let clock_then = through-clock entries (length more) (step entries b) last through in
+    omega arith
 
 pub end_or_not : (next : Next) → IsEnd next ⊎ (IsEnd next → ⊥)
 end_or_not (Read a) = inr (λ end. end)
 end_or_not (Write a v) = inr (λ end. end)
 end_or_not (End e) = inl tt
 
--- seven clocks end each sequence
-ended-by_seven : (r : RegistersValue) (q : Sequence) (given more : List ℕ) (made : ℕ) → length more ≡ made
-    → ((IsEnd (next_of r q (given ++ more)) → ⊥) → made ≡ 7) → IsEnd (next_of r q (given ++ more))
-ended-by_seven r q given more made count full =
-    elim (end_or_not (next_of r q (given ++ more))) [
-      | inl end ↦ end
-      | inr due ↦
-          let short = six_before_end r q (given ++ more) due in
-          let all = full due in
-          let longer : length (given ++ more) ≡ length given + length more = length-append given more in
-          absurd (omega arith)
-    ]
-
-resume-by : (c : CpuValue) (m : MidValue) (w : Wires) (more : List ℕ) (s t : BusValue)
-    → c.mid ≡ Some m → IsPlace (registers_of c) m → length (given_by m) ≤ 7 → s.begun ≡ false → s.wires ≡ w
-    → Moves BusStep (registers_of c) m.sequence (given_by m) more s t
-    → IsEnd (next_of (registers_of c) m.sequence (given_by m ++ more))
-    → Turned (length (given_by m)) (record { cpu = c; wires = w }) (board_after (registers_of c) m.sequence (given_by m ++ more) t.wires)
-resume-by c m w [] s t inside place few level wires moves end =
-    absurd (place_due (registers_of c) m place (rw (append-nil (given_by m)) at end))
-resume-by c m w (v ∷ more) s t inside place few level wires moves end =
-    let first : step (record { cpu = c; wires = w }) ≡ accessed (registers_of c) m.sequence (given_by m) (in_clock s.begun s.wires) =
-    rw (in_clock-level s level, wires) (step-resume c m w inside) in
-    turned-by (record { cpu = c; wires = w }) (registers_of c) m.sequence (given_by m) v more s t moves few first
-
--- what is left of a sequence is a turn, which ends at a boundary
-pub record Resumed (before : ℕ) (b last : Board) : Type 0 where
-  pub turned : Turned before b last
-  pub boundary : last.cpu.mid ≡ None
-
-pub resume-turned : (c : CpuValue) (m : MidValue) (w : Wires) (made : ℕ) (s t : BusValue) (e : CpuValue)
-    → c.mid ≡ Some m → IsPlace (registers_of c) m → length (given_by m) ≤ 7 → s.begun ≡ false → s.wires ≡ w
-    → Advances BusStep (registers_of c) m.sequence (given_by m) 7 made s t e
-    → Resumed (length (given_by m)) (record { cpu = c; wires = w }) (record { cpu = e; wires = t.wires })
-resume-turned c m w made s t e inside place few level wires advances =
-    let end = ended-by_seven (registers_of c) m.sequence (given_by m) advances.more made advances.count advances.full in
+-- a turn from what an advance made after its first clock
+turn-bus : (entries : List TapeEntry) (c : CpuValue) (r : RegistersValue) (q : Sequence) (bytes : List ℕ) (before clocks made : ℕ) (s m t : BusValue) (e : CpuValue)
+    → First entries (record { cpu = c; wires = s.wires }) r q bytes s m → (IsSome c.mid → 1 ≤ before) → before + 1 ≡ length bytes
+    → length bytes ≤ 7 → Advances (BusStep entries) r q bytes clocks made m t e → TurnedBus entries (clocks + 1) c s t e
+turn-bus entries c r q bytes before clocks made s m t e first inside count few advances =
+    let more = advances.more in
+    let went = moves-went entries r q bytes more m t advances.moves first.goes.level in
+    let seven = moves-length entries r q bytes more m t advances.moves few in
+    let turned = turned-by entries (record { cpu = c; wires = s.wires }) r q bytes more before s m t first went (omega arith) in
+    let e_is : board_after r q (bytes ++ more) t.wires ≡ record { cpu = e; wires = t.wires } =
+    ap (λ (k : CpuValue). let b : Board = record { cpu = k; wires = t.wires } in b) (sym advances.stands) in
+    let long = advances.count in
+    let short = advances.few in
+    let clock : t.wires.clock ≡ s.wires.clock + suc (length more) =
+    turned-clock entries (record { cpu = c; wires = s.wires }) r q bytes more s m t first went in
     record {
-      turned =
-          subst (λ (k : CpuValue). Turned (length (given_by m)) (record { cpu = c; wires = w }) (record { cpu = k; wires = t.wires }))
-          (sym advances.stands)
-          (resume-by c m w advances.more s t inside place few level wires advances.moves end);
-      boundary = advances.complete.1 end;
+      before = before;
+      turned = subst (λ (b : Board). Turned entries before (record { cpu = c; wires = s.wires }) b s.calls t.calls) e_is turned;
+      inside = inside;
+      goes = goes-on entries (length more) (board_after r q bytes m.wires) (board_after r q (bytes ++ more) t.wires) s m t first.goes went;
+      at_most = omega arith;
+      stops = λ some. (
+          let due : IsEnd (next_of r q (bytes ++ more)) → ⊥ = λ end. some-none e.mid some (advances.complete.1 end) in
+          let full : made ≡ clocks = advances.full due in
+          omega arith
+          );
+      short = λ some. (
+          let due : IsEnd (next_of r q (bytes ++ more)) → ⊥ = λ end. some-none e.mid some (advances.complete.1 end) in
+          let seven : length (bytes ++ more) < 7 = six_before_end r q (bytes ++ more) due in
+          let longer : length (bytes ++ more) ≡ length bytes + length more = length-append bytes more in
+          omega arith
+          );
+    }
+  where
+    some-none : (mid : Option MidValue) → IsSome mid → mid ≡ None → ⊥
+    some-none None some e = cc
+    some-none (Some m) some e = cc
+
+-- taking the first access of an advance apart
+pub record Parted (entries : List TapeEntry) (r : RegistersValue) (q : Sequence) (given : List ℕ) (clocks made : ℕ) (s t : BusValue) (e : CpuValue) : Type 0 where
+  pub value : ℕ
+  pub access : Access
+  pub then_s : BusValue
+  pub is : IsAccess (next_of r q given) value access
+  pub did : BusStep entries access s then_s
+  pub rest : Advances (BusStep entries) r q (given ++ value ∷ []) (clocks - 1) (made - 1) then_s t e
+
+pub part : (entries : List TapeEntry) (r : RegistersValue) (q : Sequence) (given : List ℕ) (clocks made : ℕ) (s t : BusValue) (e : CpuValue)
+    → 1 ≤ clocks → (IsEnd (next_of r q given) → ⊥) → Advances (BusStep entries) r q given clocks made s t e
+    → Parted entries r q given clocks made s t e
+part entries r q given clocks made s t e some due a = by_more a.more a.moves a.count a.full a.stands a.complete
+  where
+    by_more : (more : List ℕ) → Moves (BusStep entries) r q given more s t → length more ≡ made
+        → ((IsEnd (next_of r q (given ++ more)) → ⊥) → made ≡ clocks) → e ≡ standing r q (given ++ more)
+        → ((e.mid ≡ None → IsEnd (next_of r q (given ++ more))) × (IsEnd (next_of r q (given ++ more)) → e.mid ≡ None))
+        → Parted entries r q given clocks made s t e
+    by_more [] m count full stands complete =
+        let none : made ≡ clocks = full (rw (append-nil given) due) in
+        absurd (omega arith)
+    by_more (v ∷ more) (x, m, is, did, rest) count full stands complete =
+        let same : (given ++ v ∷ []) ++ more ≡ given ++ v ∷ more = append_assoc given (v ∷ []) more in
+        let few = a.few in
+        record {
+          value = v;
+          access = x;
+          then_s = m;
+          is = is;
+          did = did;
+          rest = record {
+            more = more;
+            moves = rest;
+            count = omega arith;
+            few = omega arith;
+            full = λ open_yet. (let all : made ≡ clocks = full (rw (← same) open_yet) in omega arith);
+            stands = rw same stands;
+            complete = rw same complete;
+          };
+        }
+
+-- each sequence begins with an access
+pub next-first : (r : RegistersValue) (q : Sequence) → IsEnd (next_of r q []) → ⊥
+unfolding next_of
+next-first r Opcode end = end
+next-first r Interrupt end = end
+next-first r Reset end = end
+
+-- a fetch of a board at a boundary
+step-fetch : (entries : List TapeEntry) (c : CpuValue) (w : Wires) → c.mid ≡ None
+    → step entries (record { cpu = c; wires = w })
+    ≡ clocked (begun (sequence_due c (ticked entries w)) (accessed (start_of (sequence_due c (ticked entries w)) c) (sequence_due c (ticked entries w)) [] (ticked entries w)))
+unfolding step fetched_board
+step-fetch entries c w boundary = rw boundary refl
+
+price-fetch : (entries : List TapeEntry) (c : CpuValue) (w : Wires) (q : Sequence) (v : ℕ) (x : Access) → c.mid ≡ None → q ≡ sequence_due c (ticked entries w)
+    → IsAccess (next_of (start_of q c) q []) v x
+    → price entries (record { cpu = c; wires = w }) ≡ 2 * from_bool (reaches_device x) + 5 * reset_count q + ticks_price entries w
+unfolding price access_in
+price-fetch entries c w q v x boundary due is =
+    let u = ticked entries w in
+    let same : device_access (made_by (next_of (start_of q c) q []) u) ≡ from_bool (reaches_device x) =
+    sym (same-access (next_of (start_of q c) q []) v x u is) in
+    ap (λ (mid : Option MidValue). 2 * device_access (due_access mid c u) + 5 * begins_reset mid c u + ticks_price entries w) boundary
+    ∙ ap (λ (p : Sequence). 2 * device_access (made_by (next_of (start_of p c) p []) u) + 5 * reset_count p + ticks_price entries w) (sym due)
+    ∙ ap (λ n. 2 * n + 5 * reset_count q + ticks_price entries w) same
+
+-- the line doesn't look at the clock
+line-clock : (clock : ℕ) (w : Wires) → line_of (at_clock clock w) ≡ line_of w
+unfolding line_of
+line-clock clock w = refl
+
+due-clock : (c : CpuValue) (w : Wires) → sequence_due c (done_clock w) ≡ sequence_due c w
+due-clock c w = rw (line-clock (w.clock + 1) w) refl
+
+-- the bus after its clock has begun
+pub record Begins (entries : List TapeEntry) (s b : BusValue) : Type 0 where
+  pub wires : b.wires ≡ done_clock (ticked entries s.wires)
+  pub begun : b.begun ≡ true
+  pub rooms : b.rooms ≡ s.rooms
+  pub until : s.until ≤ b.until
+  pub calls : b.calls ≤ s.calls + ticks_price entries s.wires
+  pub more : s.calls ≤ b.calls
+
+in_clock-begun : (entries : List TapeEntry) (s b : BusValue) → Begins entries s b → in_clock entries b.begun b.wires ≡ ticked entries s.wires
+unfolding in_clock
+in_clock-begun entries s b h =
+    let w = ticked entries s.wires in
+    let e : w.clock + 1 - 1 ≡ w.clock = omega arith in
+    rw (h.begun, h.wires) (ap (λ n. at_clock n w) e)
+
+begun-other : (q : Sequence) (b : Board) → q ≢ Reset → begun q b ≡ b
+begun-other Opcode b other = refl
+begun-other Interrupt b other = refl
+begun-other Reset b other = absurd (other refl)
+
+reset_count-other : (q : Sequence) → q ≢ Reset → reset_count q ≡ 0
+reset_count-other Opcode other = refl
+reset_count-other Interrupt other = refl
+reset_count-other Reset other = absurd (other refl)
+
+-- the first clock of an instruction or an interrupt
+pub fetch-first : (entries : List TapeEntry) (c : CpuValue) (q : Sequence) (s b m : BusValue) (v : ℕ) (x : Access) → c.mid ≡ None
+    → Begins entries s b → q ≡ sequence_due c b.wires → q ≢ Reset → IsAccess (next_of (start_of q c) q []) v x → BusStep entries x b m
+    → First entries (record { cpu = c; wires = s.wires }) (start_of q c) q (v ∷ []) s m
+fetch-first entries c q s b m v x boundary begins due other is did =
+    let w = ticked entries s.wires in
+    let due_then : q ≡ sequence_due c w = due ∙ ap (sequence_due c) begins.wires ∙ due-clock c w in
+    let clock = in_clock-begun entries s b begins in
+    let stays = stays-of entries x b m did in
+    let cost = stays.calls in
+    let none : (if b.begun then 0 else ticks_price entries b.wires) ≡ 0 = rw begins.begun refl in
+    let whole = price-fetch entries c s.wires q v x boundary due_then is in
+    let no_reset = reset_count-other q other in
+    let until_first = begins.until in
+    let until_then = stays.until in
+    let calls_first = begins.calls in
+    let more_first = begins.more in
+    let more_then = stays.more in
+    record {
+      step =
+          step-fetch entries c s.wires boundary
+          ∙ ap (λ (p : Sequence). clocked (begun p (accessed (start_of p c) p [] w))) (sym due_then)
+          ∙ ap clocked (begun-other q (accessed (start_of q c) q [] w) other)
+          ∙ ap (λ (k : Wires). clocked (accessed (start_of q c) q [] k)) (sym clock)
+          ∙ accessed-is entries (start_of q c) q [] v x b m is did;
+      paid = omega arith;
+      goes = record { more = omega arith; rooms = stays.rooms ∙ begins.rooms; until = omega arith; level = stays.begun };
     }
 
-room-step : (x : Access) (s t : BusValue) → BusStep x s t → t.room ≡ s.room
-room-step (read_of a v) s t b = b.3
-room-step (write_of a v) s t b = b.2
+-- where a resume begins
+step-resume : (entries : List TapeEntry) (c : CpuValue) (m : MidValue) (w : Wires) → c.mid ≡ Some m
+    → step entries (record { cpu = c; wires = w }) ≡ clocked (accessed (registers_of c) m.sequence (given_by m) (ticked entries w))
+unfolding step
+step-resume entries c m w inside = rw inside refl
 
--- accesses leave the room of the trails, and no clock begun
-moves-room : (r : RegistersValue) (q : Sequence) (bytes more : List ℕ) (s t : BusValue) → Moves BusStep r q bytes more s t → t.room ≡ s.room
-moves-room r q bytes [] s t m = ap (λ (b : BusValue). b.room) m
-moves-room r q bytes (v ∷ more) s t (x, m, is, b, rest) = moves-room r q (bytes ++ v ∷ []) more m t rest ∙ room-step x s m b
+price-resume : (entries : List TapeEntry) (c : CpuValue) (m : MidValue) (w : Wires) (v : ℕ) (x : Access) → c.mid ≡ Some m
+    → IsAccess (next_of (registers_of c) m.sequence (given_by m)) v x
+    → price entries (record { cpu = c; wires = w }) ≡ 2 * from_bool (reaches_device x) + ticks_price entries w
+unfolding price access_in
+price-resume entries c m w v x inside is =
+    let u = ticked entries w in
+    let same : device_access (made_by (next_of (registers_of c) m.sequence (given_by m)) u) ≡ from_bool (reaches_device x) =
+    sym (same-access (next_of (registers_of c) m.sequence (given_by m)) v x u is) in
+    ap (λ (mid : Option MidValue). 2 * device_access (due_access mid c u) + 5 * begins_reset mid c u + ticks_price entries w) inside
+    ∙ ap (λ n. 2 * n + 0 + ticks_price entries w) same
+    ∙ (let e : 2 * from_bool (reaches_device x) + 0 + ticks_price entries w ≡ 2 * from_bool (reaches_device x) + ticks_price entries w = omega arith in e)
 
-moves-level : (r : RegistersValue) (q : Sequence) (bytes more : List ℕ) (s t : BusValue) → Moves BusStep r q bytes more s t → s.begun ≡ false
-    → t.begun ≡ false
-moves-level r q bytes [] s t m level = ap (λ (b : BusValue). b.begun) m ∙ level
-moves-level r q bytes (v ∷ more) s t (x, m, is, b, rest) level = moves-level r q (bytes ++ v ∷ []) more m t rest (begun-false x s m b)
+-- the first clock of what is left of a sequence
+pub resume-first : (entries : List TapeEntry) (c : CpuValue) (m : MidValue) (s t : BusValue) (v : ℕ) (x : Access) → c.mid ≡ Some m
+    → s.begun ≡ false → IsAccess (next_of (registers_of c) m.sequence (given_by m)) v x → BusStep entries x s t
+    → First entries (record { cpu = c; wires = s.wires }) (registers_of c) m.sequence (given_by m ++ v ∷ []) s t
+resume-first entries c m s t v x inside level is did =
+    let stays = stays-of entries x s t did in
+    let cost = stays.calls in
+    let here : (if s.begun then 0 else ticks_price entries s.wires) ≡ ticks_price entries s.wires = rw level refl in
+    let whole = price-resume entries c m s.wires v x inside is in
+    record {
+      step =
+          step-resume entries c m s.wires inside
+          ∙ ap (λ (w : Wires). clocked (accessed (registers_of c) m.sequence (given_by m) w)) (sym (in_clock-level entries s level))
+          ∙ accessed-is entries (registers_of c) m.sequence (given_by m) v x s t is did;
+      paid = omega arith;
+      goes = record { more = stays.more; rooms = stays.rooms; until = stays.until; level = stays.begun };
+    }
 
-some-level : (r : RegistersValue) (q : Sequence) (bytes more : List ℕ) (s t : BusValue) → Moves BusStep r q bytes more s t → 1 ≤ length more
-    → t.begun ≡ false
-some-level r q bytes [] s t m some = absurd (omega arith)
-some-level r q bytes (v ∷ more) s t (x, m, is, b, rest) some = moves-level r q (bytes ++ v ∷ []) more m t rest (begun-false x s m b)
+-- a reset begins with a read, which leaves the wires
+reset-read : (r : RegistersValue) (w : Wires) → (accessed r Reset [] w).wires ≡ w
+unfolding accessed next_of
+reset-read r w = refl
 
--- what a turn leaves: a boundary, no clock begun, and the room of the trails
-pub record TurnedBus (before : ℕ) (c : CpuValue) (w : Wires) (s t : BusValue) (e : CpuValue) : Type 0 where
-  pub turned : Turned before (record { cpu = c; wires = w }) (record { cpu = e; wires = t.wires })
-  pub level : t.begun ≡ false
-  pub room : t.room ≡ s.room
+reset_begun-clock : (w : Wires) → (reset_begun w).clock ≡ w.clock
+unfolding reset_begun
+reset_begun-clock w = reset_by-clock w.divider.pending w
 
-ends-some : (r : RegistersValue) (q : Sequence) (bytes : List ℕ) (e : CpuValue) → next_of r q bytes ≡ End e → 1 ≤ length bytes
-ends-some r q [] e ends = absurd (next-first r q e ends)
-ends-some r q (v ∷ bytes) e ends = omega arith
+-- the first clock of a reset: its read, and then its effects
+pub reset-first : (entries : List TapeEntry) (c : CpuValue) (s b m n : BusValue) (v : ℕ) (x : Access) → c.mid ≡ None
+    → Begins entries s b → Reset ≡ sequence_due c b.wires → IsAccess (next_of (start_of Reset c) Reset []) v x → BusStep entries x b m
+    → n.wires ≡ at_clock m.wires.clock (reset_begun (at_clock (m.wires.clock - 1) m.wires)) → n.calls ≤ m.calls + 4 → Goes m n
+    → First entries (record { cpu = c; wires = s.wires }) (start_of Reset c) Reset (v ∷ []) s n
+reset-first entries c s b m n v x boundary begins due is did effects few goes =
+    let w = ticked entries s.wires in
+    let r = start_of Reset c in
+    let due_then : Reset ≡ sequence_due c w = due ∙ ap (sequence_due c) begins.wires ∙ due-clock c w in
+    let clock = in_clock-begun entries s b begins in
+    let first : clocked (accessed r Reset [] w) ≡ board_after r Reset (v ∷ []) m.wires =
+    ap (λ (k : Wires). clocked (accessed r Reset [] k)) (sym clock) ∙ accessed-is entries r Reset [] v x b m is did in
+    let cpu : (accessed r Reset [] w).cpu ≡ standing r Reset (v ∷ []) = ap (λ (k : Board). k.cpu) first in
+    let read : m.wires ≡ done_clock w =
+    sym (ap (λ (k : Board). k.wires) first) ∙ ap done_clock (reset-read r w) in
+    let back : w.clock + 1 - 1 ≡ w.clock = omega arith in
+    let wires : n.wires ≡ at_clock (w.clock + 1) (reset_begun w) =
+    effects
+    ∙ ap (λ (k : Wires). at_clock k.clock (reset_begun (at_clock (k.clock - 1) k))) read
+    ∙ ap (λ t. at_clock (w.clock + 1) (reset_begun (at_clock t w))) back in
+    let stays = stays-of entries x b m did in
+    let cost = stays.calls in
+    let none : (if b.begun then 0 else ticks_price entries b.wires) ≡ 0 = rw begins.begun refl in
+    let whole = price-fetch entries c s.wires Reset v x boundary due_then is in
+    let until_first = begins.until in
+    let until_then = stays.until in
+    let until_last = goes.until in
+    let calls_first = begins.calls in
+    let more_first = begins.more in
+    let more_then = stays.more in
+    let more_last = goes.more in
+    record {
+      step =
+          step-fetch entries c s.wires boundary
+          ∙ ap (λ (p : Sequence). clocked (begun p (accessed (start_of p c) p [] w))) (sym due_then)
+          ∙ ap (λ (k : CpuValue). let d : Board = record { cpu = k; wires = at_clock ((reset_begun (accessed r Reset [] w).wires).clock + 1) (reset_begun (accessed r Reset [] w).wires) } in d) cpu
+          ∙ ap (λ (u : Wires). let d : Board = record { cpu = standing r Reset (v ∷ []); wires = at_clock ((reset_begun u).clock + 1) (reset_begun u) } in d) (reset-read r w)
+          ∙ ap (λ t. let d : Board = record { cpu = standing r Reset (v ∷ []); wires = at_clock (t + 1) (reset_begun w) } in d) (reset_begun-clock w)
+          ∙ ap (λ (u : Wires). board_after r Reset (v ∷ []) u) (sym wires);
+      paid = omega arith;
+      goes = record { more = omega arith; rooms = goes.rooms ∙ stays.rooms ∙ begins.rooms; until = omega arith; level = goes.level };
+    }
 
--- a whole sequence from a boundary, in a clock that has begun
-pub fetch-bus : (c : CpuValue) (w : Wires) (q : Sequence) (s t : BusValue) (e : CpuValue)
-    → c.mid ≡ None → q ≡ sequence_due c (ticked w) → s.begun ≡ true → s.wires ≡ begun q (ticked w)
-    → Runs BusStep (start_of q c) q s t e → TurnedBus 0 c w s t e
-fetch-bus c w q s t e boundary due begun_true wires runs = record {
-  turned = fetch-turned c w q s t e boundary due begun_true wires runs;
-  level = some-level (start_of q c) q [] runs.bytes s t runs.moves (ends-some (start_of q c) q runs.bytes e runs.ends);
-  room = moves-room (start_of q c) q [] runs.bytes s t runs.moves;
-}
+clocks-back : (entries : List TapeEntry) (clocks : ℕ) (c : CpuValue) (s t : BusValue) (e : CpuValue) → 1 ≤ clocks
+    → TurnedBus entries (clocks - 1 + 1) c s t e → TurnedBus entries clocks c s t e
+clocks-back entries clocks c s t e some turned =
+    let same : clocks - 1 + 1 ≡ clocks = omega arith in
+    subst (λ n. TurnedBus entries n c s t e) same turned
 
--- the rest of a sequence
-pub resume-bus : (c : CpuValue) (m : MidValue) (w : Wires) (made : ℕ) (s t : BusValue) (e : CpuValue)
-    → c.mid ≡ Some m → IsPlace (registers_of c) m → length (given_by m) ≤ 7 → s.begun ≡ false → s.wires ≡ w
-    → Advances BusStep (registers_of c) m.sequence (given_by m) 7 made s t e → TurnedBus (length (given_by m)) c w s t e
-resume-bus c m w made s t e inside place few level wires advances = record {
-  turned = (resume-turned c m w made s t e inside place few level wires advances).turned;
-  level = moves-level (registers_of c) m.sequence (given_by m) advances.more s t advances.moves level;
-  room = moves-room (registers_of c) m.sequence (given_by m) advances.more s t advances.moves;
-}
+none-inside : (mid : Option MidValue) → mid ≡ None → IsSome mid → 1 ≤ 0
+none-inside None e some = cc
+none-inside (Some m) e some = cc
 
--- a fetch begins its clock, then the sequence that is due, and makes its accesses
-pub fetch-all : (c : CpuValue) (q : Sequence) (b clocked started t : BusValue) (e : CpuValue)
-    → c.mid ≡ None → clocked ≡ record b { wires = ticked b.wires; begun = true } → q ≡ sequence_due c clocked.wires
-    → started ≡ record clocked { wires = begun q clocked.wires }
-    → Runs BusStep (start_of q c) q started t e → TurnedBus 0 c b.wires b t e
-fetch-all c q b clocked started t e boundary clock due start runs =
-    let ticks : clocked.wires ≡ ticked b.wires = ap (λ (k : BusValue). k.wires) clock in
-    let due_then : q ≡ sequence_due c (ticked b.wires) = rw ticks at due in
-    let is_begun : started.begun ≡ true = ap (λ (k : BusValue). k.begun) start ∙ ap (λ (k : BusValue). k.begun) clock in
-    let wires : started.wires ≡ begun q (ticked b.wires) = ap (λ (k : BusValue). k.wires) start ∙ ap (begun q) ticks in
-    let same : started.room ≡ b.room = ap (λ (k : BusValue). k.room) start ∙ ap (λ (k : BusValue). k.room) clock in
-    let done = fetch-bus c b.wires q started t e boundary due_then is_begun wires runs in
-    record { turned = done.turned; level = done.level; room = done.room ∙ same }
+-- an instruction or an interrupt is a turn
+pub fetch-turn : (entries : List TapeEntry) (c : CpuValue) (q : Sequence) (clocks made : ℕ) (s b t : BusValue) (e : CpuValue) → c.mid ≡ None
+    → Begins entries s b → q ≡ sequence_due c b.wires → q ≢ Reset → 1 ≤ clocks
+    → Advances (BusStep entries) (start_of q c) q [] clocks made b t e → TurnedBus entries clocks c s t e
+fetch-turn entries c q clocks made s b t e boundary begins due other some advances =
+    let p = part entries (start_of q c) q [] clocks made b t e some (next-first (start_of q c) q) advances in
+    let first = fetch-first entries c q s b p.then_s p.value p.access boundary begins due other p.is p.did in
+    clocks-back entries clocks c s t e some
+    (turn-bus entries c (start_of q c) q (p.value ∷ []) 0 (clocks - 1) (made - 1) s p.then_s t e first (none-inside c.mid boundary) refl (omega arith) p.rest)
 
--- what is left after a sequence under way
-pub record ResumedBus (c : CpuValue) (s t : BusValue) (e : CpuValue) : Type 0 where
-  pub bus : TurnedBus 1 c s.wires s t e
-  pub boundary : e.mid ≡ None
+-- a reset is a turn
+pub reset-turn : (entries : List TapeEntry) (c : CpuValue) (clocks : ℕ) (s b t : BusValue) (e : CpuValue) → c.mid ≡ None
+    → Begins entries s b → Reset ≡ sequence_due c b.wires → 1 ≤ clocks → Resets entries c clocks b t e → TurnedBus entries clocks c s t e
+reset-turn entries c clocks s b t e boundary begins due some resets = by_moves resets.moves
+  where
+    by_moves : Moves (BusStep entries) (start_of Reset c) Reset [] (resets.value ∷ []) b resets.read → TurnedBus entries clocks c s t e
+    by_moves (x, m, is, did, same) =
+        let did_read : BusStep entries x b resets.read = subst (λ (k : BusValue). BusStep entries x b k) (sym same) did in
+        let first = reset-first entries c s b resets.read resets.taken resets.value x boundary begins due is did_read resets.effects resets.calls resets.goes in
+        clocks-back entries clocks c s t e some
+        (turn-bus entries c (start_of Reset c) Reset (resets.value ∷ []) 0 (clocks - 1) resets.made s resets.taken t e first (none-inside c.mid boundary) refl (omega arith) resets.rest)
 
 given-some : (m : MidValue) → 1 ≤ m.count → m.count ≤ 6 → length m.bytes ≡ 6 → length (given_by m) ≡ m.count
 given-some m some short six = length-take-le m.count m.bytes (omega arith)
 
--- a place inside a sequence has a byte at least
-pub resume-all : (c : CpuValue) (m : MidValue) (made : ℕ) (s t : BusValue) (e : CpuValue)
-    → c.mid ≡ Some m → IsPlace (registers_of c) m → length m.bytes ≡ 6 → s.begun ≡ false
-    → Advances BusStep (registers_of c) m.sequence (given_by m) 7 made s t e → ResumedBus c s t e
-resume-all c m made s t e inside place six level advances =
-    let some = place.begun in
-    let short = place.short in
+-- what is left of a sequence is a turn
+pub resume-turn : (entries : List TapeEntry) (c : CpuValue) (m : MidValue) (clocks made : ℕ) (s t : BusValue) (e : CpuValue) → c.mid ≡ Some m
+    → IfSome c.mid (λ _. IsMiddle c) → length m.bytes ≡ 6 → s.begun ≡ false → 1 ≤ clocks
+    → IfSome c.mid (λ m. Advances (BusStep entries) (registers_of c) m.sequence (given_by m) clocks made s t e) → TurnedBus entries clocks c s t e
+resume-turn entries c m clocks made s t e inside middle six level some advances =
+    let place : IsPlace (registers_of c) m = (rw inside at middle).1 in
+    let advanced : Advances (BusStep entries) (registers_of c) m.sequence (given_by m) clocks made s t e = rw inside at advances in
+    let some_given = place.begun in
+    let few_given = place.short in
     let count = given-some m place.begun place.short six in
-    let done = resume-bus c m s.wires made s t e inside place (omega arith) level refl advances in
-    let resumed = resume-turned c m s.wires made s t e inside place (omega arith) level refl advances in
-    let seven = done.turned.few in
+    let p = part entries (registers_of c) m.sequence (given_by m) clocks made s t e some (place_due (registers_of c) m place) advanced in
+    let longer : length (given_by m ++ p.value ∷ []) ≡ length (given_by m) + 1 = length-append (given_by m) (p.value ∷ []) in
+    let first = resume-first entries c m s p.then_s p.value p.access inside level p.is p.did in
+    clocks-back entries clocks c s t e some
+    (turn-bus entries c (registers_of c) m.sequence (given_by m ++ p.value ∷ []) (length (given_by m)) (clocks - 1) (made - 1) s p.then_s t e first
+    (λ _. omega arith) (omega arith) (omega arith) p.rest)
+
+-- a whole sequence is an advance by seven clocks
+pub runs-advance : (entries : List TapeEntry) (r : RegistersValue) (q : Sequence) (s t : BusValue) (e : CpuValue) → Runs (BusStep entries) r q s t e
+    → e.mid ≡ None → (made : ℕ) × Advances (BusStep entries) r q [] 7 made s t e
+runs-advance entries r q s t e runs boundary =
+    let end : IsEnd (next_of r q runs.bytes) = rw runs.ends tt in
+    let few = moves-length entries r q [] runs.bytes s t runs.moves (omega arith) in (
+      length runs.bytes,
+      record {
+        more = runs.bytes;
+        moves = runs.moves;
+        count = refl;
+        few = omega arith;
+        full = λ due. absurd (due end);
+        stands = sym (ap (stopped r q runs.bytes) runs.ends);
+        complete = (λ _. end, λ _. boundary);
+      },
+    )
+
+-- a reset after its read
+pub record ResetBegun (entries : List TapeEntry) (c : CpuValue) (s m : BusValue) (k : CpuValue) : Type 0 where
+  pub value : ℕ
+  pub moves : Moves (BusStep entries) (start_of Reset c) Reset [] (value ∷ []) s m
+  pub stands : k ≡ paused (start_of Reset c) Reset (value ∷ [])
+  pub clock : 1 ≤ m.wires.clock
+  pub level : m.begun ≡ false
+
+clock-some : (entries : List TapeEntry) (x : Access) (s t : BusValue) → BusStep entries x s t → 1 ≤ t.wires.clock
+clock-some entries (read_of a v) s t b = let e = ap (λ (w : Wires). w.clock) b.1 in omega arith
+clock-some entries (write_of a v) s t b = let e = ap (λ (w : Wires). w.clock) b.0 in omega arith
+
+standing-paused : (r : RegistersValue) (v : ℕ) → standing r Reset (v ∷ []) ≡ paused r Reset (v ∷ [])
+unfolding next_of
+standing-paused r v = refl
+
+pub reset-begun : (entries : List TapeEntry) (c : CpuValue) (s m : BusValue) (k : CpuValue)
+    → ((made : ℕ) × Advances (BusStep entries) (start_of Reset c) Reset [] 1 made s m k) → ResetBegun entries c s m k
+reset-begun entries c s m k (made, a) = by_more a.more a.moves a.count a.full a.stands
+  where
+    by_more : (more : List ℕ) → Moves (BusStep entries) (start_of Reset c) Reset [] more s m → length more ≡ made
+        → ((IsEnd (next_of (start_of Reset c) Reset more) → ⊥) → made ≡ 1) → k ≡ standing (start_of Reset c) Reset more
+        → ResetBegun entries c s m k
+    by_more [] moves count full stands =
+        let one : made ≡ 1 = full (next-first (start_of Reset c) Reset) in
+        absurd (omega arith)
+    by_more (v ∷ []) (x, n, is, did, same) count full stands = record {
+      value = v;
+      moves = (x, n, is, did, same);
+      stands = stands ∙ standing-paused (start_of Reset c) v;
+      clock = (let e = ap (λ (b : BusValue). b.wires.clock) same in let h = clock-some entries x s n did in omega arith);
+      level = ap (λ (b : BusValue). b.begun) same ∙ (stays-of entries x s n did).begun;
+    }
+    by_more (v ∷ (u ∷ more)) moves count full stands = let few = a.few in absurd (omega arith)
+
+-- the effects of a reset, over a bus
+pub record HasEffects (m n : BusValue) : Type 0 where
+  pub wires : n.wires ≡ at_clock m.wires.clock (reset_begun (at_clock (m.wires.clock - 1) m.wires))
+  pub calls : n.calls ≤ m.calls + 4
+  pub more : m.calls ≤ n.calls
+  pub rooms : n.rooms ≡ m.rooms
+  pub until : m.until ≤ n.until
+  pub level : n.begun ≡ m.begun
+
+paused-due : (r : RegistersValue) (v : ℕ) → IsEnd (next_of r Reset (v ∷ [])) → ⊥
+unfolding next_of
+paused-due r v end = end
+
+-- a reset that has one clock
+pub resets-one : (entries : List TapeEntry) (c : CpuValue) (clocks : ℕ) (s m n : BusValue) (k : CpuValue) → clocks ≡ 1
+    → ResetBegun entries c s m k → HasEffects m n → Resets entries c clocks s n k
+resets-one entries c clocks s m n k one b h =
+    let r = start_of Reset c in
     record {
-      bus = record {
-        turned = record {
-          count = done.turned.count;
-          through = done.turned.through;
-          few = omega arith;
-          clock = done.turned.clock;
-          written = done.turned.written;
-        };
-        level = done.level;
-        room = done.room;
+      value = b.value;
+      read = m;
+      moves = b.moves;
+      taken = n;
+      effects = h.wires;
+      calls = h.calls;
+      goes = record { more = h.more; rooms = h.rooms; until = h.until; level = h.level ∙ b.level };
+      made = 0;
+      rest = record {
+        more = [];
+        moves = refl;
+        count = refl;
+        few = omega arith;
+        full = λ _. omega arith;
+        stands = b.stands ∙ sym (standing-paused r b.value);
+        complete = (
+          λ none. absurd (some-none k.mid (ap (λ (j : CpuValue). j.mid) b.stands) none),
+          λ end. absurd (paused-due r b.value end),
+        );
       };
-      boundary = resumed.boundary;
+    }
+  where
+    some-none : (mid : Option MidValue) → mid ≡ (paused (start_of Reset c) Reset (b.value ∷ [])).mid → mid ≡ None → ⊥
+    some-none None is none = cc
+    some-none (Some p) is none = cc
+
+-- the processor stands inside the reset
+pub reset-inside : (entries : List TapeEntry) (c : CpuValue) (s m : BusValue) (k : CpuValue) → ResetBegun entries c s m k → IsSome k.mid
+reset-inside entries c s m k b = rw b.stands (search rules)
+
+-- a reset that goes on
+pub resets-more : (entries : List TapeEntry) (c : CpuValue) (clocks made : ℕ) (s m n t : BusValue) (k e : CpuValue)
+    → ResetBegun entries c s m k → HasEffects m n
+    → IfSome k.mid (λ p. Advances (BusStep entries) (registers_of k) p.sequence (given_by p) (clocks - 1) made n t e)
+    → Resets entries c clocks s t e
+resets-more entries c clocks made s m n t k e b h advances = record {
+  value = b.value;
+  read = m;
+  moves = b.moves;
+  taken = n;
+  effects = h.wires;
+  calls = h.calls;
+  goes = record { more = h.more; rooms = h.rooms; until = h.until; level = h.level ∙ b.level };
+  made = made;
+  rest = subst (λ (j : CpuValue). IfSome j.mid (λ p. Advances (BusStep entries) (registers_of j) p.sequence (given_by p) (clocks - 1) made n t e)) b.stands advances;
+}
+
+-- an instruction in whose first clock nothing comes of itself
+pub opcode-first : (entries : List TapeEntry) (c : CpuValue) (s m : BusValue) (v : ℕ) (x : Access) → c.mid ≡ None → s.begun ≡ false
+    → Opcode ≡ sequence_due c (ticked entries s.wires) → IsAccess (next_of (start_of Opcode c) Opcode []) v x → BusStep entries x s m
+    → First entries (record { cpu = c; wires = s.wires }) (start_of Opcode c) Opcode (v ∷ []) s m
+opcode-first entries c s m v x boundary level due is did =
+    let w = ticked entries s.wires in
+    let stays = stays-of entries x s m did in
+    let cost = stays.calls in
+    let here : (if s.begun then 0 else ticks_price entries s.wires) ≡ ticks_price entries s.wires = rw level refl in
+    let whole = price-fetch entries c s.wires Opcode v x boundary due is in
+    record {
+      step =
+          step-fetch entries c s.wires boundary
+          ∙ ap (λ (p : Sequence). clocked (begun p (accessed (start_of p c) p [] w))) (sym due)
+          ∙ ap (λ (k : Wires). clocked (accessed (start_of Opcode c) Opcode [] k)) (sym (in_clock-level entries s level))
+          ∙ accessed-is entries (start_of Opcode c) Opcode [] v x s m is did;
+      paid = omega arith;
+      goes = record { more = stays.more; rooms = stays.rooms; until = stays.until; level = stays.begun };
     }
 
-pub resume-cpu : (c : CpuValue) (m : MidValue) (made : ℕ) (s t : BusValue) (e : CpuValue)
-    → c.mid ≡ Some m → IfSome c.mid (λ _. IsMiddle c) → length m.bytes ≡ 6 → s.begun ≡ false
-    → IfSome c.mid (λ m. Advances BusStep (registers_of c) m.sequence (given_by m) 7 made s t e) → ResumedBus c s t e
-resume-cpu c m made s t e inside place six level advances =
-    let middle = rw inside at place in
-    let advanced = rw inside at advances in
-    resume-all c m made s t e inside middle.1 six level advanced
+-- is a turn
+pub opcode-turn : (tape : TapeValue) (c : CpuValue) (clocks : ℕ) (s t : BusValue) (e : CpuValue) → clocks ≡ 7 → ReadsOpcode c s
+    → s.begun ≡ false → Fits tape s → Runs (BusStep tape.entries) (registers_of c) Opcode s t e → e.mid ≡ None
+    → TurnedBus tape.entries clocks c s t e
+opcode-turn tape c clocks s t e whole reads level fits runs boundary =
+    let entries = tape.entries in
+    let due : Opcode ≡ sequence_due c (ticked entries s.wires) =
+    sym (ap (sequence_due c) (ticked-quiet tape s fits reads.quiet) ∙ reads.due) in
+    let a = runs-advance entries (registers_of c) Opcode s t e runs boundary in
+    let p = part entries (registers_of c) Opcode [] 7 a.0 s t e (omega arith) (next-first (registers_of c) Opcode) a.1 in
+    let first = opcode-first entries c s p.then_s p.value p.access reads.boundary level due p.is p.did in
+    subst (λ n. TurnedBus entries n c s t e) (sym whole)
+    (turn-bus entries c (registers_of c) Opcode (p.value ∷ []) 0 6 (a.0 - 1) s p.then_s t e first (none-inside c.mid reads.boundary) refl (omega arith) p.rest)

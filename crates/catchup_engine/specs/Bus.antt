@@ -1,26 +1,84 @@
 -- The engine's bus, as the lockstep board sees it.
-use Rattle.std.specs.Prelude.{◌≡◌, ℕ, ◌-◌, ◌^◌, Bool, false, min, length, if◌then◌else◌}
+use Rattle.std.specs.Prelude.{◌≡◌, ℕ, ◌+◌, ◌-◌, ◌*◌, ◌^◌, ◌<◌, ◌≤◌, List, [], All, take, drop, Option, Some, None, Bool, false, min, length, if◌then◌else◌}
+use Rattle.std.specs.Int.{from_bool}
 use Rattle.cpu_core.specs.Course.{Access, read_of, write_of}
+use Rattle.tape_ports.specs.declared.entry.TapeEntry.{TapeEntry}
+use Rattle.tape_ports.specs.Tape.{TapeValue, IsTape}
 use Rattle.catchup_engine.specs.Wires.{Wires, ticked, byte_read, byte_put}
+use Rattle.catchup_engine.specs.Budget.{reaches_device, ticks_price}
+use Rattle.catchup_engine.specs.EngineValue.{Rooms}
 
--- the wires, whether the ticks of the next access's clock are in them already, and the records that the board's trail
--- has room for
+-- The wires, and whether the ticks of the next access's clock are in them already: such a clock counts as done. Then the
+-- entries of the tape that are past, the clock before which nothing comes of itself, how many devices lag, the clock up to
+-- which the trails of the generator and the POKEYs have room, the rooms of all four, and the device calls.
 pub record BusValue : Type 0 where
   pub wires : Wires
   pub begun : Bool
-  pub room : ℕ
+  pub next : ℕ
+  pub event_at : ℕ
+  pub lagging : ℕ
+  pub until : ℕ
+  pub rooms : Rooms
+  pub calls : ℕ
 
--- the wires in the clock of the next access
-unfoldable pub in_clock : Bool → Wires → Wires
-in_clock begun w = if begun then w else ticked w
+-- the wires at another clock
+abbrev pub at_clock : ℕ → Wires → Wires
+at_clock clock w = record w { clock = clock }
+
+-- the wires in the clock of the next access, after its ticks
+unfoldable pub in_clock : List TapeEntry → Bool → Wires → Wires
+in_clock entries begun w = if begun then at_clock (w.clock - 1) w else ticked entries w
+
+-- the wires when that clock is done
+abbrev pub done_clock : Wires → Wires
+done_clock w = at_clock (w.clock + 1) w
+
+-- the calls that a clock's ticks may cost, unless they are done
+abbrev pub begin_price : List TapeEntry → Bool → Wires → ℕ
+begin_price entries begun w = if begun then 0 else ticks_price entries w
+
+-- Something was done to the wires, for which a device may have been brought to the present: the wires are these, so many
+-- device calls were made at most, and all else stays.
+pub record Does (old new : BusValue) (wires : Wires) (most : ℕ) : Type 0 where
+  pub value : new ≡ record old { wires = wires; lagging = new.lagging; until = new.until; calls = new.calls }
+  pub until : old.until ≤ new.until
+  pub calls : new.calls ≤ old.calls + most
+  pub more : old.calls ≤ new.calls
+
+-- what an access leaves: the room of the trails stays, and the calls are within their price
+pub record Stays (entries : List TapeEntry) (x : Access) (s t : BusValue) : Type 0 where
+  pub begun : t.begun ≡ false
+  pub rooms : t.rooms ≡ s.rooms
+  pub until : s.until ≤ t.until
+  pub calls : t.calls ≤ s.calls + (2 * from_bool (reaches_device x) + begin_price entries s.begun s.wires)
+  pub more : s.calls ≤ t.calls
 
 -- one access: the byte read is that of the wires in this clock, or the byte written is put into them
-abbrev pub BusStep : Access → BusValue → BusValue → Type 0
-BusStep (read_of address value) s t =
-    (value ≡ byte_read address (in_clock s.begun s.wires)) × (t.wires ≡ in_clock s.begun s.wires) × (t.begun ≡ false) × (t.room ≡ s.room)
-BusStep (write_of address value) s t =
-    (t.wires ≡ byte_put address value (in_clock s.begun s.wires)) × (t.begun ≡ false) × (t.room ≡ s.room)
+abbrev pub BusStep : List TapeEntry → Access → BusValue → BusValue → Type 0
+BusStep entries (read_of address value) s t =
+    (value ≡ byte_read address (in_clock entries s.begun s.wires))
+    × (t.wires ≡ done_clock (in_clock entries s.begun s.wires)) × Stays entries (read_of address value) s t
+BusStep entries (write_of address value) s t =
+    (t.wires ≡ done_clock (byte_put address value (in_clock entries s.begun s.wires))) × Stays entries (write_of address value) s t
 
--- each access takes a clock and one record at most
+-- the place of a clock among the entries of a tape: those before it are of earlier clocks, and the others aren't
+pub record IsPlace (tape : TapeValue) (clock next : ℕ) : Type 0 where
+  pub within : next ≤ length tape.entries
+  pub before : All (λ entry. entry.clock < clock) (take next tape.entries)
+  pub from : All (λ entry. clock ≤ entry.clock) (drop next tape.entries)
+
+-- the clock of the entry at a place: no later one has an earlier clock, and without one there is none
+abbrev pub ComesNext : TapeValue → ℕ → Option ℕ → Type 0
+ComesNext tape next None = drop next tape.entries ≡ []
+ComesNext tape next (Some at) = All (λ entry. at ≤ entry.clock) (drop next tape.entries)
+
+-- a tape fits where the entries past are those of the clocks done, and no later one comes before the next event
+pub record Fits (tape : TapeValue) (s : BusValue) : Type 0 where
+  pub valid : IsTape tape
+  pub place : IsPlace tape s.wires.clock s.next
+  pub quiet : All (λ entry. s.event_at ≤ entry.clock) (drop s.next tape.entries)
+
+-- each access takes a clock, and one record of each part at most
 abbrev pub room_of : BusValue → ℕ
-room_of s = min (s.room - length s.wires.written) (2 ^ 49 - s.wires.clock)
+room_of s =
+    min (min (s.rooms.board - length s.wires.written) (s.until - s.wires.clock)) (2 ^ 49 - s.wires.clock)

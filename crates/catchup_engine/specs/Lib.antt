@@ -1,7 +1,12 @@
+pub mod Budget
 pub mod Bus
 pub mod EngineValue
+pub mod Events
+pub mod Lags
 pub mod Lockstep
+pub mod Memory
 pub mod Order
 pub mod Run
+pub mod Runs
 pub mod Turn
 pub mod Wires

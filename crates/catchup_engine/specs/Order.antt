@@ -1,24 +1,29 @@
--- The records of the board's own trail.
-use Rattle.std.specs.Prelude.{ℕ, ◌<◌, ◌≤◌, List, [], ◌∷◌, ◌++◌}
+-- The records of a board, part by part.
+use Rattle.std.specs.Prelude.{◌≡◌, ℕ, ◌+◌, ◌≤◌, List, ◌++◌, length}
+use Rattle.board_base.specs.declared.part.Part.TheVariants as part
 use Rattle.board_base.specs.declared.record.Record.{Record}
-use Rattle.board_base.specs.declared.record.Record.TheVariants.{Latch, WatchdogReset}
-use Rattle.catchup_engine.specs.Lockstep.{Board}
+use Rattle.board_base.specs.Records.{MadeBetween}
+use Rattle.tape_ports.specs.declared.entry.TapeEntry.{TapeEntry}
+use Rattle.catchup_engine.specs.Lockstep.{Board, step}
 
--- from one clock to another some latch writes and watchdog resets were made, in the order of their clocks
-abbrev pub MadeBetween : ℕ → List Record → ℕ → Type 0
-MadeBetween from [] to = from ≤ to
-MadeBetween from (Latch clock value ∷ records) to = (from ≤ clock) × (clock < to) × MadeBetween clock records to
-MadeBetween from (WatchdogReset clock ∷ records) to = (from ≤ clock) × (clock < to) × MadeBetween clock records to
-MadeBetween from (_ ∷ records) to = ⊥
-
--- records made before, each part's in front of those of a board
-pub record Earlier : Type 0 where
+-- the records of each part
+pub record Recorded : Type 0 where
   pub strokes : List Record
   pub levels1 : List Record
   pub levels2 : List Record
   pub written : List Record
 
-abbrev pub behind : Earlier → Board → Board
+-- the records of a board
+abbrev pub records_of : Board → Recorded
+records_of b = record {
+  strokes = b.wires.strokes;
+  levels1 = b.wires.levels1;
+  levels2 = b.wires.levels2;
+  written = b.wires.written;
+}
+
+-- a board with records made before, each part's in front of those that it has
+abbrev pub behind : Recorded → Board → Board
 behind l b = record b {
   wires = record b.wires {
     strokes = l.strokes ++ b.wires.strokes;
@@ -28,11 +33,24 @@ behind l b = record b {
   };
 }
 
--- the records of a board
-abbrev pub records_of : Board → Earlier
-records_of b = record {
-  strokes = b.wires.strokes;
-  levels1 = b.wires.levels1;
-  levels2 = b.wires.levels2;
-  written = b.wires.written;
-}
+-- each part's records are those that it makes, made from one clock to another, in the order of their clocks
+pub record AreMadeBetween (from : ℕ) (l : Recorded) (to : ℕ) : Type 0 where
+  pub strokes : MadeBetween part.Generator from l.strokes to
+  pub levels1 : MadeBetween part.Pokey1 from l.levels1 to
+  pub levels2 : MadeBetween part.Pokey2 from l.levels2 to
+  pub written : MadeBetween part.Board from l.written to
+
+-- A step adds to each part's records one at most, which is of its kind and of the clock of the step.
+pub record AddsOneClock (entries : List TapeEntry) (b : Board) : Type 0 where
+  pub added : Recorded
+  pub made : AreMadeBetween b.wires.clock added (b.wires.clock + 1)
+  pub after : records_of (step entries b) ≡ record {
+    strokes = b.wires.strokes ++ added.strokes;
+    levels1 = b.wires.levels1 ++ added.levels1;
+    levels2 = b.wires.levels2 ++ added.levels2;
+    written = b.wires.written ++ added.written;
+  }
+  pub few_strokes : length added.strokes ≤ 1
+  pub few_levels1 : length added.levels1 ≤ 1
+  pub few_levels2 : length added.levels2 ≤ 1
+  pub few_written : length added.written ≤ 1

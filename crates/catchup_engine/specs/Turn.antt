@@ -1,6 +1,14 @@
--- A turn of the lockstep board: the rest of a sequence, or a whole one.
-use Rattle.std.specs.Prelude.{◌≡◌, ℕ, ◌+◌, ◌≤◌, length, None, IsSome, zero, suc}
-use Rattle.catchup_engine.specs.Lockstep.{Board, step}
+-- A turn of the lockstep board: some steps, the first from anywhere and the others from inside a sequence.
+use Rattle.std.specs.Prelude.{◌≡◌, ℕ, ◌+◌, ◌-◌, ◌<◌, ◌≤◌, List, [], ◌∷◌, length, false, None, IsSome, zero, suc}
+use Rattle.board_base.specs.declared.cpu.Sequence.TheVariants.{Opcode, Reset}
+use Rattle.board_base.specs.Cpu.{CpuValue}
+use Rattle.cpu_core.specs.Places.{Advances}
+use Rattle.cpu_core.specs.Sequences.{Moves, start_of}
+use Rattle.tape_ports.specs.declared.entry.TapeEntry.{TapeEntry}
+use Rattle.catchup_engine.specs.Wires.{devices_ticked, reset_begun}
+use Rattle.catchup_engine.specs.Lockstep.{Board, sequence_due, step}
+use Rattle.catchup_engine.specs.Budget.{budget}
+use Rattle.catchup_engine.specs.Bus.{BusStep, BusValue, at_clock}
 
 -- the processor isn't jammed, and stands inside a sequence
 pub record IsInside (b : Board) : Type 0 where
@@ -8,15 +16,53 @@ pub record IsInside (b : Board) : Type 0 where
   pub middle : IsSome b.cpu.mid
 
 -- n steps lead through boards inside a sequence
-abbrev pub Through : ℕ → Board → Board → Type 0
-Through zero b last = last ≡ b
-Through (suc n) b last = IsInside b × Through n (step b) last
+abbrev pub Through : List TapeEntry → ℕ → Board → Board → Type 0
+Through entries zero b last = last ≡ b
+Through entries (suc n) b last = IsInside b × Through entries n (step entries b) last
 
--- one step, and then as many through the inside of the sequence as end it at a boundary; with the bytes that came before
--- they are seven at most, and each makes one record on the board's trail at most
-pub record Turned (before : ℕ) (b last : Board) : Type 0 where
+-- One step, and then as many through the inside of the sequence; with the bytes that came before they are seven at most.
+-- Each makes one record on the board's trail at most, and the device calls are within their budget.
+pub record Turned (entries : List TapeEntry) (before : ℕ) (b last : Board) (calls calls_then : ℕ) : Type 0 where
   pub count : ℕ
-  pub through : Through count (step b) last
+  pub through : Through entries count (step entries b) last
   pub few : before + suc count ≤ 7
   pub clock : last.wires.clock ≡ b.wires.clock + suc count
   pub written : length last.wires.written ≤ length b.wires.written + suc count
+  pub paid : calls_then ≤ calls + budget entries (suc count) b
+
+-- what the bus keeps from one state to a later one
+pub record Goes (s t : BusValue) : Type 0 where
+  pub more : s.calls ≤ t.calls
+  pub rooms : t.rooms ≡ s.rooms
+  pub until : s.until ≤ t.until
+  pub level : t.begun ≡ false
+
+-- a turn of the processor c over the bus s, in so many clocks at most; it stops inside a sequence only where these are done
+pub record TurnedBus (entries : List TapeEntry) (clocks : ℕ) (c : CpuValue) (s t : BusValue) (e : CpuValue) : Type 0 where
+  pub before : ℕ
+  pub turned : Turned entries before (record { cpu = c; wires = s.wires }) (record { cpu = e; wires = t.wires }) s.calls t.calls
+  pub inside : IsSome c.mid → 1 ≤ before
+  pub goes : Goes s t
+  pub at_most : t.wires.clock ≤ s.wires.clock + clocks
+  pub stops : IsSome e.mid → t.wires.clock ≡ s.wires.clock + clocks
+  pub short : IsSome e.mid → before + t.wires.clock ≤ s.wires.clock + 6
+
+-- the next fetch reads an opcode: nothing comes in its clock of itself, and after its ticks neither a reset nor an interrupt
+-- is due
+pub record ReadsOpcode (c : CpuValue) (s : BusValue) : Type 0 where
+  pub boundary : c.mid ≡ None
+  pub quiet : s.wires.clock < s.event_at
+  pub due : sequence_due c (devices_ticked s.wires) ≡ Opcode
+
+-- A reset over a bus whose clock has begun: its read, then its effects in that clock, and then the rest of its accesses, in
+-- so many clocks at most.
+pub record Resets (entries : List TapeEntry) (c : CpuValue) (clocks : ℕ) (s t : BusValue) (e : CpuValue) : Type 0 where
+  pub value : ℕ
+  pub read : BusValue
+  pub moves : Moves (BusStep entries) (start_of Reset c) Reset [] (value ∷ []) s read
+  pub taken : BusValue
+  pub effects : taken.wires ≡ at_clock read.wires.clock (reset_begun (at_clock (read.wires.clock - 1) read.wires))
+  pub calls : taken.calls ≤ read.calls + 4
+  pub goes : Goes read taken
+  pub made : ℕ
+  pub rest : Advances (BusStep entries) (start_of Reset c) Reset (value ∷ []) (clocks - 1) made taken t e

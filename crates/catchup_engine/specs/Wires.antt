@@ -1,7 +1,6 @@
 -- The lockstep board without its processor: what stands on the wires between two clocks, and the records made since the
 -- last clearing. The map and the order within a clock are this project's own profile.
-use Rattle.std.specs.Prelude.{ℕ, ◌+◌, ◌-◌, ◌%◌, List, [], ◌∷◌, ◌++◌, take, drop, slice_index, slice_set}
-use Rattle.board_base.specs.declared.divider.TheConstants.{DIVIDER_PERIOD}
+use Rattle.std.specs.Prelude.{ℕ, ◌+◌, ◌%◌, List, [], ◌∷◌, ◌++◌, Bool, not, ◌&&◌, ◌||◌, ◌==◌, if◌then◌else◌, take, drop, slice_index, slice_set}
 use Rattle.board_base.specs.declared.vector_memory.TheConstants.{VECTOR_RAM_LEN, VECTOR_ROM_LEN}
 use Rattle.board_base.specs.declared.record.Record.{Record}
 use Rattle.board_base.specs.declared.record.Record.TheVariants.{Latch, WatchdogReset}
@@ -16,11 +15,21 @@ use Rattle.board_base.specs.Vg.{VgValue}
 use Rattle.board_map.specs.declared.map.Region.{Region}
 use Rattle.board_map.specs.declared.map.Region.TheVariants as region
 use Rattle.board_map.specs.Map.{region_of}
+use Rattle.avg_device.specs.Tick.{vg_tick, vg_gives, vg_go, vg_reset}
+use Rattle.pokey_chip.specs.Tick.{pokey_tick, pokey_gives}
+use Rattle.pokey_chip.specs.Registers.{register_read, register_written, pot_set}
+use Rattle.earom_cells.specs.Tick.{earom_tick, latched, controlled}
+use Rattle.irq_watchdog.specs.Tick.{divider_tick, acknowledged, watchdog_cleared, reset_taken, line_3k}
+use Rattle.tape_ports.specs.declared.entry.Port.{Port}
+use Rattle.tape_ports.specs.declared.entry.Port.TheVariants as port
+use Rattle.tape_ports.specs.declared.entry.TapeEntry.{TapeEntry}
+use Rattle.tape_ports.specs.Due.{due_at}
 
--- the clocks done, the output latch and the ports, the devices, the memories as the processor and the generator see
--- them, and the four lists of records
+-- the clocks done, whether the POKEYs reach the interrupt line, the output latch and the ports, the devices, the memories
+-- as the processor and the generator see them, and the four lists of records
 pub record Wires : Type 0 where
   pub clock : ℕ
+  pub wired : Bool
   pub out : ℕ
   pub in0 : ℕ
   pub in3 : ℕ
@@ -38,58 +47,117 @@ pub record Wires : Type 0 where
   pub levels2 : List Record
   pub written : List Record
 
--- a clock of the divider; of its lines only the phase moves so far
-abbrev pub phase_moved : DividerValue → DividerValue
-phase_moved d = record d { phase = (d.phase + 1) % DIVIDER_PERIOD }
+-- what an entry of the tape sets: of IN0 the tape has bits 0 to 5
+abbrev pub port_set : Port → ℕ → Wires → Wires
+port_set port.In0 value w = record w { in0 = value % 64 }
+port_set port.In3 value w = record w { in3 = value }
+port_set port.In4 value w = record w { in4 = value }
+port_set (port.Pot1 which) value w = record w { sound1 = pot_set which value w.sound1 }
+port_set (port.Pot2 which) value w = record w { sound2 = pot_set which value w.sound2 }
 
--- the devices tick, and the clock counts as begun
-unfoldable pub ticked : Wires → Wires
-ticked w = record w { clock = w.clock + 1; divider = phase_moved w.divider }
+-- entries are applied in their order
+unfoldable pub applied : List TapeEntry → Wires → Wires
+applied [] w = w
+applied (entry ∷ entries) w = applied entries (port_set entry.port entry.value w)
+
+-- the divider ticks, then the generator over the memory as it stands, POKEY 1, POKEY 2 and the EAROM
+unfoldable pub devices_ticked : Wires → Wires
+devices_ticked w = record w {
+  divider = divider_tick w.divider;
+  vg = vg_tick w.memory w.clock w.vg;
+  sound1 = pokey_tick w.sound1;
+  sound2 = pokey_tick w.sound2;
+  earom = earom_tick w.earom;
+  strokes = w.strokes ++ vg_gives w.clock w.vg;
+  levels1 = w.levels1 ++ pokey_gives w.clock w.sound1;
+  levels2 = w.levels2 ++ pokey_gives w.clock w.sound2;
+}
+
+-- the tape's entries of this clock are applied, and then the devices tick
+unfoldable pub ticked : List TapeEntry → Wires → Wires
+ticked entries w = devices_ticked (applied (due_at w.clock entries) w)
+
+-- a POKEY has a request where IRQST isn't all ones
+abbrev pub has_request : PokeyValue → Bool
+has_request p = not (p.irqst == 7)
+
+-- the interrupt line: the latch, and where they are wired the requests of both POKEYs
+unfoldable pub line_of : Wires → Bool
+line_of w = w.divider.irq || w.wired && (has_request w.sound1 || has_request w.sound2)
+
+-- IN0: the port's bits 0 to 5, bit 6 where the generator is halted, and the 3 kHz line as bit 7
+abbrev pub in0_byte : Wires → ℕ
+in0_byte w = w.in0 + (if w.vg.halted then 64 else 0) + (if line_3k w.divider then 128 else 0)
 
 -- the byte that a region gives
 abbrev pub byte_in : Region → Wires → ℕ
 byte_in (region.Ram k) w = slice_index w.ram k
 byte_in (region.VectorRam k) w = slice_index w.memory k
 byte_in (region.VectorRom k) w = slice_index w.memory (VECTOR_RAM_LEN + k)
+byte_in (region.Sound1 reg) w = register_read reg w.sound1
+byte_in (region.Sound2 reg) w = register_read reg w.sound2
+byte_in region.EaromOut w = w.earom.out
+byte_in region.In0 w = in0_byte w
+byte_in region.In3 w = w.in3
+byte_in region.In4 w = w.in4
+byte_in region.Go w = 255
+byte_in region.VgReset w = 255
+byte_in region.Acknowledge w = 255
+byte_in region.EaromControl w = 255
+byte_in (region.EaromLatch cell) w = 255
+byte_in region.Watchdog w = 255
 byte_in (region.ProgramRom k) w = slice_index w.program k
-byte_in _ w = 255
+byte_in region.Nothing w = 255
 
 -- the byte that a read of an address gives
 unfoldable pub byte_read : ℕ → Wires → ℕ
 byte_read address w = byte_in (region_of address) w
 
--- what a write does to a region, in the clock that has begun
+-- what a write does to a region
 abbrev pub put_in : Region → ℕ → Wires → Wires
 put_in (region.Ram k) value w = record w { ram = slice_set w.ram k value }
 put_in (region.VectorRam k) value w = record w { memory = slice_set w.memory k value }
-put_in region.In4 value w = record w {
-  out = value;
-  written = w.written ++ Latch (w.clock - 1) value ∷ [];
-}
-put_in _ value w = w
+put_in (region.VectorRom k) value w = w
+put_in (region.Sound1 reg) value w = record w { sound1 = register_written reg value w.sound1 }
+put_in (region.Sound2 reg) value w = record w { sound2 = register_written reg value w.sound2 }
+put_in region.EaromOut value w = w
+put_in region.In0 value w = w
+put_in region.In3 value w = w
+put_in region.In4 value w = record w { out = value; written = w.written ++ Latch w.clock value ∷ [] }
+put_in region.Go value w = record w { vg = vg_go w.vg }
+put_in region.VgReset value w = record w { vg = vg_reset w.vg }
+put_in region.Acknowledge value w = record w { divider = acknowledged w.divider }
+put_in region.EaromControl value w = record w { earom = controlled value w.earom }
+put_in (region.EaromLatch cell) value w = record w { earom = latched cell value w.earom }
+put_in region.Watchdog value w = record w { divider = watchdog_cleared w.divider }
+put_in (region.ProgramRom k) value w = w
+put_in region.Nothing value w = w
 
 -- what a write to an address does
 unfoldable pub byte_put : ℕ → ℕ → Wires → Wires
 byte_put address value w = put_in (region_of address) value w
 
--- the first clock of a reset: one by the watchdog is recorded, and clears the output latch
+-- what the first clock of a reset does besides its read: one by the watchdog halts the generator, clears the output latch
+-- without a record of a write to it, and is recorded itself
 abbrev pub reset_by : Pending → Wires → Wires
 reset_by Watchdog w = record w {
   out = 0;
-  divider = record w.divider { pending = Nothing };
-  written = w.written ++ WatchdogReset (w.clock - 1) ∷ [];
+  divider = reset_taken w.divider;
+  vg = vg_reset w.vg;
+  written = w.written ++ WatchdogReset w.clock ∷ [];
 }
-reset_by Power w = record w { divider = record w.divider { pending = Nothing } }
-reset_by Nothing w = w
+reset_by Power w = record w { divider = reset_taken w.divider }
+reset_by Nothing w = record w { divider = reset_taken w.divider }
 
--- a pending reset is begun
+-- the pending reset is begun
 unfoldable pub reset_begun : Wires → Wires
 reset_begun w = reset_by w.divider.pending w
 
 -- the wires of a board over an image, with no records yet: the vector ROM stands behind the vector RAM
-abbrev pub wires_of : List ℕ → BoardValue → Wires
-wires_of image b = record {
+abbrev pub wires_of : List ℕ → Bool → BoardValue → Wires
+wires_of image wired b = record {
   clock = b.clock;
+  wired = wired;
   out = b.out;
   in0 = b.in0;
   in3 = b.in3;
@@ -102,6 +170,29 @@ wires_of image b = record {
   ram = b.ram;
   memory = b.vram ++ take VECTOR_ROM_LEN image;
   program = drop VECTOR_ROM_LEN image;
+  strokes = [];
+  levels1 = [];
+  levels2 = [];
+  written = [];
+}
+
+-- the wires of another board over the same image
+abbrev pub reloaded : Wires → BoardValue → Wires
+reloaded w b = record {
+  clock = b.clock;
+  wired = w.wired;
+  out = b.out;
+  in0 = b.in0;
+  in3 = b.in3;
+  in4 = b.in4;
+  divider = b.divider;
+  vg = b.vg;
+  sound1 = b.sound1;
+  sound2 = b.sound2;
+  earom = b.earom;
+  ram = b.ram;
+  memory = b.vram ++ drop VECTOR_RAM_LEN w.memory;
+  program = w.program;
   strokes = [];
   levels1 = [];
   levels2 = [];

@@ -1,172 +1,130 @@
-ghost use Rattle.std.specs.Prelude.{◌≡◌, ◌+◌, ◌-◌, ◌≤◌, ◌<◌, ℕ, [], true, false, None, IsSome, IfSome, IfOk, length};
-ghost use Rattle.cpu_core.specs.Sequences.{start_of, Runs};
-ghost use Rattle.catchup_engine.specs.Bus.{BusStep, room_of};
-ghost use Rattle.catchup_engine.specs.Lockstep.{Board, begun, sequence_due};
-ghost use Rattle.catchup_engine.specs.Run.{is_over, run_to, window_limit, cause_of, IsPlaced};
-ghost use Rattle.catchup_engine.specs.Turn.{Turned};
-ghost use Rattle.catchup_engine.specs.EngineValue.{HasNoRecords, cleared};
-ghost use Rattle.catchup_engine.specs.Wires.{wires_of, board_of};
+ghost use Rattle.std.specs.Prelude.{◌≡◌, ◌+◌, ◌-◌, ◌^◌, ◌≤◌, ◌<◌, ◌==◌, ℕ, [], true, false, None, IfSome, IfOk, min};
+ghost use Rattle.board_base.specs.Board.{BoardValue};
 ghost use Rattle.cpu_core.specs.Places.{IsMiddle};
 ghost use Rattle.cpu_table.specs.Opcodes.{row_of};
+ghost use Rattle.catchup_engine.specs.Budget.{budget};
+ghost use Rattle.catchup_engine.specs.EngineValue.{HasNoRecords, HasRoom, cleared, counted_on};
+ghost use Rattle.catchup_engine.specs.Lockstep.{Board};
+ghost use Rattle.catchup_engine.specs.Memory.{memory_byte};
+ghost use Rattle.catchup_engine.specs.Run.{boundary_steps, cause_of, cut_steps, is_cut, is_over, to_boundary, to_cut, window_limit, wrap_of};
+ghost use Rattle.catchup_engine.specs.Wires.{board_of, reloaded, wires_of};
 
 use crate::bus::BoardBus;
+use crate::devices::Devices;
+use crate::run::{run_to_cut, run_until};
 use crate::stop::Stop;
-use board_base::{
-    BoardState, CLOCK_LIMIT, CpuState, DIVIDER_PERIOD, OutOfMemory, Pending, Sequence, Trails,
-};
-use cpu_alu::Flags;
+use avg_device::VectorUnit;
+use board_base::{BoardState, CLOCK_LIMIT, CpuState, DIVIDER_PERIOD, OutOfMemory, Trails};
 use cpu_core::Cpu;
+use earom_cells::CellUnit;
+use irq_watchdog::DividerUnit;
+use pokey_chip::SoundUnit;
 use rom_image::Image;
 use std::alloc::Global;
 use std::marker::Model;
 use tape_ports::Tape;
 
-/// The engine.
+/// The engine: a processor and five devices that lag behind it, which stand for one lockstep board.
+///
+/// A device is brought to the present where something can see it. What the engine stands for is the
+/// board advanced one clock at a time.
 #[derive(Drop)]
-pub struct Engine {
+pub struct Engine<V: VectorUnit, P: SoundUnit, C: CellUnit, D: DividerUnit> {
     cpu: Cpu,
-    bus: BoardBus,
+    bus: BoardBus<V, P, C, D>,
+    done: u64,
 }
 
-impl Model for Engine {
-    ghost use Rattle.std.specs.Prelude.{◌≡◌, ◌+◌, ◌≤◌, false, IsSome};
-    ghost use Rattle.board_base.specs.declared.board.TheConstants.{CLOCK_LIMIT};
+impl<V: VectorUnit, P: SoundUnit, C: CellUnit, D: DividerUnit> Model for Engine<V, P, C, D> {
+    ghost use Rattle.std.specs.Prelude.{◌≡◌, false};
     ghost use Rattle.catchup_engine.specs.EngineValue.{EngineValue};
+    ghost use Rattle.catchup_engine.specs.Runs.{IsInRange};
 
     ghost Value = { EngineValue };
 
-    ghost view = { λ e. record { board = record { cpu = e.cpu; wires = e.bus.wires }; room = e.bus.room } };
+    ghost view = { λ e. record {
+      board = record { cpu = e.cpu; wires = e.bus.wires };
+      lagging = e.bus.lagging;
+      rooms = e.bus.rooms;
+      calls = e.bus.calls;
+      done = e.done;
+    } };
 
-    ghost invariant = { λ e. (e.bus.begun ≡ false) × (e.bus.wires.clock ≤ CLOCK_LIMIT + 16)
-        × (IsSome e.cpu.mid → e.bus.wires.clock ≤ CLOCK_LIMIT) };
+    ghost invariant = { λ e. (e.bus.begun ≡ false) × IsInRange e.cpu e.bus };
 }
 
-/// What a fetch begins in a clock whose ticks are done.
-fn due(cpu: &Cpu, bus: &BoardBus) -> Sequence
-    ensures { result ≡ sequence_due cpu.now bus.now.wires }
-{
-    if bus.pending() != Pending::Nothing {
-        Sequence::Reset
-    } else if bus.irq() && !Flags::from_byte(cpu.state().p).interrupt {
-        Sequence::Interrupt
-    } else {
-        Sequence::Opcode
-    }
-}
-
-/// What else the first clock of a sequence does.
-fn begin_sequence(bus: &mut BoardBus, sequence: Sequence)
-    requires room { length bus.old.wires.written < bus.old.room }
-    requires begun { 1 ≤ bus.old.wires.clock }
-    ensures value { bus.new ≡ record bus.old { wires = begun sequence bus.old.wires } }
-    ensures few { length bus.new.wires.written ≤ length bus.old.wires.written + 1 }
-    ensures clock { bus.new.wires.clock ≡ bus.old.wires.clock }
-    ensures room { bus.new.room ≡ bus.old.room }
-{
-    if let Sequence::Reset = sequence {
-        bus.begin_reset();
-    }
-}
-
-/// Does a whole sequence.
-fn perform(cpu: &mut Cpu, sequence: Sequence, bus: &mut BoardBus, tape: &Tape)
-    requires running { cpu.old.jam ≡ None }
-    requires boundary { cpu.old.mid ≡ None }
-    requires entries { tape.now.entries ≡ [] }
-    requires room { 7 ≤ room_of bus.old }
-    ensures runs { Runs BusStep (start_of sequence cpu.old) sequence bus.old bus.new cpu.new }
-    ensures boundary { cpu.new.mid ≡ None }
-{
-    match sequence {
-        Sequence::Reset => cpu.take_reset(bus, tape),
-        Sequence::Interrupt => cpu.take_irq(bus, tape),
-        Sequence::Opcode => {
-            let _fetched = cpu.instruction(bus, tape);
-        }
-    }
-}
-
-/// Does the sequence that a fetch begins.
-fn fetch(cpu: &mut Cpu, bus: &mut BoardBus, tape: &Tape)
-    requires running { cpu.old.jam ≡ None }
-    requires boundary { cpu.old.mid ≡ None }
-    requires level { bus.old.begun ≡ false }
-    requires clock { bus.old.wires.clock < CLOCK_LIMIT }
-    requires room { length bus.old.wires.written + 8 ≤ bus.old.room }
-    requires entries { tape.now.entries ≡ [] }
-    ensures turned { Turned 0 (record { cpu = cpu.old; wires = bus.old.wires }) (record { cpu = cpu.new; wires = bus.new.wires }) }
-    ensures boundary { cpu.new.mid ≡ None }
-    ensures level { bus.new.begun ≡ false }
-    ensures room { bus.new.room ≡ bus.old.room }
-{
-    bus.begin();
-    let sequence = due(cpu, bus);
-    begin_sequence(bus, sequence);
-    perform(cpu, sequence, bus, tape);
-}
-
-/// Does the rest of the sequence under way.
-fn resume(cpu: &mut Cpu, bus: &mut BoardBus, tape: &Tape)
-    requires middle { IsSome cpu.old.mid }
-    requires level { bus.old.begun ≡ false }
-    requires clock { bus.old.wires.clock ≤ CLOCK_LIMIT }
-    requires room { length bus.old.wires.written + 8 ≤ bus.old.room }
-    requires entries { tape.now.entries ≡ [] }
-    ensures turned { Turned 1 (record { cpu = cpu.old; wires = bus.old.wires }) (record { cpu = cpu.new; wires = bus.new.wires }) }
-    ensures boundary { cpu.new.mid ≡ None }
-    ensures level { bus.new.begun ≡ false }
-    ensures room { bus.new.room ≡ bus.old.room }
-{
-    if let Some(mid) = cpu.state().mid {
-        let _count = mid.count;
-        let _made = cpu.resume(bus, tape, 7);
-    }
-}
-
-impl Engine {
+impl<V: VectorUnit, P: SoundUnit, C: CellUnit, D: DividerUnit> Engine<V, P, C, D> {
     /// An engine over an image, at a board, with no records; each trail has room for 6,160. It takes
-    /// all its memory here.
-    pub fn new(alloc: Global, image: &Image, state: &BoardState) -> Result<Engine, OutOfMemory>
+    /// all its memory here: the trails, the RAM and a copy of the image. `wired` tells whether the
+    /// timer requests of the POKEYs reach the interrupt line. Five device calls.
+    pub fn new(
+        alloc: Global,
+        image: &Image,
+        state: &BoardState,
+        devices: Devices<V, P, C, D>,
+        wired: bool,
+    ) -> Result<Engine<V, P, C, D>, OutOfMemory>
         requires undocumented { IfSome state.now.cpu.jam (λ o. row_of o ≡ None) }
         requires place { IfSome state.now.cpu.mid (λ _. IsMiddle state.now.cpu) }
-        ensures { IfOk result (λ engine. engine.board ≡ record { cpu = state.now.cpu; wires = wires_of image.now state.now }) }
+        ensures board { IfOk result (λ e. e.board ≡ record { cpu = state.now.cpu; wires = wires_of image.now wired state.now }) }
+        ensures settled { IfOk result (λ e. e.lagging ≡ 0) }
+        ensures room { IfOk result (λ e. HasRoom e.rooms) }
+        ensures calls { IfOk result (λ e. e.calls ≡ counted_on (V.calls devices.vector + P.calls devices.sound1 + P.calls devices.sound2
+            + C.calls devices.cells + D.calls devices.divider) 5) }
+        ensures done { IfOk result (λ e. e.done ≡ 0) }
     {
         let _clock = state.clock;
-        let bus = BoardBus::new(alloc, image, state)?;
+        let bus = BoardBus::new(alloc, image, state, devices, wired)?;
+        let _room = bus.clock();
         Ok(Engine {
             cpu: Cpu::new(state.cpu),
             bus,
+            done: 0,
         })
     }
 
-    /// Whether a run to this limit is over.
-    fn is_done(&self, limit: u64) -> bool
-        ensures { result ≡ is_over limit self.now.board }
+    /// Takes on another board over the same image. Five device calls.
+    pub fn load(&mut self, state: &BoardState)
+        requires settled { self.old.lagging ≡ 0 }
+        requires empty { HasNoRecords self.old.board }
+        requires undocumented { IfSome state.now.cpu.jam (λ o. row_of o ≡ None) }
+        requires place { IfSome state.now.cpu.mid (λ _. IsMiddle state.now.cpu) }
+        ensures value { self.new ≡ record self.old { board = record { cpu = state.now.cpu; wires = reloaded self.old.board.wires state.now }; calls = counted_on self.old.calls 5 } }
     {
-        let state = self.cpu.state();
-        state.jam.is_some() || state.mid.is_none() && limit <= self.bus.clock()
+        let _clock = state.clock;
+        self.bus.load(state);
+        self.cpu = Cpu::new(state.cpu);
     }
 
-    /// Does the rest of the sequence under way, if there is one, and then whole sequences up to the
-    /// limit.
-    fn run_until(&mut self, tape: &Tape, limit: u64)
+    /// Counts the clocks done since one.
+    fn count_clocks(&mut self, before: u64)
+        requires { before ≤ self.old.board.wires.clock }
+        ensures { self.new ≡ record self.old { done = counted_on self.old.done (self.old.board.wires.clock - before) } }
+    {
+        self.done = self.done.saturating_add(self.bus.clock() - before);
+    }
+
+    /// Runs to a boundary that isn't before this clock.
+    fn advance(&mut self, tape: &Tape, limit: u64)
         requires limit { limit ≤ CLOCK_LIMIT }
         requires window { limit ≤ self.old.board.wires.clock + DIVIDER_PERIOD }
-        requires written { self.old.board.wires.written ≡ [] }
-        requires entries { tape.now.entries ≡ [] }
-        ensures board { self.new.board ≡ run_to limit self.old.board }
+        requires settled { self.old.lagging ≡ 0 }
+        requires empty { HasNoRecords self.old.board }
+        ensures board { self.new.board ≡ to_boundary tape.now.entries limit self.old.board }
         ensures over { is_over limit self.new.board ≡ true }
         ensures boundary { self.new.board.cpu.mid ≡ None }
-        ensures room { self.new.room ≡ self.old.room }
+        ensures calls { self.new.calls ≤ self.old.calls + budget tape.now.entries (boundary_steps tape.now.entries limit self.old.board) self.old.board }
+        ensures more { self.old.calls ≤ self.new.calls }
+        ensures later { self.old.board.wires.clock ≤ self.new.board.wires.clock }
+        ensures done { self.new.done ≡ counted_on self.old.done (self.new.board.wires.clock - self.old.board.wires.clock) }
+        ensures rooms { self.new.rooms ≡ self.old.rooms }
     {
-        let _clock = self.bus.clock();
-        let _state = self.cpu.state();
-        if self.cpu.state().mid.is_some() {
-            resume(&mut self.cpu, &mut self.bus, tape);
-        }
-        while !self.is_done(limit) {
-            fetch(&mut self.cpu, &mut self.bus, tape);
-        }
+        let before = self.bus.clock();
+        self.bus.has_room();
+        self.bus.look_at(tape);
+        let cpu = Cpu::new(*self.cpu.state());
+        self.cpu = run_until(cpu, &mut self.bus, tape, limit);
+        self.count_clocks(before);
     }
 
     /// Why a run to this limit has ended.
@@ -185,23 +143,101 @@ impl Engine {
     }
 
     /// Runs to the limit, or to the first boundary after the divider's next wrap where that comes
-    /// first. A board that is jammed takes no clock.
+    /// first. A board that is jammed takes no clock; a sequence under way is ended first.
     #[tactic(auto, using(crate::proofs::Windows::windows))]
     pub fn run(&mut self, tape: &Tape, limit: u64) -> Stop
         requires limit { limit ≤ CLOCK_LIMIT }
+        requires settled { self.old.lagging ≡ 0 }
         requires empty { HasNoRecords self.old.board }
-        requires entries { tape.now.entries ≡ [] }
-        ensures board { self.new.board ≡ run_to (window_limit limit self.old.board) self.old.board }
+        ensures board { self.new.board ≡ to_boundary tape.now.entries (window_limit limit self.old.board) self.old.board }
         ensures cause { result ≡ cause_of limit self.new.board }
         ensures boundary { self.new.board.cpu.mid ≡ None }
-        ensures window { result ≡ Stop.Window → self.old.board.wires.clock + (DIVIDER_PERIOD - self.old.board.wires.divider.phase) ≤ self.new.board.wires.clock }
+        ensures window { result ≡ Stop.Window → wrap_of self.old.board ≤ self.new.board.wires.clock }
         ensures later { result ≡ Stop.Window → self.old.board.wires.clock < self.new.board.wires.clock }
         ensures before { result ≡ Stop.Window → self.new.board.wires.clock < limit }
-        ensures room { self.new.room ≡ self.old.room }
+        ensures calls { self.new.calls ≤ self.old.calls
+            + budget tape.now.entries (boundary_steps tape.now.entries (window_limit limit self.old.board) self.old.board) self.old.board }
+        ensures more { self.old.calls ≤ self.new.calls }
+        ensures done { self.new.done ≡ counted_on self.old.done (self.new.board.wires.clock - self.old.board.wires.clock) }
+        ensures rooms { self.new.rooms ≡ self.old.rooms }
     {
-        let until = limit.min(self.bus.clock() + self.bus.quiet());
-        self.run_until(tape, until);
+        let until = limit.min(self.bus.next_wrap());
+        self.advance(tape, until);
         self.cause(limit)
+    }
+
+    /// Does what is left of the sequence under way, or else one instruction or sequence. A board that
+    /// is jammed takes no clock.
+    pub fn step(&mut self, tape: &Tape) -> Stop
+        requires clock { self.old.board.wires.clock < CLOCK_LIMIT }
+        requires settled { self.old.lagging ≡ 0 }
+        requires empty { HasNoRecords self.old.board }
+        ensures board { self.new.board ≡ to_boundary tape.now.entries (self.old.board.wires.clock + 1) self.old.board }
+        ensures cause { result ≡ cause_of (self.old.board.wires.clock + 1) self.new.board }
+        ensures boundary { self.new.board.cpu.mid ≡ None }
+        ensures more { self.old.calls ≤ self.new.calls }
+        ensures done { self.new.done ≡ counted_on self.old.done (self.new.board.wires.clock - self.old.board.wires.clock) }
+        ensures rooms { self.new.rooms ≡ self.old.rooms }
+    {
+        let limit = self.bus.clock() + 1;
+        self.advance(tape, limit);
+        self.cause(limit)
+    }
+
+    /// Runs to this clock, inside a sequence too, or to the first boundary after the divider's next
+    /// wrap where that comes first. A board that is jammed takes no clock.
+    #[tactic(auto, using(crate::proofs::Windows::windows))]
+    pub fn run_to(&mut self, tape: &Tape, cut: u64) -> Stop
+        requires cut { cut ≤ CLOCK_LIMIT }
+        requires settled { self.old.lagging ≡ 0 }
+        requires empty { HasNoRecords self.old.board }
+        ensures board { self.new.board ≡ to_cut tape.now.entries cut (wrap_of self.old.board) self.old.board }
+        ensures cause { result ≡ cause_of cut self.new.board }
+        ensures window { result ≡ Stop.Window → wrap_of self.old.board ≤ self.new.board.wires.clock }
+        ensures later { result ≡ Stop.Window → self.old.board.wires.clock < self.new.board.wires.clock }
+        ensures before { result ≡ Stop.Window → self.new.board.wires.clock < cut }
+        ensures calls { self.new.calls ≤ self.old.calls
+            + budget tape.now.entries (cut_steps tape.now.entries cut (wrap_of self.old.board) self.old.board) self.old.board }
+        ensures more { self.old.calls ≤ self.new.calls }
+        ensures done { self.new.done ≡ counted_on self.old.done (self.new.board.wires.clock - self.old.board.wires.clock) }
+        ensures rooms { self.new.rooms ≡ self.old.rooms }
+    {
+        let wrap = self.bus.next_wrap();
+        let before = self.bus.clock();
+        self.bus.has_room();
+        self.bus.look_at(tape);
+        let cpu = Cpu::new(*self.cpu.state());
+        self.cpu = run_to_cut(cpu, &mut self.bus, tape, cut, wrap);
+        self.count_clocks(before);
+        self.cause(cut)
+    }
+
+    /// Brings each device to the present. One that stands there already isn't called, so that there
+    /// are as many device calls as devices that lag, or fewer.
+    pub fn settle(&mut self)
+        ensures value { self.new ≡ record self.old { lagging = 0; calls = self.new.calls } }
+        ensures calls { self.new.calls ≤ self.old.calls + self.old.lagging }
+        ensures few { self.old.lagging ≤ 5 }
+        ensures more { self.old.calls ≤ self.new.calls }
+    {
+        self.bus.settle();
+    }
+
+    /// Whether each device stands at the present.
+    pub fn is_settled(&self) -> bool
+        ensures { result ≡ (self.now.lagging == 0) }
+    {
+        self.bus.is_settled()
+    }
+
+    /// Copies the board.
+    pub fn state(&self, into: &mut BoardState)
+        requires settled { self.now.lagging ≡ 0 }
+        ensures board { into.new ≡ board_of self.now.board.cpu self.now.board.wires }
+        ensures undocumented { IfSome self.now.board.cpu.jam (λ o. row_of o ≡ None) }
+        ensures place { IfSome self.now.board.cpu.mid (λ _. IsMiddle self.now.board.cpu) }
+    {
+        self.bus.state(self.cpu.state(), into);
     }
 
     /// The clocks done.
@@ -218,36 +254,44 @@ impl Engine {
         self.cpu.state()
     }
 
-    /// Copies the board.
-    pub fn state(&self, into: &mut BoardState)
-        ensures board { into.new ≡ board_of self.now.board.cpu self.now.board.wires }
-        ensures undocumented { IfSome self.now.board.cpu.jam (λ o. row_of o ≡ None) }
-        ensures place { IfSome self.now.board.cpu.mid (λ _. IsMiddle self.now.board.cpu) }
+    /// The byte at an address of the RAM, the vector RAM or a ROM; none elsewhere.
+    pub fn byte_at(&self, addr: u16) -> Option<u8>
+        ensures { result ≡ memory_byte addr self.now.board.wires }
     {
-        self.bus.state(self.cpu.state(), into);
+        self.bus.byte_at(addr)
     }
 
     /// The records of each part since the last clearing, in order.
     pub fn trails(&self) -> Trails<'_>
+        requires settled { self.now.lagging ≡ 0 }
         ensures vector { result.vector.now.records ≡ self.now.board.wires.strokes }
         ensures sound1 { result.sound1.now.records ≡ self.now.board.wires.levels1 }
         ensures sound2 { result.sound2.now.records ≡ self.now.board.wires.levels2 }
         ensures board { result.board.now.records ≡ self.now.board.wires.written }
+        ensures rooms { self.now.rooms ≡ record { vector = result.vector.now.room; sound1 = result.sound1.now.room; sound2 = result.sound2.now.room; board = result.board.now.room } }
     {
         self.bus.trails()
     }
 
-    /// Forgets the records, and leaves the board.
+    /// Forgets the records, and leaves the board; the trails have their first room again.
     pub fn clear_trails(&mut self)
+        requires settled { self.old.lagging ≡ 0 }
         ensures { self.new ≡ record self.old { board = cleared self.old.board } }
     {
         self.bus.clear_trails();
     }
-}
 
-/// A run to a clock is a run to an earlier one, and then one from there. It tells a law, and does
-/// nothing.
-#[tactic(auto, using(crate::proofs::Ends::splits))]
-pub fn split_runs()
-    ensures { (x y : ℕ) (b : Board) → x ≤ y → IsPlaced b → run_to y b ≡ run_to y (run_to x b) }
-{}
+    /// The sum of the device calls, or the greatest number of 64 bits.
+    pub fn calls(&self) -> u64
+        ensures { result ≡ self.now.calls }
+    {
+        self.bus.calls()
+    }
+
+    /// The clocks that this engine has done since it was made, or the greatest number of 64 bits.
+    pub fn done(&self) -> u64
+        ensures { result ≡ self.now.done }
+    {
+        self.done
+    }
+}

@@ -1,9 +1,22 @@
 //! The engine: the board, moved by sequences of the processor.
 #![tactic(auto)]
 
-pub mod bus;
+mod bus;
+pub mod devices;
 pub mod engine;
+mod lane;
+mod laws;
+mod run;
 pub mod stop;
+mod turn;
 
-pub use engine::{Engine, split_runs};
+pub use devices::Devices;
+pub use engine::Engine;
+pub use laws::{
+    budget_in_parts, earlier_records, one_record_of_each_part, places_of_runs, split_runs,
+    steps_of_split_runs,
+};
 pub use stop::Stop;
+
+#[cfg(test)]
+mod tests;

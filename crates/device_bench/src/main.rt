@@ -1,13 +1,15 @@
-//! The speed of the fast devices beside the plain ones, and of a bare processor.
+//! The speed of the fast devices beside the plain ones, of a bare processor, and of whole boards.
 //!
 //! With no word on the command line it does a small fixed amount of work and prints sums, which are
 //! the same on every machine. With a number it does that many clocks of each kind, and prints speeds
 //! and ratios, by the processor time that they took.
 #![tactic(auto)]
 
+mod board;
 mod measure;
 mod picture;
 mod processor;
+mod programs;
 mod report;
 mod shifts;
 mod sound;
@@ -35,5 +37,6 @@ fn main(rt: HostRuntime) -> Result<(), Fault> {
     report::pictures(&rt, rt.alloc(), report)?;
     report::sounds(&rt, rt.alloc(), report)?;
     report::moves(&rt, rt.alloc(), report)?;
-    report::instructions(&rt, rt.alloc(), report)
+    report::instructions(&rt, rt.alloc(), report)?;
+    report::boards(&rt, rt.alloc(), report)
 }

@@ -1,5 +1,7 @@
-ghost use Rattle.std.specs.Prelude.{◌≤◌};
+ghost use Rattle.std.specs.Prelude.{◌≡◌, ◌≤◌, None};
+ghost use Rattle.catchup_engine.specs.EngineValue.{HasNoRecords};
 
+use crate::board::{BoardTally, run_windows};
 use crate::picture::draw;
 use crate::processor::count;
 use crate::shifts::{Form, Registers};
@@ -8,10 +10,14 @@ use crate::tally::Tally;
 use crate::work::Work;
 use avg_device::VectorUnit;
 use board_base::{CLOCK_LIMIT, CpuState, OutOfMemory, VectorMemory};
+use catchup_engine::Engine;
+use earom_cells::CellUnit;
+use irq_watchdog::DividerUnit;
 use pokey_chip::SoundUnit;
 use std::alloc::Global;
 use std::io;
 use std::time::{CpuClock, Duration};
+use tape_ports::Tape;
 
 /// Why there is no measure.
 #[derive(Debug, Drop)]
@@ -105,6 +111,24 @@ pub fn timed_counting<C: CpuClock>(
 {
     let start = clock.thread_cpu_time()?;
     let outcome = count(alloc, rounds)?;
+    let nanos = nanos_since(clock, start)?;
+    Ok(Timed { outcome, nanos })
+}
+
+/// Times an engine that runs to a limit, window by window.
+pub fn timed_running<T: CpuClock, V: VectorUnit, P: SoundUnit, C: CellUnit, D: DividerUnit>(
+    clock: &T,
+    engine: &mut Engine<V, P, C, D>,
+    tape: &Tape,
+    limit: u64,
+) -> Result<Timed<BoardTally>, Fault>
+    requires limit { limit ≤ CLOCK_LIMIT }
+    requires settled { engine.old.lagging ≡ 0 }
+    requires empty { HasNoRecords engine.old.board }
+    requires boundary { engine.old.board.cpu.mid ≡ None }
+{
+    let start = clock.thread_cpu_time()?;
+    let outcome = run_windows(engine, tape, limit);
     let nanos = nanos_since(clock, start)?;
     Ok(Timed { outcome, nanos })
 }

@@ -1,19 +1,28 @@
 ghost use Rattle.std.specs.Prelude.{◌≡◌, ◌≤◌};
 ghost use Rattle.device_bench.specs.Report.{clocks_of};
 
-use crate::measure::{Fault, Timed, timed_counting, timed_drawing, timed_playing, timed_shifts};
+use crate::board::BoardTally;
+use crate::measure::{
+    Fault, Timed, timed_counting, timed_drawing, timed_playing, timed_running, timed_shifts,
+};
 use crate::picture::{long_vectors, short_vectors};
 use crate::processor::ROUND_CLOCKS;
+use crate::programs::Program;
 use crate::shifts::Form;
 use crate::sound::Tune;
 use crate::tally::Tally;
 use crate::work::{SLICE, Work};
-use avg_device::{FastVg, PlainVg};
-use board_base::{CLOCK_LIMIT, CpuState, VectorMemory};
-use pokey_chip::{FastPokey, PlainPokey};
+use avg_device::{FastVg, PlainVg, VectorUnit};
+use board_base::{BoardState, CLOCK_LIMIT, CpuState, VectorMemory};
+use catchup_engine::{Devices, Engine};
+use earom_cells::Earom;
+use irq_watchdog::Divider;
+use pokey_chip::{FastPokey, PlainPokey, SoundUnit};
+use rom_image::Image;
 use std::alloc::Global;
 use std::io;
 use std::time::CpuClock;
+use tape_ports::Tape;
 
 /// The fixed number of clocks for pictures: 10 of short vectors.
 const PICTURE_CLOCKS: u64 = 57_120;
@@ -23,6 +32,10 @@ const SOUND_CLOCKS: u64 = 84_000;
 
 /// The fixed number of clocks for a processor: 50 rounds of its program.
 const PROCESSOR_CLOCKS: u64 = 64_100;
+
+/// The fixed number of clocks for boards: 40 periods of the divider and a part of the next. A board
+/// that doesn't clear the watchdog is reset five times.
+const BOARD_CLOCKS: u64 = 250_000;
 
 /// What is printed: sums over a fixed number of clocks, or times of as many as were asked for, at
 /// most `CLOCK_LIMIT`.
@@ -227,4 +240,90 @@ pub fn instructions<R: io::Print + CpuClock>(
         speed(rt, "processor", clocks, timed.nanos)?;
     }
     Ok(())
+}
+
+/// Prints what records a part of a board has made.
+fn print_part<R: io::Print>(rt: &R, name: &str, tally: Tally) -> io::Result<()> {
+    let Tally { records, sum } = tally;
+    println!(rt; "  {name}: {records} records, the sum of their clocks {sum}")
+}
+
+/// Prints what records a board has made, where sums are printed, and else its speed.
+fn print_board<R: io::Print>(
+    rt: &R,
+    report: Report,
+    name: &str,
+    clocks: u64,
+    pc: u16,
+    timed: Timed<BoardTally>,
+) -> io::Result<()> {
+    let BoardTally {
+        strokes,
+        levels1,
+        levels2,
+        written,
+    } = timed.outcome;
+    match report {
+        Report::Sums => {
+            println!(rt; "{name}: {clocks} clocks, pc {pc}")?;
+            print_part(rt, "strokes", strokes)?;
+            print_part(rt, "levels of POKEY 1", levels1)?;
+            print_part(rt, "levels of POKEY 2", levels2)?;
+            print_part(rt, "latches and resets", written)
+        }
+        Report::Times { .. } => speed(rt, name, clocks, timed.nanos),
+    }
+}
+
+/// Runs a board from power-on, and tells the time.
+fn board<R: io::Print + CpuClock, V: VectorUnit, P: SoundUnit>(
+    rt: &R,
+    alloc: Global,
+    report: Report,
+    name: &str,
+    image: &Image,
+    devices: Devices<V, P, Earom, Divider>,
+) -> Result<u64, Fault> {
+    let limit = report.work(BOARD_CLOCKS, SLICE).clocks;
+    let tape = Tape::new(alloc, &[], limit)?;
+    let mut engine = Engine::new(alloc, image, &BoardState::power_on(), devices, true)?;
+    let timed = timed_running(rt, &mut engine, &tape, limit)?;
+    print_board(rt, report, name, engine.clock(), engine.cpu().pc, timed)?;
+    Ok(timed.nanos)
+}
+
+/// Compares a board of plain devices and one of fast ones that do the same.
+fn both_boards<R: io::Print + CpuClock>(
+    rt: &R,
+    alloc: Global,
+    report: Report,
+    program: Program,
+) -> Result<(), Fault> {
+    println!(rt; "{}", program.name())?;
+    let image = program.image(alloc)?;
+    let plain = Devices {
+        vector: PlainVg::new(),
+        sound1: PlainPokey::new(),
+        sound2: PlainPokey::new(),
+        cells: Earom::new(),
+        divider: Divider::new(),
+    };
+    let plain = board(rt, alloc, report, "plain devices", &image, plain)?;
+    let fast = Devices {
+        vector: FastVg::new(),
+        sound1: FastPokey::new(),
+        sound2: FastPokey::new(),
+        cells: Earom::new(),
+        divider: Divider::new(),
+    };
+    let fast = board(rt, alloc, report, "fast devices", &image, fast)?;
+    report.ratio(rt, "fast devices to plain devices", fast, plain)?;
+    Ok(())
+}
+
+/// Runs each program on a board of plain devices and on one of fast ones.
+pub fn boards<R: io::Print + CpuClock>(rt: &R, alloc: Global, report: Report) -> Result<(), Fault> {
+    both_boards(rt, alloc, report, Program::CountingLoop)?;
+    both_boards(rt, alloc, report, Program::Soak)?;
+    both_boards(rt, alloc, report, Program::RamLoop)
 }

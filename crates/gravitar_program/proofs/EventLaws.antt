@@ -5,11 +5,11 @@ use Rattle.outside_io.specs.Shelf.{Files, Kept}
 use Rattle.outside_io.proofs.KnownLaws.{grown-nothing}
 use Rattle.tape_ports.specs.Tape.{TapeValue}
 use Rattle.gravitar_program.specs.declared.stop.Stop.{Stop}
-use Rattle.gravitar_program.specs.declared.stop.Stop.TheVariants.{Bad, Absent, Outside, NoMemory, NotBuilt}
+use Rattle.gravitar_program.specs.declared.stop.Stop.TheVariants.{Bad, Absent, Outside, NoMemory}
 use Rattle.gravitar_program.specs.declared.stop.Ending.{Ending}
 use Rattle.gravitar_program.specs.Events.{Event, sent, text_of, stores_of, sending, Did, DidFirst}
 use Rattle.gravitar_program.specs.Words.{Names}
-use Rattle.gravitar_program.specs.Outcome.{both_files, command_outcome, outcome_after, last_board, whole_text, status_of_board}
+use Rattle.gravitar_program.specs.Outcome.{both_files, command_outcome, outcome_after, text_of_run, status_of_run}
 use Rattle.gravitar_program.specs.LastLine.{status_of_ending}
 use Rattle.gravitar_program.specs.Stages.{Refuses, Ends, StopEnds, RunTakes, RunStops}
 
@@ -61,25 +61,24 @@ unfolding command_outcome
 outcome-good names files parts good = ap outcome_after good
 
 ends-of : (parts : List ℕ × TapeValue) (out0 out1 : Option (List ℕ)) (stores0 stores1 : Option (List Kept)) (result : Result Ending Stop)
-    → RunTakes out0 out1 (whole_text (last_board parts)) result
-    → IfOk result (λ ending. status_of_ending ending ≡ status_of_board (last_board parts))
+    → RunTakes out0 out1 (text_of_run parts) result
+    → IfOk result (λ ending. status_of_ending ending ≡ status_of_run parts)
     → RunStops result → stores1 ≡ stores0
     → Ends (outcome_after (Ok parts)) out0 out1 stores0 stores1 result
 ends-of parts out0 out1 stores0 stores1 (Ok ending) took status stops same =
-    (sym status, refl, did-sending (whole_text (last_board parts)) out0 out1 stores0 stores1 took same)
+    (sym status, refl, did-sending (text_of_run parts) out0 out1 stores0 stores1 took same)
 ends-of parts out0 out1 stores0 stores1 (Err Outside) took status stops same =
-    did-first-sending (whole_text (last_board parts)) out0 out1 stores0 stores1 took same
+    did-first-sending (text_of_run parts) out0 out1 stores0 stores1 took same
 ends-of parts out0 out1 stores0 stores1 (Err NoMemory) took status stops same = tt
 ends-of parts out0 out1 stores0 stores1 (Err (Bad note)) took status stops same = absurd stops
 ends-of parts out0 out1 stores0 stores1 (Err (Absent note)) took status stops same = absurd stops
-ends-of parts out0 out1 stores0 stores1 (Err NotBuilt) took status stops same = absurd stops
 
 -- a command whose files were good
 pub run_is-outcome : (told : Option Files) (names : Names) (parts : List ℕ × TapeValue) (out0 out1 : Option (List ℕ))
     (stores0 stores1 : Option (List Kept)) (result : Result Ending Stop)
     → IfSome told (λ files. both_files files names ≡ Ok parts)
-    → RunTakes out0 out1 (whole_text (last_board parts)) result
-    → IfOk result (λ ending. status_of_ending ending ≡ status_of_board (last_board parts))
+    → RunTakes out0 out1 (text_of_run parts) result
+    → IfOk result (λ ending. status_of_ending ending ≡ status_of_run parts)
     → RunStops result → stores1 ≡ stores0
     → IfSome told (λ files. Ends (command_outcome names files) out0 out1 stores0 stores1 result)
 run_is-outcome None names parts out0 out1 stores0 stores1 result good took status stops same = tt
@@ -94,7 +93,6 @@ stop-of names files (Bad note) out0 out1 stores0 stores1 refuses took same = ap 
 stop-of names files (Absent note) out0 out1 stores0 stores1 refuses took same = ap outcome_after refuses
 stop-of names files Outside out0 out1 stores0 stores1 refuses took same = did-nothing _ out0 out1 stores0 stores1 took same
 stop-of names files NoMemory out0 out1 stores0 stores1 refuses took same = tt
-stop-of names files NotBuilt out0 out1 stores0 stores1 refuses took same = ap outcome_after refuses
 
 -- a command that stopped before its run
 pub stop_is-outcome : (told : Option Files) (names : Names) (stop : Stop) (out0 out1 : Option (List ℕ)) (stores0 stores1 : Option (List Kept))

@@ -7,7 +7,7 @@ use Rattle.outside_io.specs.Shelf.{Files, Kept}
 use Rattle.outside_io.specs.Sink.{Takes}
 use Rattle.outside_io.proofs.KnownLaws.{grown-nothing}
 use Rattle.gravitar_program.specs.declared.stop.Stop.{Stop}
-use Rattle.gravitar_program.specs.declared.stop.Stop.TheVariants.{Bad, Absent, Outside, NoMemory, NotBuilt}
+use Rattle.gravitar_program.specs.declared.stop.Stop.TheVariants.{Bad, Absent, Outside, NoMemory}
 use Rattle.gravitar_program.specs.Events.{Did, text_of, stores_of}
 use Rattle.gravitar_program.specs.Words.{Names, command_of}
 use Rattle.gravitar_program.specs.Outcome.{Outcome, refused, command_outcome, outcome_of, usage_text, fault_text, memory_text}
@@ -63,7 +63,6 @@ refusal outcome (Bad note) status out0 out1 stores0 stores1 is ends not6 not7 = 
 refusal outcome (Absent note) status out0 out1 stores0 stores1 is ends not6 not7 = ends
 refusal outcome Outside status out0 out1 stores0 stores1 is ends not6 not7 = absurd (not6 is)
 refusal outcome NoMemory status out0 out1 stores0 stores1 is ends not6 not7 = absurd (not7 is)
-refusal outcome NotBuilt status out0 out1 stores0 stores1 is ends not6 not7 = ends
 
 quiet-of : (stop : Stop) (status : ℕ) (out0 out1 : Option (List ℕ)) (stores0 stores1 : Option (List Kept)) → status ≡ status_of stop
     → StopQuiet out0 out1 stores0 stores1 stop → status ≢ 6 → (out1 ≡ out0) × (stores1 ≡ stores0)
@@ -71,7 +70,6 @@ quiet-of (Bad note) status out0 out1 stores0 stores1 is quiet not6 = quiet
 quiet-of (Absent note) status out0 out1 stores0 stores1 is quiet not6 = quiet
 quiet-of Outside status out0 out1 stores0 stores1 is quiet not6 = absurd (not6 is)
 quiet-of NoMemory status out0 out1 stores0 stores1 is quiet not6 = quiet
-quiet-of NotBuilt status out0 out1 stores0 stores1 is quiet not6 = quiet
 
 pub stop-outcome : (told : Option Files) (words : List (List ℕ)) (names : Names) (stop : Stop) (status : ℕ) (out0 out1 : Option (List ℕ))
     (stores0 stores1 : Option (List Kept)) → Some names ≡ command_of words → status ≡ status_of stop
@@ -105,7 +103,6 @@ fault-note (Bad note) status notes0 notes1 faults0 faults1 is h six = absurd (om
 fault-note (Absent note) status notes0 notes1 faults0 faults1 is h six = absurd (omega arith)
 fault-note Outside status notes0 notes1 faults0 faults1 is h six = h
 fault-note NoMemory status notes0 notes1 faults0 faults1 is h six = absurd (omega arith)
-fault-note NotBuilt status notes0 notes1 faults0 faults1 is h six = absurd (omega arith)
 
 pub memory-note : (stop : Stop) (status : ℕ) (notes0 notes1 : Option (List ℕ)) (faults0 faults1 : ℕ) → status ≡ status_of stop
     → Noted notes0 notes1 faults0 faults1 (note_of stop) → status ≡ 7 → Noted notes0 notes1 faults0 faults1 memory_text
@@ -113,15 +110,13 @@ memory-note (Bad note) status notes0 notes1 faults0 faults1 is h seven = absurd 
 memory-note (Absent note) status notes0 notes1 faults0 faults1 is h seven = absurd (omega arith)
 memory-note Outside status notes0 notes1 faults0 faults1 is h seven = absurd (omega arith)
 memory-note NoMemory status notes0 notes1 faults0 faults1 is h seven = h
-memory-note NotBuilt status notes0 notes1 faults0 faults1 is h seven = absurd (omega arith)
 
 -- the statuses that there are
-pub usage-status : Contains {X = ℕ} (0 ∷ 2 ∷ 3 ∷ 4 ∷ 5 ∷ 6 ∷ 7 ∷ 8 ∷ []) 2
+pub usage-status : Contains {X = ℕ} (0 ∷ 2 ∷ 3 ∷ 4 ∷ 5 ∷ 6 ∷ 7 ∷ []) 2
 usage-status = (1, omega arith, refl)
 
-pub stop-status : (stop : Stop) (status : ℕ) → status ≡ status_of stop → Contains {X = ℕ} (0 ∷ 2 ∷ 3 ∷ 4 ∷ 5 ∷ 6 ∷ 7 ∷ 8 ∷ []) status
+pub stop-status : (stop : Stop) (status : ℕ) → status ≡ status_of stop → Contains {X = ℕ} (0 ∷ 2 ∷ 3 ∷ 4 ∷ 5 ∷ 6 ∷ 7 ∷ []) status
 stop-status (Bad note) status is = rw is (3, omega arith, refl)
 stop-status (Absent note) status is = rw is (4, omega arith, refl)
 stop-status Outside status is = rw is (5, omega arith, refl)
 stop-status NoMemory status is = rw is (6, omega arith, refl)
-stop-status NotBuilt status is = rw is (7, omega arith, refl)

@@ -1,5 +1,5 @@
 -- What a command writes, stores and answers, by its words and its files.
-use Rattle.std.specs.Prelude.{ℕ, ◌+◌, List, [], ◌++◌, length, take, codes, nat_lt, ◌==◌, Option, Some, None, Result, Ok, Err, if◌then◌else◌}
+use Rattle.std.specs.Prelude.{ℕ, ◌+◌, List, [], ◌++◌, false, length, take, codes, nat_lt, ◌==◌, Option, Some, None, Result, Ok, Err, if◌then◌else◌}
 use Rattle.rom_image.specs.declared.image.TheConstants.{IMAGE_LEN}
 use Rattle.tape_ports.specs.declared.tape.TheConstants.{TAPE_LIMIT}
 use Rattle.rom_image.specs.declared.fault.ImageFault.TheVariants.{Length}
@@ -12,13 +12,15 @@ use Rattle.board_base.specs.Cpu.{cpu_at_power_on}
 use Rattle.outside_io.specs.Shelf.{Files}
 use Rattle.catchup_engine.specs.Wires.{wires_of}
 use Rattle.catchup_engine.specs.Lockstep.{Board}
-use Rattle.catchup_engine.specs.Run.{run_to}
-use Rattle.log_text.specs.LogText.{merged_text}
+use Rattle.catchup_engine.specs.Run.{to_boundary}
+use Rattle.log_text.specs.LogText.{log_text}
+use Rattle.tape_ports.specs.declared.entry.TapeEntry.{TapeEntry}
 use Rattle.gravitar_program.specs.declared.cause.Cause.{Cause}
 use Rattle.gravitar_program.specs.declared.cause.Cause.TheVariants.{Absent, Image, Tape}
 use Rattle.gravitar_program.specs.Causes.{cause_text}
 use Rattle.gravitar_program.specs.Events.{Event, sending}
 use Rattle.gravitar_program.specs.LastLine.{ended_by, last_text, ending_of, status_of_ending}
+use Rattle.gravitar_program.specs.OneList.{run_list}
 use Rattle.gravitar_program.specs.Words.{Names, command_of}
 
 pub record Outcome : Type 0 where
@@ -39,9 +41,6 @@ fault_text = codes "gravitar: outside fault\n"
 
 abbrev pub memory_text : List ℕ
 memory_text = codes "gravitar: no memory\n"
-
-abbrev pub unbuilt_text : List ℕ
-unbuilt_text = codes "gravitar: not built\n"
 
 -- the note on a file
 abbrev pub note_text : List ℕ → List ℕ → List ℕ
@@ -80,42 +79,45 @@ image_file files name = and_then (first_bytes name IMAGE_LEN (files name)) (λ b
 unfoldable pub tape_file : Files → List ℕ → Result TapeValue Outcome
 tape_file files name = and_then (first_bytes name TAPE_LIMIT (files name)) (λ bytes. read_as name (tape_read bytes))
 
--- a tape whose entries can't be applied yet
-abbrev pub built : TapeValue → Result TapeValue Outcome
-built tape = if nat_lt 0 (length tape.entries) then Err (refused 8 unbuilt_text) else Ok tape
-
 -- the files of a command, each read wholly before the next
 unfoldable pub both_files : Files → Names → Result (List ℕ × TapeValue) Outcome
 both_files files names =
-    and_then (image_file files names.image) (λ image.
-    and_then (tape_file files names.tape) (λ tape. and_then (built tape) (λ tape. Ok (image, tape))))
+    and_then (image_file files names.image) (λ image. and_then (tape_file files names.tape) (λ tape. Ok (image, tape)))
 
--- the board at power-on over an image
+-- the board at power-on over an image, with the POKEYs not wired to the interrupt line
 abbrev pub first_board : List ℕ → Board
-first_board image = record { cpu = cpu_at_power_on; wires = wires_of image board_at_power_on }
+first_board image = record { cpu = cpu_at_power_on; wires = wires_of image false board_at_power_on }
 
--- the log of a board's records
-unfoldable pub log_of : Board → List ℕ
-log_of b = merged_text b.wires.strokes b.wires.levels1 b.wires.levels2 b.wires.written
-
--- the log of a run that has ended at this board, with its last line
-abbrev pub whole_text : Board → List ℕ
-whole_text b = log_of b ++ last_text b b.cpu.jam
-
--- the board at the end of a run
-abbrev pub last_board : List ℕ × TapeValue → Board
-last_board parts = run_to parts.1.end (first_board parts.0)
+-- the last line of a run that has ended at this board
+abbrev pub last_text_at : Board → List ℕ
+last_text_at b = last_text b b.cpu.jam
 
 -- the status of a run that has ended at this board
-abbrev pub status_of_board : Board → ℕ
-status_of_board b = status_of_ending (ending_of (ended_by b b.cpu.jam))
+abbrev pub status_at : Board → ℕ
+status_at b = status_of_ending (ending_of (ended_by b b.cpu.jam))
 
-abbrev pub outcome_at : Board → Outcome
-outcome_at b = record { status = status_of_board b; note = []; events = sending (whole_text b) }
+-- the log of a run from a board to the first boundary that isn't before the limit: the lines of its records, as the board
+-- makes them clock by clock, and the last line
+unfoldable pub whole_text : List TapeEntry → ℕ → Board → List ℕ
+whole_text entries limit b = log_text (run_list entries limit b) ++ last_text_at (to_boundary entries limit b)
+
+-- the status of such a run
+unfoldable pub run_status : List TapeEntry → ℕ → Board → ℕ
+run_status entries limit b = status_at (to_boundary entries limit b)
+
+-- the log and the status of a run over an image and a tape, from power-on to the tape's END clock
+abbrev pub text_of_run : List ℕ × TapeValue → List ℕ
+text_of_run parts = whole_text parts.1.entries parts.1.end (first_board parts.0)
+
+abbrev pub status_of_run : List ℕ × TapeValue → ℕ
+status_of_run parts = run_status parts.1.entries parts.1.end (first_board parts.0)
+
+abbrev pub outcome_of_run : List ℕ × TapeValue → Outcome
+outcome_of_run parts = record { status = status_of_run parts; note = []; events = sending (text_of_run parts) }
 
 -- what is written and stored for the two files, or the refusal of one
 abbrev pub outcome_after : Result (List ℕ × TapeValue) Outcome → Outcome
-outcome_after (Ok parts) = outcome_at (last_board parts)
+outcome_after (Ok parts) = outcome_of_run parts
 outcome_after (Err refusal) = refusal
 
 unfoldable pub command_outcome : Names → Files → Outcome

@@ -4,11 +4,11 @@ use Rattle.outside_io.specs.Causes.{Rose, Raised}
 use Rattle.outside_io.specs.Known.{grown}
 use Rattle.outside_io.specs.Shelf.{Kept}
 use Rattle.gravitar_program.specs.declared.stop.Stop.{Stop}
-use Rattle.gravitar_program.specs.declared.stop.Stop.TheVariants.{Bad, Absent, Outside, NoMemory, NotBuilt}
+use Rattle.gravitar_program.specs.declared.stop.Stop.TheVariants.{Bad, Absent, Outside, NoMemory}
 use Rattle.gravitar_program.specs.declared.stop.Ending.{Ending}
 use Rattle.gravitar_program.specs.Events.{Did, DidFirst}
 use Rattle.gravitar_program.specs.LastLine.{status_of_ending}
-use Rattle.gravitar_program.specs.Outcome.{Outcome, refused, fault_text, memory_text, unbuilt_text}
+use Rattle.gravitar_program.specs.Outcome.{Outcome, refused, fault_text, memory_text}
 
 -- the status of a command that stopped
 abbrev pub status_of : Stop → ℕ
@@ -16,7 +16,6 @@ status_of (Bad note) = 4
 status_of (Absent note) = 5
 status_of Outside = 6
 status_of NoMemory = 7
-status_of NotBuilt = 8
 
 -- its note
 abbrev pub note_of : Stop → List ℕ
@@ -24,7 +23,6 @@ note_of (Bad note) = string_bytes note
 note_of (Absent note) = string_bytes note
 note_of Outside = fault_text
 note_of NoMemory = memory_text
-note_of NotBuilt = unbuilt_text
 
 -- a stage that writes nothing: its answer is the one that is defined over the files, or a fault or want of memory
 abbrev pub Refuses : {B : Type 0} → Result B Outcome → Stop → Type 0

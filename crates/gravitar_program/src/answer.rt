@@ -19,7 +19,6 @@ pub fn status(stop: &Stop) -> u8
         Stop::Absent(_) => 5,
         Stop::Outside => 6,
         Stop::NoMemory => 7,
-        Stop::NotBuilt => 8,
     }
 }
 
@@ -31,7 +30,6 @@ pub fn note(stop: &Stop) -> &[u8]
         Stop::Bad(note) | Stop::Absent(note) => note.as_bytes(),
         Stop::Outside => OUTSIDE_FAULT,
         Stop::NoMemory => NO_MEMORY,
-        Stop::NotBuilt => b"gravitar: not built\n",
     }
 }
 

@@ -1,4 +1,4 @@
-ghost use Rattle.std.specs.Prelude.{◌≡◌, ℕ, [], false, length, nat_lt, IfOk, IfErr, IfSome, Err, Ok, string_bytes};
+ghost use Rattle.std.specs.Prelude.{◌≡◌, ℕ, IfOk, IfErr, IfSome, Err, Ok, string_bytes};
 ghost use Rattle.gravitar_program.specs.Causes.{cause_text};
 ghost use Rattle.gravitar_program.specs.Outcome.{note_text, first_bytes, read_as, image_read, tape_read, image_file, tape_file, both_files};
 ghost use Rattle.gravitar_program.specs.Stages.{Gives, StageFaults, StageAbsences, IsBadOrMemory};
@@ -117,7 +117,7 @@ pub struct Parts {
     pub tape: Tape,
 }
 
-/// The files of a command, each read wholly before the next. A tape with entries can't be run yet.
+/// The files of a command, each read wholly before the next.
 #[tactic(auto, unfolding(crate::specs::Outcome::both_files))]
 pub fn load_both<S: Shelf>(
     alloc: Global,
@@ -126,7 +126,6 @@ pub fn load_both<S: Shelf>(
 ) -> Result<Parts, Stop>
     ensures content { IfSome (S.files shelf.old) (λ files. Gives (λ parts. (parts.image, parts.tape))
         (both_files files (record { image = command.now.image.now; tape = command.now.tape.now })) result) }
-    ensures entries { IfOk result (λ parts. parts.tape.entries ≡ []) }
     ensures stores { S.stores shelf.new ≡ S.stores shelf.old }
     ensures faults { StageFaults (S.faults shelf.old) (S.faults shelf.new) result }
     ensures absences { StageAbsences (S.absences shelf.old) (S.absences shelf.new) result }
@@ -135,20 +134,7 @@ pub fn load_both<S: Shelf>(
         Err(stop) => Err(stop),
         Ok(image) => match load_tape(alloc, command.tape, shelf) {
             Err(stop) => Err(stop),
-            Ok(tape) => {
-                if has_entries(&tape) {
-                    return Err(Stop::NotBuilt);
-                }
-                Ok(Parts { image, tape })
-            }
+            Ok(tape) => Ok(Parts { image, tape }),
         },
     }
-}
-
-/// Whether a tape sets a port.
-fn has_entries(tape: &Tape) -> bool
-    ensures test { result ≡ nat_lt 0 (length tape.now.entries) }
-    ensures none { result ≡ false → tape.now.entries ≡ [] }
-{
-    !tape.entries().is_empty()
 }

@@ -6,6 +6,8 @@ mod cause;
 mod cause_text;
 mod load;
 mod program;
+#[cfg(test)]
+mod rows;
 mod run;
 mod steady;
 mod stop;

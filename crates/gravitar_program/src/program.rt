@@ -3,7 +3,7 @@ ghost use Rattle.outside_io.specs.Causes.{Rose};
 ghost use Rattle.gravitar_program.specs.Words.{command_of};
 ghost use Rattle.gravitar_program.specs.Events.{Did, DidFirst};
 ghost use Rattle.gravitar_program.specs.LastLine.{status_of_ending};
-ghost use Rattle.gravitar_program.specs.Outcome.{command_outcome, outcome_of, last_board, whole_text, status_of_board, usage_text, fault_text, memory_text};
+ghost use Rattle.gravitar_program.specs.Outcome.{command_outcome, outcome_of, text_of_run, status_of_run, usage_text, fault_text, memory_text};
 ghost use Rattle.gravitar_program.specs.Stages.{Ends, IsQuiet, EndFaults, StageFaults, StageAbsences, RunStops, RunTakes, Noted};
 
 use crate::answer::{ending_status, note, status};
@@ -11,25 +11,40 @@ use crate::load::{Parts, load_both};
 use crate::run::run_log;
 use crate::stop::{Ending, Stop};
 use crate::words::{Command, Words, read_command};
+use avg_device::FastVg;
 use board_base::BoardState;
-use catchup_engine::Engine;
+use catchup_engine::{Devices, Engine};
+use earom_cells::Earom;
+use irq_watchdog::Divider;
 use outside_io::{Shelf, Sink};
+use pokey_chip::FastPokey;
 use std::alloc::Global;
 
 /// The note on words of no form.
 pub const USAGE: &[u8] =
     b"gravitar: usage: run IMAGE TAPE, asm CPUSRC VGSRC OUT, debug IMAGE TAPE SCRIPT, show STATE, soak SEED\n";
 
-/// Takes the memory of a run, and then runs it from power-on to the tape's end.
+/// The devices of a board.
+fn devices() -> Devices<FastVg, FastPokey, Earom, Divider> {
+    Devices {
+        vector: FastVg::new(),
+        sound1: FastPokey::new(),
+        sound2: FastPokey::new(),
+        cells: Earom::new(),
+        divider: Divider::new(),
+    }
+}
+
+/// Takes the memory of a run, and then runs it from power-on to the tape's end. The POKEYs don't
+/// reach the interrupt line.
 fn run_parts<O: Sink>(alloc: Global, parts: &Parts, out: &mut O) -> Result<Ending, Stop>
-    requires { parts.now.tape.entries ≡ [] }
-    ensures text { RunTakes (O.taken out.old) (O.taken out.new) (whole_text (last_board (parts.now.image, parts.now.tape))) result }
-    ensures status { IfOk result (λ ending. status_of_ending ending ≡ status_of_board (last_board (parts.now.image, parts.now.tape))) }
+    ensures text { RunTakes (O.taken out.old) (O.taken out.new) (text_of_run (parts.now.image, parts.now.tape)) result }
+    ensures status { IfOk result (λ ending. status_of_ending ending ≡ status_of_run (parts.now.image, parts.now.tape)) }
     ensures faults { StageFaults (O.faults out.old) (O.faults out.new) result }
     ensures stops { RunStops result }
 {
     let board = BoardState::power_on();
-    match Engine::new(alloc, &parts.image, &board) {
+    match Engine::new(alloc, &parts.image, &board, devices(), false) {
         Err(_) => Err(Stop::NoMemory),
         Ok(mut engine) => match run_log(&mut engine, &parts.tape, parts.tape.end(), out) {
             Ok(ending) => Ok(ending),
@@ -62,9 +77,9 @@ fn perform<S: Shelf, O: Sink>(
 /// What the program does for its words, with the text of its notes, and its status.
 ///
 /// 0: done. 2: the words are of no form. 3: the board is jammed at the end. 4: a file is bad. 5: a
-/// file is absent. 6: a fault of the shelf or of the output. 7: no memory. 8: the tape has entries,
-/// which aren't applied yet. A run takes its memory before it moves or writes anything, and writes
-/// nothing behind a fault. What becomes of the notes has no part in the status.
+/// file is absent. 6: a fault of the shelf or of the output. 7: no memory. A run takes its memory
+/// before it moves or writes anything, and writes nothing behind a fault. What becomes of the notes
+/// has no part in the status.
 pub fn gravitar<S: Shelf, O: Sink, N: Sink>(
     alloc: Global,
     words: &Words,
@@ -82,10 +97,10 @@ pub fn gravitar<S: Shelf, O: Sink, N: Sink>(
         DidFirst (outcome_of words.now files).events (O.taken out.old) (O.taken out.new) (S.stores shelf.old) (S.stores shelf.new)) }
 
     // Nothing was written, whether the files are told or not; and nothing is ever stored.
-    ensures quiet { Contains (2 ∷ 4 ∷ 5 ∷ 7 ∷ 8 ∷ []) result → O.taken out.new ≡ O.taken out.old }
+    ensures quiet { Contains (2 ∷ 4 ∷ 5 ∷ 7 ∷ []) result → O.taken out.new ≡ O.taken out.old }
     ensures stores { S.stores shelf.new ≡ S.stores shelf.old }
 
-    ensures statuses { Contains (0 ∷ 2 ∷ 3 ∷ 4 ∷ 5 ∷ 6 ∷ 7 ∷ 8 ∷ []) result }
+    ensures statuses { Contains (0 ∷ 2 ∷ 3 ∷ 4 ∷ 5 ∷ 6 ∷ 7 ∷ []) result }
     ensures usage { (result ≡ 2) ↔ (command_of words.now ≡ None) }
     ensures absent { result ≡ 5 → Rose (S.absences shelf.old) (S.absences shelf.new) }
     ensures fault { result ≡ 6 → Rose (S.faults shelf.old) (S.faults shelf.new) ⊎ Rose (O.faults out.old) (O.faults out.new) }

@@ -5,7 +5,6 @@ pub enum Stop {
     Absent(String),
     Outside,
     NoMemory,
-    NotBuilt,
 }
 
 /// How a run ended: at its limit, or at an undocumented opcode.

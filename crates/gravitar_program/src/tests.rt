@@ -1,3 +1,4 @@
+use crate::rows::ROWS;
 use crate::{Words, gravitar};
 use outside_io::{MemoryShelf, MemorySink};
 use rom_image::IMAGE_LEN;
@@ -44,14 +45,18 @@ fn image_of(alloc: Global, program: &[u8], at: u16, more: &[u8]) -> Result<Vec<u
     Ok(bytes)
 }
 
-/// Puts bytes of the program ROM.
+/// The place in the image of a byte of the vector ROM at 2800 or of the program ROM at 9000.
+fn place_of(addr: u16) -> usize {
+    if addr < 0x9000 {
+        return usize::from(addr).wrapping_sub(0x2800);
+    }
+    usize::from(addr).wrapping_sub(0x9000).wrapping_add(14336)
+}
+
+/// Puts bytes of a ROM.
 fn put(bytes: &mut Vec<u8>, addr: u16, part: &[u8]) {
     for (i, byte) in part.iter().enumerate() {
-        let at = usize::from(addr)
-            .wrapping_sub(0x9000)
-            .wrapping_add(14336)
-            .wrapping_add(i);
-        if let Some(place) = bytes.get_mut(at) {
+        if let Some(place) = bytes.get_mut(place_of(addr).wrapping_add(i)) {
             *place = *byte;
         }
     }
@@ -136,8 +141,16 @@ fn a_break_and_a_branch_go_where_they_lead(rt: HostRuntime) -> Result<(), Fail> 
 }
 
 #[test]
-fn a_bad_tape_and_one_with_entries_write_nothing(rt: HostRuntime) -> Result<(), Fail> {
-    check(&rt, LATCH, "1 IN0 00\n8 END\n", "", 8)?;
+fn worked_runs_are_told(rt: HostRuntime) -> Result<(), Fail> {
+    for row in ROWS {
+        let image = image_of(rt.alloc(), row.program, row.at, row.more)?;
+        check_image(&rt, &image, row.tape, row.text, 0)?;
+    }
+    Ok(())
+}
+
+#[test]
+fn a_bad_tape_writes_nothing(rt: HostRuntime) -> Result<(), Fail> {
     check(&rt, LATCH, "0x END\n", "", 4)?;
     check(&rt, LATCH, "", "", 4)?;
     Ok(())
@@ -176,7 +189,8 @@ fn check_note<R: Abort + Alloc<A = Global>>(
     shelf.put("port", b"5 IN1 00\n")?;
     shelf.put("falls", b"5 IN0 00\n4 END\n")?;
     shelf.put("after", b"0 END\n1 END\n")?;
-    shelf.put("set", b"1 IN0 00\n8 END\n")?;
+    shelf.put("empty", b"")?;
+    shelf.put("form", b"0x END\n")?;
     let mut out = MemorySink::new(alloc, 1000, &[])?;
     let mut notes = MemorySink::new(alloc, 1000, &[])?;
     let answer = gravitar(alloc, &words, &mut shelf, &mut out, &mut notes);
@@ -222,14 +236,15 @@ fn a_bad_file_is_named_with_its_cause(rt: HostRuntime) -> Result<(), Fail> {
     check_files(&rt, "i", "port", 4, "gravitar: port: line 1: port\n")?;
     check_files(&rt, "i", "falls", 4, "gravitar: falls: line 2: falls\n")?;
     check_files(&rt, "i", "after", 4, "gravitar: after: line 2: after end\n")?;
+    check_files(&rt, "i", "empty", 4, "gravitar: empty: line 1: no end\n")?;
+    check_files(&rt, "i", "form", 4, "gravitar: form: line 1: form\n")?;
     Ok(())
 }
 
 #[test]
-fn an_absent_file_and_an_unbuilt_tape_are_told(rt: HostRuntime) -> Result<(), Fail> {
+fn an_absent_file_is_told(rt: HostRuntime) -> Result<(), Fail> {
     check_files(&rt, "i", "no", 5, "gravitar: no: absent\n")?;
     check_files(&rt, "-x", "no", 5, "gravitar: -x: absent\n")?;
-    check_files(&rt, "i", "set", 8, "gravitar: not built\n")?;
     Ok(())
 }
 

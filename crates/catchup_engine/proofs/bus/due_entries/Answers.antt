@@ -1,0 +1,12 @@
+use Rattle.std.proofs.Common.{rules, ◌≤◌}
+use Rattle.catchup_engine.proofs.TapeLaws.{place-rises}
+use Rattle.catchup_engine.proofs.bus.due_entries.Goals as goal
+
+pub slice_bounds-result-count : goal.slice_bounds-result-count
+slice_bounds-result-count c = place-rises c.args.tape.now c.args.clock c.args.next c.args.after c.requires.next c.requires.after
+
+pub slice_bounds-result-start : goal.slice_bounds-result-start
+slice_bounds-result-start c =
+    let order : c.args.next ≤ c.args.after = place-rises c.args.tape.now c.args.clock c.args.next c.args.after c.requires.next c.requires.after in
+    let within = c.requires.after.within in
+    search rules

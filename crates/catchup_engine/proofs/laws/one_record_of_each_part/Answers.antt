@@ -1,0 +1,12 @@
+-- The runs keep the order of the records.
+use Rattle.catchup_engine.proofs.InOrder.{run-made, to_boundary-made, to_cut-made}
+use Rattle.catchup_engine.proofs.laws.one_record_of_each_part.Goals as goal
+
+pub returns-clause-run : goal.returns-clause-run
+returns-clause-run c = run-made
+
+pub returns-clause-boundary : goal.returns-clause-boundary
+returns-clause-boundary c = to_boundary-made
+
+pub returns-clause-cut : goal.returns-clause-cut
+returns-clause-cut c = to_cut-made

@@ -1,0 +1,226 @@
+//! The devices with the clocks up to which they were moved, each clock of theirs in one move.
+ghost use Rattle.std.specs.Prelude.{◌≡◌, ◌+◌, ◌-◌, ◌^◌, ◌≤◌, ◌<◌, ◌++◌, length, min};
+ghost use Rattle.board_base.specs.Counts.{Counted};
+ghost use Rattle.board_base.specs.Ticks.{made, ticks, times};
+ghost use Rattle.avg_device.specs.Tick.{vg_gives, vg_tick};
+ghost use Rattle.earom_cells.specs.Tick.{earom_tick};
+ghost use Rattle.irq_watchdog.specs.Tick.{divider_tick};
+ghost use Rattle.pokey_chip.specs.Tick.{levels_made, pokey_tick};
+ghost use Rattle.catchup_engine.specs.Lags.{lags, AsksAt};
+ghost use Rattle.catchup_engine.specs.Wires.{has_request};
+
+use avg_device::VectorUnit;
+use board_base::{DividerState, EaromState, PokeyState, Trail, VectorMemory, VgState};
+use earom_cells::CellUnit;
+use irq_watchdog::DividerUnit;
+use pokey_chip::SoundUnit;
+
+/// A generator that was moved up to the clock `done`, and its strokes.
+#[derive(Drop)]
+pub(crate) struct VectorLane<V: VectorUnit> {
+    pub unit: V,
+    pub done: u64,
+    pub trail: Trail,
+}
+
+impl<V: VectorUnit> VectorLane<V> {
+    /// Takes on a state at a clock.
+    pub fn load(&mut self, state: &VgState, clock: u64)
+        ensures done { self.new.done ≡ clock }
+        ensures state { V.device self.new.unit ≡ state.now }
+        ensures trail { self.new.trail ≡ self.old.trail }
+        ensures counted { Counted (V.calls self.old.unit) (V.calls self.new.unit) }
+    {
+        self.unit.load(state);
+        self.done = clock;
+    }
+
+    /// Moves it up to a clock.
+    #[tactic(auto, using(crate::proofs::LaneLaws::generator))]
+    pub fn level(&mut self, memory: &VectorMemory, clock: u64)
+        requires before { self.old.done ≤ clock }
+        requires room { clock ≤ self.old.done + self.old.trail.spare }
+        requires clocks { clock ≤ 2 ^ 49 }
+        ensures done { self.new.done ≡ clock }
+        ensures state { V.device self.new.unit ≡ ticks (vg_tick memory.now) self.old.done (clock - self.old.done) (V.device self.old.unit) }
+        ensures records { self.new.trail.records ≡ self.old.trail.records
+            ++ made (vg_tick memory.now) vg_gives self.old.done (clock - self.old.done) (V.device self.old.unit) }
+        ensures until { self.old.done + self.old.trail.spare ≤ self.new.done + self.new.trail.spare }
+        ensures total { self.new.trail.spare + length self.new.trail.records ≡ self.old.trail.spare + length self.old.trail.records }
+        ensures room { self.new.trail.room ≡ self.old.trail.room }
+        ensures calls { V.calls self.new.unit ≤ V.calls self.old.unit + lags self.old.done clock }
+        ensures more { min (V.calls self.old.unit) (2 ^ 64 - 1) ≤ V.calls self.new.unit }
+    {
+        let n = clock - self.done;
+        if n > 0 {
+            self.unit.advance(memory, self.done, n, &mut self.trail);
+            self.done = clock;
+        }
+    }
+}
+
+/// A POKEY that was moved up to the clock `done`, its levels, and the clock from which on it makes a
+/// request, where it is asked for.
+#[derive(Drop)]
+pub(crate) struct SoundLane<P: SoundUnit> {
+    pub unit: P,
+    pub done: u64,
+    pub request_at: u64,
+    pub trail: Trail,
+}
+
+impl<P: SoundUnit> SoundLane<P> {
+    /// A POKEY at a clock.
+    pub fn new(unit: P, done: u64, trail: Trail) -> SoundLane<P>
+        requires clocks { done ≤ 2 ^ 49 }
+        ensures unit { result.unit ≡ unit }
+        ensures done { result.done ≡ done }
+        ensures trail { result.trail ≡ trail }
+        ensures asked { AsksAt result.done result.request_at (P.device result.unit) }
+    {
+        let mut lane = SoundLane {
+            unit,
+            done,
+            request_at: 0,
+            trail,
+        };
+        lane.ask();
+        lane
+    }
+
+    /// Takes on a state at a clock.
+    pub fn load(&mut self, state: &PokeyState, clock: u64)
+        requires clocks { clock ≤ 2 ^ 49 }
+        ensures done { self.new.done ≡ clock }
+        ensures state { P.device self.new.unit ≡ state.now }
+        ensures trail { self.new.trail ≡ self.old.trail }
+        ensures asked { AsksAt self.new.done self.new.request_at (P.device self.new.unit) }
+        ensures counted { Counted (P.calls self.old.unit) (P.calls self.new.unit) }
+    {
+        self.unit.load(state);
+        self.done = clock;
+        self.ask();
+    }
+
+    /// Moves it up to a clock.
+    #[tactic(auto, using(crate::proofs::LaneLaws::pokey))]
+    pub fn level(&mut self, clock: u64)
+        requires before { self.old.done ≤ clock }
+        requires room { clock ≤ self.old.done + self.old.trail.spare }
+        requires clocks { clock ≤ 2 ^ 49 }
+        ensures done { self.new.done ≡ clock }
+        ensures state { P.device self.new.unit ≡ times pokey_tick (clock - self.old.done) (P.device self.old.unit) }
+        ensures records { self.new.trail.records ≡ self.old.trail.records
+            ++ levels_made self.old.done (clock - self.old.done) (P.device self.old.unit) }
+        ensures until { self.old.done + self.old.trail.spare ≤ self.new.done + self.new.trail.spare }
+        ensures total { self.new.trail.spare + length self.new.trail.records ≡ self.old.trail.spare + length self.old.trail.records }
+        ensures room { self.new.trail.room ≡ self.old.trail.room }
+        ensures calls { P.calls self.new.unit ≤ P.calls self.old.unit + lags self.old.done clock }
+        ensures more { min (P.calls self.old.unit) (2 ^ 64 - 1) ≤ P.calls self.new.unit }
+        ensures request { self.new.request_at ≡ self.old.request_at }
+        ensures asked { AsksAt self.old.done self.old.request_at (P.device self.old.unit) → AsksAt self.new.done self.new.request_at (P.device self.new.unit) }
+    {
+        let n = clock - self.done;
+        if n > 0 {
+            self.unit.advance(self.done, n, &mut self.trail);
+            self.done = clock;
+        }
+    }
+
+    /// Asks it from which clock on it makes a request.
+    #[tactic(auto, using(crate::proofs::LaneLaws::asking))]
+    pub fn ask(&mut self)
+        requires clocks { self.old.done ≤ 2 ^ 49 }
+        ensures unit { self.new.unit ≡ self.old.unit }
+        ensures done { self.new.done ≡ self.old.done }
+        ensures trail { self.new.trail ≡ self.old.trail }
+        ensures asked { AsksAt self.new.done self.new.request_at (P.device self.new.unit) }
+    {
+        self.request_at = match self.unit.quiet() {
+            Some(clocks) => self.done.saturating_add(clocks),
+            None => u64::MAX,
+        };
+    }
+
+    /// Whether it has a request after the ticks of the clock that comes next after so many.
+    #[inline(always)]
+    #[tactic(auto, using(crate::proofs::LaneLaws::next_requests))]
+    pub fn asks_after(&self, clock: u64) -> bool
+        requires clock { clock < 2 ^ 49 }
+        requires before { self.now.done ≤ clock }
+        ensures { AsksAt self.now.done self.now.request_at (P.device self.now.unit)
+            → result ≡ has_request (pokey_tick (times pokey_tick (clock - self.now.done) (P.device self.now.unit))) }
+    {
+        self.request_at <= clock + 1
+    }
+}
+
+/// An EAROM that was moved up to the clock `done`.
+#[derive(Drop)]
+pub(crate) struct CellLane<C: CellUnit> {
+    pub unit: C,
+    pub done: u64,
+}
+
+impl<C: CellUnit> CellLane<C> {
+    /// Takes on a state at a clock.
+    pub fn load(&mut self, state: &EaromState, clock: u64)
+        ensures done { self.new.done ≡ clock }
+        ensures state { C.device self.new.unit ≡ state.now }
+        ensures counted { Counted (C.calls self.old.unit) (C.calls self.new.unit) }
+    {
+        self.unit.load(state);
+        self.done = clock;
+    }
+
+    /// Moves it up to a clock.
+    #[tactic(auto, using(crate::proofs::LaneLaws::clockless))]
+    pub fn level(&mut self, clock: u64)
+        requires before { self.old.done ≤ clock }
+        ensures done { self.new.done ≡ clock }
+        ensures state { C.device self.new.unit ≡ times earom_tick (clock - self.old.done) (C.device self.old.unit) }
+        ensures calls { C.calls self.new.unit ≤ C.calls self.old.unit + lags self.old.done clock }
+        ensures more { min (C.calls self.old.unit) (2 ^ 64 - 1) ≤ C.calls self.new.unit }
+    {
+        let n = clock - self.done;
+        if n > 0 {
+            self.unit.advance(n);
+            self.done = clock;
+        }
+    }
+}
+
+/// A divider that was moved up to the clock `done`.
+#[derive(Drop)]
+pub(crate) struct DividerLane<D: DividerUnit> {
+    pub unit: D,
+    pub done: u64,
+}
+
+impl<D: DividerUnit> DividerLane<D> {
+    /// Takes on a state at a clock.
+    pub fn load(&mut self, state: &DividerState, clock: u64)
+        ensures done { self.new.done ≡ clock }
+        ensures state { D.device self.new.unit ≡ state.now }
+        ensures counted { Counted (D.calls self.old.unit) (D.calls self.new.unit) }
+    {
+        self.unit.load(state);
+        self.done = clock;
+    }
+
+    /// Moves it up to a clock.
+    #[tactic(auto, using(crate::proofs::LaneLaws::clockless))]
+    pub fn level(&mut self, clock: u64)
+        requires before { self.old.done ≤ clock }
+        ensures done { self.new.done ≡ clock }
+        ensures state { D.device self.new.unit ≡ times divider_tick (clock - self.old.done) (D.device self.old.unit) }
+        ensures calls { D.calls self.new.unit ≤ D.calls self.old.unit + lags self.old.done clock }
+        ensures more { min (D.calls self.old.unit) (2 ^ 64 - 1) ≤ D.calls self.new.unit }
+    {
+        let n = clock - self.done;
+        if n > 0 {
+            self.unit.advance(n);
+            self.done = clock;
+        }
+    }
+}

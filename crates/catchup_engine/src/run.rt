@@ -1,0 +1,104 @@
+//! Runs of the processor over the bus, turn by turn.
+ghost use Rattle.std.specs.Prelude.{◌≡◌, ◌+◌, ◌≤◌, ◌<◌, ◌⊎◌, [], false};
+ghost use Rattle.catchup_engine.specs.Bus.{Fits};
+ghost use Rattle.catchup_engine.specs.Run.{is_over, is_cut};
+ghost use Rattle.catchup_engine.specs.Runs.{over_bus, BoundaryRun, CutRun, IsInRange};
+
+use crate::bus::{BoardBus, TRAIL_ROOM};
+use crate::turn::{WHOLE, turn};
+use avg_device::VectorUnit;
+use board_base::{CLOCK_LIMIT, DIVIDER_PERIOD};
+use cpu_core::Cpu;
+use earom_cells::CellUnit;
+use irq_watchdog::DividerUnit;
+use pokey_chip::SoundUnit;
+use tape_ports::Tape;
+
+/// Whether a run to a boundary is over.
+fn is_done<V: VectorUnit, P: SoundUnit, C: CellUnit, D: DividerUnit>(
+    cpu: &Cpu,
+    bus: &BoardBus<V, P, C, D>,
+    limit: u64,
+) -> bool
+    ensures { result ≡ is_over limit (over_bus cpu.now bus.now) }
+{
+    let state = cpu.state();
+    state.jam.is_some() || state.mid.is_none() && limit <= bus.clock()
+}
+
+/// Whether a run to a clock, or to the first boundary after a wrap, is over.
+fn is_stopped<V: VectorUnit, P: SoundUnit, C: CellUnit, D: DividerUnit>(
+    cpu: &Cpu,
+    bus: &BoardBus<V, P, C, D>,
+    cut: u64,
+    wrap: u64,
+) -> bool
+    ensures { result ≡ is_cut cut wrap (over_bus cpu.now bus.now) }
+{
+    let state = cpu.state();
+    state.jam.is_some() || cut <= bus.clock() || state.mid.is_none() && wrap <= bus.clock()
+}
+
+/// Does the rest of the sequence under way, if there is one, and then whole sequences up to the
+/// limit.
+pub(crate) fn run_until<V: VectorUnit, P: SoundUnit, C: CellUnit, D: DividerUnit>(
+    mut cpu: Cpu,
+    bus: &mut BoardBus<V, P, C, D>,
+    tape: &Tape,
+    limit: u64,
+) -> Cpu
+    requires limit { limit ≤ CLOCK_LIMIT }
+    requires window { limit ≤ bus.old.wires.clock + DIVIDER_PERIOD }
+    requires range { IsInRange cpu bus.old }
+    requires level { bus.old.begun ≡ false }
+    requires until { bus.old.wires.clock + TRAIL_ROOM ≤ bus.old.until }
+    requires written { bus.old.wires.written ≡ [] }
+    requires fits { Fits tape.now bus.old }
+    ensures runs { BoundaryRun tape.now.entries limit cpu bus.old bus.new result }
+{
+    let _clock = bus.clock();
+    if cpu.state().mid.is_some() {
+        cpu = turn(cpu, bus, tape, WHOLE);
+    }
+    while !is_done(&cpu, bus, limit) {
+        cpu = turn(cpu, bus, tape, WHOLE);
+    }
+    cpu
+}
+
+/// The clocks of a turn that isn't to go past a clock.
+fn clocks_to(clock: u64, cut: u64) -> u8
+    requires { clock < cut }
+    ensures some { 1 ≤ result }
+    ensures few { result ≤ WHOLE }
+    ensures within { clock + result ≤ cut }
+    ensures all { result ≡ WHOLE ⊎ clock + result ≡ cut }
+{
+    let left = cut - clock;
+    if left < 7 { left as u8 } else { WHOLE }
+}
+
+/// Does as many clocks as there are to a cut, unless a boundary comes after the wrap before.
+pub(crate) fn run_to_cut<V: VectorUnit, P: SoundUnit, C: CellUnit, D: DividerUnit>(
+    mut cpu: Cpu,
+    bus: &mut BoardBus<V, P, C, D>,
+    tape: &Tape,
+    cut: u64,
+    wrap: u64,
+) -> Cpu
+    requires cut { cut ≤ CLOCK_LIMIT }
+    requires window { wrap ≤ bus.old.wires.clock + DIVIDER_PERIOD }
+    requires range { IsInRange cpu bus.old }
+    requires level { bus.old.begun ≡ false }
+    requires until { bus.old.wires.clock + TRAIL_ROOM ≤ bus.old.until }
+    requires written { bus.old.wires.written ≡ [] }
+    requires fits { Fits tape.now bus.old }
+    ensures runs { CutRun tape.now.entries cut wrap cpu bus.old bus.new result }
+{
+    let _clock = bus.clock();
+    while !is_stopped(&cpu, bus, cut, wrap) {
+        let clocks = clocks_to(bus.clock(), cut);
+        cpu = turn(cpu, bus, tape, clocks);
+    }
+    cpu
+}

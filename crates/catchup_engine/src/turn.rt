@@ -1,0 +1,225 @@
+//! One turn of the board: what is left of a sequence, or the sequence that a fetch begins.
+ghost use Rattle.std.specs.Prelude.{◌≡◌, ◌≢◌, ◌+◌, ◌<◌, ◌^◌, ◌≤◌, ℕ, [], true, false, None, IsSome};
+ghost use Rattle.board_base.specs.Cpu.{CpuValue};
+ghost use Rattle.cpu_core.specs.Places.{Advances};
+ghost use Rattle.cpu_core.specs.Sequences.{start_of, Runs};
+ghost use Rattle.catchup_engine.specs.Bus.{BusStep, BusValue, Fits, room_of};
+ghost use Rattle.catchup_engine.specs.Lockstep.{sequence_due};
+ghost use Rattle.catchup_engine.specs.Turn.{ReadsOpcode, Resets, TurnedBus};
+
+use crate::bus::BoardBus;
+use avg_device::VectorUnit;
+use board_base::{Pending, Sequence};
+use cpu_alu::Flags;
+use cpu_core::Cpu;
+use earom_cells::CellUnit;
+use irq_watchdog::DividerUnit;
+use pokey_chip::SoundUnit;
+use tape_ports::Tape;
+
+/// The clocks that end each sequence.
+pub(crate) const WHOLE: u8 = 7;
+
+/// What a fetch begins in a clock whose ticks are done.
+fn due<V: VectorUnit, P: SoundUnit, C: CellUnit, D: DividerUnit>(
+    cpu: &Cpu,
+    bus: &BoardBus<V, P, C, D>,
+) -> Sequence
+    ensures { result ≡ sequence_due cpu.now bus.now.wires }
+{
+    if bus.pending() != Pending::Nothing {
+        Sequence::Reset
+    } else if bus.line() && !Flags::from_byte(cpu.state().p).interrupt {
+        Sequence::Interrupt
+    } else {
+        Sequence::Opcode
+    }
+}
+
+/// Does a whole sequence.
+fn perform<V: VectorUnit, P: SoundUnit, C: CellUnit, D: DividerUnit>(
+    cpu: &mut Cpu,
+    sequence: Sequence,
+    bus: &mut BoardBus<V, P, C, D>,
+    tape: &Tape,
+)
+    requires running { cpu.old.jam ≡ None }
+    requires boundary { cpu.old.mid ≡ None }
+    requires fits { Fits tape.now bus.old }
+    requires room { WHOLE ≤ room_of bus.old }
+    ensures runs { Runs (BusStep tape.now.entries) (start_of sequence cpu.old) sequence bus.old bus.new cpu.new }
+    ensures boundary { cpu.new.mid ≡ None }
+    ensures fits { Fits tape.now bus.new }
+{
+    match sequence {
+        Sequence::Reset => cpu.take_reset(bus, tape),
+        Sequence::Interrupt => cpu.take_irq(bus, tape),
+        Sequence::Opcode => {
+            let _fetched = cpu.instruction(bus, tape);
+        }
+    }
+}
+
+/// Does a sequence, or its first clocks.
+fn begin_sequence<V: VectorUnit, P: SoundUnit, C: CellUnit, D: DividerUnit>(
+    cpu: &mut Cpu,
+    sequence: Sequence,
+    bus: &mut BoardBus<V, P, C, D>,
+    tape: &Tape,
+    clocks: u8,
+)
+    requires running { cpu.old.jam ≡ None }
+    requires boundary { cpu.old.mid ≡ None }
+    requires fits { Fits tape.now bus.old }
+    requires some { 1 ≤ clocks }
+    requires few { clocks ≤ WHOLE }
+    requires room { clocks ≤ room_of bus.old }
+    ensures advances { (made : ℕ) × Advances (BusStep tape.now.entries) (start_of sequence cpu.old) sequence [] clocks made bus.old bus.new cpu.new }
+    ensures fits { Fits tape.now bus.new }
+{
+    if clocks == WHOLE {
+        perform(cpu, sequence, bus, tape);
+    } else {
+        let _fetched = cpu.begin(sequence, bus, tape, clocks);
+    }
+}
+
+/// Takes the pending reset, or its first clocks: its effects come in its first clock, after the
+/// access.
+fn take_reset<V: VectorUnit, P: SoundUnit, C: CellUnit, D: DividerUnit>(
+    cpu: &mut Cpu,
+    bus: &mut BoardBus<V, P, C, D>,
+    tape: &Tape,
+    clocks: u8,
+)
+    requires running { cpu.old.jam ≡ None }
+    requires boundary { cpu.old.mid ≡ None }
+    requires fits { Fits tape.now bus.old }
+    requires some { 1 ≤ clocks }
+    requires few { clocks ≤ WHOLE }
+    requires room { clocks + 1 ≤ room_of bus.old }
+    ensures resets { Resets tape.now.entries cpu.old clocks bus.old bus.new cpu.new }
+    ensures fits { Fits tape.now bus.new }
+{
+    let _fetched = cpu.begin(Sequence::Reset, bus, tape, 1);
+    bus.begin_reset();
+    if clocks == 1 {
+        return;
+    }
+    let _made = cpu.resume(bus, tape, clocks - 1);
+}
+
+/// Does the sequence that a fetch begins, or its first clocks.
+fn fetch<V: VectorUnit, P: SoundUnit, C: CellUnit, D: DividerUnit>(
+    cpu: &mut Cpu,
+    bus: &mut BoardBus<V, P, C, D>,
+    tape: &Tape,
+    clocks: u8,
+)
+    requires running { cpu.old.jam ≡ None }
+    requires boundary { cpu.old.mid ≡ None }
+    requires level { bus.old.begun ≡ false }
+    requires fits { Fits tape.now bus.old }
+    requires some { 1 ≤ clocks }
+    requires few { clocks ≤ WHOLE }
+    requires room { clocks + 2 ≤ room_of bus.old }
+    ensures turned { TurnedBus tape.now.entries clocks cpu.old bus.old bus.new cpu.new }
+    ensures fits { Fits tape.now bus.new }
+{
+    bus.begin(tape);
+    let sequence = due(cpu, bus);
+    match sequence {
+        Sequence::Reset => take_reset(cpu, bus, tape, clocks),
+        _ => begin_sequence(cpu, sequence, bus, tape, clocks),
+    }
+}
+
+/// Does the rest of the sequence under way, or its next clocks.
+fn resume<V: VectorUnit, P: SoundUnit, C: CellUnit, D: DividerUnit>(
+    cpu: &mut Cpu,
+    bus: &mut BoardBus<V, P, C, D>,
+    tape: &Tape,
+    clocks: u8,
+)
+    requires middle { IsSome cpu.old.mid }
+    requires level { bus.old.begun ≡ false }
+    requires fits { Fits tape.now bus.old }
+    requires some { 1 ≤ clocks }
+    requires few { clocks ≤ WHOLE }
+    requires room { clocks ≤ room_of bus.old }
+    ensures turned { TurnedBus tape.now.entries clocks cpu.old bus.old bus.new cpu.new }
+    ensures fits { Fits tape.now bus.new }
+{
+    if let Some(mid) = cpu.state().mid {
+        let _count = mid.count;
+        let _made = cpu.resume(bus, tape, clocks);
+    }
+}
+
+/// Does a turn that may begin with anything.
+#[inline(never)]
+fn turn_slowly<V: VectorUnit, P: SoundUnit, C: CellUnit, D: DividerUnit>(
+    mut cpu: Cpu,
+    bus: &mut BoardBus<V, P, C, D>,
+    tape: &Tape,
+    clocks: u8,
+) -> Cpu
+    requires running { cpu.jam ≡ None }
+    requires level { bus.old.begun ≡ false }
+    requires fits { Fits tape.now bus.old }
+    requires some { 1 ≤ clocks }
+    requires few { clocks ≤ WHOLE }
+    requires room { clocks + 2 ≤ room_of bus.old }
+    ensures turned { TurnedBus tape.now.entries clocks cpu bus.old bus.new result }
+    ensures fits { Fits tape.now bus.new }
+{
+    if cpu.state().mid.is_some() {
+        resume(&mut cpu, bus, tape, clocks);
+        return cpu;
+    }
+    fetch(&mut cpu, bus, tape, clocks);
+    cpu
+}
+
+/// Whether the next fetch reads an opcode, told before its clock.
+#[inline(always)]
+fn reads_opcode<V: VectorUnit, P: SoundUnit, C: CellUnit, D: DividerUnit>(
+    cpu: &Cpu,
+    bus: &BoardBus<V, P, C, D>,
+) -> bool
+    requires clock { bus.now.wires.clock < 2 ^ 49 }
+    ensures { result ≡ true → ReadsOpcode cpu.now bus.now }
+{
+    let state = cpu.state();
+    state.mid.is_none()
+        && bus.is_quiet()
+        && bus.next_pending() == Pending::Nothing
+        && (Flags::from_byte(state.p).interrupt || !bus.next_line())
+}
+
+/// Does the rest of the sequence under way, or the sequence that a fetch begins, or as many of its
+/// clocks as are given.
+///
+/// Most turns are whole instructions in whose first clock nothing comes of itself.
+#[inline(always)]
+pub(crate) fn turn<V: VectorUnit, P: SoundUnit, C: CellUnit, D: DividerUnit>(
+    mut cpu: Cpu,
+    bus: &mut BoardBus<V, P, C, D>,
+    tape: &Tape,
+    clocks: u8,
+) -> Cpu
+    requires running { cpu.jam ≡ None }
+    requires level { bus.old.begun ≡ false }
+    requires fits { Fits tape.now bus.old }
+    requires some { 1 ≤ clocks }
+    requires few { clocks ≤ WHOLE }
+    requires room { clocks + 2 ≤ room_of bus.old }
+    ensures turned { TurnedBus tape.now.entries clocks cpu bus.old bus.new result }
+    ensures fits { Fits tape.now bus.new }
+{
+    if clocks == WHOLE && reads_opcode(&cpu, bus) {
+        let _fetched = cpu.instruction(bus, tape);
+        return cpu;
+    }
+    turn_slowly(cpu, bus, tape, clocks)
+}
