@@ -20,7 +20,7 @@ use Rattle.tape_ports.specs.Due.{due_at}
 use Rattle.avg_device.specs.Tick.{vg_gives}
 use Rattle.pokey_chip.specs.Tick.{pokey_gives}
 use Rattle.catchup_engine.specs.Wires.{Wires, port_set, applied, devices_ticked, ticked, line_of, byte_in, byte_read, put_in, byte_put, reset_by, reset_begun}
-use Rattle.catchup_engine.specs.Lockstep.{Board, accessed, accessed_by, sequence_due, begun, fetched_board, moved, step, made_by, due_access, access_in}
+use Rattle.catchup_engine.specs.Lockstep.{Board, accessed, accessed_by, sequence_due, begun, at_fetch, moved, step, made_by, due_access, access_in}
 use Rattle.catchup_engine.specs.Run.{stepped, steps_until, is_over, is_at, is_cut, boundary_steps, clock_steps, cut_steps, to_boundary, run, to_cut}
 use Rattle.catchup_engine.specs.Budget.{counted, begins_reset, resets_begun, ticks_price, price, budget}
 use Rattle.catchup_engine.specs.EngineValue.{cleared}
@@ -109,16 +109,16 @@ line_of-front l w = refl
 sequence_due-front : (c : CpuValue) (l : Recorded) (w : Wires) → sequence_due c (front l w) ≡ sequence_due c w
 sequence_due-front c l w = rw (line_of-front l w) refl
 
-fetched_board-front : (c : CpuValue) (l : Recorded) (w : Wires) → fetched_board c (front l w) ≡ behind l (fetched_board c w)
-unfolding fetched_board
-fetched_board-front c l w =
+at_fetch-front : (c : CpuValue) (l : Recorded) (w : Wires) → at_fetch c (front l w) ≡ behind l (at_fetch c w)
+unfolding at_fetch
+at_fetch-front c l w =
     let q = sequence_due c w in
     ap (λ k. begun k (accessed (start_of k c) k [] (front l w))) (sequence_due-front c l w)
     ∙ ap (begun q) (accessed-front (start_of q c) q [] l w)
     ∙ begun-behind q l (accessed (start_of q c) q [] w)
 
 moved-front : (mid : Option MidValue) (c : CpuValue) (l : Recorded) (w : Wires) → moved mid c (front l w) ≡ behind l (moved mid c w)
-moved-front None c l w = fetched_board-front c l w
+moved-front None c l w = at_fetch-front c l w
 moved-front (Some mid) c l w = accessed-front (registers_of c) mid.sequence (given_by mid) l w
 
 -- a step adds to the records made before

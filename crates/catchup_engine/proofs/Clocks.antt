@@ -20,7 +20,7 @@ use Rattle.tape_ports.specs.declared.entry.Port.TheVariants as port
 use Rattle.tape_ports.specs.declared.entry.TapeEntry.{TapeEntry}
 use Rattle.tape_ports.specs.Due.{due_at}
 use Rattle.catchup_engine.specs.Wires.{Wires, port_set, applied, devices_ticked, ticked, put_in, byte_put, reset_by, reset_begun}
-use Rattle.catchup_engine.specs.Lockstep.{Board, accessed, accessed_by, sequence_due, begun, fetched_board, moved, step}
+use Rattle.catchup_engine.specs.Lockstep.{Board, accessed, accessed_by, sequence_due, begun, at_fetch, moved, step}
 use Rattle.catchup_engine.specs.Run.{stepped}
 use Rattle.catchup_engine.specs.Turn.{Through}
 
@@ -91,7 +91,7 @@ begun-clock Opcode b = refl
 begun-clock Interrupt b = refl
 
 moved-clock : (mid : Option MidValue) (c : CpuValue) (w : Wires) → (moved mid c w).wires.clock ≡ w.clock
-unfolding fetched_board
+unfolding at_fetch
 moved-clock None c w =
     begun-clock (sequence_due c w) (accessed (start_of (sequence_due c w) c) (sequence_due c w) [] w)
     ∙ accessed-clock (start_of (sequence_due c w) c) (sequence_due c w) [] w
@@ -151,7 +151,7 @@ first-written Interrupt r w = omega arith
 first-written Reset r w = reset_by-written w.divider.pending w
 
 moved-written : (mid : Option MidValue) (c : CpuValue) (w : Wires) → length (moved mid c w).wires.written ≤ length w.written + 1
-unfolding fetched_board
+unfolding at_fetch
 moved-written None c w = first-written (sequence_due c w) (start_of (sequence_due c w) c) w
 moved-written (Some mid) c w = accessed-written (registers_of c) mid.sequence (given_by mid) w
 

@@ -25,7 +25,7 @@ use Rattle.cpu_core.specs.Places.{given_by}
 use Rattle.tape_ports.specs.declared.entry.TapeEntry.{TapeEntry}
 use Rattle.tape_ports.specs.Due.{due_at}
 use Rattle.catchup_engine.specs.Wires.{Wires, applied, devices_ticked, ticked, put_in, byte_put, reset_by, reset_begun}
-use Rattle.catchup_engine.specs.Lockstep.{Board, accessed, accessed_by, sequence_due, begun, fetched_board, moved, step}
+use Rattle.catchup_engine.specs.Lockstep.{Board, accessed, accessed_by, sequence_due, begun, at_fetch, moved, step}
 use Rattle.catchup_engine.specs.Run.{stepped, run, to_boundary, to_cut, clock_steps, boundary_steps, cut_steps}
 use Rattle.catchup_engine.specs.Order.{records_of, AreMadeBetween, AddsOneClock}
 use Rattle.catchup_engine.proofs.Clocks.{applied-keeps, step-clock}
@@ -101,7 +101,7 @@ first-adds Interrupt r w = adds-none w w refl refl refl refl refl
 first-adds Reset r w = reset_by-adds w.divider.pending w
 
 moved-adds : (mid : Option MidValue) (c : CpuValue) (w : Wires) → AddsOne w (moved mid c w).wires
-unfolding fetched_board
+unfolding at_fetch
 moved-adds None c w = first-adds (sequence_due c w) (start_of (sequence_due c w) c) w
 moved-adds (Some mid) c w = accessed-adds (registers_of c) mid.sequence (given_by mid) w
 

@@ -13,7 +13,7 @@ use Rattle.cpu_core.proofs.EndLemmas.{end-closes}
 use Rattle.cpu_core.proofs.PlaceLemmas.{given_paused}
 use Rattle.tape_ports.specs.declared.entry.TapeEntry.{TapeEntry}
 use Rattle.catchup_engine.specs.Wires.{Wires, ticked}
-use Rattle.catchup_engine.specs.Lockstep.{Board, accessed, accessed_by, sequence_due, begun, fetched_board, moved, step}
+use Rattle.catchup_engine.specs.Lockstep.{Board, accessed, accessed_by, sequence_due, begun, at_fetch, moved, step}
 use Rattle.catchup_engine.specs.Run.{stepped, run, to_boundary, to_cut, clock_steps, boundary_steps, cut_steps, IsPlaced}
 
 -- inside a sequence so many of its accesses are made, of which there are six at most
@@ -57,7 +57,7 @@ next_count None = 1
 next_count (Some m) = length (given_by m) + 1
 
 moved-at : (mid : Option MidValue) (c : CpuValue) (w : Wires) → StandsAt (next_count mid) (moved mid c w).cpu.mid
-unfolding fetched_board
+unfolding at_fetch
 moved-at None c w =
     let q = sequence_due c w in
     subst (λ (k : CpuValue). StandsAt 1 k.mid) (sym (begun-cpu q (accessed (start_of q c) q [] w))) (accessed-at (start_of q c) q [] w)

@@ -15,7 +15,7 @@ use Rattle.cpu_core.proofs.LengthLemmas.{six_before_end}
 use Rattle.cpu_core.proofs.PlaceLemmas.{place_due}
 use Rattle.tape_ports.specs.declared.entry.TapeEntry.{TapeEntry}
 use Rattle.catchup_engine.specs.Wires.{Wires, line_of, reset_begun, ticked}
-use Rattle.catchup_engine.specs.Lockstep.{Board, accessed, access_in, begun, clocked, due_access, fetched_board, made_by, sequence_due, step}
+use Rattle.catchup_engine.specs.Lockstep.{Board, accessed, access_in, begun, clocked, due_access, at_fetch, made_by, sequence_due, step}
 use Rattle.catchup_engine.specs.Budget.{begins_reset, budget, counted, device_access, price, reaches_device, reset_count, ticks_price}
 use Rattle.catchup_engine.specs.Bus.{BusValue, BusStep, Fits, at_clock, done_clock, in_clock}
 use Rattle.tape_ports.specs.Tape.{TapeValue}
@@ -170,7 +170,7 @@ next-first r Reset end = end
 step-fetch : (entries : List TapeEntry) (c : CpuValue) (w : Wires) → c.mid ≡ None
     → step entries (record { cpu = c; wires = w })
     ≡ clocked (begun (sequence_due c (ticked entries w)) (accessed (start_of (sequence_due c (ticked entries w)) c) (sequence_due c (ticked entries w)) [] (ticked entries w)))
-unfolding step fetched_board
+unfolding step at_fetch
 step-fetch entries c w boundary = rw boundary refl
 
 price-fetch : (entries : List TapeEntry) (c : CpuValue) (w : Wires) (q : Sequence) (v : ℕ) (x : Access) → c.mid ≡ None → q ≡ sequence_due c (ticked entries w)

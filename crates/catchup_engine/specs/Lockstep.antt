@@ -55,12 +55,12 @@ begun Interrupt b = b
 begun Opcode b = b
 
 -- a fetch, in a clock whose ticks are done
-unfoldable pub fetched_board : CpuValue → Wires → Board
-fetched_board c w = let q = sequence_due c w in begun q (accessed (start_of q c) q [] w)
+unfoldable pub at_fetch : CpuValue → Wires → Board
+at_fetch c w = let q = sequence_due c w in begun q (accessed (start_of q c) q [] w)
 
 -- the access of a clock whose ticks are done
 abbrev pub moved : Option MidValue → CpuValue → Wires → Board
-moved None c w = fetched_board c w
+moved None c w = at_fetch c w
 moved (Some mid) c w = accessed (registers_of c) mid.sequence (given_by mid) w
 
 -- the clock is done

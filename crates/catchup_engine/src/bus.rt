@@ -175,32 +175,21 @@ impl<V: VectorUnit, P: SoundUnit, C: CellUnit, D: DividerUnit> BoardBus<V, P, C,
             + C.calls devices.cells + D.calls devices.divider + 5) (2 ^ 64 - 1)) }
     {
         let Devices {
-            mut vector,
-            mut sound1,
-            mut sound2,
-            mut cells,
-            mut divider,
+            vector,
+            sound1,
+            sound2,
+            cells,
+            divider,
         } = devices;
-        vector.load(&state.vg);
-        sound1.load(&state.sound1);
-        sound2.load(&state.sound2);
-        cells.load(&state.earom);
-        divider.load(&state.divider);
-        let done = state.clock;
-        let wrap_at = done + divider.quiet();
+        let clock = state.clock;
+        let divider = DividerLane::new(divider, &state.divider, clock);
+        let wrap_at = clock + divider.unit.quiet();
         Ok(BoardBus {
-            vector: VectorLane {
-                unit: vector,
-                done,
-                trail: new_trail(alloc)?,
-            },
-            sound1: SoundLane::new(sound1, done, new_trail(alloc)?),
-            sound2: SoundLane::new(sound2, done, new_trail(alloc)?),
-            cells: CellLane { unit: cells, done },
-            divider: DividerLane {
-                unit: divider,
-                done,
-            },
+            vector: VectorLane::new(vector, &state.vg, clock, new_trail(alloc)?),
+            sound1: SoundLane::new(sound1, &state.sound1, clock, new_trail(alloc)?),
+            sound2: SoundLane::new(sound2, &state.sound2, clock, new_trail(alloc)?),
+            cells: CellLane::new(cells, &state.earom, clock),
+            divider,
             memory: new_memory(alloc, image, state)?,
             ram: Vec::from_slice(alloc, &state.ram)?,
             program: new_program(alloc, image)?,
@@ -209,7 +198,7 @@ impl<V: VectorUnit, P: SoundUnit, C: CellUnit, D: DividerUnit> BoardBus<V, P, C,
             in0: state.in0,
             in3: state.in3,
             in4: state.in4,
-            clock: done,
+            clock,
             begun: false,
             wrap_at,
             next: 0,
@@ -901,10 +890,9 @@ impl<V: VectorUnit, P: SoundUnit, C: CellUnit, D: DividerUnit> BoardBus<V, P, C,
     /// The records of each part since the last clearing.
     #[tactic(auto, using(board_base::proofs::TickLaws::level, crate::proofs::SettledLaws::settled))]
     pub fn trails(&self) -> Trails<'_>
-        requires settled { self.now.lagging ≡ 0 }
-        ensures vector { result.vector.now.records ≡ self.now.wires.strokes }
-        ensures sound1 { result.sound1.now.records ≡ self.now.wires.levels1 }
-        ensures sound2 { result.sound2.now.records ≡ self.now.wires.levels2 }
+        ensures vector { self.now.lagging ≡ 0 → result.vector.now.records ≡ self.now.wires.strokes }
+        ensures sound1 { self.now.lagging ≡ 0 → result.sound1.now.records ≡ self.now.wires.levels1 }
+        ensures sound2 { self.now.lagging ≡ 0 → result.sound2.now.records ≡ self.now.wires.levels2 }
         ensures board { result.board.now.records ≡ self.now.wires.written }
         ensures rooms { self.now.rooms ≡ record { vector = result.vector.now.room; sound1 = result.sound1.now.room; sound2 = result.sound2.now.room; board = result.board.now.room } }
     {

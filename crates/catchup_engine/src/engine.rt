@@ -261,12 +261,12 @@ impl<V: VectorUnit, P: SoundUnit, C: CellUnit, D: DividerUnit> Engine<V, P, C, D
         self.bus.byte_at(addr)
     }
 
-    /// The records of each part since the last clearing, in order.
+    /// The records of each part since the last clearing, in order; those of a device that lags end
+    /// where it stands.
     pub fn trails(&self) -> Trails<'_>
-        requires settled { self.now.lagging ≡ 0 }
-        ensures vector { result.vector.now.records ≡ self.now.board.wires.strokes }
-        ensures sound1 { result.sound1.now.records ≡ self.now.board.wires.levels1 }
-        ensures sound2 { result.sound2.now.records ≡ self.now.board.wires.levels2 }
+        ensures vector { self.now.lagging ≡ 0 → result.vector.now.records ≡ self.now.board.wires.strokes }
+        ensures sound1 { self.now.lagging ≡ 0 → result.sound1.now.records ≡ self.now.board.wires.levels1 }
+        ensures sound2 { self.now.lagging ≡ 0 → result.sound2.now.records ≡ self.now.board.wires.levels2 }
         ensures board { result.board.now.records ≡ self.now.board.wires.written }
         ensures rooms { self.now.rooms ≡ record { vector = result.vector.now.room; sound1 = result.sound1.now.room; sound2 = result.sound2.now.room; board = result.board.now.room } }
     {

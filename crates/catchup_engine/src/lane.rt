@@ -24,6 +24,21 @@ pub(crate) struct VectorLane<V: VectorUnit> {
 }
 
 impl<V: VectorUnit> VectorLane<V> {
+    /// A generator in a state at a clock.
+    pub fn new(mut unit: V, state: &VgState, clock: u64, trail: Trail) -> VectorLane<V>
+        ensures done { result.done ≡ clock }
+        ensures state { V.device result.unit ≡ state.now }
+        ensures trail { result.trail ≡ trail }
+        ensures counted { Counted (V.calls unit) (V.calls result.unit) }
+    {
+        unit.load(state);
+        VectorLane {
+            unit,
+            done: clock,
+            trail,
+        }
+    }
+
     /// Takes on a state at a clock.
     pub fn load(&mut self, state: &VgState, clock: u64)
         ensures done { self.new.done ≡ clock }
@@ -70,17 +85,19 @@ pub(crate) struct SoundLane<P: SoundUnit> {
 }
 
 impl<P: SoundUnit> SoundLane<P> {
-    /// A POKEY at a clock.
-    pub fn new(unit: P, done: u64, trail: Trail) -> SoundLane<P>
-        requires clocks { done ≤ 2 ^ 49 }
-        ensures unit { result.unit ≡ unit }
-        ensures done { result.done ≡ done }
+    /// A POKEY in a state at a clock.
+    pub fn new(mut unit: P, state: &PokeyState, clock: u64, trail: Trail) -> SoundLane<P>
+        requires clocks { clock ≤ 2 ^ 49 }
+        ensures done { result.done ≡ clock }
+        ensures state { P.device result.unit ≡ state.now }
         ensures trail { result.trail ≡ trail }
         ensures asked { AsksAt result.done result.request_at (P.device result.unit) }
+        ensures counted { Counted (P.calls unit) (P.calls result.unit) }
     {
+        unit.load(state);
         let mut lane = SoundLane {
             unit,
-            done,
+            done: clock,
             request_at: 0,
             trail,
         };
@@ -163,6 +180,16 @@ pub(crate) struct CellLane<C: CellUnit> {
 }
 
 impl<C: CellUnit> CellLane<C> {
+    /// An EAROM in a state at a clock.
+    pub fn new(mut unit: C, state: &EaromState, clock: u64) -> CellLane<C>
+        ensures done { result.done ≡ clock }
+        ensures state { C.device result.unit ≡ state.now }
+        ensures counted { Counted (C.calls unit) (C.calls result.unit) }
+    {
+        unit.load(state);
+        CellLane { unit, done: clock }
+    }
+
     /// Takes on a state at a clock.
     pub fn load(&mut self, state: &EaromState, clock: u64)
         ensures done { self.new.done ≡ clock }
@@ -198,6 +225,16 @@ pub(crate) struct DividerLane<D: DividerUnit> {
 }
 
 impl<D: DividerUnit> DividerLane<D> {
+    /// A divider in a state at a clock.
+    pub fn new(mut unit: D, state: &DividerState, clock: u64) -> DividerLane<D>
+        ensures done { result.done ≡ clock }
+        ensures state { D.device result.unit ≡ state.now }
+        ensures counted { Counted (D.calls unit) (D.calls result.unit) }
+    {
+        unit.load(state);
+        DividerLane { unit, done: clock }
+    }
+
     /// Takes on a state at a clock.
     pub fn load(&mut self, state: &DividerState, clock: u64)
         ensures done { self.new.done ≡ clock }
