@@ -2,6 +2,7 @@
 use Rattle.std.specs.Prelude.{ℕ, ◌-◌, ◌%◌, ◌<◌, List, [], ◌∷◌, nat_le, ◌&&◌, if◌then◌else◌}
 use Rattle.board_base.specs.declared.board.TheConstants.{RAM_LEN}
 use Rattle.board_base.specs.declared.vector_memory.TheConstants.{VECTOR_RAM_LEN, VECTOR_ROM_LEN}
+use Rattle.rom_image.specs.declared.image.TheConstants.{PROGRAM_ROM_LEN}
 use Rattle.board_map.specs.declared.map.Region.{Region}
 use Rattle.board_map.specs.declared.map.Region.TheVariants.{Ram, VectorRam, VectorRom, Sound1, Sound2, EaromOut, In0, In3, In4, Go, VgReset, Acknowledge, EaromControl, EaromLatch, Watchdog, ProgramRom, Nothing}
 
@@ -60,5 +61,5 @@ IsInside (VectorRom offset) = offset < VECTOR_ROM_LEN
 IsInside (Sound1 register) = register < 16
 IsInside (Sound2 register) = register < 16
 IsInside (EaromLatch cell) = cell < 64
-IsInside (ProgramRom offset) = offset < 28672
+IsInside (ProgramRom offset) = offset < PROGRAM_ROM_LEN
 IsInside _ = Unit {0}

@@ -19,3 +19,5 @@ pub mod Steps
 pub mod TapeLaws
 pub mod Turns
 pub mod Windows
+pub mod Traces
+pub mod QuietLaws

@@ -119,7 +119,7 @@ middle-running c (Some m) e inside place = place.0
 pub running-inside : (c : CpuValue) → IsSome c.mid → IfSome c.mid (λ _. IsMiddle c) → c.jam ≡ None
 running-inside c inside place = middle-running c c.mid refl inside place
 
-middle-open : (limit : ℕ) (b : Board) → IsSome b.cpu.mid → b.cpu.jam ≡ None → is_over limit b ≡ false
+pub middle-open : (limit : ℕ) (b : Board) → IsSome b.cpu.mid → b.cpu.jam ≡ None → is_over limit b ≡ false
 middle-open limit b inside running = grind (arith, rules)
 
 -- at a boundary a run that isn't over stands before its limit, and isn't jammed

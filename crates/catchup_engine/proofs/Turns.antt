@@ -17,7 +17,7 @@ use Rattle.tape_ports.specs.declared.entry.TapeEntry.{TapeEntry}
 use Rattle.catchup_engine.specs.Wires.{Wires, line_of, reset_begun, ticked}
 use Rattle.catchup_engine.specs.Lockstep.{Board, accessed, access_in, begun, clocked, due_access, at_fetch, made_by, sequence_due, step}
 use Rattle.catchup_engine.specs.Budget.{begins_reset, budget, counted, device_access, price, reaches_device, reset_count, ticks_price}
-use Rattle.catchup_engine.specs.Bus.{BusValue, BusStep, Fits, at_clock, done_clock, in_clock}
+use Rattle.catchup_engine.specs.Bus.{BusValue, BusStep, Does, Fits, at_clock, done_clock, in_clock}
 use Rattle.tape_ports.specs.Tape.{TapeValue}
 use Rattle.catchup_engine.proofs.TapeLaws.{ticked-quiet}
 use Rattle.catchup_engine.specs.Turn.{Goes, ReadsOpcode, Resets, Through, Turned, TurnedBus}
@@ -190,7 +190,7 @@ line-clock : (clock : ℕ) (w : Wires) → line_of (at_clock clock w) ≡ line_o
 unfolding line_of
 line-clock clock w = refl
 
-due-clock : (c : CpuValue) (w : Wires) → sequence_due c (done_clock w) ≡ sequence_due c w
+pub due-clock : (c : CpuValue) (w : Wires) → sequence_due c (done_clock w) ≡ sequence_due c w
 due-clock c w = rw (line-clock (w.clock + 1) w) refl
 
 -- the bus after its clock has begun
@@ -202,7 +202,19 @@ pub record Begins (entries : List TapeEntry) (s b : BusValue) : Type 0 where
   pub calls : b.calls ≤ s.calls + ticks_price entries s.wires
   pub more : s.calls ≤ b.calls
 
-in_clock-begun : (entries : List TapeEntry) (s b : BusValue) → Begins entries s b → in_clock entries b.begun b.wires ≡ ticked entries s.wires
+pub begins-by : (entries : List TapeEntry) (s b : BusValue)
+    → b ≡ record s { wires = done_clock (ticked entries s.wires); begun = true; next = b.next; event_at = b.event_at; lagging = b.lagging; until = b.until; calls = b.calls }
+    → s.until ≤ b.until → b.calls ≤ s.calls + ticks_price entries s.wires → s.calls ≤ b.calls → Begins entries s b
+begins-by entries s b value later paid more = record {
+  wires = ap (λ (k : BusValue). k.wires) value;
+  begun = ap (λ (k : BusValue). k.begun) value;
+  rooms = ap (λ (k : BusValue). k.rooms) value;
+  until = later;
+  calls = paid;
+  more = more;
+}
+
+pub in_clock-begun : (entries : List TapeEntry) (s b : BusValue) → Begins entries s b → in_clock entries b.begun b.wires ≡ ticked entries s.wires
 unfolding in_clock
 in_clock-begun entries s b h =
     let w = ticked entries s.wires in
@@ -368,7 +380,7 @@ reset-turn entries c clocks s b t e boundary begins due some resets = by_moves r
         clocks-back entries clocks c s t e some
         (turn-bus entries c (start_of Reset c) Reset (resets.value ∷ []) 0 (clocks - 1) resets.made s resets.taken t e first (none-inside c.mid boundary) refl (omega arith) resets.rest)
 
-given-some : (m : MidValue) → 1 ≤ m.count → m.count ≤ 6 → length m.bytes ≡ 6 → length (given_by m) ≡ m.count
+pub given-some : (m : MidValue) → 1 ≤ m.count → m.count ≤ 6 → length m.bytes ≡ 6 → length (given_by m) ≡ m.count
 given-some m some short six = length-take-le m.count m.bytes (omega arith)
 
 -- what is left of a sequence is a turn
@@ -449,6 +461,16 @@ pub record HasEffects (m n : BusValue) : Type 0 where
   pub rooms : n.rooms ≡ m.rooms
   pub until : m.until ≤ n.until
   pub level : n.begun ≡ m.begun
+
+pub effects-by : (m n : BusValue) → Does m n (at_clock m.wires.clock (reset_begun (at_clock (m.wires.clock - 1) m.wires))) 4 → HasEffects m n
+effects-by m n does = record {
+  wires = ap (λ (b : BusValue). b.wires) does.value;
+  calls = does.calls;
+  more = does.more;
+  rooms = ap (λ (b : BusValue). b.rooms) does.value;
+  until = does.until;
+  level = ap (λ (b : BusValue). b.begun) does.value;
+}
 
 paused-due : (r : RegistersValue) (v : ℕ) → IsEnd (next_of r Reset (v ∷ [])) → ⊥
 unfolding next_of

@@ -10,3 +10,5 @@ pub mod Run
 pub mod Runs
 pub mod Turn
 pub mod Wires
+pub mod Trace
+pub mod Quiet

@@ -1,4 +1,4 @@
-ghost use Rattle.std.specs.Prelude.{◌≡◌, ◌+◌, ◌-◌, ◌*◌, ◌≤◌, ◌<◌, ◌^◌, ◌==◌, ◌||◌, true, false, length, drop, take, min, nat_lt, slice_set, All, IfOk, IfSome, IsSome, ◌++◌, ◌∷◌, []};
+ghost use Rattle.std.specs.Prelude.{◌≡◌, ◌+◌, ◌-◌, ◌*◌, ◌≤◌, ◌<◌, ◌^◌, ◌==◌, ◌||◌, true, false, length, drop, take, min, nat_le, slice_index, slice_set, All, IfOk, IfSome, IsSome, ◌++◌, ◌∷◌, []};
 ghost use Rattle.std.specs.Int.{from_bool};
 ghost use Rattle.cpu_core.specs.Course.{read_of, write_of};
 ghost use Rattle.tape_ports.specs.Due.{due_at};
@@ -6,8 +6,8 @@ ghost use Rattle.tape_ports.specs.Ports.{IsPort};
 ghost use Rattle.tape_ports.specs.Tape.{IsTape};
 ghost use Rattle.catchup_engine.specs.Budget.{reaches_device, ticks_price, wraps};
 ghost use Rattle.catchup_engine.specs.Events.{deadlines_of};
+ghost use Rattle.catchup_engine.specs.Quiet.{passed};
 ghost use Rattle.catchup_engine.specs.Bus.{BusValue, BusStep, ComesNext, Does, Fits, IsPlace, at_clock, begin_price, done_clock, in_clock, room_of};
-ghost use Rattle.catchup_engine.specs.EngineValue.{Rooms};
 ghost use Rattle.catchup_engine.specs.Memory.{memory_byte};
 ghost use Rattle.avg_device.specs.Tick.{vg_go, vg_reset};
 ghost use Rattle.earom_cells.specs.Tick.{controlled, latched};
@@ -38,8 +38,8 @@ use tape_ports::{Port, Tape, TapeEntry};
 /// divider's wrap and six more, and a clock makes one record of each part at most.
 pub const TRAIL_ROOM: usize = 6160;
 
-/// The first address of the program ROM.
-const PROGRAM_START: u16 = 0x9000;
+/// The clocks that end each sequence.
+pub(crate) const WHOLE: u8 = 7;
 
 /// All of the board but its processor: the devices, each moved up to a clock of its own, and what
 /// they share.
@@ -440,15 +440,42 @@ impl<V: VectorUnit, P: SoundUnit, C: CellUnit, D: DividerUnit> BoardBus<V, P, C,
         self.written.push(Record::Latch { clock, value });
     }
 
+    /// A byte of the RAM.
+    #[inline(always)]
+    pub fn ram_byte(&self, k: u16) -> u8
+        requires { k < RAM_LEN }
+        ensures { result ≡ slice_index self.now.wires.ram k }
+    {
+        self.ram[k as usize]
+    }
+
+    /// A byte of the program ROM.
+    #[inline(always)]
+    pub fn program_byte(&self, k: u16) -> u8
+        requires { k < PROGRAM_ROM_LEN }
+        ensures { result ≡ slice_index self.now.wires.program k }
+    {
+        self.program[k as usize]
+    }
+
+    /// Changes a byte of the RAM.
+    #[inline(always)]
+    pub fn put_ram(&mut self, k: u16, value: u8)
+        requires { k < RAM_LEN }
+        ensures { self.new ≡ record self.old { wires = record self.old.wires { ram = slice_set self.old.wires.ram k value } } }
+    {
+        self.ram[k as usize] = value;
+    }
+
     /// The byte that a read of an address gives, in the clock that counts as done.
     #[inline(never)]
     #[tactic(auto, unfolding(crate::specs::Wires::byte_read, crate::specs::Budget::reaches_device))]
-    fn byte(&mut self, addr: u16) -> u8
+    pub fn byte(&mut self, addr: u16) -> u8
         ensures byte { result ≡ byte_read addr (at_clock (self.old.wires.clock - 1) self.old.wires) }
         ensures does { Does self.old self.new self.old.wires (2 * from_bool (reaches_device (read_of addr result))) }
     {
         match region(addr) {
-            Region::Ram(k) => self.ram[k as usize],
+            Region::Ram(k) => self.ram_byte(k),
             Region::VectorRam(k) => self.memory.byte(k),
             Region::VectorRom(k) => self.memory.byte(VECTOR_RAM_LEN as u16 + k),
             Region::Sound1(reg) => self.read_sound1(reg),
@@ -457,7 +484,7 @@ impl<V: VectorUnit, P: SoundUnit, C: CellUnit, D: DividerUnit> BoardBus<V, P, C,
             Region::In0 => self.read_in0(),
             Region::In3 => self.in3,
             Region::In4 => self.in4,
-            Region::ProgramRom(k) => self.program[k as usize],
+            Region::ProgramRom(k) => self.program_byte(k),
             Region::Go
             | Region::VgReset
             | Region::Acknowledge
@@ -468,50 +495,17 @@ impl<V: VectorUnit, P: SoundUnit, C: CellUnit, D: DividerUnit> BoardBus<V, P, C,
         }
     }
 
-    /// The byte that a read of an address gives: the program ROM and the RAM come first, since most
-    /// reads are theirs.
-    #[inline(always)]
-    #[tactic(auto, using(crate::proofs::MapLaws::near), unfolding(crate::specs::Wires::byte_read, crate::specs::Budget::reaches_device))]
-    fn near_byte(&mut self, addr: u16) -> u8
-        ensures byte { result ≡ byte_read addr (at_clock (self.old.wires.clock - 1) self.old.wires) }
-        ensures does { Does self.old self.new self.old.wires (2 * from_bool (reaches_device (read_of addr result))) }
-    {
-        if addr >= PROGRAM_START {
-            self.program[(addr - PROGRAM_START) as usize]
-        } else if addr < RAM_LEN as u16 {
-            self.ram[addr as usize]
-        } else {
-            self.byte(addr)
-        }
-    }
-
-    /// Writes a byte to an address: the RAM comes first.
-    #[inline(always)]
-    #[tactic(auto, using(crate::proofs::MapLaws::near), unfolding(crate::specs::Wires::byte_put, crate::specs::Budget::reaches_device))]
-    fn near_put(&mut self, addr: u16, value: u8)
-        requires room { length self.old.wires.written < self.old.rooms.board }
-        requires begun { 1 ≤ self.old.wires.clock }
-        ensures does { Does self.old self.new (at_clock self.old.wires.clock (byte_put addr value (at_clock (self.old.wires.clock - 1) self.old.wires))) (2 * from_bool (reaches_device (write_of addr value))) }
-        ensures few { length self.new.wires.written ≤ length self.old.wires.written + 1 }
-    {
-        if addr < RAM_LEN as u16 {
-            self.ram[addr as usize] = value;
-        } else {
-            self.put(addr, value);
-        }
-    }
-
     /// Writes a byte to an address, in the clock that counts as done.
     #[inline(never)]
     #[tactic(auto, unfolding(crate::specs::Wires::byte_put, crate::specs::Budget::reaches_device))]
-    fn put(&mut self, addr: u16, value: u8)
+    pub fn put(&mut self, addr: u16, value: u8)
         requires room { length self.old.wires.written < self.old.rooms.board }
         requires begun { 1 ≤ self.old.wires.clock }
         ensures does { Does self.old self.new (at_clock self.old.wires.clock (byte_put addr value (at_clock (self.old.wires.clock - 1) self.old.wires))) (2 * from_bool (reaches_device (write_of addr value))) }
         ensures few { length self.new.wires.written ≤ length self.old.wires.written + 1 }
     {
         match region(addr) {
-            Region::Ram(k) => self.ram[k as usize] = value,
+            Region::Ram(k) => self.put_ram(k, value),
             Region::VectorRam(k) => self.store(k, value),
             Region::Sound1(reg) => self.write_sound1(reg, value),
             Region::Sound2(reg) => self.write_sound2(reg, value),
@@ -586,12 +580,13 @@ impl<V: VectorUnit, P: SoundUnit, C: CellUnit, D: DividerUnit> BoardBus<V, P, C,
                 && (self.sound1.request_at <= self.clock || self.sound2.request_at <= self.clock)
     }
 
-    /// Whether nothing comes in the next clock: no entry is due, and the divider doesn't wrap.
+    /// Whether nothing comes of itself in the clocks of a whole sequence: no entry is due, and the
+    /// divider doesn't wrap.
     #[inline(always)]
     pub fn is_quiet(&self) -> bool
-        ensures { result ≡ nat_lt self.now.wires.clock self.now.event_at }
+        ensures { result ≡ nat_le (self.now.wires.clock + WHOLE) self.now.event_at }
     {
-        self.clock < self.event_at
+        self.clock + u64::from(WHOLE) <= self.event_at
     }
 
     /// Whether a POKEY has a request after the next clock's ticks, where nothing comes in it.
@@ -684,17 +679,17 @@ impl<V: VectorUnit, P: SoundUnit, C: CellUnit, D: DividerUnit> BoardBus<V, P, C,
         }
     }
 
-    /// The ticks of a clock in which nothing comes: no device moves.
+    /// The ticks of so many clocks in which nothing comes: no device moves.
     #[inline(always)]
-    #[tactic(auto, using(board_base::proofs::TickLaws::next_clock, pokey_chip::proofs::RecordLemmas::lagging, crate::proofs::DividerLaws::lines), unfolding(crate::specs::Wires::devices_ticked))]
-    fn pass(&mut self)
-        requires quiet { self.old.wires.clock < self.old.event_at }
-        requires clock { self.old.wires.clock < 2 ^ 49 }
-        requires room { self.old.wires.clock < self.old.until }
-        ensures begun { self.old.begun ≡ false }
-        ensures value { self.new ≡ record self.old { wires = done_clock (devices_ticked self.old.wires); lagging = self.new.lagging } }
+    #[tactic(auto, using(crate::proofs::QuietLaws::later_devices), unfolding(crate::specs::Quiet::later, crate::specs::Quiet::passed))]
+    pub fn pass(&mut self, clocks: u64)
+        requires quiet { self.old.wires.clock + clocks ≤ self.old.event_at }
+        requires clock { self.old.wires.clock + clocks ≤ 2 ^ 49 }
+        requires room { self.old.wires.clock + clocks ≤ self.old.until }
+        requires begun { self.old.begun ≡ false }
+        ensures { self.new ≡ passed clocks self.old }
     {
-        self.clock += 1;
+        self.clock += clocks;
     }
 
     /// Does a clock's entries and ticks, whether something comes in it or not.
@@ -756,30 +751,8 @@ impl<V: VectorUnit, P: SoundUnit, C: CellUnit, D: DividerUnit> BoardBus<V, P, C,
         self.event_at = 0;
     }
 
-    /// Begins the clock of an access that may have begun, or have entries or a wrap.
-    #[inline(never)]
-    #[tactic(auto, using(crate::proofs::ClockLaws::clocks), unfolding(crate::specs::Bus::in_clock))]
-    fn enter_slowly(&mut self, tape: &Tape)
-        requires fits { Fits tape.now self.old }
-        requires clock { self.old.wires.clock < 2 ^ 49 }
-        requires room { self.old.wires.clock < self.old.until }
-        ensures value { self.new ≡ record self.old { wires = done_clock (in_clock tape.now.entries self.old.begun self.old.wires); begun = false; next = self.new.next; event_at = self.new.event_at; lagging = self.new.lagging; until = self.new.until; calls = self.new.calls } }
-        ensures fits { Fits tape.now self.new }
-        ensures until { self.old.until ≤ self.new.until }
-        ensures calls { self.new.calls ≤ self.old.calls + begin_price tape.now.entries self.old.begun self.old.wires }
-        ensures more { self.old.calls ≤ self.new.calls }
-    {
-        if self.begun {
-            self.begun = false;
-            self.look_ahead(tape);
-        } else {
-            self.clock_with_events(tape);
-        }
-    }
-
     /// Begins the clock of an access, unless it has begun.
-    #[inline(always)]
-    #[tactic(auto, using(crate::proofs::TapeLaws::quiet), unfolding(crate::specs::Bus::in_clock))]
+    #[tactic(auto, using(crate::proofs::ClockLaws::clocks), unfolding(crate::specs::Bus::in_clock))]
     fn enter(&mut self, tape: &Tape)
         requires fits { Fits tape.now self.old }
         requires clock { self.old.wires.clock < 2 ^ 49 }
@@ -791,10 +764,13 @@ impl<V: VectorUnit, P: SoundUnit, C: CellUnit, D: DividerUnit> BoardBus<V, P, C,
         ensures more { self.old.calls ≤ self.new.calls }
         ensures begun { 1 ≤ self.new.wires.clock }
     {
-        if self.clock < self.event_at {
-            self.pass();
+        if self.begun {
+            self.begun = false;
+            self.look_ahead(tape);
+        } else if self.clock < self.event_at {
+            self.pass(1);
         } else {
-            self.enter_slowly(tape);
+            self.clock_with_events(tape);
         }
     }
 
@@ -844,10 +820,10 @@ impl<V: VectorUnit, P: SoundUnit, C: CellUnit, D: DividerUnit> BoardBus<V, P, C,
         ensures { result ≡ memory_byte addr self.now.wires }
     {
         match region(addr) {
-            Region::Ram(k) => Some(self.ram[k as usize]),
+            Region::Ram(k) => Some(self.ram_byte(k)),
             Region::VectorRam(k) => Some(self.memory.byte(k)),
             Region::VectorRom(k) => Some(self.memory.byte(VECTOR_RAM_LEN as u16 + k)),
-            Region::ProgramRom(k) => Some(self.program[k as usize]),
+            Region::ProgramRom(k) => Some(self.program_byte(k)),
             Region::Sound1(_)
             | Region::Sound2(_)
             | Region::EaromOut
@@ -941,18 +917,16 @@ impl<V: VectorUnit, P: SoundUnit, C: CellUnit, D: DividerUnit> Bus for BoardBus<
 
     ghost room = { room_of };
 
-    #[inline(always)]
     #[tactic(auto, using(crate::proofs::ClockLaws::accesses))]
     fn read(&mut self, tape: &Tape, addr: u16) -> u8 {
         self.enter(tape);
-        self.near_byte(addr)
+        self.byte(addr)
     }
 
-    #[inline(always)]
     #[tactic(auto, using(crate::proofs::ClockLaws::accesses))]
     fn write(&mut self, tape: &Tape, addr: u16, value: u8) {
         self.enter(tape);
-        self.near_put(addr, value);
+        self.put(addr, value);
     }
 }
 

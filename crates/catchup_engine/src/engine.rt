@@ -1,18 +1,18 @@
-ghost use Rattle.std.specs.Prelude.{◌≡◌, ◌+◌, ◌-◌, ◌^◌, ◌≤◌, ◌<◌, ◌==◌, ℕ, [], true, false, None, IfSome, IfOk, min};
-ghost use Rattle.board_base.specs.Board.{BoardValue};
+ghost use Rattle.std.specs.Prelude.{◌≡◌, ◌+◌, ◌-◌, ◌≤◌, ◌<◌, ◌==◌, true, false, None, IfSome, IfOk, min};
 ghost use Rattle.cpu_core.specs.Places.{IsMiddle};
 ghost use Rattle.cpu_table.specs.Opcodes.{row_of};
 ghost use Rattle.catchup_engine.specs.Budget.{budget};
 ghost use Rattle.catchup_engine.specs.EngineValue.{HasNoRecords, HasRoom, cleared, counted_on};
-ghost use Rattle.catchup_engine.specs.Lockstep.{Board};
 ghost use Rattle.catchup_engine.specs.Memory.{memory_byte};
-ghost use Rattle.catchup_engine.specs.Run.{boundary_steps, cause_of, cut_steps, is_cut, is_over, to_boundary, to_cut, window_limit, wrap_of};
+ghost use Rattle.catchup_engine.specs.Run.{boundary_steps, cause_of, cut_steps, is_over, to_boundary, to_cut, window_limit, wrap_of};
+ghost use Rattle.catchup_engine.specs.Trace.{step_trace};
 ghost use Rattle.catchup_engine.specs.Wires.{board_of, reloaded, wires_of};
 
 use crate::bus::BoardBus;
 use crate::devices::Devices;
 use crate::run::{run_to_cut, run_until};
 use crate::stop::Stop;
+use crate::trace::{Trace, trace_sequence};
 use avg_device::VectorUnit;
 use board_base::{BoardState, CLOCK_LIMIT, CpuState, DIVIDER_PERIOD, OutOfMemory, Trails};
 use cpu_core::Cpu;
@@ -175,6 +175,8 @@ impl<V: VectorUnit, P: SoundUnit, C: CellUnit, D: DividerUnit> Engine<V, P, C, D
         ensures board { self.new.board ≡ to_boundary tape.now.entries (self.old.board.wires.clock + 1) self.old.board }
         ensures cause { result ≡ cause_of (self.old.board.wires.clock + 1) self.new.board }
         ensures boundary { self.new.board.cpu.mid ≡ None }
+        ensures calls { self.new.calls ≤ self.old.calls
+            + budget tape.now.entries (boundary_steps tape.now.entries (self.old.board.wires.clock + 1) self.old.board) self.old.board }
         ensures more { self.old.calls ≤ self.new.calls }
         ensures done { self.new.done ≡ counted_on self.old.done (self.new.board.wires.clock - self.old.board.wires.clock) }
         ensures rooms { self.new.rooms ≡ self.old.rooms }
@@ -182,6 +184,32 @@ impl<V: VectorUnit, P: SoundUnit, C: CellUnit, D: DividerUnit> Engine<V, P, C, D
         let limit = self.bus.clock() + 1;
         self.advance(tape, limit);
         self.cause(limit)
+    }
+
+    /// Does what `step` does, and tells its accesses, dropped reads included. A board that is jammed
+    /// makes none.
+    pub fn trace_step(&mut self, tape: &Tape, trace: &mut Trace) -> Stop
+        requires clock { self.old.board.cpu.mid ≡ None → self.old.board.wires.clock < CLOCK_LIMIT }
+        requires settled { self.old.lagging ≡ 0 }
+        requires empty { HasNoRecords self.old.board }
+        ensures board { self.new.board ≡ to_boundary tape.now.entries (self.old.board.wires.clock + 1) self.old.board }
+        ensures cause { result ≡ cause_of (self.old.board.wires.clock + 1) self.new.board }
+        ensures boundary { self.new.board.cpu.mid ≡ None }
+        ensures trace { trace.new ≡ step_trace tape.now.entries self.old.board }
+        ensures calls { self.new.calls ≤ self.old.calls
+            + budget tape.now.entries (boundary_steps tape.now.entries (self.old.board.wires.clock + 1) self.old.board) self.old.board }
+        ensures more { self.old.calls ≤ self.new.calls }
+        ensures done { self.new.done ≡ counted_on self.old.done (self.new.board.wires.clock - self.old.board.wires.clock) }
+        ensures rooms { self.new.rooms ≡ self.old.rooms }
+    {
+        let before = self.bus.clock();
+        self.bus.has_room();
+        self.bus.look_at(tape);
+        let mut cpu = Cpu::new(*self.cpu.state());
+        *trace = trace_sequence(&mut cpu, &mut self.bus, tape);
+        self.cpu = cpu;
+        self.count_clocks(before);
+        self.cause(before + 1)
     }
 
     /// Runs to this clock, inside a sequence too, or to the first boundary after the divider's next

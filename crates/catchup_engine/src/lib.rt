@@ -6,8 +6,10 @@ pub mod devices;
 pub mod engine;
 mod lane;
 mod laws;
+mod quiet;
 mod run;
 pub mod stop;
+pub mod trace;
 mod turn;
 
 pub use devices::Devices;
@@ -17,6 +19,7 @@ pub use laws::{
     steps_of_split_runs,
 };
 pub use stop::Stop;
+pub use trace::{Access, Trace};
 
 #[cfg(test)]
 mod tests;

@@ -4,8 +4,8 @@ ghost use Rattle.catchup_engine.specs.Bus.{Fits};
 ghost use Rattle.catchup_engine.specs.Run.{is_over, is_cut};
 ghost use Rattle.catchup_engine.specs.Runs.{over_bus, BoundaryRun, CutRun, IsInRange};
 
-use crate::bus::{BoardBus, TRAIL_ROOM};
-use crate::turn::{WHOLE, turn};
+use crate::bus::{BoardBus, TRAIL_ROOM, WHOLE};
+use crate::turn::turn;
 use avg_device::VectorUnit;
 use board_base::{CLOCK_LIMIT, DIVIDER_PERIOD};
 use cpu_core::Cpu;

@@ -3,9 +3,9 @@ ghost use Rattle.cpu_core.specs.Places.{IsMiddle};
 ghost use Rattle.cpu_table.specs.Opcodes.{row_of};
 ghost use Rattle.catchup_engine.specs.EngineValue.{HasNoRecords};
 
-use crate::{Devices, Engine, Stop};
+use crate::{Devices, Engine, Stop, Trace};
 use avg_device::{FastVg, PlainVg};
-use board_base::{BoardState, Record, Trails};
+use board_base::{BoardState, Record, Sequence, Trails};
 use earom_cells::Earom;
 use irq_watchdog::Divider;
 use pokey_chip::{FastPokey, PlainPokey};
@@ -472,5 +472,42 @@ fn a_step_does_the_reset_and_a_load_makes_five_calls(rt: HostRuntime) -> Result<
     engine.load(&BoardState::power_on());
     assert_eq!(rt; engine.calls(), calls.saturating_add(5));
     assert_eq!(rt; (engine.clock(), engine.done()), (0, 7));
+    Ok(())
+}
+
+#[test]
+fn a_trace_tells_each_access_of_a_sequence(rt: HostRuntime) -> Result<(), Fail> {
+    let image = image_of(rt.alloc(), "9D 34 02 02", "")?;
+    let tape = Tape::read(rt.alloc(), EMPTY.as_bytes())?;
+    let mut engine = power_on(rt.alloc(), &image, true)?;
+    let mut trace = Trace::new();
+    assert_eq!(rt; engine.trace_step(&tape, &mut trace), Stop::Limit);
+    assert_eq!(rt;
+        (trace.sequence, trace.opcode, trace.count),
+        (Sequence::Reset, 0, 7)
+    );
+    assert_eq!(rt; engine.clock(), 7);
+    engine.settle();
+    engine.clear_trails();
+    assert_eq!(rt; engine.trace_step(&tape, &mut trace), Stop::Limit);
+    assert_eq!(rt;
+        (trace.sequence, trace.opcode, trace.count),
+        (Sequence::Opcode, 0x9D, 5)
+    );
+    let made = [
+        (7, 0x9000, 0x9D, false),
+        (8, 0x9001, 0x34, false),
+        (9, 0x9002, 0x02, false),
+        (10, 0x0234, 0, false),
+        (11, 0x0234, 0, true),
+        (0, 0, 0, false),
+        (0, 0, 0, false),
+    ];
+    for (access, expected) in trace.accesses.iter().zip(made.iter()) {
+        assert_eq!(rt;
+            (access.clock, access.addr, access.value, access.write),
+            *expected
+        );
+    }
     Ok(())
 }

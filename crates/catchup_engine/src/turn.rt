@@ -1,13 +1,13 @@
 //! One turn of the board: what is left of a sequence, or the sequence that a fetch begins.
-ghost use Rattle.std.specs.Prelude.{◌≡◌, ◌≢◌, ◌+◌, ◌<◌, ◌^◌, ◌≤◌, ℕ, [], true, false, None, IsSome};
-ghost use Rattle.board_base.specs.Cpu.{CpuValue};
+ghost use Rattle.std.specs.Prelude.{◌≡◌, ◌+◌, ◌<◌, ◌^◌, ◌≤◌, ℕ, [], true, false, None, IsSome};
 ghost use Rattle.cpu_core.specs.Places.{Advances};
 ghost use Rattle.cpu_core.specs.Sequences.{start_of, Runs};
-ghost use Rattle.catchup_engine.specs.Bus.{BusStep, BusValue, Fits, room_of};
+ghost use Rattle.catchup_engine.specs.Bus.{BusStep, Fits, room_of};
 ghost use Rattle.catchup_engine.specs.Lockstep.{sequence_due};
 ghost use Rattle.catchup_engine.specs.Turn.{ReadsOpcode, Resets, TurnedBus};
 
-use crate::bus::BoardBus;
+use crate::bus::{BoardBus, WHOLE};
+use crate::quiet::perform_quietly;
 use avg_device::VectorUnit;
 use board_base::{Pending, Sequence};
 use cpu_alu::Flags;
@@ -17,11 +17,8 @@ use irq_watchdog::DividerUnit;
 use pokey_chip::SoundUnit;
 use tape_ports::Tape;
 
-/// The clocks that end each sequence.
-pub(crate) const WHOLE: u8 = 7;
-
 /// What a fetch begins in a clock whose ticks are done.
-fn due<V: VectorUnit, P: SoundUnit, C: CellUnit, D: DividerUnit>(
+pub(crate) fn due<V: VectorUnit, P: SoundUnit, C: CellUnit, D: DividerUnit>(
     cpu: &Cpu,
     bus: &BoardBus<V, P, C, D>,
 ) -> Sequence
@@ -181,14 +178,16 @@ fn turn_slowly<V: VectorUnit, P: SoundUnit, C: CellUnit, D: DividerUnit>(
     cpu
 }
 
-/// Whether the next fetch reads an opcode, told before its clock.
+/// Whether the next fetch reads an opcode and nothing comes of itself in its sequence's clocks, told
+/// before them.
 #[inline(always)]
 fn reads_opcode<V: VectorUnit, P: SoundUnit, C: CellUnit, D: DividerUnit>(
     cpu: &Cpu,
     bus: &BoardBus<V, P, C, D>,
 ) -> bool
     requires clock { bus.now.wires.clock < 2 ^ 49 }
-    ensures { result ≡ true → ReadsOpcode cpu.now bus.now }
+    ensures reads { result ≡ true → ReadsOpcode cpu.now bus.now }
+    ensures quiet { result ≡ true → bus.now.wires.clock + WHOLE ≤ bus.now.event_at }
 {
     let state = cpu.state();
     state.mid.is_none()
@@ -200,7 +199,7 @@ fn reads_opcode<V: VectorUnit, P: SoundUnit, C: CellUnit, D: DividerUnit>(
 /// Does the rest of the sequence under way, or the sequence that a fetch begins, or as many of its
 /// clocks as are given.
 ///
-/// Most turns are whole instructions in whose first clock nothing comes of itself.
+/// Most turns are whole instructions in whose clocks nothing comes of itself.
 #[inline(always)]
 pub(crate) fn turn<V: VectorUnit, P: SoundUnit, C: CellUnit, D: DividerUnit>(
     mut cpu: Cpu,
@@ -218,7 +217,7 @@ pub(crate) fn turn<V: VectorUnit, P: SoundUnit, C: CellUnit, D: DividerUnit>(
     ensures fits { Fits tape.now bus.new }
 {
     if clocks == WHOLE && reads_opcode(&cpu, bus) {
-        let _fetched = cpu.instruction(bus, tape);
+        perform_quietly(&mut cpu, bus, tape);
         return cpu;
     }
     turn_slowly(cpu, bus, tape, clocks)

@@ -1,6 +1,4 @@
-use Rattle.std.proofs.Common.{ap}
-use Rattle.catchup_engine.specs.Bus.{BusValue}
-use Rattle.catchup_engine.proofs.Turns.{reset-begun, reset-inside, resets-one, resets-more}
+use Rattle.catchup_engine.proofs.Turns.{effects-by, reset-begun, reset-inside, resets-one, resets-more}
 use Rattle.catchup_engine.proofs.turn.take_reset.Goals as goal
 
 pub begin_reset-requires-clause-begun : goal.begin_reset-requires-clause-begun
@@ -11,14 +9,7 @@ returns-then-clocks-eq1-clause-resets g c =
     resets-one c.args.tape.now.entries c.args.cpu.now c.args.clocks c.args.bus.now c.begin-fetched.new.bus c.begin_reset.new.self c.begin-fetched.new.self
     c.if-clocks-eq1.true
     (reset-begun c.args.tape.now.entries c.args.cpu.now c.args.bus.now c.begin-fetched.new.bus c.begin-fetched.new.self c.begin-fetched.ensures.advances)
-    (record {
-      wires = ap (λ (b : BusValue). b.wires) c.begin_reset.ensures.does.value;
-      calls = c.begin_reset.ensures.does.calls;
-      more = c.begin_reset.ensures.does.more;
-      rooms = ap (λ (b : BusValue). b.rooms) c.begin_reset.ensures.does.value;
-      until = c.begin_reset.ensures.does.until;
-      level = ap (λ (b : BusValue). b.begun) c.begin_reset.ensures.does.value;
-    })
+    (effects-by c.begin-fetched.new.bus c.begin_reset.new.self c.begin_reset.ensures.does)
 
 pub resume-made-requires-clause-middle : goal.resume-made-requires-clause-middle
 resume-made-requires-clause-middle g c =
@@ -30,12 +21,5 @@ returns-clause-resets g c =
     resets-more c.args.tape.now.entries c.args.cpu.now c.args.clocks c.resume-made.result c.args.bus.now c.begin-fetched.new.bus c.begin_reset.new.self c.resume-made.new.bus
     c.begin-fetched.new.self c.resume-made.new.self
     (reset-begun c.args.tape.now.entries c.args.cpu.now c.args.bus.now c.begin-fetched.new.bus c.begin-fetched.new.self c.begin-fetched.ensures.advances)
-    (record {
-      wires = ap (λ (b : BusValue). b.wires) c.begin_reset.ensures.does.value;
-      calls = c.begin_reset.ensures.does.calls;
-      more = c.begin_reset.ensures.does.more;
-      rooms = ap (λ (b : BusValue). b.rooms) c.begin_reset.ensures.does.value;
-      until = c.begin_reset.ensures.does.until;
-      level = ap (λ (b : BusValue). b.begun) c.begin_reset.ensures.does.value;
-    })
+    (effects-by c.begin-fetched.new.bus c.begin_reset.new.self c.begin_reset.ensures.does)
     c.resume-made.ensures.advances

@@ -5,7 +5,7 @@ use Rattle.catchup_engine.proofs.bus.BoardBusBus.read.Goals as goal
 
 pub returns-clause-room : goal.returns-clause-room
 returns-clause-room g c =
-    read-room c.args.tape.now.entries c.args.self.now c.enter.new.self c.near_byte.new.self
-    (ap (λ (b : BusValue). b.wires) c.enter.ensures.value) (ap (λ (b : BusValue). b.wires) c.near_byte.ensures.does.value)
-    (ap (λ (b : BusValue). b.rooms) c.near_byte.ensures.does.value ∙ ap (λ (b : BusValue). b.rooms) c.enter.ensures.value)
-    (let first = c.enter.ensures.until in let then = c.near_byte.ensures.does.until in omega arith)
+    read-room c.args.tape.now.entries c.args.self.now c.enter.new.self c.byte.new.self
+    (ap (λ (b : BusValue). b.wires) c.enter.ensures.value) (ap (λ (b : BusValue). b.wires) c.byte.ensures.does.value)
+    (ap (λ (b : BusValue). b.rooms) c.byte.ensures.does.value ∙ ap (λ (b : BusValue). b.rooms) c.enter.ensures.value)
+    (let first = c.enter.ensures.until in let then = c.byte.ensures.does.until in omega arith)

@@ -3,27 +3,27 @@ use Rattle.catchup_engine.specs.Bus.{BusValue}
 use Rattle.catchup_engine.proofs.AccessLaws.{has-entered, room-written, write-step, write-room}
 use Rattle.catchup_engine.proofs.bus.BoardBusBus.write.Goals as goal
 
-pub near_put-requires-clause-room : goal.near_put-requires-clause-room
-near_put-requires-clause-room g c =
+pub put-requires-clause-room : goal.put-requires-clause-room
+put-requires-clause-room g c =
     room-written c.args.self.now c.enter.new.self c.requires.room
     (has-entered c.args.tape.now.entries c.args.self.now c.enter.new.self (ap (λ (b : BusValue). b.wires) c.enter.ensures.value)).written
     (ap (λ (b : BusValue). b.rooms) c.enter.ensures.value)
 
 pub returns-clause-step : goal.returns-clause-step
 returns-clause-step g c =
-    write-step c.args.tape.now.entries c.args.addr c.args.value c.args.self.now c.enter.new.self c.near_put.new.self
-    (ap (λ (b : BusValue). b.wires) c.enter.ensures.value) (ap (λ (b : BusValue). b.wires) c.near_put.ensures.does.value)
+    write-step c.args.tape.now.entries c.args.addr c.args.value c.args.self.now c.enter.new.self c.put.new.self
+    (ap (λ (b : BusValue). b.wires) c.enter.ensures.value) (ap (λ (b : BusValue). b.wires) c.put.ensures.does.value)
     (record {
-      begun = ap (λ (b : BusValue). b.begun) c.near_put.ensures.does.value ∙ ap (λ (b : BusValue). b.begun) c.enter.ensures.value;
-      rooms = ap (λ (b : BusValue). b.rooms) c.near_put.ensures.does.value ∙ ap (λ (b : BusValue). b.rooms) c.enter.ensures.value;
-      until = (let first = c.enter.ensures.until in let then = c.near_put.ensures.does.until in omega arith);
-      calls = (let first = c.enter.ensures.calls in let then = c.near_put.ensures.does.calls in omega arith);
-      more = (let first = c.enter.ensures.more in let then = c.near_put.ensures.does.more in omega arith);
+      begun = ap (λ (b : BusValue). b.begun) c.put.ensures.does.value ∙ ap (λ (b : BusValue). b.begun) c.enter.ensures.value;
+      rooms = ap (λ (b : BusValue). b.rooms) c.put.ensures.does.value ∙ ap (λ (b : BusValue). b.rooms) c.enter.ensures.value;
+      until = (let first = c.enter.ensures.until in let then = c.put.ensures.does.until in omega arith);
+      calls = (let first = c.enter.ensures.calls in let then = c.put.ensures.does.calls in omega arith);
+      more = (let first = c.enter.ensures.more in let then = c.put.ensures.does.more in omega arith);
     })
 
 pub returns-clause-room : goal.returns-clause-room
 returns-clause-room g c =
-    write-room c.args.tape.now.entries c.args.addr c.args.value c.args.self.now c.enter.new.self c.near_put.new.self
-    (ap (λ (b : BusValue). b.wires) c.enter.ensures.value) (ap (λ (b : BusValue). b.wires) c.near_put.ensures.does.value) c.near_put.ensures.few
-    (ap (λ (b : BusValue). b.rooms) c.near_put.ensures.does.value ∙ ap (λ (b : BusValue). b.rooms) c.enter.ensures.value)
-    (let first = c.enter.ensures.until in let then = c.near_put.ensures.does.until in omega arith)
+    write-room c.args.tape.now.entries c.args.addr c.args.value c.args.self.now c.enter.new.self c.put.new.self
+    (ap (λ (b : BusValue). b.wires) c.enter.ensures.value) (ap (λ (b : BusValue). b.wires) c.put.ensures.does.value) c.put.ensures.few
+    (ap (λ (b : BusValue). b.rooms) c.put.ensures.does.value ∙ ap (λ (b : BusValue). b.rooms) c.enter.ensures.value)
+    (let first = c.enter.ensures.until in let then = c.put.ensures.does.until in omega arith)

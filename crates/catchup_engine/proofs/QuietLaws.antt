@@ -1,0 +1,461 @@
+-- Clocks in which nothing comes of itself.
+use Rattle.std.proofs.Common.{◌≡◌, ℕ, ◌+◌, ◌-◌, ◌*◌, ◌≤◌, ◌<◌, false, List, [], ◌∷◌, ◌++◌, length, refl, sym, ap, ◌∙◌, append_assoc, append-nil, add-zero, arith, slice_index, slice_set, ◌==◌, zero, suc, if◌then◌else◌}
+use Rattle.std.proofs.lemmas.Bool.Decides.{nat_tests}
+use Rattle.std.specs.Int.{from_bool}
+use Rattle.board_base.specs.declared.cpu.Sequence.{Sequence}
+use Rattle.board_base.specs.declared.record.Record.{Record}
+use Rattle.board_base.specs.Cpu.{CpuValue}
+use Rattle.board_base.specs.Pokey.{PokeyValue}
+use Rattle.board_base.specs.Ticks.{made, ticks, times}
+use Rattle.board_base.proofs.TickLaws.{ticks-add, made-add, ticks-more, ticks-times, made-more, times-add, times-more}
+use Rattle.avg_device.specs.Tick.{vg_gives, vg_tick}
+use Rattle.earom_cells.specs.Tick.{earom_tick}
+use Rattle.irq_watchdog.specs.Tick.{divider_tick}
+use Rattle.pokey_chip.specs.Tick.{levels_made, pokey_gives, pokey_tick}
+use Rattle.cpu_core.specs.Course.{Access, read_of, write_of}
+use Rattle.cpu_core.specs.Registers.{RegistersValue}
+use Rattle.cpu_core.specs.Sequences.{Moves, Runs}
+use Rattle.tape_ports.specs.declared.entry.TapeEntry.{TapeEntry}
+use Rattle.tape_ports.specs.Tape.{TapeValue}
+use Rattle.catchup_engine.specs.Budget.{reaches_device}
+use Rattle.catchup_engine.specs.Lags.{lags}
+use Rattle.catchup_engine.specs.Bus.{BusStep, BusValue, Does, Fits, Stays, at_clock, begin_price, done_clock, in_clock, room_of}
+use Rattle.catchup_engine.specs.Quiet.{IsCounted, later, passed, quiet_room}
+use Rattle.catchup_engine.specs.Wires.{Wires, byte_put, byte_read, devices_ticked}
+use Rattle.catchup_engine.proofs.AccessLaws.{write-step}
+use Rattle.catchup_engine.proofs.ClockLaws.{clock-back}
+use Rattle.catchup_engine.proofs.MapLaws.{region-program, region-ram}
+use Rattle.catchup_engine.proofs.TapeLaws.{fits-quiet, ticked-quiet}
+
+module _ {S : Type 0} (tick : ℕ → S → S) where
+  -- ticks up to a clock, and then as many more
+  pub ticks-later : (from at n : ℕ) (s : S) → from ≤ at → ticks tick from (at + n - from) s ≡ ticks tick at n (ticks tick from (at - from) s)
+  ticks-later from at n s h =
+      let e : at + n - from ≡ (at - from) + n = omega arith in
+      let f : from + (at - from) ≡ at = omega arith in
+      rw (e, ticks-add tick from (at - from) n s, f) refl
+
+module _ {S R : Type 0} (tick : ℕ → S → S) (gives : ℕ → S → List R) where
+  pub made-later : (from at n : ℕ) (s : S) → from ≤ at
+      → made tick gives from (at + n - from) s ≡ made tick gives from (at - from) s ++ made tick gives at n (ticks tick from (at - from) s)
+  made-later from at n s h =
+      let e : at + n - from ≡ (at - from) + n = omega arith in
+      let f : from + (at - from) ≡ at = omega arith in
+      rw (e, made-add tick gives from (at - from) n s, f) refl
+
+module _ {S : Type 0} (tick : S → S) where
+  pub times-later : (from at n : ℕ) (s : S) → from ≤ at → times tick (at + n - from) s ≡ times tick n (times tick (at - from) s)
+  times-later from at n s h =
+      let e : at + n - from ≡ (at - from) + n = omega arith in
+      rw e (times-add tick (at - from) n s)
+
+pub levels-later : (from at n : ℕ) (p : PokeyValue) → from ≤ at
+    → levels_made from (at + n - from) p ≡ levels_made from (at - from) p ++ levels_made at n (times pokey_tick (at - from) p)
+levels-later from at n p h =
+    made-later (λ _. pokey_tick) pokey_gives from at n p h
+    ∙ ap (λ (q : PokeyValue). levels_made from (at - from) p ++ levels_made at n q) (ticks-times pokey_tick from (at - from) p)
+
+-- after one such clock at least each device lags
+lags-all : (done clock n : ℕ) → done ≤ clock → 1 ≤ n → lags done (clock + n) ≡ 1
+lags-all done clock n h some = grind (arith, nat_tests)
+
+later-some : (n : ℕ) → (suc n == 0) ≡ false
+later-some n = grind (arith, nat_tests)
+
+pub lagging-later : (a b c d e clock n : ℕ) → a ≤ clock → b ≤ clock → c ≤ clock → d ≤ clock → e ≤ clock
+    → lags a (clock + n) + lags b (clock + n) + lags c (clock + n) + lags d (clock + n) + lags e (clock + n)
+    ≡ (if n == 0 then lags a clock + lags b clock + lags c clock + lags d clock + lags e clock else 5)
+lagging-later a b c d e clock zero ha hb hc hd he = rw add-zero refl
+lagging-later a b c d e clock (suc n) ha hb hc hd he =
+    rw (lags-all a clock (suc n) ha (omega arith), lags-all b clock (suc n) hb (omega arith), lags-all c clock (suc n) hc (omega arith), lags-all d clock (suc n) hd (omega arith), lags-all e clock (suc n) he (omega arith), later-some n) refl
+
+pub ruleset later_devices = (ticks-later, made-later, times-later, append_assoc, lagging-later)
+
+-- no clock leaves the wires
+later-zero : (w : Wires) → later 0 w ≡ w
+unfolding later ticks made
+later-zero w = rw (add-zero, append-nil, append-nil, append-nil) refl
+
+pub passed-zero : (s : BusValue) → passed 0 s ≡ s
+unfolding passed
+passed-zero s = ap (λ (w : Wires). let r : BusValue = record s { wires = w } in r) (later-zero s.wires)
+
+-- and one clock more has its devices' ticks
+later-more : (n : ℕ) (w : Wires) → later (n + 1) w ≡ done_clock (devices_ticked (later n w))
+unfolding later devices_ticked
+later-more n w =
+    let e : w.clock + (n + 1) ≡ w.clock + n + 1 = omega arith in
+    rw (
+      e,
+      times-more divider_tick n w.divider,
+      ticks-more (vg_tick w.memory) w.clock n w.vg,
+      times-more pokey_tick n w.sound1,
+      times-more pokey_tick n w.sound2,
+      times-more earom_tick n w.earom,
+      made-more (vg_tick w.memory) vg_gives w.clock n w.vg,
+      made-more (λ _. pokey_tick) pokey_gives w.clock n w.sound1,
+      made-more (λ _. pokey_tick) pokey_gives w.clock n w.sound2,
+      ticks-times pokey_tick w.clock n w.sound1,
+      ticks-times pokey_tick w.clock n w.sound2,
+      append_assoc,
+      append_assoc,
+      append_assoc,
+    ) refl
+
+passed-clock : (n : ℕ) (s : BusValue) → (passed n s).wires.clock ≡ s.wires.clock + n
+unfolding passed later
+passed-clock n s = refl
+
+-- in a clock in which nothing comes, an access finds the devices after their ticks
+pub in-quiet : (tape : TapeValue) (n : ℕ) (s : BusValue) → IsCounted tape n s → s.wires.clock + n < s.event_at
+    → in_clock tape.entries (passed n s).begun (passed n s).wires ≡ devices_ticked (later n s.wires)
+unfolding passed in_clock
+in-quiet tape n s c h = rw c.level (ticked-quiet tape (passed n s) c.fits (rw (passed-clock n s) h))
+
+-- and the clock is done after it
+pub quiet-entered : (tape : TapeValue) (n : ℕ) (s : BusValue) → IsCounted tape n s → s.wires.clock + n < s.event_at
+    → (passed (n + 1) s).wires ≡ done_clock (in_clock tape.entries (passed n s).begun (passed n s).wires)
+unfolding passed
+quiet-entered tape n s c h = later-more n s.wires ∙ ap done_clock (sym (in-quiet tape n s c h))
+
+-- with one more clock the bus is as it has to be
+pub counted-more : (tape : TapeValue) (n : ℕ) (s : BusValue) → IsCounted tape n s → 1 ≤ quiet_room n s → IsCounted tape (n + 1) s
+unfolding passed later
+counted-more tape n s c room = record {
+  fits = fits-quiet tape (passed n s) (passed (n + 1) s) c.fits (omega arith) (omega arith) refl refl;
+  level = c.level;
+  quiet = omega arith;
+  last = omega arith;
+  until = omega arith;
+}
+
+stays-quiet : (entries : List TapeEntry) (x : Access) (n : ℕ) (s : BusValue) (t : BusValue) → s.begun ≡ false → t.begun ≡ s.begun → t.rooms ≡ s.rooms
+    → t.until ≡ s.until → t.calls ≡ s.calls → Stays entries x (passed n s) (passed (n + 1) t)
+unfolding passed
+stays-quiet entries x n s t level begun rooms until calls = record {
+  begun = begun ∙ level;
+  rooms = rooms;
+  until = omega arith;
+  calls = omega arith;
+  more = omega arith;
+}
+
+-- a read of the RAM or of the program ROM
+ram-read : (tape : TapeValue) (n a v : ℕ) (s : BusValue) → IsCounted tape n s → s.wires.clock + n < s.event_at → a < 2048
+    → v ≡ slice_index s.wires.ram a → BusStep tape.entries (read_of a v) (passed n s) (passed (n + 1) s)
+unfolding byte_read later devices_ticked
+ram-read tape n a v s c h near is = (
+  is ∙ sym (ap (byte_read a) (in-quiet tape n s c h) ∙ rw (region-ram a near) refl),
+  quiet-entered tape n s c h,
+  stays-quiet tape.entries (read_of a v) n s s c.level refl refl refl refl,
+)
+
+program-read : (tape : TapeValue) (n a v : ℕ) (s : BusValue) → IsCounted tape n s → s.wires.clock + n < s.event_at → 36864 ≤ a → a < 65536
+    → v ≡ slice_index s.wires.program (a - 36864) → BusStep tape.entries (read_of a v) (passed n s) (passed (n + 1) s)
+unfolding byte_read later devices_ticked
+program-read tape n a v s c h near last is = (
+  is ∙ sym (ap (byte_read a) (in-quiet tape n s c h) ∙ rw (region-program a near last) refl),
+  quiet-entered tape n s c h,
+  stays-quiet tape.entries (read_of a v) n s s c.level refl refl refl refl,
+)
+
+-- a write to the RAM, which no device sees
+later-ram : (n : ℕ) (ram : List ℕ) (w : Wires)
+    → later n (let r : Wires = record w { ram = ram } in r) ≡ (let r : Wires = record (later n w) { ram = ram } in r)
+unfolding later
+later-ram n ram w = refl
+
+put-ram : (n a v : ℕ) (w : Wires) → a < 2048
+    → (let r : Wires = record (done_clock (devices_ticked (later n w))) { ram = slice_set w.ram a v } in r) ≡ done_clock (byte_put a v (devices_ticked (later n w)))
+unfolding later devices_ticked byte_put
+put-ram n a v w near = rw (region-ram a near) refl
+
+ram-written : (tape : TapeValue) (n a v : ℕ) (s t : BusValue) → IsCounted tape n s → s.wires.clock + n < s.event_at → a < 2048
+    → t ≡ record s { wires = record s.wires { ram = slice_set s.wires.ram a v } }
+    → BusStep tape.entries (write_of a v) (passed n s) (passed (n + 1) t)
+unfolding passed byte_put
+ram-written tape n a v s t c h near is = (
+  ap (λ (b : BusValue). later (n + 1) b.wires) is
+      ∙ later-ram (n + 1) (slice_set s.wires.ram a v) s.wires
+      ∙ ap (λ (w : Wires). let r : Wires = record w { ram = slice_set s.wires.ram a v } in r) (later-more n s.wires)
+      ∙ put-ram n a v s.wires near
+      ∙ ap (λ (w : Wires). done_clock (byte_put a v w)) (sym (in-quiet tape n s c h)),
+  stays-quiet tape.entries (write_of a v) n s t c.level (ap (λ (b : BusValue). b.begun) is) (ap (λ (b : BusValue). b.rooms) is)
+      (ap (λ (b : BusValue). b.until) is) (ap (λ (b : BusValue). b.calls) is),
+)
+
+-- after the RAM was written the bus is as it has to be
+counted-ram : (tape : TapeValue) (n a v : ℕ) (s t : BusValue) → IsCounted tape n s → t ≡ record s { wires = record s.wires { ram = slice_set s.wires.ram a v } }
+    → IsCounted tape n t
+unfolding passed later
+counted-ram tape n a v s t c is = rw is (record {
+  fits = record { valid = c.fits.valid; place = c.fits.place; quiet = c.fits.quiet };
+  level = c.level;
+  quiet = c.quiet;
+  last = c.last;
+  until = c.until;
+})
+
+-- one access of a bus that counts: n clocks were counted before it and k after it
+pub record IsStep (tape : TapeValue) (x : Access) (n : ℕ) (s : BusValue) (k : ℕ) (t : BusValue) : Type 0 where
+  pub step : BusStep tape.entries x (passed n s) (passed k t)
+  pub fits : IsCounted tape k t
+  pub room : quiet_room n s ≤ quiet_room k t + 1
+
+room-near : (n : ℕ) (s t : BusValue) → t.wires.clock ≡ s.wires.clock → t.wires.written ≡ s.wires.written → t.rooms ≡ s.rooms
+    → t.until ≡ s.until → t.event_at ≡ s.event_at → quiet_room n s ≤ quiet_room (n + 1) t + 1
+unfolding passed later
+room-near n s t clock written rooms until event =
+    let e : t.rooms.board ≡ s.rooms.board = ap (λ r. r.board) rooms in
+    let f : length t.wires.written ≡ length s.wires.written = ap (λ (l : List Record). length l) written in
+    omega arith
+
+pub ram-reads : (tape : TapeValue) (n a v : ℕ) (s : BusValue) → IsCounted tape n s → 1 ≤ quiet_room n s → a < 2048
+    → v ≡ slice_index s.wires.ram a → IsStep tape (read_of a v) n s (n + 1) s
+ram-reads tape n a v s c room near is =
+    let more = counted-more tape n s c room in
+    let quiet = more.quiet in
+    record {
+      step = ram-read tape n a v s c (omega arith) near is;
+      fits = more;
+      room = room-near n s s refl refl refl refl refl;
+    }
+
+pub program-reads : (tape : TapeValue) (n a v : ℕ) (s : BusValue) → IsCounted tape n s → 1 ≤ quiet_room n s → 36864 ≤ a → a < 65536
+    → v ≡ slice_index s.wires.program (a - 36864) → IsStep tape (read_of a v) n s (n + 1) s
+program-reads tape n a v s c room near last is =
+    let more = counted-more tape n s c room in
+    let quiet = more.quiet in
+    record {
+      step = program-read tape n a v s c (omega arith) near last is;
+      fits = more;
+      room = room-near n s s refl refl refl refl refl;
+    }
+
+pub ram-writes : (tape : TapeValue) (n a v : ℕ) (s t : BusValue) → IsCounted tape n s → 1 ≤ quiet_room n s → a < 2048
+    → t ≡ record s { wires = record s.wires { ram = slice_set s.wires.ram a v } } → IsStep tape (write_of a v) n s (n + 1) t
+ram-writes tape n a v s t c room near is =
+    let more = counted-more tape n s c room in
+    let quiet = more.quiet in
+    record {
+      step = ram-written tape n a v s t c (omega arith) near is;
+      fits = counted-ram tape (n + 1) a v s t more is;
+      room = room-near n s t (ap (λ (b : BusValue). b.wires.clock) is) (ap (λ (b : BusValue). b.wires.written) is) (ap (λ (b : BusValue). b.rooms) is)
+          (ap (λ (b : BusValue). b.until) is) (ap (λ (b : BusValue). b.event_at) is);
+    }
+
+-- an access of a device, of which the bus was told before
+record Reaches (n : ℕ) (x : Access) (s m t : BusValue) : Type 0 where
+  told : m ≡ passed (n + 1) s
+  rooms : t.rooms ≡ m.rooms
+  begun : t.begun ≡ m.begun
+  next : t.next ≡ m.next
+  event : t.event_at ≡ m.event_at
+  clock : t.wires.clock ≡ m.wires.clock
+  until : m.until ≤ t.until
+  calls : t.calls ≤ m.calls + 2 * from_bool (reaches_device x)
+  more : m.calls ≤ t.calls
+
+reaches : (n : ℕ) (x : Access) (s m t : BusValue) (w : Wires) → m ≡ passed (n + 1) s → Does m t w (2 * from_bool (reaches_device x))
+    → w.clock ≡ m.wires.clock → Reaches n x s m t
+reaches n x s m t w told does clock = record {
+  told = told;
+  rooms = ap (λ (b : BusValue). b.rooms) does.value;
+  begun = ap (λ (b : BusValue). b.begun) does.value;
+  next = ap (λ (b : BusValue). b.next) does.value;
+  event = ap (λ (b : BusValue). b.event_at) does.value;
+  clock = ap (λ (b : BusValue). b.wires.clock) does.value ∙ clock;
+  until = does.until;
+  calls = does.calls;
+  more = does.more;
+}
+
+stays-told : (entries : List TapeEntry) (n : ℕ) (x : Access) (s m t : BusValue) → s.begun ≡ false → Reaches n x s m t → Stays entries x (passed n s) t
+unfolding passed
+stays-told entries n x s m t level r =
+    let calls : m.calls ≡ s.calls = ap (λ (b : BusValue). b.calls) r.told in
+    let until : m.until ≡ s.until = ap (λ (b : BusValue). b.until) r.told in
+    let first = r.until in
+    let cost = r.calls in
+    let rise = r.more in
+    record {
+      begun = r.begun ∙ ap (λ (b : BusValue). b.begun) r.told ∙ level;
+      rooms = r.rooms ∙ ap (λ (b : BusValue). b.rooms) r.told;
+      until = omega arith;
+      calls = omega arith;
+      more = omega arith;
+    }
+
+told-entered : (tape : TapeValue) (n : ℕ) (s m : BusValue) → IsCounted tape n s → s.wires.clock + n < s.event_at → m ≡ passed (n + 1) s
+    → m.wires ≡ done_clock (in_clock tape.entries (passed n s).begun (passed n s).wires)
+told-entered tape n s m c h told = ap (λ (b : BusValue). b.wires) told ∙ quiet-entered tape n s c h
+
+counted-told : (tape : TapeValue) (n : ℕ) (x : Access) (s m t : BusValue) → IsCounted tape n s → 1 ≤ quiet_room n s → Reaches n x s m t
+    → IsCounted tape 0 t
+unfolding passed later
+counted-told tape n x s m t c room r =
+    let more = counted-more tape n s c room in
+    let told_clock : m.wires.clock ≡ s.wires.clock + (n + 1) = ap (λ (b : BusValue). b.wires.clock) r.told in
+    let told_event : m.event_at ≡ s.event_at = ap (λ (b : BusValue). b.event_at) r.told in
+    let told_until : m.until ≡ s.until = ap (λ (b : BusValue). b.until) r.told in
+    let told_next : m.next ≡ s.next = ap (λ (b : BusValue). b.next) r.told in
+    let clock : t.wires.clock ≡ s.wires.clock + (n + 1) = r.clock ∙ told_clock in
+    let next : t.next ≡ s.next = r.next ∙ told_next in
+    let event : t.event_at ≡ s.event_at = r.event ∙ told_event in
+    let until = r.until in
+    let more_quiet = more.quiet in
+    let more_last = more.last in
+    let more_until = more.until in
+    record {
+      fits = rw (passed-zero t) (record {
+        valid = c.fits.valid;
+        place = rw (clock, next) more.fits.place;
+        quiet = rw (event, next) c.fits.quiet;
+      });
+      level = r.begun ∙ ap (λ (b : BusValue). b.begun) r.told ∙ c.level;
+      quiet = omega arith;
+      last = omega arith;
+      until = omega arith;
+    }
+
+room-told : (n : ℕ) (x : Access) (s m t : BusValue) → Reaches n x s m t → length t.wires.written ≤ length m.wires.written + 1
+    → quiet_room n s ≤ quiet_room 0 t + 1
+unfolding passed later
+room-told n x s m t r few =
+    let told_clock : m.wires.clock ≡ s.wires.clock + (n + 1) = ap (λ (b : BusValue). b.wires.clock) r.told in
+    let told_event : m.event_at ≡ s.event_at = ap (λ (b : BusValue). b.event_at) r.told in
+    let told_until : m.until ≡ s.until = ap (λ (b : BusValue). b.until) r.told in
+    let told_rooms : m.rooms.board ≡ s.rooms.board = ap (λ (b : BusValue). b.rooms.board) r.told in
+    let told_written : length m.wires.written ≡ length s.wires.written = ap (λ (b : BusValue). length b.wires.written) r.told in
+    let rooms : t.rooms.board ≡ m.rooms.board = ap (λ r. r.board) r.rooms in
+    let clock = r.clock in
+    let event = r.event in
+    let until = r.until in
+    omega arith
+
+-- there is room for it
+pub told-room : (n : ℕ) (s m : BusValue) → 1 ≤ quiet_room n s → m ≡ passed (n + 1) s → length m.wires.written < m.rooms.board
+unfolding passed later
+told-room n s m room told =
+    let rooms : m.rooms.board ≡ s.rooms.board = ap (λ (b : BusValue). b.rooms.board) told in
+    let written : length m.wires.written ≡ length s.wires.written = ap (λ (b : BusValue). length b.wires.written) told in
+    omega arith
+
+pub told-begun : (n : ℕ) (s m : BusValue) → m ≡ passed (n + 1) s → 1 ≤ m.wires.clock
+unfolding passed later
+told-begun n s m told = let clock : m.wires.clock ≡ s.wires.clock + (n + 1) = ap (λ (b : BusValue). b.wires.clock) told in omega arith
+
+pub device-reads : (tape : TapeValue) (n k a v : ℕ) (s m t : BusValue) → IsCounted tape n s → 1 ≤ quiet_room n s → m ≡ passed (n + 1) s → k ≡ 0
+    → Does m t m.wires (2 * from_bool (reaches_device (read_of a v))) → v ≡ byte_read a (at_clock (m.wires.clock - 1) m.wires)
+    → IsStep tape (read_of a v) n s k t
+device-reads tape n k a v s m t c room told none does is =
+    let more = counted-more tape n s c room in
+    let quiet = more.quiet in
+    let r = reaches n (read_of a v) s m t m.wires told does refl in
+    let entered = told-entered tape n s m c (omega arith) told in
+    let same : t.wires ≡ m.wires = ap (λ (b : BusValue). b.wires) does.value in
+    let w = in_clock tape.entries (passed n s).begun (passed n s).wires in
+    let few : length t.wires.written ≡ length m.wires.written = ap (λ (w : Wires). length w.written) same in
+    rw none (record {
+      step = (
+        is ∙ ap (λ (k : Wires). byte_read a (at_clock (k.clock - 1) k)) entered ∙ ap (byte_read a) (clock-back w),
+        ap (λ (b : BusValue). b.wires) (passed-zero t) ∙ same ∙ entered,
+        rw (passed-zero t) (stays-told tape.entries n (read_of a v) s m t c.level r),
+      );
+      fits = counted-told tape n (read_of a v) s m t c room r;
+      room = room-told n (read_of a v) s m t r (omega arith);
+    })
+
+pub device-writes : (tape : TapeValue) (n k a v : ℕ) (s m t : BusValue) → IsCounted tape n s → 1 ≤ quiet_room n s → m ≡ passed (n + 1) s → k ≡ 0
+    → Does m t (at_clock m.wires.clock (byte_put a v (at_clock (m.wires.clock - 1) m.wires))) (2 * from_bool (reaches_device (write_of a v)))
+    → length t.wires.written ≤ length m.wires.written + 1 → IsStep tape (write_of a v) n s k t
+device-writes tape n k a v s m t c room told none does few =
+    let more = counted-more tape n s c room in
+    let quiet = more.quiet in
+    let r = reaches n (write_of a v) s m t (at_clock m.wires.clock (byte_put a v (at_clock (m.wires.clock - 1) m.wires))) told does refl in
+    rw none (record {
+      step =
+          rw (passed-zero t) (write-step tape.entries a v (passed n s) m t (told-entered tape n s m c (omega arith) told)
+          (ap (λ (b : BusValue). b.wires) does.value) (stays-told tape.entries n (write_of a v) s m t c.level r));
+      fits = counted-told tape n (write_of a v) s m t c room r;
+      room = room-told n (write_of a v) s m t r few;
+    })
+
+-- accesses of a bus that counts are those of the bus that it will have told
+moves-seen : {S : Type 0} {T : Access → S → S → Type 0} (entries : List TapeEntry) (seen : S → BusValue) (name : S → ℕ)
+    → ((x : Access) (a b : S) → T x a b → (name b ≡ name a) × BusStep entries x (seen a) (seen b))
+    → (r : RegistersValue) (q : Sequence) (bytes more : List ℕ) (s t : S) → Moves T r q bytes more s t
+    → (name t ≡ name s) × Moves (BusStep entries) r q bytes more (seen s) (seen t)
+moves-seen entries seen name lift r q bytes [] s t same = (ap name same, ap seen same)
+moves-seen entries seen name lift r q bytes (v ∷ more) s t (x, m, is, did, rest) =
+    let one = lift x s m did in
+    let others = moves-seen entries seen name lift r q (bytes ++ v ∷ []) more m t rest in
+    (others.0 ∙ one.0, (x, seen m, is, one.1, others.1))
+
+pub runs-seen : {S : Type 0} {T : Access → S → S → Type 0} (entries : List TapeEntry) (seen : S → BusValue) (name : S → ℕ)
+    → ((x : Access) (a b : S) → T x a b → (name b ≡ name a) × BusStep entries x (seen a) (seen b))
+    → (r : RegistersValue) (q : Sequence) (s t : S) (e : CpuValue) → Runs T r q s t e
+    → (name t ≡ name s) × Runs (BusStep entries) r q (seen s) (seen t) e
+runs-seen entries seen name lift r q s t e runs =
+    let moved = moves-seen entries seen name lift r q [] runs.bytes s t runs.moves in
+    (moved.0, record { bytes = runs.bytes; moves = moved.1; ends = runs.ends })
+
+-- one such clock has its devices' ticks
+pub passed-one : (s : BusValue) → (passed 1 s).wires ≡ done_clock (devices_ticked s.wires)
+unfolding passed
+passed-one s = later-more 0 s.wires ∙ ap (λ (w : Wires). done_clock (devices_ticked w)) (later-zero s.wires)
+
+entered-wires : (tape : TapeValue) (s : BusValue) → Fits tape s → s.wires.clock < s.event_at → s.begun ≡ false
+    → (passed 1 s).wires ≡ done_clock (in_clock tape.entries s.begun s.wires)
+unfolding in_clock passed
+entered-wires tape s f h level = rw level (passed-one s ∙ ap done_clock (sym (ticked-quiet tape s f h)))
+
+entered-value : (tape : TapeValue) (s : BusValue) → Fits tape s → s.wires.clock < s.event_at → s.begun ≡ false
+    → passed 1 s ≡ record s { wires = done_clock (in_clock tape.entries s.begun s.wires); begun = false; lagging = (passed 1 s).lagging }
+unfolding passed
+entered-value tape s f h level =
+    ap (λ (w : Wires). let r : BusValue = record s { wires = w; lagging = (passed 1 s).lagging } in r) (entered-wires tape s f h level)
+    ∙ ap (λ b. let r : BusValue = record s { wires = done_clock (in_clock tape.entries s.begun s.wires); begun = b; lagging = (passed 1 s).lagging } in r) level
+
+-- the clock of an access in which nothing comes, on a bus that doesn't count
+pub record IsEntered (tape : TapeValue) (s t : BusValue) : Type 0 where
+  pub value : t ≡ record s { wires = done_clock (in_clock tape.entries s.begun s.wires); begun = false; next = t.next; event_at = t.event_at; lagging = t.lagging; until = t.until; calls = t.calls }
+  pub fits : Fits tape t
+  pub until : s.until ≤ t.until
+  pub calls : t.calls ≤ s.calls + begin_price tape.entries s.begun s.wires
+  pub more : s.calls ≤ t.calls
+  pub begun : 1 ≤ t.wires.clock
+
+pub entered-quiet : (tape : TapeValue) (s t : BusValue) → Fits tape s → s.wires.clock < s.event_at → s.begun ≡ false → t ≡ passed 1 s → IsEntered tape s t
+unfolding passed later
+entered-quiet tape s t f h level told =
+    let clock : t.wires.clock ≡ s.wires.clock + 1 = ap (λ (b : BusValue). b.wires.clock) told in
+    let until : t.until ≡ s.until = ap (λ (b : BusValue). b.until) told in
+    let calls : t.calls ≡ s.calls = ap (λ (b : BusValue). b.calls) told in
+    record {
+      value = rw told (entered-value tape s f h level);
+      fits = fits-quiet tape s t f h clock (ap (λ (b : BusValue). b.next) told) (ap (λ (b : BusValue). b.event_at) told);
+      until = omega arith;
+      calls = omega arith;
+      more = omega arith;
+      begun = omega arith;
+    }
+
+-- before the first of them
+pub counted-start : (tape : TapeValue) (n : ℕ) (s : BusValue) → n ≡ 0 → Fits tape s → s.begun ≡ false → s.wires.clock + 7 ≤ s.event_at → 7 ≤ room_of s
+    → IsCounted tape n s
+counted-start tape n s none fits level quiet room =
+    rw none (record { fits = rw (passed-zero s) fits; level = level; quiet = omega arith; last = omega arith; until = omega arith })
+
+pub room-start : (n : ℕ) (s : BusValue) → n ≡ 0 → s.wires.clock + 7 ≤ s.event_at → 7 ≤ room_of s → 7 ≤ quiet_room n s
+room-start n s none quiet room = rw (none, passed-zero s) (omega arith)
+
+-- the accesses of a whole sequence, with the clocks that are told at its end
+pub quiet-runs : {S : Type 0} {T : Access → S → S → Type 0} (entries : List TapeEntry) (bus : S → BusValue) (made : S → ℕ) (name : S → ℕ)
+    → ((x : Access) (a b : S) → T x a b → (name b ≡ name a) × BusStep entries x (passed (made a) (bus a)) (passed (made b) (bus b)))
+    → (r : RegistersValue) (q : Sequence) (s t : S) (e : CpuValue) (told : BusValue) → made s ≡ 0 → told ≡ passed (made t) (bus t) → Runs T r q s t e
+    → (name t ≡ name s) × Runs (BusStep entries) r q (bus s) told e
+quiet-runs {S} entries bus made name lift r q s t e told none is runs =
+    let seen = runs-seen entries (λ (k : S). passed (made k) (bus k)) name lift r q s t e runs in
+    let start : passed (made s) (bus s) ≡ bus s = ap (λ n. passed n (bus s)) none ∙ passed-zero (bus s) in
+    (seen.0, rw (is, ← start) seen.1)

@@ -1,0 +1,30 @@
+use Rattle.std.proofs.Common.{refl}
+use Rattle.catchup_engine.proofs.QuietLaws.{counted-more, device-reads, program-reads, ram-reads}
+use Rattle.catchup_engine.proofs.quiet.QuietBusBus.read.Goals as goal
+
+pub tell-requires-clause-clock : goal.tell-requires-clause-clock
+tell-requires-clause-clock g c = (counted-more c.args._tape.now c.args.self.now.made c.args.self.now.bus.now c.requires.fits c.requires.room).last
+
+pub tell-requires-clause-room : goal.tell-requires-clause-room
+tell-requires-clause-room g c = (counted-more c.args._tape.now c.args.self.now.made c.args.self.now.bus.now c.requires.fits c.requires.room).until
+
+pub returns-then-addr-ge-PROGRAM_START : goal.returns-then-addr-ge-PROGRAM_START
+returns-then-addr-ge-PROGRAM_START g c =
+    let is =
+    program-reads c.args._tape.now c.args.self.now.made c.args.addr c.program_byte.result c.args.self.now.bus.now c.requires.fits c.requires.room
+    c.if-addr-ge-PROGRAM_START.true c.ranges.addr.fits c.program_byte.ensures in
+    record { step = (refl, is.step); fits = is.fits; room = is.room }
+
+pub returns-then-addr : goal.returns-then-addr
+returns-then-addr g c =
+    let is =
+    ram-reads c.args._tape.now c.args.self.now.made c.args.addr c.ram_byte.result c.args.self.now.bus.now c.requires.fits c.requires.room
+    c.if-addr.true c.ram_byte.ensures in
+    record { step = (refl, is.step); fits = is.fits; room = is.room }
+
+pub returns-else-addr : goal.returns-else-addr
+returns-else-addr g c =
+    let is =
+    device-reads c.args._tape.now c.args.self.now.made c.tell.new.self.made c.args.addr c.byte.result c.args.self.now.bus.now c.tell.new.self.bus.now c.byte.new.self
+    c.requires.fits c.requires.room c.tell.ensures.told c.tell.ensures.none c.byte.ensures.does c.byte.ensures.byte in
+    record { step = (c.tell.ensures.same_reference, is.step); fits = is.fits; room = is.room }

@@ -1,0 +1,29 @@
+use Rattle.std.proofs.Common.{refl}
+use Rattle.catchup_engine.proofs.QuietLaws.{counted-more, device-writes, ram-writes, told-begun, told-room}
+use Rattle.catchup_engine.proofs.quiet.QuietBusBus.write.Goals as goal
+
+pub tell-requires-clause-clock : goal.tell-requires-clause-clock
+tell-requires-clause-clock g c = (counted-more c.args._tape.now c.args.self.now.made c.args.self.now.bus.now c.requires.fits c.requires.room).last
+
+pub tell-requires-clause-room : goal.tell-requires-clause-room
+tell-requires-clause-room g c = (counted-more c.args._tape.now c.args.self.now.made c.args.self.now.bus.now c.requires.fits c.requires.room).until
+
+pub put-requires-clause-room : goal.put-requires-clause-room
+put-requires-clause-room g c = told-room c.args.self.now.made c.args.self.now.bus.now c.tell.new.self.bus.now c.requires.room c.tell.ensures.told
+
+pub put-requires-clause-begun : goal.put-requires-clause-begun
+put-requires-clause-begun g c = told-begun c.args.self.now.made c.args.self.now.bus.now c.tell.new.self.bus.now c.tell.ensures.told
+
+pub returns-then-addr : goal.returns-then-addr
+returns-then-addr g c =
+    let is =
+    ram-writes c.args._tape.now c.args.self.now.made c.args.addr c.args.value c.args.self.now.bus.now c.put_ram.new.self c.requires.fits c.requires.room
+    c.if-addr.true c.put_ram.ensures in
+    record { step = (refl, is.step); fits = is.fits; room = is.room }
+
+pub returns-else-addr : goal.returns-else-addr
+returns-else-addr g c =
+    let is =
+    device-writes c.args._tape.now c.args.self.now.made c.tell.new.self.made c.args.addr c.args.value c.args.self.now.bus.now c.tell.new.self.bus.now c.put.new.self
+    c.requires.fits c.requires.room c.tell.ensures.told c.tell.ensures.none c.put.ensures.does c.put.ensures.few in
+    record { step = (c.tell.ensures.same_reference, is.step); fits = is.fits; room = is.room }

@@ -1,0 +1,111 @@
+-- What a board's clocks access, as a trace tells it.
+use Rattle.std.specs.Prelude.{◌≡◌, ◌↔◌, ℕ, ◌+◌, ◌-◌, ◌≤◌, List, [], ◌∷◌, ◌++◌, length, drop, slice_index, Option, Some, None, false, true, if◌then◌else◌, zero, suc}
+use Rattle.board_base.specs.Cpu.{CpuValue, MidValue}
+use Rattle.board_base.specs.declared.cpu.Sequence.{Sequence}
+use Rattle.board_base.specs.declared.cpu.Sequence.TheVariants.{Opcode, Interrupt, Reset}
+use Rattle.cpu_core.specs.Course as course
+use Rattle.cpu_core.specs.Course.{read_of, write_of}
+use Rattle.cpu_core.specs.Places.{standing}
+use Rattle.cpu_core.specs.Registers.{RegistersValue}
+use Rattle.cpu_core.specs.Sequences.{next_of, IsAccess, IsEnd}
+use Rattle.tape_ports.specs.declared.entry.TapeEntry.{TapeEntry}
+use Rattle.catchup_engine.specs.declared.trace.Access.{Access}
+use Rattle.catchup_engine.specs.Bus.{BusStep, BusValue}
+use Rattle.catchup_engine.specs.Lockstep.{Board, access_in, sequence_due, step}
+use Rattle.catchup_engine.specs.Run.{boundary_steps, is_jammed}
+use Rattle.catchup_engine.specs.Wires.{Wires, ticked}
+
+-- the sequence, its opcode, the number of its accesses, and seven accesses of which the first are those made
+pub record TraceValue : Type 0 where
+  pub sequence : Sequence
+  pub opcode : ℕ
+  pub count : ℕ
+  pub accesses : List Access
+
+-- a sequence has no more than seven accesses
+pub record IsTrace (t : TraceValue) : Type 0 where
+  pub count : t.count ≤ 7
+  pub accesses : length t.accesses ≡ 7
+
+-- no access
+abbrev pub no_access : Access
+no_access = record { clock = 0; addr = 0; value = 0; write = false }
+
+-- these accesses, and then none, seven in all
+abbrev pub seven_of : List Access → List Access
+seven_of made =
+    made ++ drop (length made) (no_access ∷ no_access ∷ no_access ∷ no_access ∷ no_access ∷ no_access ∷ no_access ∷ [])
+
+-- an access in a clock
+abbrev pub access_at : ℕ → course.Access → Access
+access_at clock (read_of address value) = record { clock = clock; addr = address; value = value; write = false }
+access_at clock (write_of address value) = record { clock = clock; addr = address; value = value; write = true }
+
+-- the access that one tells of
+abbrev pub made_of : Access → course.Access
+made_of access = if access.write then write_of access.addr access.value else read_of access.addr access.value
+
+-- the access that the next clock of a board makes
+abbrev pub accesses_in : ℕ → Option course.Access → List Access
+accesses_in clock None = []
+accesses_in clock (Some access) = access_at clock access ∷ []
+
+-- the accesses of n clocks
+unfoldable pub accesses_of : List TapeEntry → ℕ → Board → List Access
+accesses_of entries zero b = []
+accesses_of entries (suc n) b = accesses_in b.wires.clock (access_in entries b) ++ accesses_of entries n (step entries b)
+
+-- the byte of an access
+abbrev pub byte_of : Option course.Access → ℕ
+byte_of None = 0
+byte_of (Some (read_of address value)) = value
+byte_of (Some (write_of address value)) = value
+
+-- the sequence that the next clock of a board belongs to, and the byte of its first access
+abbrev pub sequence_at : Option MidValue → CpuValue → Wires → Sequence
+sequence_at None c w = sequence_due c w
+sequence_at (Some mid) c w = mid.sequence
+
+abbrev pub first_byte : Option MidValue → Option course.Access → ℕ
+first_byte None access = byte_of access
+first_byte (Some mid) access = slice_index mid.bytes 0
+
+-- the accesses of a sequence before a place in it
+abbrev pub count_of : Option MidValue → ℕ
+count_of None = 0
+count_of (Some mid) = mid.count
+
+-- the opcode of a sequence by its first byte; an interrupt and a reset have none
+abbrev pub opcode_by : Sequence → ℕ → ℕ
+opcode_by Opcode byte = byte
+opcode_by Interrupt byte = 0
+opcode_by Reset byte = 0
+
+-- the trace of n clocks of one sequence
+unfoldable pub trace_of : List TapeEntry → ℕ → Board → TraceValue
+trace_of entries n b =
+    let q = sequence_at b.cpu.mid b.cpu (ticked entries b.wires) in
+    record {
+      sequence = q;
+      opcode = opcode_by q (first_byte b.cpu.mid (access_in entries b));
+      count = n;
+      accesses = seven_of (accesses_of entries n b);
+    }
+
+abbrev pub no_trace : TraceValue
+no_trace = record { sequence = Opcode; opcode = 0; count = 0; accesses = seven_of [] }
+
+-- the trace of what is left of the sequence under way, or else of the next one; a board that is jammed does nothing
+unfoldable pub step_trace : List TapeEntry → Board → TraceValue
+step_trace entries b =
+    if is_jammed b then no_trace else trace_of entries (boundary_steps entries (b.wires.clock + 1) b) b
+
+-- over a bus a sequence made its next access, which left the processor e
+pub record Makes (entries : List TapeEntry) (r : RegistersValue) (q : Sequence) (given : List ℕ) (s t : BusValue) (e : CpuValue) (made : Access) : Type 0 where
+  pub value : ℕ
+  pub access : course.Access
+  pub is : IsAccess (next_of r q given) value access
+  pub did : BusStep entries access s t
+  pub stands : e ≡ standing r q (given ++ value ∷ [])
+  pub complete : (e.mid ≡ None) ↔ IsEnd (next_of r q (given ++ value ∷ []))
+  pub told : made ≡ access_at (t.wires.clock - 1) access
