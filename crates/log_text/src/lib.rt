@@ -2,12 +2,13 @@
 #![tactic(auto)]
 
 mod last;
-mod line;
+pub mod line;
 mod merge;
 mod merged;
 mod record_line;
 
 pub use last::{write_cost, write_end, write_jam};
+pub use line::{LONGEST, Line};
 pub use merged::{one_log, write_merged};
 
 #[cfg(test)]

@@ -7,11 +7,11 @@ use std::marker::Model;
 
 /// Room for the bytes of the longest line, that of a stroke: a letter, three numbers of up to 20
 /// digits and four of up to 10 digits and a sign, each behind a blank, and LF.
-const LONGEST: usize = 113;
+pub const LONGEST: usize = 113;
 
-/// A line of the log while it is put together.
+/// A line of text while it is put together: words with a blank between each two, and LF.
 #[derive(Drop)]
-pub(crate) struct Line {
+pub struct Line {
     bytes: ArrayVec<u8, LONGEST>,
 }
 
@@ -28,7 +28,7 @@ impl Model for Line {
 
 impl Line {
     /// A line that begins with a letter and a number.
-    pub(crate) fn new(letter: u8, n: u64) -> Line
+    pub fn new(letter: u8, n: u64) -> Line
         ensures text { result ≡ letter ∷ 32 ∷ decimal n }
         ensures len { length result ≤ 22 }
     {
@@ -36,6 +36,18 @@ impl Line {
             bytes: ArrayVec::new(),
         };
         line.byte(letter).number(n)
+    }
+
+    /// A line that begins with a word.
+    pub fn of(word: &str) -> Line
+        requires { length word.now ≤ LONGEST }
+        ensures text { result ≡ word.now }
+        ensures len { length result ≡ length word.now }
+    {
+        let line = Line {
+            bytes: ArrayVec::new(),
+        };
+        line.text(word.as_bytes())
     }
 
     /// One byte more.
@@ -59,8 +71,27 @@ impl Line {
         self
     }
 
+    /// A blank and a word.
+    pub fn word(self, word: &str) -> Line
+        requires { length self + 1 + length word.now ≤ LONGEST }
+        ensures text { result ≡ self ++ 32 ∷ word.now }
+        ensures len { length result ≡ length self + 1 + length word.now }
+    {
+        self.byte(b' ').text(word.as_bytes())
+    }
+
+    /// A blank and a number below 256.
+    pub fn small(self, n: u8) -> Line
+        requires { length self + 4 ≤ LONGEST }
+        ensures text { result ≡ self ++ 32 ∷ decimal n }
+        ensures len { length result ≤ length self + 4 }
+    {
+        let mut digits = itoa::Buffer::new();
+        self.byte(b' ').text(digits.format(n).as_bytes())
+    }
+
     /// A blank and a number.
-    pub(crate) fn number(self, n: u64) -> Line
+    pub fn number(self, n: u64) -> Line
         requires { length self + 21 ≤ LONGEST }
         ensures text { result ≡ self ++ 32 ∷ decimal n }
         ensures len { length result ≤ length self + 21 }
@@ -70,7 +101,7 @@ impl Line {
     }
 
     /// A blank and a number, with `-` where it is negative.
-    pub(crate) fn signed(self, n: i32) -> Line
+    pub fn signed(self, n: i32) -> Line
         requires { length self + 12 ≤ LONGEST }
         ensures text { result ≡ self ++ 32 ∷ signed_decimal n }
         ensures len { length result ≤ length self + 12 }
@@ -89,7 +120,7 @@ impl Line {
     }
 
     /// A blank and a byte as two hexadecimal digits.
-    pub(crate) fn hex_byte(self, byte: u8) -> Line
+    pub fn hex_byte(self, byte: u8) -> Line
         requires { length self + 3 ≤ LONGEST }
         ensures text { result ≡ self ++ 32 ∷ hex_byte byte }
         ensures len { length result ≡ length self + 3 }
@@ -98,7 +129,7 @@ impl Line {
     }
 
     /// A blank and a word as four hexadecimal digits.
-    pub(crate) fn hex_word(self, word: u16) -> Line
+    pub fn hex_word(self, word: u16) -> Line
         requires { length self + 5 ≤ LONGEST }
         ensures text { result ≡ self ++ 32 ∷ hex_word word }
         ensures len { length result ≡ length self + 5 }
@@ -108,7 +139,7 @@ impl Line {
     }
 
     /// The bytes of the line with LF at its end.
-    pub(crate) fn end(self) -> Line
+    pub fn end(self) -> Line
         requires { length self < LONGEST }
         ensures { result ≡ self ++ 10 ∷ [] }
     {
@@ -116,7 +147,7 @@ impl Line {
     }
 
     /// The bytes put together so far.
-    pub(crate) fn bytes(&self) -> &[u8]
+    pub fn bytes(&self) -> &[u8]
         ensures { result.now ≡ self.now }
     {
         self.bytes.as_slice()

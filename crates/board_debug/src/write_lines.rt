@@ -1,0 +1,19 @@
+ghost use Rattle.std.specs.List.{concat};
+ghost use Rattle.outside_io.specs.Causes.{HasCause};
+ghost use Rattle.outside_io.specs.Sink.{Takes};
+
+use log_text::Line;
+use outside_io::{Sink, SinkFault};
+
+/// Writes lines, one after another.
+pub(crate) fn write_lines<O: Sink>(lines: &[Line], out: &mut O) -> Result<(), SinkFault>
+    ensures taken { Takes (O.taken out.old) (O.taken out.new) (concat lines.now) result }
+    ensures cause { HasCause (O.faults out.old) (O.faults out.new) result }
+{
+    for line in lines {
+        let Ok(()) = out.write(line.bytes()) else {
+            return Err(SinkFault);
+        };
+    }
+    Ok(())
+}
