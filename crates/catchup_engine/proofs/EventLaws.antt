@@ -1,13 +1,13 @@
 -- A clock with its entries and its ticks, step by step.
-use Rattle.std.proofs.Common.{◌≡◌, ℕ, ◌+◌, ◌-◌, ◌*◌, ◌<◌, ◌≤◌, true, false, List, length, refl, ap, ◌∙◌, arith}
+use Rattle.std.proofs.Common.{◌≡◌, ℕ, ◌+◌, ◌-◌, ◌*◌, ◌≤◌, true, false, List, length, refl, ap, ◌∙◌, arith}
 use Rattle.tape_ports.specs.declared.entry.TapeEntry.{TapeEntry}
 use Rattle.tape_ports.specs.Due.{due_at}
 use Rattle.tape_ports.specs.Tape.{TapeValue}
 use Rattle.catchup_engine.specs.Budget.{wraps, ticks_price}
 use Rattle.catchup_engine.specs.Wires.{Wires, applied, devices_ticked, ticked}
-use Rattle.catchup_engine.specs.Bus.{BusValue, Fits, IsPlace, at_clock, done_clock, in_clock}
+use Rattle.catchup_engine.specs.Bus.{BusValue, IsPlace, at_clock, done_clock, in_clock}
 use Rattle.catchup_engine.proofs.Clocks.{ticked-clock, ticked-written}
-use Rattle.catchup_engine.proofs.TapeLaws.{applied-clock, applied-divider, ticked-quiet, fits-quiet}
+use Rattle.catchup_engine.proofs.TapeLaws.{applied-clock, applied-divider}
 
 -- the entries of a clock, and then its ticks
 pub ticked-is : (entries : List TapeEntry) (w v : Wires) → v ≡ applied (due_at w.clock entries) w → devices_ticked v ≡ ticked entries w
@@ -49,12 +49,6 @@ place-after tape s a t applies ticks next place =
     let here : a.wires.clock ≡ s.wires.clock = ap (λ (w : Wires). w.clock) applies ∙ applied-clock (due_at s.wires.clock tape.entries) s.wires in
     let clock : t.wires.clock ≡ s.wires.clock + 1 = ticks-clock s a t s.wires.clock here ticks in
     rw (clock, next) place
-
--- a clock in which nothing comes leaves a tape that fits
-pub fits-passed : (tape : TapeValue) (s t : BusValue) → Fits tape s → s.wires.clock < s.event_at → t.wires ≡ done_clock (devices_ticked s.wires)
-    → t.next ≡ s.next → t.event_at ≡ s.event_at → Fits tape t
-fits-passed tape s t f h ticks next event =
-    fits-quiet tape s t f h (ap (λ (w : Wires). w.clock) ticks ∙ ap (λ n. n + 1) (devices_ticked-clock s.wires)) next event
 
 -- what the ticks of a clock leave
 pub ruleset kept = (ticked-clock, ticked-written)

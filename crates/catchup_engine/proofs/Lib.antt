@@ -21,3 +21,4 @@ pub mod Turns
 pub mod Windows
 pub mod Traces
 pub mod QuietLaws
+pub mod Wraps

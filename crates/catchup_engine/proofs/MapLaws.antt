@@ -11,5 +11,3 @@ region-ram a h = grind (arith, nat_tests)
 pub region-program : (a : ℕ) → 36864 ≤ a → a < 65536 → region_of a ≡ ProgramRom (a - 36864)
 unfolding region_of
 region-program a h last = grind (arith, nat_tests)
-
-pub ruleset near = (region-ram, region-program)

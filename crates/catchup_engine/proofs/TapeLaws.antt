@@ -199,8 +199,6 @@ fits-quiet tape s t f h clock next event = record {
   quiet = rw (event, next) f.quiet;
 }
 
-pub ruleset quiet = (ticked-quiet, fits-quiet)
-
 -- what isn't later than the next entry isn't later than any
 pub comes-next : (tape : TapeValue) (next at : ℕ) (entry : Option ℕ) → ComesNext tape next entry → IfSome entry (λ e. at ≤ e)
     → All (λ (e : TapeEntry). at ≤ e.clock) (drop next tape.entries)

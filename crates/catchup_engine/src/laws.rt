@@ -1,4 +1,5 @@
-ghost use Rattle.std.specs.Prelude.{◌≡◌, ℕ, ◌+◌, ◌*◌, ◌≤◌, List, true};
+ghost use Rattle.std.specs.Prelude.{◌≡◌, ℕ, ◌+◌, ◌*◌, ◌-◌, ◌≤◌, ◌<◌, List, true};
+ghost use Rattle.board_base.specs.declared.divider.TheConstants.{DIVIDER_PERIOD};
 ghost use Rattle.tape_ports.specs.declared.entry.TapeEntry.{TapeEntry};
 ghost use Rattle.catchup_engine.specs.Lockstep.{Board, step, access_in};
 ghost use Rattle.catchup_engine.specs.Run.{stepped, boundary_steps, clock_steps, cut_steps, to_boundary, run, to_cut, is_over, is_at, is_cut, IsPlaced};
@@ -87,4 +88,14 @@ pub fn budget_in_parts()
         → counted entries of_clock (n + m) b ≡ counted entries of_clock n b + counted entries of_clock m (stepped entries n b) }
     ensures more { (entries : List TapeEntry) → (n m : ℕ) → (b : Board)
         → budget entries (n + m) b ≡ budget entries n b + budget entries m (stepped entries n b) }
+{}
+
+/// A run that comes to the divider's wrap has counted it, and the phase stays below its period. It
+/// tells a law, and does nothing.
+#[tactic(auto, using(crate::proofs::Wraps::wrap_laws))]
+pub fn wraps_are_counted()
+    ensures phase { (entries : List TapeEntry) → (n : ℕ) → (b : Board) → b.wires.divider.phase < DIVIDER_PERIOD
+        → (stepped entries n b).wires.divider.phase < DIVIDER_PERIOD }
+    ensures wrap { (entries : List TapeEntry) → (n : ℕ) → (b : Board) → b.wires.divider.phase < DIVIDER_PERIOD
+        → DIVIDER_PERIOD - b.wires.divider.phase ≤ n → 1 ≤ counted entries (λ c. wraps c.wires) n b }
 {}
