@@ -1,12 +1,11 @@
 -- Text put together and taken line by line, and word by word.
-use Rattle.std.proofs.Common.{◌≡◌, ℕ, ◌+◌, ◌≤◌, ◌<◌, List, [], ◌∷◌, ◌++◌, Option, length, take, drop, get_or, map, Result, Ok, Err, suc, refl, sym, ap, ◌∙◌, append_assoc, append-nil, add-one, arith}
+use Rattle.std.proofs.Common.{◌≡◌, ℕ, ◌+◌, ◌≤◌, ◌<◌, List, [], ◌∷◌, ◌++◌, Option, length, take, drop, get_or, map, suc, refl, sym, ap, ◌∙◌, append_assoc, append-nil, add-one, arith}
 use Rattle.std.specs.List.{concat, flat_map, join_with_byte}
 use Rattle.std.proofs.Math.Seq.{split_at, take-length, take-suc}
 use Rattle.std.proofs.lemmas.List.Concat.{flat_map-append}
 use Rattle.std.proofs.lemmas.List.Folds.{concat-append}
 use Rattle.log_text.specs.Lines.{hex_byte, line}
 use Rattle.outside_io.specs.Known.{grown}
-use Rattle.outside_io.specs.Sink.{Takes}
 use Rattle.outside_io.proofs.KnownLaws.{grown-nothing, grown-twice}
 use Rattle.outside_io.proofs.TakesLaws.{took_first, took_then}
 
@@ -48,12 +47,6 @@ pub lines-taken : (lines : List (List ℕ)) (k : ℕ) (out0 out1 : Option (List 
 lines-taken lines k out0 out1 within all before =
     let e : k ≡ length lines = omega arith in
     before ∙ ap (λ taken. grown out0 (concat taken)) (ap (λ n. take n lines) e ∙ take-length lines)
-
--- a second text was taken, whole or up to a fault
-pub takes-then : {T E : Type 0} (out0 out1 out2 : Option (List ℕ)) (first second : List ℕ) (result : Result T E) → out1 ≡ grown out0 first
-    → Takes out1 out2 second result → Takes out0 out2 (first ++ second) result
-takes-then out0 out1 out2 first second (Ok v) whole took = took ∙ ap (λ out. grown out second) whole ∙ grown-twice out0 first second
-takes-then out0 out1 out2 first second (Err e) whole took = took_then out0 out1 out2 first second whole took
 
 -- bytes as two digits each, behind a blank
 pub spaced : List ℕ → List ℕ

@@ -1,4 +1,5 @@
 mod Each
+mod GatherLaws
 mod LineLaws
 pub mod LogLaws
 mod NextLaws

@@ -1,6 +1,7 @@
 //! The text of the log: a line for each record of the board, by clock, and the last lines.
 #![tactic(auto)]
 
+mod block;
 mod last;
 pub mod line;
 mod merge;

@@ -4,14 +4,15 @@ ghost use Rattle.log_text.specs.LogText.{PartRecord, IsInOrder, MergedIsOneLog, 
 ghost use Rattle.outside_io.specs.Causes.{HasCause};
 ghost use Rattle.outside_io.specs.Sink.{Takes};
 
+use crate::block::Block;
 use crate::merge::Merge;
 use crate::record_line::record_line;
 use board_base::{Part, Trails};
 use outside_io::{Sink, SinkFault};
 
 /// Writes a line for each record, earlier clocks first. Lines of one clock come as the parts move in
-/// it: generator, POKEY 1, POKEY 2, and then what the rest of the board recorded. Each line is one
-/// write, and the first that fails is the last.
+/// it: generator, POKEY 1, POKEY 2, and then what the rest of the board recorded. The lines go out in
+/// blocks, each in one write, and the first write that fails is the last.
 pub fn write_merged<O: Sink>(trails: &Trails<'_>, out: &mut O) -> Result<(), SinkFault>
     requires vector { IsTrailOf Part.Generator trails.now.vector.now.records }
     requires sound1 { IsTrailOf Part.Pokey1 trails.now.sound1.now.records }
@@ -28,13 +29,12 @@ pub fn write_merged<O: Sink>(trails: &Trails<'_>, out: &mut O) -> Result<(), Sin
         sound2: trails.sound2.records(),
         board: trails.board.records(),
     };
+    let mut block = Block::new();
     for (part, record) in merge {
         let line = record_line(part, record);
-        let Ok(()) = out.write(line.bytes()) else {
-            return Err(SinkFault);
-        };
+        block.push(line.bytes(), out)?;
     }
-    Ok(())
+    block.flush(out)
 }
 
 /// The lines of four trails are those of the one list whose records they share out. It tells a law,

@@ -1,7 +1,7 @@
-ghost use Rattle.std.specs.Prelude.{◌≡◌, [], ◌∷◌};
+ghost use Rattle.std.specs.Prelude.{◌≡◌, ◌≤◌, [], ◌∷◌, length};
 ghost use Rattle.log_text.specs.Lines.{record_text, levels_letter};
 
-use crate::line::Line;
+use crate::line::{LONGEST, Line};
 use board_base::{Part, Record};
 
 /// The letter of a line of levels.
@@ -17,7 +17,8 @@ fn letter(part: Part) -> u8
 /// The line of a record that the part made.
 #[tactic(auto, using(std::proofs::Common::append_assoc), unfolding(crate::specs::Lines::record_text))]
 pub(crate) fn record_line(part: Part, record: Record) -> Line
-    ensures { result ≡ record_text part «record» }
+    ensures text { result ≡ record_text part «record» }
+    ensures len { length result ≤ LONGEST }
 {
     match record {
         Record::Stroke {

@@ -252,22 +252,11 @@ fn a_failed_write_ends_the_text(rt: HostRuntime) -> Result<(), Fail> {
         sound2: &[levels(19, 2)],
         board: &[Record::WatchdogReset { clock: 40 }],
     };
-    let rows: [(u64, Result<(), SinkFault>, &[u8]); 6] = [
+    // All lines go out in one block.
+    let rows: [(u64, Result<(), SinkFault>, &[u8]); 2] = [
         (1, Err(SinkFault), b""),
-        (2, Err(SinkFault), b"A 19 5 0 0 0\n"),
-        (3, Err(SinkFault), b"A 19 5 0 0 0\nB 19 2 0 0 0\n"),
         (
-            4,
-            Err(SinkFault),
-            b"A 19 5 0 0 0\nB 19 2 0 0 0\nA 23 0 0 0 0\n",
-        ),
-        (
-            5,
-            Err(SinkFault),
-            b"A 19 5 0 0 0\nB 19 2 0 0 0\nA 23 0 0 0 0\nS 35 0 0 65536 0 0 14\n",
-        ),
-        (
-            6,
+            2,
             Ok(()),
             b"A 19 5 0 0 0\nB 19 2 0 0 0\nA 23 0 0 0 0\nS 35 0 0 65536 0 0 14\nW 40\n",
         ),
@@ -280,6 +269,35 @@ fn a_failed_write_ends_the_text(rt: HostRuntime) -> Result<(), Fail> {
             "at write {fails}"
         );
         assert_eq!(rt; out.bytes(), text, "at write {fails}");
+    }
+    Ok(())
+}
+
+#[test]
+fn lines_go_out_in_whole_blocks(rt: HostRuntime) -> Result<(), Fail> {
+    // Each line has 16 bytes, so that 256 lines fill a block.
+    let mut sound = Vec::new(rt.alloc());
+    for clock in 10_000..10_513 {
+        sound.push(levels(clock, 5))?;
+    }
+    let lists = Lists {
+        sound1: &sound,
+        ..NONE
+    };
+    let rows: [(u64, Result<(), SinkFault>, usize); 4] = [
+        (1, Err(SinkFault), 0),
+        (2, Err(SinkFault), 4096),
+        (3, Err(SinkFault), 8192),
+        (4, Ok(()), 8208),
+    ];
+    for (fails, answer, taken) in rows {
+        let mut out = MemorySink::new(rt.alloc(), 9000, &[fails])?;
+        assert_eq!(rt;
+            write(rt.alloc(), &rt, lists, &mut out)?,
+            answer,
+            "at write {fails}"
+        );
+        assert_eq!(rt; out.bytes().len(), taken, "at write {fails}");
     }
     Ok(())
 }

@@ -2,8 +2,8 @@ use Rattle.std.proofs.Common.{rules, FitsSigned, w32}
 use Rattle.log_text.proofs.LineLaws.{stroke_line}
 use Rattle.log_text.proofs.record_line.record_line.Goals as goal
 
-pub returns-in-Stroke : goal.returns-in-Stroke
-returns-in-Stroke c =
+pub returns-in-Stroke-clause-text : goal.returns-in-Stroke-clause-text
+returns-in-Stroke-clause-text c =
     let x0 : FitsSigned w32 c.in-Stroke.x0 = search rules in
     let y0 : FitsSigned w32 c.in-Stroke.y0 = search rules in
     let x1 : FitsSigned w32 c.in-Stroke.x1 = search rules in

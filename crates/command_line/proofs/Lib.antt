@@ -1,0 +1,4 @@
+pub mod Arguments
+pub mod ClockLaws
+pub mod ReadOptions
+pub mod Rising

@@ -1,0 +1,29 @@
+-- How the words of a command line are read. This project's own profile.
+use Rattle.std.specs.Prelude.{ℕ, not, List, [], ◌∷◌, drop, length, take_while, Option, None, option_and_then, option_map}
+use Rattle.command_line.specs.declared.verb.Verb.{Verb}
+use Rattle.command_line.specs.declared.verb.Verb.TheVariants.{Run, Show}
+use Rattle.command_line.specs.CommandValue.{CommandValue, run_of, show_of}
+use Rattle.command_line.specs.Settings.{settings_of}
+use Rattle.command_line.specs.SettingsValue.{SettingsValue}
+use Rattle.command_line.specs.Words.{is_dashed, name_of, verb_of}
+
+-- the arguments stand before the first word with two dashes in front
+abbrev pub arguments_of : List (List ℕ) → List (List ℕ)
+arguments_of words = take_while (λ word. not (is_dashed word)) words
+
+-- the words of the options follow them
+abbrev pub options_after : List (List ℕ) → List (List ℕ)
+options_after words = drop (length (arguments_of words)) words
+
+-- a command with its arguments and what its options say
+abbrev pub built : Verb → List (List ℕ) → SettingsValue → Option CommandValue
+built Run (image ∷ tape ∷ []) said =
+    option_and_then (λ i. option_map (λ t. run_of (record { image = i; tape = t; settings = said })) (name_of tape)) (name_of image)
+built Show (state ∷ []) said = option_map show_of (name_of state)
+built _ _ said = None
+
+-- the one command of a list of words, or none
+abbrev pub command_of : List (List ℕ) → Option CommandValue
+command_of [] = None
+command_of (first ∷ words) =
+    option_and_then (λ verb. option_and_then (built verb (arguments_of words)) (settings_of verb (options_after words))) (verb_of first)

@@ -1,0 +1,14 @@
+-- A command with its words. This project's own profile.
+use Rattle.std.specs.Prelude.{ℕ, List}
+use Rattle.command_line.specs.SettingsValue.{SettingsValue}
+
+-- the names of the files of a run, and what its options say
+pub record RunValue : Type 0 where
+  pub image : List ℕ
+  pub tape : List ℕ
+  pub settings : SettingsValue
+
+-- a run, or the name of the state to show
+pub data CommandValue : Type 0 where
+  run_of : RunValue → CommandValue
+  show_of : List ℕ → CommandValue

@@ -1,0 +1,25 @@
+-- The numbers of the command line. This project's own profile.
+use Rattle.std.specs.Prelude.{ℕ, ◌==◌, ◌&&◌, List, [], ◌∷◌, length, nat_le, Option, Some, None, option_and_then, option_map, if◌then◌else◌}
+use Rattle.std.specs.Char.{is_ascii_digit}
+use Rattle.std.specs.List.{list_all, slice_split}
+use Rattle.std.specs.Str.Parse.{digits_value}
+use Rattle.board_base.specs.declared.board.TheConstants.{CLOCK_LIMIT}
+use Rattle.command_line.specs.declared.number.TheConstants.{CUTS, DIGITS}
+
+-- a number is one or more decimal digits, not too many, and at most the limit of the clocks
+abbrev pub number_of : List ℕ → Option ℕ
+number_of word =
+    if nat_le 1 (length word) && nat_le (length word) DIGITS && list_all is_ascii_digit word && nat_le (digits_value 10 word) CLOCK_LIMIT
+    then Some (digits_value 10 word)
+    else None
+
+-- the numbers of these words, where each is at least the one before it and the first at least this one
+unfoldable pub rising_from : ℕ → List (List ℕ) → Option (List ℕ)
+rising_from least [] = Some []
+rising_from least (word ∷ words) =
+    option_and_then (λ number. if nat_le least number then option_map (λ more. number ∷ more) (rising_from number words) else None) (number_of word)
+
+-- cuts are numbers between commas that don't fall, and not too many
+abbrev pub cuts_of : List ℕ → Option (List ℕ)
+cuts_of word =
+    option_and_then (λ cuts. if nat_le (length cuts) CUTS then Some cuts else None) (rising_from 0 (slice_split (λ byte. byte == 44) word))

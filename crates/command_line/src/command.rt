@@ -1,0 +1,127 @@
+ghost use Rattle.std.specs.Prelude.{◌≡◌, length, map, not, string_bytes, take_while};
+ghost use Rattle.std.specs.Option.{option_map, IfSome};
+ghost use Rattle.command_line.specs.Clocks.{AreClocks, HasClocks};
+ghost use Rattle.command_line.specs.CommandLine.{arguments_of, built, command_of, options_after};
+ghost use Rattle.command_line.specs.CommandWords.{command_value};
+ghost use Rattle.command_line.specs.Settings.{settings_of};
+ghost use Rattle.command_line.specs.Words.{is_dashed};
+
+use crate::option::Opt;
+use crate::settings::Settings;
+use crate::verb::Verb;
+use crate::word::{is_dashed, read_name};
+use std::marker::Model;
+
+/// The words of a run.
+#[derive(Drop)]
+pub struct RunWords<'a> {
+    pub image: &'a str,
+    pub tape: &'a str,
+    pub settings: Settings<'a>,
+}
+
+impl<'a> Model for RunWords<'a> {
+    ghost use Rattle.command_line.specs.CommandValue.{RunValue};
+
+    ghost Value = { RunValue };
+
+    ghost view = { λ r. record { image = r.image.now; tape = r.tape.now; settings = r.settings } };
+}
+
+/// A command.
+#[derive(Drop)]
+pub enum Command<'a> {
+    /// Runs an image with a tape.
+    Run(RunWords<'a>),
+    /// Shows a state.
+    Show(&'a str),
+}
+
+/// The number of the words before the first that begins with two dashes.
+fn count_arguments(words: &[String]) -> usize
+    ensures { result ≡ length (take_while (λ word. not (is_dashed (string_bytes word))) words.now) }
+{
+    words
+        .iter()
+        .take_while(|word| !is_dashed(word.as_str()))
+        .count()
+}
+
+/// The words before the first that begins with two dashes, and those from it on.
+fn part(words: &[String]) -> (&[String], &[String])
+    ensures arguments { map string_bytes result.0.now ≡ arguments_of (map string_bytes words.now) }
+    ensures options { map string_bytes result.1.now ≡ options_after (map string_bytes words.now) }
+{
+    words.split_at(count_arguments(words))
+}
+
+/// The settings of a command's options.
+fn read_settings<'a>(verb: Verb, words: &'a [String]) -> Option<Settings<'a>>
+    ensures settings { result ≡ settings_of verb (map string_bytes words.now) }
+    ensures clocks { IfSome result AreClocks }
+{
+    let mut settings = Settings::new();
+    let mut awaited: Option<Opt> = None;
+    for word in words {
+        let word = word.as_str();
+        if let Some(option) = awaited {
+            settings = settings.with_value(option, word)?;
+            awaited = None;
+        } else {
+            let option = verb.option(word)?;
+            if option.has_value() {
+                awaited = Some(option);
+            } else {
+                settings = settings.with_flag(option)?;
+            }
+        }
+    }
+    if awaited.is_some() {
+        return None;
+    }
+    Some(settings)
+}
+
+/// A run with its arguments.
+fn read_run<'a>(arguments: &'a [String], settings: Settings<'a>) -> Option<Command<'a>>
+    requires { AreClocks settings }
+    ensures command { option_map command_value result ≡ built Verb.Run (map string_bytes arguments.now) settings.entry }
+    ensures clocks { IfSome result (λ command. HasClocks (command_value command)) }
+{
+    let [image, tape] = arguments else {
+        return None;
+    };
+    Some(Command::Run(RunWords {
+        image: read_name(image.as_str())?,
+        tape: read_name(tape.as_str())?,
+        settings,
+    }))
+}
+
+/// A state to show, of the arguments.
+fn read_show<'a>(arguments: &'a [String], settings: &Settings<'a>) -> Option<Command<'a>>
+    ensures command { option_map command_value result ≡ built Verb.Show (map string_bytes arguments.now) settings.now }
+    ensures clocks { IfSome result (λ command. HasClocks (command_value command)) }
+{
+    let [state] = arguments else {
+        return None;
+    };
+    Some(Command::Show(read_name(state.as_str())?))
+}
+
+/// The command of the words of a command line, without the program's name.
+pub fn read_command<'a>(words: &'a [String]) -> Option<Command<'a>>
+    ensures command { option_map command_value result ≡ command_of (map string_bytes words.now) }
+    ensures clocks { IfSome result (λ command. HasClocks (command_value command)) }
+{
+    let [verb, words @ ..] = words else {
+        return None;
+    };
+    let verb = Verb::of(verb.as_str())?;
+    let (arguments, options) = part(words);
+    let settings = read_settings(verb, options)?;
+    match verb {
+        Verb::Run => read_run(arguments, settings),
+        Verb::Show => read_show(arguments, &settings),
+    }
+}

@@ -1,0 +1,55 @@
+ghost use Rattle.std.specs.Prelude.{◌≡◌};
+ghost use Rattle.command_line.specs.Words.{option_of, options_of, verb_of, verb_word};
+
+use crate::option::{Opt, RUN_OPTIONS, SHOW_OPTIONS};
+
+/// What a command does.
+#[derive(Clone, Copy, Debug, PartialEq, Eq)]
+pub enum Verb {
+    /// Runs an image with a tape.
+    Run,
+    /// Shows a state.
+    Show,
+}
+
+/// Each command.
+pub const VERBS: [Verb; 2] = [Verb::Run, Verb::Show];
+
+impl Verb {
+    /// The word of the command.
+    pub fn word(self) -> &'static str
+        ensures { result.now ≡ verb_word self }
+    {
+        match self {
+            Verb::Run => "run",
+            Verb::Show => "show",
+        }
+    }
+
+    /// The options that the command takes.
+    pub fn options(self) -> &'static [Opt]
+        ensures { result.now ≡ options_of self }
+    {
+        match self {
+            Verb::Run => &RUN_OPTIONS,
+            Verb::Show => &SHOW_OPTIONS,
+        }
+    }
+
+    /// The command of a word.
+    pub fn of(word: &str) -> Option<Verb>
+        ensures { result ≡ verb_of word.now }
+    {
+        VERBS.iter().copied().find(|verb| verb.word() == word)
+    }
+
+    /// The option of a word, if the command takes it.
+    pub fn option(self, word: &str) -> Option<Opt>
+        ensures { result ≡ option_of self word.now }
+    {
+        self.options()
+            .iter()
+            .copied()
+            .find(|option| option.word() == word)
+    }
+}
