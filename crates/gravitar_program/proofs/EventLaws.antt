@@ -1,19 +1,23 @@
 -- Laws of what a command does.
-use Rattle.std.proofs.Common.{◌≡◌, ℕ, List, [], ◌∷◌, take, Option, Some, None, Result, Ok, Err, IfSome, IfOk, zero, suc, refl, sym, ap, ◌∙◌}
+use Rattle.std.proofs.Common.{◌≡◌, ℕ, List, [], ◌∷◌, ◌++◌, ◌+◌, length, take, Option, Some, None, Result, Ok, Err, OnOk, OnErr, zero, suc, refl, sym, ap, ◌∙◌}
 use Rattle.outside_io.specs.Known.{grown}
-use Rattle.outside_io.specs.Shelf.{Files, Kept}
-use Rattle.outside_io.proofs.KnownLaws.{grown-nothing}
-use Rattle.tape_ports.specs.Tape.{TapeValue}
-use Rattle.gravitar_program.specs.declared.stop.Stop.{Stop}
-use Rattle.gravitar_program.specs.declared.stop.Stop.TheVariants.{Bad, Absent, Outside, NoMemory}
-use Rattle.gravitar_program.specs.declared.stop.Ending.{Ending}
-use Rattle.gravitar_program.specs.Events.{Event, sent, text_of, stores_of, sending, Did, DidFirst}
-use Rattle.gravitar_program.specs.Words.{Names}
-use Rattle.gravitar_program.specs.Outcome.{both_files, command_outcome, outcome_after, text_of_run, status_of_run}
-use Rattle.gravitar_program.specs.LastLine.{status_of_ending}
-use Rattle.gravitar_program.specs.Stages.{Refuses, Ends, StopEnds, RunTakes, RunStops}
+use Rattle.outside_io.specs.Shelf.{Kept}
+use Rattle.std.proofs.Math.Seq.{take-append-add}
+use Rattle.outside_io.proofs.KnownLaws.{grown-nothing, grown-twice}
+use Rattle.outside_io.proofs.TakesLaws.{take-longer}
+use Rattle.gravitar_program.specs.Events.{Event, sent, stored, text_of, stores_of, sending, Did, DidFirst}
+use Rattle.gravitar_program.specs.Slices.{storing}
 
-text_of-sending : (text : List ℕ) → text_of (sending text) ≡ text
+-- what comes of an answer's clause
+pub on_ok : {T E P Q : Type 0} (result : Result T E) → (P → Q) → OnOk result P → OnOk result Q
+on_ok (Ok v) so p = so p
+on_ok (Err e) so p = tt
+
+pub on_err : {T E P Q : Type 0} (result : Result T E) → (P → Q) → OnErr result P → OnErr result Q
+on_err (Ok v) so p = tt
+on_err (Err e) so p = so p
+
+pub text_of-sending : (text : List ℕ) → text_of (sending text) ≡ text
 unfolding text_of sending
 text_of-sending [] = refl
 text_of-sending (b ∷ text) = ap (λ rest. b ∷ rest) (text_of-sending text)
@@ -54,50 +58,61 @@ did-nothing events out0 out1 stores0 stores1 took same = record {
   did = record { text = took ∙ sym (grown-nothing out0); stores = same ∙ sym (grown-nothing stores0) };
 }
 
--- the outcome of a command whose files are good
-outcome-good : (names : Names) (files : Files) (parts : List ℕ × TapeValue) → both_files files names ≡ Ok parts
-    → command_outcome names files ≡ outcome_after (Ok parts)
-unfolding command_outcome
-outcome-good names files parts good = ap outcome_after good
+pub did-none : (out : Option (List ℕ)) (stores : Option (List Kept)) → Did [] out out stores stores
+unfolding text_of stores_of
+did-none out stores = record { text = sym (grown-nothing out); stores = sym (grown-nothing stores) }
 
-ends-of : (parts : List ℕ × TapeValue) (out0 out1 : Option (List ℕ)) (stores0 stores1 : Option (List Kept)) (result : Result Ending Stop)
-    → RunTakes out0 out1 (text_of_run parts) result
-    → IfOk result (λ ending. status_of_ending ending ≡ status_of_run parts)
-    → RunStops result → stores1 ≡ stores0
-    → Ends (outcome_after (Ok parts)) out0 out1 stores0 stores1 result
-ends-of parts out0 out1 stores0 stores1 (Ok ending) took status stops same =
-    (sym status, refl, did-sending (text_of_run parts) out0 out1 stores0 stores1 took same)
-ends-of parts out0 out1 stores0 stores1 (Err Outside) took status stops same =
-    did-first-sending (text_of_run parts) out0 out1 stores0 stores1 took same
-ends-of parts out0 out1 stores0 stores1 (Err NoMemory) took status stops same = tt
-ends-of parts out0 out1 stores0 stores1 (Err (Bad note)) took status stops same = absurd stops
-ends-of parts out0 out1 stores0 stores1 (Err (Absent note)) took status stops same = absurd stops
+pub text_of-append : (first rest : List Event) → text_of (first ++ rest) ≡ text_of first ++ text_of rest
+unfolding text_of
+text_of-append [] rest = refl
+text_of-append (sent b ∷ first) rest = ap (λ text. b ∷ text) (text_of-append first rest)
+text_of-append (stored name bytes ∷ first) rest = text_of-append first rest
 
--- a command whose files were good
-pub run_is-outcome : (told : Option Files) (names : Names) (parts : List ℕ × TapeValue) (out0 out1 : Option (List ℕ))
-    (stores0 stores1 : Option (List Kept)) (result : Result Ending Stop)
-    → IfSome told (λ files. both_files files names ≡ Ok parts)
-    → RunTakes out0 out1 (text_of_run parts) result
-    → IfOk result (λ ending. status_of_ending ending ≡ status_of_run parts)
-    → RunStops result → stores1 ≡ stores0
-    → IfSome told (λ files. Ends (command_outcome names files) out0 out1 stores0 stores1 result)
-run_is-outcome None names parts out0 out1 stores0 stores1 result good took status stops same = tt
-run_is-outcome (Some files) names parts out0 out1 stores0 stores1 result good took status stops same =
-    rw (outcome-good names files parts good) (ends-of parts out0 out1 stores0 stores1 result took status stops same)
+stores_of-append : (first rest : List Event) → stores_of (first ++ rest) ≡ stores_of first ++ stores_of rest
+unfolding stores_of
+stores_of-append [] rest = refl
+stores_of-append (sent b ∷ first) rest = stores_of-append first rest
+stores_of-append (stored name bytes ∷ first) rest = ap (λ stores. (name, bytes) ∷ stores) (stores_of-append first rest)
 
-stop-of : (names : Names) (files : Files) (stop : Stop) (out0 out1 : Option (List ℕ)) (stores0 stores1 : Option (List Kept))
-    → Refuses (both_files files names) stop → out1 ≡ out0 → stores1 ≡ stores0
-    → StopEnds (command_outcome names files) out0 out1 stores0 stores1 stop
-unfolding command_outcome
-stop-of names files (Bad note) out0 out1 stores0 stores1 refuses took same = ap outcome_after refuses
-stop-of names files (Absent note) out0 out1 stores0 stores1 refuses took same = ap outcome_after refuses
-stop-of names files Outside out0 out1 stores0 stores1 refuses took same = did-nothing _ out0 out1 stores0 stores1 took same
-stop-of names files NoMemory out0 out1 stores0 stores1 refuses took same = tt
+module _ (first rest : List Event) (out0 out1 out2 : Option (List ℕ)) (stores0 stores1 stores2 : Option (List Kept)) where
+  -- one thing was done and then another
+  pub did-then : Did first out0 out1 stores0 stores1 → Did rest out1 out2 stores1 stores2 → Did (first ++ rest) out0 out2 stores0 stores2
+  did-then before after = record {
+    text =
+        after.text
+        ∙ ap (λ (o : Option (List ℕ)). grown o (text_of rest)) before.text
+        ∙ grown-twice out0 (text_of first) (text_of rest)
+        ∙ ap (grown out0) (sym (text_of-append first rest));
+    stores =
+        after.stores
+        ∙ ap (λ (o : Option (List Kept)). grown o (stores_of rest)) before.stores
+        ∙ grown-twice stores0 (stores_of first) (stores_of rest)
+        ∙ ap (grown stores0) (sym (stores_of-append first rest));
+  }
 
--- a command that stopped before its run
-pub stop_is-outcome : (told : Option Files) (names : Names) (stop : Stop) (out0 out1 : Option (List ℕ)) (stores0 stores1 : Option (List Kept))
-    → IfSome told (λ files. Refuses (both_files files names) stop) → out1 ≡ out0 → stores1 ≡ stores0
-    → IfSome told (λ files. StopEnds (command_outcome names files) out0 out1 stores0 stores1 stop)
-stop_is-outcome None names stop out0 out1 stores0 stores1 refuses took same = tt
-stop_is-outcome (Some files) names stop out0 out1 stores0 stores1 refuses took same =
-    stop-of names files stop out0 out1 stores0 stores1 refuses took same
+-- one thing was done, and of another a first part
+pub did-then-first : (first rest : List Event) (out0 out1 out2 : Option (List ℕ)) (stores0 stores1 stores2 : Option (List Kept))
+    → Did first out0 out1 stores0 stores1 → DidFirst rest out1 out2 stores1 stores2 → DidFirst (first ++ rest) out0 out2 stores0 stores2
+did-then-first first rest out0 out1 out2 stores0 stores1 stores2 before after = record {
+  count = length first + after.count;
+  did =
+      rw (take-append-add first rest after.count)
+      (did-then first (take after.count rest) out0 out1 out2 stores0 stores1 stores2 before after.did);
+}
+
+-- a first part of what comes first is one of the whole
+pub did-first-of : (first rest : List Event) (out0 out1 : Option (List ℕ)) (stores0 stores1 : Option (List Kept))
+    → DidFirst first out0 out1 stores0 stores1 → DidFirst (first ++ rest) out0 out1 stores0 stores1
+did-first-of first rest out0 out1 stores0 stores1 part =
+    let (k, same) = take-longer first rest part.count in
+    record { count = k; did = rw same part.did }
+
+-- a store was made, where a name was given
+pub did-storing : (name : Option (List ℕ)) (bytes held : List ℕ) (out0 out1 : Option (List ℕ)) (stores0 stores1 : Option (List Kept))
+    → held ≡ bytes → out1 ≡ out0 → stores1 ≡ grown stores0 (stores_of (storing name held)) → Did (storing name bytes) out0 out1 stores0 stores1
+unfolding text_of
+did-storing None bytes held out0 out1 stores0 stores1 same idle kept = record { text = idle ∙ sym (grown-nothing out0); stores = kept }
+did-storing (Some name) bytes held out0 out1 stores0 stores1 same idle kept = record {
+  text = idle ∙ sym (grown-nothing out0);
+  stores = kept ∙ ap (λ bytes. grown stores0 (stores_of (storing (Some name) bytes))) same;
+}

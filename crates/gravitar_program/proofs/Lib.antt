@@ -1,4 +1,8 @@
 pub mod EventLaws
 pub mod OneListLaws
-pub mod RunTexts
+pub mod ReadingLaws
+pub mod SliceLaws
+pub mod SlicesLaws
+pub mod CutLaws
 pub mod StageLaws
+pub mod WholeLaws

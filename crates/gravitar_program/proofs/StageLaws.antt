@@ -1,17 +1,29 @@
 -- Laws of the answers of a command.
-use Rattle.std.proofs.Common.{◌≡◌, ◌≢◌, ℕ, List, [], ◌∷◌, length, Option, Some, None, Result, Ok, Err, IfSome, Contains, refl, sym, ap, ◌∙◌, arith}
+use Rattle.std.proofs.Common.{◌≡◌, ◌≢◌, ℕ, ◌*◌, List, [], ◌∷◌, length, Option, Some, None, Result, Ok, Err, IfSome, IfOk, Contains, refl, sym, ap, ◌∙◌, subst, arith}
 use Rattle.std.proofs.Math.Seq.{take-length}
+use Rattle.board_base.specs.Board.{BoardValue}
+use Rattle.command_line.specs.CommandLine.{command_of}
+use Rattle.command_line.specs.CommandValue.{CommandValue, RunValue, run_of, show_of}
+use Rattle.command_line.specs.SettingsValue.{SettingsValue}
 use Rattle.outside_io.specs.Causes.{HasCause}
 use Rattle.outside_io.specs.Known.{grown}
 use Rattle.outside_io.specs.Shelf.{Files, Kept}
 use Rattle.outside_io.specs.Sink.{Takes}
 use Rattle.outside_io.proofs.KnownLaws.{grown-nothing}
+use Rattle.catchup_engine.specs.EngineValue.{counted_on}
+use Rattle.catchup_engine.specs.Lockstep.{Board}
+use Rattle.gravitar_program.specs.declared.parts.Parts.{Parts}
+use Rattle.gravitar_program.specs.declared.stop.Ending.{Ending}
+use Rattle.gravitar_program.specs.declared.stop.Ending.TheVariants.{Done, Jammed}
 use Rattle.gravitar_program.specs.declared.stop.Stop.{Stop}
 use Rattle.gravitar_program.specs.declared.stop.Stop.TheVariants.{Bad, Absent, Outside, NoMemory}
 use Rattle.gravitar_program.specs.Events.{Did, text_of, stores_of}
-use Rattle.gravitar_program.specs.Words.{Names, command_of}
-use Rattle.gravitar_program.specs.Outcome.{Outcome, refused, command_outcome, outcome_of, usage_text, fault_text, memory_text}
-use Rattle.gravitar_program.specs.Stages.{status_of, note_of, StopEnds, StopQuiet, Noted}
+use Rattle.gravitar_program.specs.LastLine.{ending_by, status_of_ending}
+use Rattle.gravitar_program.specs.Outcome.{Comes, ComesOf, CommandComes, FitsRun, ForReading, Outcome, command_outcome, fault_text, finished, first_board, limit_of, memory_text, refused, run_files, run_outcome, show_outcome, state_file, usage_text, wanted_by}
+use Rattle.gravitar_program.specs.Slices.{FitsCalls, StopsIn, Wanted, last_board, run_events}
+use Rattle.gravitar_program.specs.Stages.{status_of, note_of, Ends, Noted, Refuses, RunComes, StopEnds, StopQuiet}
+use Rattle.gravitar_program.proofs.CutLaws.{fits-least}
+use Rattle.gravitar_program.proofs.EventLaws.{did-nothing}
 
 -- one write of a note
 pub noted : {T E : Type 0} (notes0 notes1 : Option (List ℕ)) (faults0 faults1 : ℕ) (text : List ℕ) (result : Result T E)
@@ -27,38 +39,54 @@ noted notes0 notes1 faults0 faults1 text (Err a) cut raised = record {
   whole = λ not_risen. absurd (not_risen raised.rose);
 }
 
-did-none : (out0 out1 : Option (List ℕ)) (stores0 stores1 : Option (List Kept)) → out1 ≡ out0 → stores1 ≡ stores0
+did-idle : (out0 out1 : Option (List ℕ)) (stores0 stores1 : Option (List Kept)) → out1 ≡ out0 → stores1 ≡ stores0
     → Did [] out0 out1 stores0 stores1
 unfolding text_of stores_of
-did-none out0 out1 stores0 stores1 took same = record { text = took ∙ sym (grown-nothing out0); stores = same ∙ sym (grown-nothing stores0) }
+did-idle out0 out1 stores0 stores1 took same = record { text = took ∙ sym (grown-nothing out0); stores = same ∙ sym (grown-nothing stores0) }
 
--- the words are of no form
-outcome-usage : (words : List (List ℕ)) (files : Files) → None ≡ command_of words → outcome_of words files ≡ refused 2 usage_text
-outcome-usage words files none = rw (← none) refl
+-- what comes of an outcome comes of that of a command
+pub comes-map : (first second : Outcome → Type 0) (command : Option CommandValue) (files : Files) → ((outcome : Outcome) → first outcome → second outcome)
+    → ComesOf command files first → ComesOf command files second
+comes-map first second None files so comes = so (refused 2 usage_text) comes
+comes-map first second (Some command) files so comes = λ reading is.
+    (let c = comes reading is in record { calls = c.calls; fits = c.fits; of_outcome = so (command_outcome command files reading c.calls) c.of_outcome })
 
-outcome-command : (words : List (List ℕ)) (names : Names) (files : Files) → Some names ≡ command_of words
-    → outcome_of words files ≡ command_outcome names files
-outcome-command words names files some = rw (← some) refl
+-- of words that are those of this command
+of-command : (first second : Outcome → Type 0) (words : List (List ℕ)) (command : CommandValue) (told : Option Files) → Some command ≡ command_of words
+    → ((outcome : Outcome) → first outcome → second outcome)
+    → IfSome told (λ files. ComesOf (Some command) files first) → IfSome told (λ files. Comes words files second)
+of-command first second words command None some so comes = tt
+of-command first second words command (Some files) some so comes =
+    subst (λ c. ComesOf c files second) some (comes-map first second (Some command) files so comes)
+
+-- of a command that is this one
+pub of-same : (holds : Outcome → Type 0) (told : Option Files) (command other : CommandValue) → other ≡ command
+    → IfSome told (λ files. ComesOf (Some command) files holds) → IfSome told (λ files. ComesOf (Some other) files holds)
+of-same holds told command other same comes = rw same comes
+
+-- of words of no form
+of-usage : (holds : Outcome → Type 0) (words : List (List ℕ)) (told : Option Files) → None ≡ command_of words → holds (refused 2 usage_text)
+    → IfSome told (λ files. Comes words files holds)
+of-usage holds words None none h = tt
+of-usage holds words (Some files) none h = subst (λ c. ComesOf c files holds) none h
 
 pub usage-outcome : (told : Option Files) (words : List (List ℕ)) (out0 out1 : Option (List ℕ)) (stores0 stores1 : Option (List Kept))
     → None ≡ command_of words → out1 ≡ out0 → stores1 ≡ stores0
-    → IfSome told (λ files. (2 ≡ (outcome_of words files).status) × Did (outcome_of words files).events out0 out1 stores0 stores1)
-usage-outcome None words out0 out1 stores0 stores1 none took same = tt
-usage-outcome (Some files) words out0 out1 stores0 stores1 none took same =
-    rw (outcome-usage words files none) (refl, did-none out0 out1 stores0 stores1 took same)
+    → IfSome told (λ files. Comes words files (λ outcome. (2 ≡ outcome.status) × Did outcome.events out0 out1 stores0 stores1))
+usage-outcome told words out0 out1 stores0 stores1 none took same =
+    of-usage (λ outcome. (2 ≡ outcome.status) × Did outcome.events out0 out1 stores0 stores1) words told none
+    (refl, did-idle out0 out1 stores0 stores1 took same)
 
 pub usage-note : (told : Option Files) (words : List (List ℕ)) (notes0 notes1 : Option (List ℕ)) (faults0 faults1 : ℕ)
     → None ≡ command_of words → Noted notes0 notes1 faults0 faults1 usage_text
-    → IfSome told (λ files. Noted notes0 notes1 faults0 faults1 (outcome_of words files).note)
-usage-note None words notes0 notes1 faults0 faults1 none h = tt
-usage-note (Some files) words notes0 notes1 faults0 faults1 none h = rw (outcome-usage words files none) h
+    → IfSome told (λ files. Comes words files (λ outcome. Noted notes0 notes1 faults0 faults1 outcome.note))
+usage-note told words notes0 notes1 faults0 faults1 none h =
+    of-usage (λ outcome. Noted notes0 notes1 faults0 faults1 outcome.note) words told none h
 
 -- a refusal that is the outcome
-abbrev IsRefusal : Outcome → Stop → Type 0
-IsRefusal outcome stop = outcome ≡ refused (status_of stop) (note_of stop)
-
 refusal : (outcome : Outcome) (stop : Stop) (status : ℕ) (out0 out1 : Option (List ℕ)) (stores0 stores1 : Option (List Kept))
-    → status ≡ status_of stop → StopEnds outcome out0 out1 stores0 stores1 stop → status ≢ 6 → status ≢ 7 → IsRefusal outcome stop
+    → status ≡ status_of stop → StopEnds outcome out0 out1 stores0 stores1 stop → status ≢ 6 → status ≢ 7
+    → outcome ≡ refused (status_of stop) (note_of stop)
 refusal outcome (Bad note) status out0 out1 stores0 stores1 is ends not6 not7 = ends
 refusal outcome (Absent note) status out0 out1 stores0 stores1 is ends not6 not7 = ends
 refusal outcome Outside status out0 out1 stores0 stores1 is ends not6 not7 = absurd (not6 is)
@@ -71,31 +99,24 @@ quiet-of (Absent note) status out0 out1 stores0 stores1 is quiet not6 = quiet
 quiet-of Outside status out0 out1 stores0 stores1 is quiet not6 = absurd (not6 is)
 quiet-of NoMemory status out0 out1 stores0 stores1 is quiet not6 = quiet
 
-pub stop-outcome : (told : Option Files) (words : List (List ℕ)) (names : Names) (stop : Stop) (status : ℕ) (out0 out1 : Option (List ℕ))
-    (stores0 stores1 : Option (List Kept)) → Some names ≡ command_of words → status ≡ status_of stop
-    → IfSome told (λ files. StopEnds (command_outcome names files) out0 out1 stores0 stores1 stop)
-    → StopQuiet out0 out1 stores0 stores1 stop → status ≢ 6 → status ≢ 7
-    → IfSome told (λ files. (status ≡ (outcome_of words files).status) × Did (outcome_of words files).events out0 out1 stores0 stores1)
-stop-outcome None words names stop status out0 out1 stores0 stores1 some is ends quiet not6 not7 = tt
-stop-outcome (Some files) words names stop status out0 out1 stores0 stores1 some is ends quiet not6 not7 =
-    let same : outcome_of words files ≡ refused (status_of stop) (note_of stop) =
-    outcome-command words names files some
-    ∙ refusal (command_outcome names files) stop status out0 out1 stores0 stores1 is ends not6 not7 in
-    let nothing = quiet-of stop status out0 out1 stores0 stores1 is quiet not6 in
-    rw same (is, did-none out0 out1 stores0 stores1 nothing.0 nothing.1)
+module _ (told : Option Files) (words : List (List ℕ)) (command : CommandValue) (stop : Stop) (status : ℕ) (out0 out1 : Option (List ℕ))
+    (stores0 stores1 : Option (List Kept)) (some : Some command ≡ command_of words) (is : status ≡ status_of stop)
+    (comes : IfSome told (λ files. ComesOf (Some command) files (λ outcome. StopEnds outcome out0 out1 stores0 stores1 stop))) where
+  pub stop-outcome : StopQuiet out0 out1 stores0 stores1 stop → status ≢ 6 → status ≢ 7
+      → IfSome told (λ files. Comes words files (λ outcome. (status ≡ outcome.status) × Did outcome.events out0 out1 stores0 stores1))
+  stop-outcome quiet not6 not7 =
+      let nothing = quiet-of stop status out0 out1 stores0 stores1 is quiet not6 in
+      of-command (λ outcome. StopEnds outcome out0 out1 stores0 stores1 stop)
+      (λ outcome. (status ≡ outcome.status) × Did outcome.events out0 out1 stores0 stores1) words command told some
+      (λ outcome ends.
+      rw (refusal outcome stop status out0 out1 stores0 stores1 is ends not6 not7)
+      (is, did-idle out0 out1 stores0 stores1 nothing.0 nothing.1)) comes
 
-pub stop-note : (told : Option Files) (words : List (List ℕ)) (names : Names) (stop : Stop) (status : ℕ) (out0 out1 : Option (List ℕ))
-    (stores0 stores1 : Option (List Kept)) (notes0 notes1 : Option (List ℕ)) (faults0 faults1 : ℕ)
-    → Some names ≡ command_of words → status ≡ status_of stop
-    → IfSome told (λ files. StopEnds (command_outcome names files) out0 out1 stores0 stores1 stop)
-    → Noted notes0 notes1 faults0 faults1 (note_of stop) → status ≢ 6 → status ≢ 7
-    → IfSome told (λ files. Noted notes0 notes1 faults0 faults1 (outcome_of words files).note)
-stop-note None words names stop status out0 out1 stores0 stores1 notes0 notes1 faults0 faults1 some is ends h not6 not7 = tt
-stop-note (Some files) words names stop status out0 out1 stores0 stores1 notes0 notes1 faults0 faults1 some is ends h not6 not7 =
-    let same : outcome_of words files ≡ refused (status_of stop) (note_of stop) =
-    outcome-command words names files some
-    ∙ refusal (command_outcome names files) stop status out0 out1 stores0 stores1 is ends not6 not7 in
-    rw same h
+  pub stop-note : (notes0 notes1 : Option (List ℕ)) (faults0 faults1 : ℕ) → Noted notes0 notes1 faults0 faults1 (note_of stop) → status ≢ 6 → status ≢ 7
+      → IfSome told (λ files. Comes words files (λ outcome. Noted notes0 notes1 faults0 faults1 outcome.note))
+  stop-note notes0 notes1 faults0 faults1 h not6 not7 =
+      of-command (λ outcome. StopEnds outcome out0 out1 stores0 stores1 stop) (λ outcome. Noted notes0 notes1 faults0 faults1 outcome.note) words command
+      told some (λ outcome ends. rw (refusal outcome stop status out0 out1 stores0 stores1 is ends not6 not7) h) comes
 
 pub fault-note : (stop : Stop) (status : ℕ) (notes0 notes1 : Option (List ℕ)) (faults0 faults1 : ℕ) → status ≡ status_of stop
     → Noted notes0 notes1 faults0 faults1 (note_of stop) → status ≡ 6 → Noted notes0 notes1 faults0 faults1 fault_text
@@ -120,3 +141,109 @@ stop-status (Bad note) status is = rw is (3, omega arith, refl)
 stop-status (Absent note) status is = rw is (4, omega arith, refl)
 stop-status Outside status is = rw is (5, omega arith, refl)
 stop-status NoMemory status is = rw is (6, omega arith, refl)
+
+pub ending-contained : (ending : Ending) (status : ℕ) → status ≡ status_of_ending ending → Contains {X = ℕ} (0 ∷ 2 ∷ 3 ∷ 4 ∷ 5 ∷ 6 ∷ 7 ∷ []) status
+ending-contained Done status is = rw is (0, omega arith, refl)
+ending-contained Jammed status is = rw is (2, omega arith, refl)
+
+-- some number fits a run that isn't begun
+some-calls : (said : SettingsValue) (files : Result Parts Outcome) → (calls : ℕ) × IfOk files (λ parts. FitsRun said parts calls)
+some-calls said (Ok parts) =
+    let limit = limit_of said.until parts.tape.end in (
+      counted_on 5 (5 * length said.cuts),
+      fits-least parts.tape.entries limit (length said.cuts) (first_board said.timers parts) 5,
+    )
+some-calls said (Err refusal) = (0, tt)
+
+-- a stage that stopped before anything was done
+stop-ends : {A : Type 0} (files : Result A Outcome) (outcome : A → Outcome) (stop : Stop) (out0 out1 : Option (List ℕ)) (stores0 stores1 : Option (List Kept))
+    → Refuses files stop → out1 ≡ out0 → stores1 ≡ stores0 → StopEnds (finished files outcome) out0 out1 stores0 stores1 stop
+stop-ends files outcome (Bad note) out0 out1 stores0 stores1 refuses took same = ap (λ r. finished r outcome) refuses
+stop-ends files outcome (Absent note) out0 out1 stores0 stores1 refuses took same = ap (λ r. finished r outcome) refuses
+stop-ends files outcome Outside out0 out1 stores0 stores1 refuses took same = did-nothing _ out0 out1 stores0 stores1 took same
+stop-ends files outcome NoMemory out0 out1 stores0 stores1 refuses took same = tt
+
+-- a run that stopped at its files
+pub run-stopped : (told : Option Files) (run : RunValue) (stop : Stop) (out0 out1 : Option (List ℕ)) (stores0 stores1 : Option (List Kept))
+    → IfSome told (λ files. ForReading run.settings.state files (λ reading. Refuses (run_files files run reading) stop)) → out1 ≡ out0 → stores1 ≡ stores0
+    → IfSome told (λ files. ForReading run.settings.state files (λ reading.
+    CommandComes (run_of run) files reading (λ outcome. StopEnds outcome out0 out1 stores0 stores1 stop)))
+unfolding command_outcome
+run-stopped None run stop out0 out1 stores0 stores1 refuses took same = tt
+run-stopped (Some files) run stop out0 out1 stores0 stores1 refuses took same = λ reading is.
+    (let (calls, fits) = some-calls run.settings (run_files files run reading) in record {
+      calls = calls;
+      fits = fits;
+      of_outcome =
+          stop-ends (run_files files run reading) (λ parts. run_outcome run.settings parts calls) stop out0 out1 stores0 stores1 (refuses reading is) took same;
+    })
+
+-- a run whose files were good
+pub run-comes : (told : Option Files) (run : RunValue) (said : SettingsValue) (parts : Parts) (out0 out1 : Option (List ℕ))
+    (stores0 held stores1 : Option (List Kept)) (result : Result Ending Stop) → said ≡ run.settings → held ≡ stores0
+    → IfSome told (λ files. ForReading run.settings.state files (λ reading. run_files files run reading ≡ Ok parts))
+    → RunComes said parts (λ outcome. Ends outcome out0 out1 held stores1 result)
+    → IfSome told (λ files. ForReading run.settings.state files (λ reading.
+    CommandComes (run_of run) files reading (λ outcome. Ends outcome out0 out1 stores0 stores1 result)))
+unfolding command_outcome
+run-comes None run said parts out0 out1 stores0 held stores1 result same kept good comes = tt
+run-comes (Some files) run said parts out0 out1 stores0 held stores1 result same kept good comes = λ reading is. record {
+  calls = comes.calls;
+  fits = rw (good reading is, sym same) comes.fits;
+  of_outcome = rw (good reading is, sym same, sym kept) comes.of_outcome;
+}
+
+-- a state that couldn't be had
+pub show-stopped : (told : Option Files) (name : List ℕ) (stop : Stop) (out0 out1 : Option (List ℕ)) (stores0 stores1 : Option (List Kept))
+    → IfSome told (λ files. ForReading (Some name) files (λ reading. Refuses (state_file files name reading) stop)) → out1 ≡ out0 → stores1 ≡ stores0
+    → IfSome told (λ files. ForReading (Some name) files (λ reading.
+    CommandComes (show_of name) files reading (λ outcome. StopEnds outcome out0 out1 stores0 stores1 stop)))
+unfolding command_outcome
+show-stopped None name stop out0 out1 stores0 stores1 refuses took same = tt
+show-stopped (Some files) name stop out0 out1 stores0 stores1 refuses took same = λ reading is. record {
+  calls = 0;
+  fits = tt;
+  of_outcome = stop-ends (state_file files name reading) show_outcome stop out0 out1 stores0 stores1 (refuses reading is) took same;
+}
+
+-- a state that is there
+pub show-comes : (told : Option Files) (name : List ℕ) (board : BoardValue) (holds : Outcome → Type 0)
+    → IfSome told (λ files. ForReading (Some name) files (λ reading. state_file files name reading ≡ Ok board)) → holds (show_outcome board)
+    → IfSome told (λ files. ForReading (Some name) files (λ reading. CommandComes (show_of name) files reading holds))
+unfolding command_outcome
+show-comes None name board holds good comes = tt
+show-comes (Some files) name board holds good comes = λ reading is. record { calls = 0; fits = tt; of_outcome = rw (good reading is) comes }
+
+-- the run of an engine is that of its parts
+module _ (said : SettingsValue) (parts : Parts) (limit : ℕ) (wanted : Wanted) (cuts : List ℕ) (before : ℕ) (first : Board)
+    (same_limit : limit ≡ limit_of said.until parts.tape.end) (same_wanted : wanted ≡ wanted_by said) (same_cuts : cuts ≡ said.cuts) (five : before ≡ 5)
+    (same_first : first ≡ first_board said.timers parts) (out0 out1 : Option (List ℕ)) (stores0 stores1 : Option (List Kept)) where
+  pub run-done : (calls : ℕ) (ending : Ending) → Did (run_events parts.tape.entries limit wanted calls cuts first) out0 out1 stores0 stores1
+      → FitsCalls parts.tape.entries limit (length cuts) first before calls
+      → ending ≡ ending_by (last_board parts.tape.entries limit cuts first).cpu.jam
+      → RunComes said parts (λ outcome. Ends outcome out0 out1 stores0 stores1 (Ok ending))
+  unfolding run_outcome
+  run-done calls ending did fits is = record {
+    calls = calls;
+    fits = rw (sym same_limit, sym same_cuts, sym same_first, sym five) fits;
+    of_outcome =
+        rw (sym same_limit, sym same_cuts, sym same_first, sym same_wanted) (
+          sym (ap status_of_ending is),
+          refl,
+          did,
+        );
+  }
+
+  pub run-cut : StopsIn parts.tape.entries limit wanted before cuts first out0 out1 stores0 stores1
+      → RunComes said parts (λ outcome. StopEnds outcome out0 out1 stores0 stores1 Outside)
+  unfolding run_outcome
+  run-cut stopped = record {
+    calls = stopped.calls;
+    fits = rw (sym same_limit, sym same_cuts, sym same_first, sym five) stopped.fits;
+    of_outcome = rw (sym same_limit, sym same_cuts, sym same_first, sym same_wanted) stopped.did;
+  }
+
+-- a run that has no memory
+pub run-unbegun : (said : SettingsValue) (parts : Parts) → RunComes said parts (λ outcome. Unit {0})
+run-unbegun said parts =
+    let some = some-calls said (Ok parts) in record { calls = some.0; fits = some.1; of_outcome = tt }

@@ -1,13 +1,16 @@
 -- An engine from which a run starts, or goes on after its records were written.
-use Rattle.std.specs.Prelude.{◌≡◌, None}
+use Rattle.std.specs.Prelude.{◌≡◌, ◌<◌}
+use Rattle.board_base.specs.declared.divider.TheConstants.{DIVIDER_PERIOD}
 use Rattle.catchup_engine.specs.Lockstep as lockstep
 use Rattle.board_base.specs.declared.part.Part.TheVariants.{Generator, Pokey1, Pokey2, Board}
 use Rattle.board_base.specs.Records.{IsTrailOf}
 use Rattle.catchup_engine.specs.EngineValue.{EngineValue, HasNoRecords}
+use Rattle.catchup_engine.specs.Run.{IsPlaced}
 
--- no record is left, the processor stands at a boundary, and no device lags behind it
+-- no record is left, no device lags behind the processor, and the processor and the divider stand where a run can bring them
 pub record IsFresh (e : EngineValue) : Type 0 where
-  pub boundary : e.board.cpu.mid ≡ None
+  pub placed : IsPlaced e.board
+  pub phase : e.board.wires.divider.phase < DIVIDER_PERIOD
   pub empty : HasNoRecords e.board
   pub settled : e.lagging ≡ 0
 

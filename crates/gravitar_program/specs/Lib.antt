@@ -4,5 +4,6 @@ pub mod Fresh
 pub mod LastLine
 pub mod OneList
 pub mod Outcome
+pub mod Slice
+pub mod Slices
 pub mod Stages
-pub mod Words

@@ -1,27 +1,31 @@
 -- What a command writes, stores and answers, by its words and its files.
-use Rattle.std.specs.Prelude.{ℕ, ◌+◌, List, [], ◌++◌, false, length, take, codes, nat_lt, ◌==◌, Option, Some, None, Result, Ok, Err, if◌then◌else◌}
+use Rattle.std.specs.Prelude.{ℕ, ◌+◌, ◌==◌, min, Bool, List, [], ◌++◌, length, take, codes, nat_lt, Option, Some, None, Result, Ok, Err, IfSome, IfOk, if◌then◌else◌}
 use Rattle.rom_image.specs.declared.image.TheConstants.{IMAGE_LEN}
-use Rattle.tape_ports.specs.declared.tape.TheConstants.{TAPE_LIMIT}
 use Rattle.rom_image.specs.declared.fault.ImageFault.TheVariants.{Length}
+use Rattle.tape_ports.specs.declared.tape.TheConstants.{TAPE_LIMIT}
 use Rattle.tape_ports.specs.declared.fault.LineCause.{LineCause}
 use Rattle.tape_ports.specs.declared.fault.TapeFault.TheVariants.{TooLong, BadLine}
 use Rattle.tape_ports.specs.Tape.{TapeValue}
 use Rattle.tape_ports.specs.Grammar.{tape_of}
-use Rattle.board_base.specs.Board.{board_at_power_on}
-use Rattle.board_base.specs.Cpu.{cpu_at_power_on}
+use Rattle.save_state.specs.declared.TheConstants.{STATE_LEN}
+use Rattle.save_state.specs.declared.fault.StateFault.{StateFault}
+use Rattle.save_state.specs.Reading.{ReadsState}
+use Rattle.board_base.specs.Board.{BoardValue, board_at_power_on}
+use Rattle.board_debug.specs.BoardText.{board_text}
+use Rattle.command_line.specs.CommandLine.{command_of}
+use Rattle.command_line.specs.CommandValue.{CommandValue, RunValue, run_of, show_of}
+use Rattle.command_line.specs.SettingsValue.{SettingsValue}
 use Rattle.outside_io.specs.Shelf.{Files}
 use Rattle.catchup_engine.specs.Wires.{wires_of}
 use Rattle.catchup_engine.specs.Lockstep.{Board}
-use Rattle.catchup_engine.specs.Run.{to_boundary}
-use Rattle.log_text.specs.LogText.{log_text}
-use Rattle.tape_ports.specs.declared.entry.TapeEntry.{TapeEntry}
+use Rattle.gravitar_program.specs.declared.cause.TheConstants.{CELLS_LEN}
+use Rattle.gravitar_program.specs.declared.parts.Parts.{Parts}
 use Rattle.gravitar_program.specs.declared.cause.Cause.{Cause}
-use Rattle.gravitar_program.specs.declared.cause.Cause.TheVariants.{Absent, Image, Tape}
+use Rattle.gravitar_program.specs.declared.cause.Cause.TheVariants.{Absent, Image, Tape, State, Cells}
 use Rattle.gravitar_program.specs.Causes.{cause_text}
 use Rattle.gravitar_program.specs.Events.{Event, sending}
-use Rattle.gravitar_program.specs.LastLine.{ended_by, last_text, ending_of, status_of_ending}
-use Rattle.gravitar_program.specs.OneList.{run_list}
-use Rattle.gravitar_program.specs.Words.{Names, command_of}
+use Rattle.gravitar_program.specs.LastLine.{ending_by, status_of_ending}
+use Rattle.gravitar_program.specs.Slices.{FitsCalls, Wanted, last_board, run_events}
 
 pub record Outcome : Type 0 where
   pub status : ℕ
@@ -73,60 +77,130 @@ tape_or_cause (Err fault) = Err (Tape (BadLine fault.0 fault.1))
 unfoldable pub tape_read : List ℕ → Result TapeValue Cause
 tape_read bytes = if nat_lt TAPE_LIMIT (length bytes) then Err (Tape TooLong) else tape_or_cause (tape_of bytes)
 
+-- the board that bytes are read as, or the cause of their refusal: the reading is told by a relation
+abbrev pub state_read : Result BoardValue StateFault → Result BoardValue Cause
+state_read (Ok board) = Ok board
+state_read (Err fault) = Err (State fault)
+
+-- the cells of an EAROM have one length
+unfoldable pub cells_read : List ℕ → Result (List ℕ) Cause
+cells_read bytes = if length bytes == CELLS_LEN then Ok bytes else Err (Cells (length bytes))
+
 unfoldable pub image_file : Files → List ℕ → Result (List ℕ) Outcome
 image_file files name = and_then (first_bytes name IMAGE_LEN (files name)) (λ bytes. read_as name (image_read bytes))
 
 unfoldable pub tape_file : Files → List ℕ → Result TapeValue Outcome
 tape_file files name = and_then (first_bytes name TAPE_LIMIT (files name)) (λ bytes. read_as name (tape_read bytes))
 
--- the files of a command, each read wholly before the next
-unfoldable pub both_files : Files → Names → Result (List ℕ × TapeValue) Outcome
-both_files files names =
-    and_then (image_file files names.image) (λ image. and_then (tape_file files names.tape) (λ tape. Ok (image, tape)))
+-- a state file whose bytes are read so
+unfoldable pub state_file : Files → List ℕ → Result BoardValue StateFault → Result BoardValue Outcome
+state_file files name reading = and_then (first_bytes name STATE_LEN (files name)) (λ bytes. read_as name (state_read reading))
 
--- the board at power-on over an image, with the POKEYs not wired to the interrupt line
-abbrev pub first_board : List ℕ → Board
-first_board image = record { cpu = cpu_at_power_on; wires = wires_of image false board_at_power_on }
+unfoldable pub cells_file : Files → List ℕ → Result (List ℕ) Outcome
+cells_file files name = and_then (first_bytes name CELLS_LEN (files name)) (λ bytes. read_as name (cells_read bytes))
 
--- the last line of a run that has ended at this board
-abbrev pub last_text_at : Board → List ℕ
-last_text_at b = last_text b b.cpu.jam
+-- the board to begin with: that of the state file, or the one at power-on
+abbrev pub board_file : Files → Option (List ℕ) → Result BoardValue StateFault → Result BoardValue Outcome
+board_file files None reading = Ok board_at_power_on
+board_file files (Some name) reading = state_file files name reading
+
+-- its cells are those of the EAROM file, where there is one
+abbrev pub with_cells : BoardValue → List ℕ → BoardValue
+with_cells board cells = record board { earom = record board.earom { cells = cells } }
+
+abbrev pub cells_into : Files → Option (List ℕ) → BoardValue → Result BoardValue Outcome
+cells_into files None board = Ok board
+cells_into files (Some name) board = and_then (cells_file files name) (λ cells. Ok (with_cells board cells))
+
+-- the files of a run, each read wholly before the next: image, tape, state, EAROM
+unfoldable pub both_files : Files → RunValue → Result (List ℕ × TapeValue) Outcome
+both_files files run =
+    and_then (image_file files run.image) (λ image. and_then (tape_file files run.tape) (λ tape. Ok (image, tape)))
+
+unfoldable pub start_files : Files → SettingsValue → Result BoardValue StateFault → Result BoardValue Outcome
+start_files files said reading = and_then (board_file files said.state reading) (λ board. cells_into files said.earom board)
+
+unfoldable pub run_files : Files → RunValue → Result BoardValue StateFault → Result Parts Outcome
+run_files files run reading =
+    and_then (both_files files run) (λ both.
+    and_then (start_files files run.settings reading) (λ board. Ok (record { image = both.0; tape = both.1; board = board })))
+
+-- the board that a run begins with: with `--timers` the POKEYs are wired to the interrupt line
+abbrev pub first_board : Bool → Parts → Board
+first_board wired parts = record { cpu = parts.board.cpu; wires = wires_of parts.image wired parts.board }
+
+-- a run ends at the tape's END clock, or at the clock of `--until` where that is smaller
+abbrev pub limit_of : Option ℕ → ℕ → ℕ
+limit_of None end = end
+limit_of (Some until) end = min until end
+
+abbrev pub wanted_by : SettingsValue → Wanted
+wanted_by said = record { save = said.save; earom = said.earom; cost = said.cost }
 
 -- the status of a run that has ended at this board
 abbrev pub status_at : Board → ℕ
-status_at b = status_of_ending (ending_of (ended_by b b.cpu.jam))
+status_at b = status_of_ending (ending_by b.cpu.jam)
 
--- the log of a run from a board to the first boundary that isn't before the limit: the lines of its records, as the board
--- makes them clock by clock, and the last line
-unfoldable pub whole_text : List TapeEntry → ℕ → Board → List ℕ
-whole_text entries limit b = log_text (run_list entries limit b) ++ last_text_at (to_boundary entries limit b)
+-- a run, with this number in the line of its device calls
+unfoldable pub run_outcome : SettingsValue → Parts → ℕ → Outcome
+run_outcome said parts calls =
+    let entries = parts.tape.entries in
+    let limit = limit_of said.until parts.tape.end in
+    let first = first_board said.timers parts in
+    record {
+      status = status_at (last_board entries limit said.cuts first);
+      note = [];
+      events = run_events entries limit (wanted_by said) calls said.cuts first;
+    }
 
--- the status of such a run
-unfoldable pub run_status : List TapeEntry → ℕ → Board → ℕ
-run_status entries limit b = status_at (to_boundary entries limit b)
+-- the text of a board
+abbrev pub show_outcome : BoardValue → Outcome
+show_outcome board = record { status = 0; note = []; events = sending (board_text board) }
 
--- the log and the status of a run over an image and a tape, from power-on to the tape's END clock
-abbrev pub text_of_run : List ℕ × TapeValue → List ℕ
-text_of_run parts = whole_text parts.1.entries parts.1.end (first_board parts.0)
+-- what comes of a command's files, or the refusal of one
+abbrev pub finished : {A : Type 0} → Result A Outcome → (A → Outcome) → Outcome
+finished (Ok a) outcome = outcome a
+finished (Err refusal) outcome = refusal
 
-abbrev pub status_of_run : List ℕ × TapeValue → ℕ
-status_of_run parts = run_status parts.1.entries parts.1.end (first_board parts.0)
+-- the outcome of a command over these files, with this reading of its state file and this number of device calls
+unfoldable pub command_outcome : CommandValue → Files → Result BoardValue StateFault → ℕ → Outcome
+command_outcome (run_of run) files reading calls =
+    finished (run_files files run reading) (λ parts. run_outcome run.settings parts calls)
+command_outcome (show_of name) files reading calls = finished (state_file files name reading) show_outcome
 
-abbrev pub outcome_of_run : List ℕ × TapeValue → Outcome
-outcome_of_run parts = record { status = status_of_run parts; note = []; events = sending (text_of_run parts) }
+-- the name of a command's state file
+abbrev pub state_name : CommandValue → Option (List ℕ)
+state_name (run_of run) = run.settings.state
+state_name (show_of name) = Some name
 
--- what is written and stored for the two files, or the refusal of one
-abbrev pub outcome_after : Result (List ℕ × TapeValue) Outcome → Outcome
-outcome_after (Ok parts) = outcome_of_run parts
-outcome_after (Err refusal) = refusal
+-- the reading is that of the state file's bytes, where there are any
+abbrev pub IsReading : Option (List ℕ) → Files → Result BoardValue StateFault → Type 0
+IsReading name files reading = IfSome name (λ n. IfSome (files n) (λ bytes. ReadsState (take (STATE_LEN + 1) bytes) reading))
 
-unfoldable pub command_outcome : Names → Files → Outcome
-command_outcome names files = outcome_after (both_files files names)
+-- the number of device calls is one that a run of these parts may have: from five for each slice up to its budget, the first
+-- five being those of taking up the first board
+abbrev pub FitsRun : SettingsValue → Parts → ℕ → Type 0
+FitsRun said parts calls =
+    FitsCalls parts.tape.entries (limit_of said.until parts.tape.end) (length said.cuts) (first_board said.timers parts) 5 calls
 
-abbrev pub outcome_of_command : Option Names → Files → Outcome
-outcome_of_command None files = refused 2 usage_text
-outcome_of_command (Some names) files = command_outcome names files
+abbrev pub IsNumber : CommandValue → Files → Result BoardValue StateFault → ℕ → Type 0
+IsNumber (run_of run) files reading calls = IfOk (run_files files run reading) (λ parts. FitsRun run.settings parts calls)
+IsNumber (show_of name) files reading calls = Unit {0}
 
--- the outcome of these words over these files
-abbrev pub outcome_of : List (List ℕ) → Files → Outcome
-outcome_of words files = outcome_of_command (command_of words) files
+-- this holds of the outcome of a command. Words and files fix it but for the number of device calls, which is one that fits.
+pub record CommandComes (command : CommandValue) (files : Files) (reading : Result BoardValue StateFault) (holds : Outcome → Type 0) : Type 0 where
+  pub calls : ℕ
+  pub fits : IsNumber command files reading calls
+  pub of_outcome : holds (command_outcome command files reading calls)
+
+-- this holds of the reading of a state file
+abbrev pub ForReading : Option (List ℕ) → Files → (Result BoardValue StateFault → Type 0) → Type 0
+ForReading name files holds = (reading : Result BoardValue StateFault) → IsReading name files reading → holds reading
+
+-- the same of words: those of no form are refused
+abbrev pub ComesOf : Option CommandValue → Files → (Outcome → Type 0) → Type 0
+ComesOf None files holds = holds (refused 2 usage_text)
+ComesOf (Some command) files holds = ForReading (state_name command) files (λ reading. CommandComes command files reading holds)
+
+abbrev pub Comes : List (List ℕ) → Files → (Outcome → Type 0) → Type 0
+Comes words files holds = ComesOf (command_of words) files holds

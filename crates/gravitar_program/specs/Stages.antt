@@ -3,12 +3,16 @@ use Rattle.std.specs.Prelude.{◌≡◌, ℕ, ◌≤◌, List, [], Option, Resul
 use Rattle.outside_io.specs.Causes.{Rose, Raised}
 use Rattle.outside_io.specs.Known.{grown}
 use Rattle.outside_io.specs.Shelf.{Kept}
+use Rattle.command_line.specs.SettingsValue.{SettingsValue}
+use Rattle.gravitar_program.specs.declared.parts.Parts.{Parts}
 use Rattle.gravitar_program.specs.declared.stop.Stop.{Stop}
 use Rattle.gravitar_program.specs.declared.stop.Stop.TheVariants.{Bad, Absent, Outside, NoMemory}
 use Rattle.gravitar_program.specs.declared.stop.Ending.{Ending}
+use Rattle.gravitar_program.specs.declared.stop.OutsideFault.{OutsideFault}
+use Rattle.gravitar_program.specs.declared.stop.OutsideFault.TheVariants.{Shelf, Out}
 use Rattle.gravitar_program.specs.Events.{Did, DidFirst}
 use Rattle.gravitar_program.specs.LastLine.{status_of_ending}
-use Rattle.gravitar_program.specs.Outcome.{Outcome, refused, fault_text, memory_text}
+use Rattle.gravitar_program.specs.Outcome.{Outcome, FitsRun, refused, run_outcome, fault_text, memory_text}
 
 -- the status of a command that stopped
 abbrev pub status_of : Stop → ℕ
@@ -91,18 +95,14 @@ IsBadOrMemory text (Bad note) = string_bytes note ≡ text
 IsBadOrMemory text NoMemory = Unit {0}
 IsBadOrMemory text _ = ⊥
 
--- a run that was begun stops for an outside fault or for want of memory alone
-abbrev pub IsRunStop : Stop → Type 0
-IsRunStop Outside = Unit {0}
-IsRunStop NoMemory = Unit {0}
-IsRunStop _ = ⊥
+-- this holds of the outcome of a run of these parts, with some number of device calls that fits
+pub record RunComes (said : SettingsValue) (parts : Parts) (holds : Outcome → Type 0) : Type 0 where
+  pub calls : ℕ
+  pub fits : FitsRun said parts calls
+  pub of_outcome : holds (run_outcome said parts calls)
 
-abbrev pub RunStops : Result Ending Stop → Type 0
-RunStops (Ok _) = Unit {0}
-RunStops (Err stop) = IsRunStop stop
-
--- what a run writes of its text: all, a first part before an outside fault, or nothing
-abbrev pub RunTakes : Option (List ℕ) → Option (List ℕ) → List ℕ → Result Ending Stop → Type 0
-RunTakes out0 out1 text (Ok _) = out1 ≡ grown out0 text
-RunTakes out0 out1 text (Err Outside) = (k : ℕ) × (out1 ≡ grown out0 (take k text))
-RunTakes out0 out1 text (Err _) = out1 ≡ out0
+-- the part that writes and stores: each fault comes where its own count rose
+abbrev pub SliceFaults : {A : Type 0} → ℕ → ℕ → ℕ → ℕ → Result A OutsideFault → Type 0
+SliceFaults shelf0 shelf1 out0 out1 (Ok _) = (shelf1 ≡ shelf0) × (out1 ≡ out0)
+SliceFaults shelf0 shelf1 out0 out1 (Err Shelf) = Raised shelf0 shelf1 × (out1 ≡ out0)
+SliceFaults shelf0 shelf1 out0 out1 (Err Out) = (shelf1 ≡ shelf0) × Raised out0 out1

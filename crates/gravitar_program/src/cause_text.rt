@@ -12,6 +12,8 @@ impl fmt::Display for Cause {
             Cause::Absent => f.write_str("absent"),
             Cause::Image(fault) => write!(f, "{fault}"),
             Cause::Tape(fault) => write!(f, "{fault}"),
+            Cause::State(fault) => write!(f, "{fault}"),
+            Cause::Cells(n) => write!(f, "length {n}"),
         }
     }
 }

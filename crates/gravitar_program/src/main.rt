@@ -2,26 +2,51 @@
 #![tactic(auto)]
 
 mod answer;
+mod board_bytes;
 mod cause;
 mod cause_text;
+#[cfg(test)]
+mod cost_tests;
+#[cfg(test)]
+mod cut_tests;
+#[cfg(test)]
+mod fault_tests;
+#[cfg(test)]
+mod file_tests;
+#[cfg(test)]
+mod fixtures;
+mod laws;
 mod load;
+#[cfg(test)]
+mod option_tests;
+mod parts;
 mod program;
 #[cfg(test)]
+mod programs;
+#[cfg(test)]
 mod rows;
-mod run;
+#[cfg(test)]
+mod show_tests;
+mod slice;
+mod slices;
 mod steady;
 mod stop;
 #[cfg(test)]
 mod tests;
+mod until;
 mod words;
+#[cfg(test)]
+mod workload;
 
+pub use laws::{cuts_leave_the_run, log_is_one_list};
 use outside_io::{FileShelf, Sink, TextSink};
 pub use program::gravitar;
-pub use run::log_is_one_list;
+pub use slices::run_slices;
 use std::alloc::Global;
 use std::process::ExitCode;
 use std::{env, io};
 pub use steady::steady_status;
+pub use stop::OutsideFault;
 pub use words::Words;
 
 /// Why a command line can't be taken.

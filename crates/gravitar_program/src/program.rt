@@ -1,19 +1,25 @@
-ghost use Rattle.std.specs.Prelude.{◌≡◌, ◌≢◌, ◌≤◌, ◌<◌, ◌↔◌, ◌⊎◌, [], ◌∷◌, IfSome, IfOk, Contains, None};
+ghost use Rattle.std.specs.Prelude.{◌≡◌, ◌≢◌, ◌≤◌, ◌<◌, ◌↔◌, ◌⊎◌, [], ◌∷◌, IfSome, Contains, None, Some};
+ghost use Rattle.command_line.specs.CommandLine.{command_of};
+ghost use Rattle.command_line.specs.CommandValue.{run_of, show_of};
+ghost use Rattle.command_line.specs.CommandWords.{command_value};
+ghost use Rattle.cpu_core.specs.Places.{IsProcessor};
 ghost use Rattle.outside_io.specs.Causes.{Rose};
-ghost use Rattle.gravitar_program.specs.Words.{command_of};
 ghost use Rattle.gravitar_program.specs.Events.{Did, DidFirst};
-ghost use Rattle.gravitar_program.specs.LastLine.{status_of_ending};
-ghost use Rattle.gravitar_program.specs.Outcome.{command_outcome, outcome_of, text_of_run, status_of_run, usage_text, fault_text, memory_text};
-ghost use Rattle.gravitar_program.specs.Stages.{Ends, IsQuiet, EndFaults, StageFaults, StageAbsences, RunStops, RunTakes, Noted};
+ghost use Rattle.gravitar_program.specs.LastLine.{ending_by};
+ghost use Rattle.gravitar_program.specs.Outcome.{Comes, ComesOf, CommandComes, ForReading, limit_of, usage_text, fault_text, memory_text};
+ghost use Rattle.gravitar_program.specs.Stages.{Ends, EndFaults, IsQuiet, Noted, RunComes, StageAbsences};
 
 use crate::answer::{ending_status, note, status};
-use crate::load::{Parts, load_both};
-use crate::run::run_log;
+use crate::load::{load_run, load_state};
+use crate::parts::Parts;
+use crate::slices::run_slices;
 use crate::stop::{Ending, Stop};
-use crate::words::{Command, Words, read_command};
+use crate::words::Words;
 use avg_device::FastVg;
-use board_base::BoardState;
+use board_base::CpuState;
+use board_debug::write_board;
 use catchup_engine::{Devices, Engine};
+use command_line::{Command, RunWords, Settings};
 use earom_cells::Earom;
 use irq_watchdog::Divider;
 use outside_io::{Shelf, Sink};
@@ -25,7 +31,13 @@ pub const USAGE: &[u8] =
     b"gravitar: usage: run IMAGE TAPE, asm CPUSRC VGSRC OUT, debug IMAGE TAPE SCRIPT, show STATE, soak SEED\n";
 
 /// The devices of a board.
-fn devices() -> Devices<FastVg, FastPokey, Earom, Divider> {
+fn devices() -> Devices<FastVg, FastPokey, Earom, Divider>
+    ensures vector { result.vector.calls ≡ 0 }
+    ensures sound1 { result.sound1.calls ≡ 0 }
+    ensures sound2 { result.sound2.calls ≡ 0 }
+    ensures cells { result.cells.calls ≡ 0 }
+    ensures divider { result.divider.calls ≡ 0 }
+{
     Devices {
         vector: FastVg::new(),
         sound1: FastPokey::new(),
@@ -35,19 +47,105 @@ fn devices() -> Devices<FastVg, FastPokey, Earom, Divider> {
     }
 }
 
-/// Takes the memory of a run, and then runs it from power-on to the tape's end. The POKEYs don't
-/// reach the interrupt line.
-fn run_parts<O: Sink>(alloc: Global, parts: &Parts, out: &mut O) -> Result<Ending, Stop>
-    ensures text { RunTakes (O.taken out.old) (O.taken out.new) (text_of_run (parts.now.image, parts.now.tape)) result }
-    ensures status { IfOk result (λ ending. status_of_ending ending ≡ status_of_run (parts.now.image, parts.now.tape)) }
-    ensures faults { StageFaults (O.faults out.old) (O.faults out.new) result }
-    ensures stops { RunStops result }
+/// The clock that a run ends at: the tape's END, or that of `--until` where it is smaller.
+fn run_limit(until: Option<u64>, end: u64) -> u64
+    ensures { result ≡ limit_of until end }
 {
-    let board = BoardState::power_on();
-    match Engine::new(alloc, &parts.image, &board, devices(), false) {
+    match until {
+        Some(until) => until.min(end),
+        None => end,
+    }
+}
+
+/// How a run has ended.
+fn ending(cpu: &CpuState) -> Ending
+    ensures { result ≡ ending_by cpu.now.jam }
+{
+    match cpu.jam {
+        Some(_) => Ending::Jammed,
+        None => Ending::Done,
+    }
+}
+
+/// Takes the memory of a run, and then runs it.
+fn run_parts<S: Shelf, O: Sink>(
+    alloc: Global,
+    settings: &Settings<'_>,
+    parts: &Parts,
+    shelf: &mut S,
+    out: &mut O,
+) -> Result<Ending, Stop>
+    requires place { IsProcessor parts.now.board.cpu }
+    ensures outcome { RunComes settings.now parts.now (λ outcome.
+        Ends outcome (O.taken out.old) (O.taken out.new) (S.stores shelf.old) (S.stores shelf.new) result) }
+    ensures quiet { IsQuiet (O.taken out.old) (O.taken out.new) (S.stores shelf.old) (S.stores shelf.new) result }
+    ensures faults { EndFaults (S.faults shelf.old) (S.faults shelf.new) (O.faults out.old) (O.faults out.new) result }
+    ensures absences { StageAbsences (S.absences shelf.old) (S.absences shelf.new) result }
+{
+    let limit = run_limit(settings.until, parts.tape.end());
+    match Engine::new(
+        alloc,
+        &parts.image,
+        &parts.board,
+        devices(),
+        settings.timers,
+    ) {
         Err(_) => Err(Stop::NoMemory),
-        Ok(mut engine) => match run_log(&mut engine, &parts.tape, parts.tape.end(), out) {
-            Ok(ending) => Ok(ending),
+        Ok(mut engine) => match run_slices(
+            &mut engine,
+            &parts.tape,
+            settings.cuts.as_slice(),
+            limit,
+            settings.save,
+            settings.earom,
+            settings.cost,
+            shelf,
+            out,
+        ) {
+            Ok(()) => Ok(ending(engine.cpu())),
+            Err(_) => Err(Stop::Outside),
+        },
+    }
+}
+
+/// Runs an image with a tape.
+fn perform_run<S: Shelf, O: Sink>(
+    alloc: Global,
+    words: &RunWords<'_>,
+    shelf: &mut S,
+    out: &mut O,
+) -> Result<Ending, Stop>
+    ensures outcome { IfSome (S.files shelf.old) (λ files. ForReading words.now.settings.state files (λ reading.
+        CommandComes (run_of words.now) files reading (λ outcome.
+        Ends outcome (O.taken out.old) (O.taken out.new) (S.stores shelf.old) (S.stores shelf.new) result))) }
+    ensures quiet { IsQuiet (O.taken out.old) (O.taken out.new) (S.stores shelf.old) (S.stores shelf.new) result }
+    ensures faults { EndFaults (S.faults shelf.old) (S.faults shelf.new) (O.faults out.old) (O.faults out.new) result }
+    ensures absences { StageAbsences (S.absences shelf.old) (S.absences shelf.new) result }
+{
+    match load_run(alloc, words, shelf) {
+        Err(stop) => Err(stop),
+        Ok(parts) => run_parts(alloc, &words.settings, &parts, shelf, out),
+    }
+}
+
+/// Writes the text of a saved board.
+fn perform_show<S: Shelf, O: Sink>(
+    alloc: Global,
+    name: &str,
+    shelf: &mut S,
+    out: &mut O,
+) -> Result<Ending, Stop>
+    ensures outcome { IfSome (S.files shelf.old) (λ files. ForReading (Some name.now) files (λ reading.
+        CommandComes (show_of name.now) files reading (λ outcome.
+        Ends outcome (O.taken out.old) (O.taken out.new) (S.stores shelf.old) (S.stores shelf.new) result))) }
+    ensures quiet { IsQuiet (O.taken out.old) (O.taken out.new) (S.stores shelf.old) (S.stores shelf.new) result }
+    ensures faults { EndFaults (S.faults shelf.old) (S.faults shelf.new) (O.faults out.old) (O.faults out.new) result }
+    ensures absences { StageAbsences (S.absences shelf.old) (S.absences shelf.new) result }
+{
+    match load_state(alloc, name, shelf) {
+        Err(stop) => Err(stop),
+        Ok(board) => match write_board(&board, out) {
+            Ok(()) => Ok(Ending::Done),
             Err(_) => Err(Stop::Outside),
         },
     }
@@ -60,17 +158,15 @@ fn perform<S: Shelf, O: Sink>(
     shelf: &mut S,
     out: &mut O,
 ) -> Result<Ending, Stop>
-    ensures outcome { IfSome (S.files shelf.old) (λ files.
-        Ends (command_outcome (record { image = command.now.image.now; tape = command.now.tape.now }) files)
-        (O.taken out.old) (O.taken out.new) (S.stores shelf.old) (S.stores shelf.new) result) }
+    ensures outcome { IfSome (S.files shelf.old) (λ files. ComesOf (Some (command_value command.now)) files (λ outcome.
+        Ends outcome (O.taken out.old) (O.taken out.new) (S.stores shelf.old) (S.stores shelf.new) result)) }
     ensures quiet { IsQuiet (O.taken out.old) (O.taken out.new) (S.stores shelf.old) (S.stores shelf.new) result }
-    ensures stores { S.stores shelf.new ≡ S.stores shelf.old }
     ensures faults { EndFaults (S.faults shelf.old) (S.faults shelf.new) (O.faults out.old) (O.faults out.new) result }
     ensures absences { StageAbsences (S.absences shelf.old) (S.absences shelf.new) result }
 {
-    match load_both(alloc, command, shelf) {
-        Err(stop) => Err(stop),
-        Ok(parts) => run_parts(alloc, &parts, out),
+    match command {
+        Command::Run(words) => perform_run(alloc, words, shelf, out),
+        Command::Show(name) => perform_show(alloc, name, shelf, out),
     }
 }
 
@@ -88,17 +184,15 @@ pub fn gravitar<S: Shelf, O: Sink, N: Sink>(
     notes: &mut N,
 ) -> u8
     // Without a fault and with memory, all is as defined.
-    ensures outcome { result ≢ 6 → result ≢ 7 → IfSome (S.files shelf.old) (λ files.
-        (result ≡ (outcome_of words.now files).status)
-        × Did (outcome_of words.now files).events (O.taken out.old) (O.taken out.new) (S.stores shelf.old) (S.stores shelf.new)) }
+    ensures outcome { result ≢ 6 → result ≢ 7 → IfSome (S.files shelf.old) (λ files. Comes words.now files (λ outcome.
+        (result ≡ outcome.status) × Did outcome.events (O.taken out.old) (O.taken out.new) (S.stores shelf.old) (S.stores shelf.new))) }
 
     // After 6 the first part of what is defined was done, and nothing after it.
-    ensures stopped { result ≡ 6 → IfSome (S.files shelf.old) (λ files.
-        DidFirst (outcome_of words.now files).events (O.taken out.old) (O.taken out.new) (S.stores shelf.old) (S.stores shelf.new)) }
+    ensures stopped { result ≡ 6 → IfSome (S.files shelf.old) (λ files. Comes words.now files (λ outcome.
+        DidFirst outcome.events (O.taken out.old) (O.taken out.new) (S.stores shelf.old) (S.stores shelf.new))) }
 
-    // Nothing was written, whether the files are told or not; and nothing is ever stored.
-    ensures quiet { Contains (2 ∷ 4 ∷ 5 ∷ 7 ∷ []) result → O.taken out.new ≡ O.taken out.old }
-    ensures stores { S.stores shelf.new ≡ S.stores shelf.old }
+    // Nothing was written or stored, whether the files are told or not.
+    ensures quiet { Contains (2 ∷ 4 ∷ 5 ∷ 7 ∷ []) result → (O.taken out.new ≡ O.taken out.old) × (S.stores shelf.new ≡ S.stores shelf.old) }
 
     ensures statuses { Contains (0 ∷ 2 ∷ 3 ∷ 4 ∷ 5 ∷ 6 ∷ 7 ∷ []) result }
     ensures usage { (result ≡ 2) ↔ (command_of words.now ≡ None) }
@@ -112,11 +206,11 @@ pub fn gravitar<S: Shelf, O: Sink, N: Sink>(
     ensures usage_note { result ≡ 2 → Noted (N.taken notes.old) (N.taken notes.new) (N.faults notes.old) (N.faults notes.new) usage_text }
     ensures fault_note { result ≡ 6 → Noted (N.taken notes.old) (N.taken notes.new) (N.faults notes.old) (N.faults notes.new) fault_text }
     ensures memory_note { result ≡ 7 → Noted (N.taken notes.old) (N.taken notes.new) (N.faults notes.old) (N.faults notes.new) memory_text }
-    ensures note { result ≢ 6 → result ≢ 7 → IfSome (S.files shelf.old) (λ files.
-        Noted (N.taken notes.old) (N.taken notes.new) (N.faults notes.old) (N.faults notes.new) (outcome_of words.now files).note) }
+    ensures note { result ≢ 6 → result ≢ 7 → IfSome (S.files shelf.old) (λ files. Comes words.now files (λ outcome.
+        Noted (N.taken notes.old) (N.taken notes.new) (N.faults notes.old) (N.faults notes.new) outcome.note)) }
     ensures no_note { Contains (0 ∷ 3 ∷ []) result → notes.new ≡ notes.old }
 {
-    let Some(command) = read_command(words) else {
+    let Some(command) = words.command() else {
         let _ = notes.write(USAGE);
         return 2;
     };

@@ -1,7 +1,7 @@
 //! What the program does where nothing outside fails.
 ghost use Rattle.std.specs.Prelude.{◌≡◌, ◌≢◌, false};
 ghost use Rattle.outside_io.specs.Content.{content_of};
-ghost use Rattle.gravitar_program.specs.Outcome.{outcome_of};
+ghost use Rattle.gravitar_program.specs.Outcome.{Comes};
 
 use crate::program::gravitar;
 use crate::words::Words;
@@ -16,7 +16,7 @@ pub fn steady_status<N: Sink>(
     notes: &mut N,
 ) -> u8
     ensures no_fault { result ≢ 6 }
-    ensures defined { shelf.old.changed ≡ false → result ≢ 7 → result ≡ (outcome_of words.now (content_of shelf.old.files)).status }
+    ensures defined { shelf.old.changed ≡ false → result ≢ 7 → Comes words.now (content_of shelf.old.files) (λ outcome. result ≡ outcome.status) }
 {
     let mut out = SteadySink::new();
     gravitar(alloc, words, shelf, &mut out, notes)

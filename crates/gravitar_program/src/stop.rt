@@ -13,3 +13,10 @@ pub enum Ending {
     Done,
     Jammed,
 }
+
+/// What failed outside, where a run couldn't go on.
+#[derive(Clone, Copy, Debug, PartialEq, Eq)]
+pub enum OutsideFault {
+    Shelf,
+    Out,
+}

@@ -1,13 +1,14 @@
+use crate::fixtures::{
+    STEADY, Trial, check_refused, check_trial, image_of, line_with_cuts, program_image, try_files,
+    try_words, words_of,
+};
+use crate::programs::{JAM, LATCH};
 use crate::rows::ROWS;
-use crate::{Words, gravitar};
-use outside_io::{MemoryShelf, MemorySink};
-use rom_image::IMAGE_LEN;
-use std::alloc::{AllocError, Global};
+use crate::{Words, steady_status};
+use outside_io::{MemorySink, SteadyShelf};
+use std::alloc::Global;
 use std::process::Abort;
 use std::test::Fail;
-
-/// The store of 05 in the latch, and a jump to itself.
-const LATCH: &[u8] = &[0xA9, 0x05, 0x8D, 0x00, 0x88, 0x4C, 0x05, 0x90];
 
 /// Two writes of the latch, two windows apart.
 const WINDOWS: &[u8] = &[
@@ -35,43 +36,7 @@ const BRANCH: &[u8] = &[0xD0, 0x01, 0x8D, 0x8D, 0x00, 0x88];
 const USAGE: &str =
     "gravitar: usage: run IMAGE TAPE, asm CPUSRC VGSRC OUT, debug IMAGE TAPE SCRIPT, show STATE, soak SEED\n";
 
-/// An image with these bytes at 9000 and those at an address, the reset vector 9000, the interrupt
-/// vector 9100, and zeros.
-fn image_of(alloc: Global, program: &[u8], at: u16, more: &[u8]) -> Result<Vec<u8>, AllocError> {
-    let mut bytes = vec![in alloc; 0u8; IMAGE_LEN]?;
-    put(&mut bytes, 0x9000, program);
-    put(&mut bytes, 0xFFFC, &[0x00, 0x90, 0x00, 0x91]);
-    put(&mut bytes, at, more);
-    Ok(bytes)
-}
-
-/// The place in the image of a byte of the vector ROM at 2800 or of the program ROM at 9000.
-fn place_of(addr: u16) -> usize {
-    if addr < 0x9000 {
-        return usize::from(addr).wrapping_sub(0x2800);
-    }
-    usize::from(addr).wrapping_sub(0x9000).wrapping_add(14336)
-}
-
-/// Puts bytes of a ROM.
-fn put(bytes: &mut Vec<u8>, addr: u16, part: &[u8]) {
-    for (i, byte) in part.iter().enumerate() {
-        if let Some(place) = bytes.get_mut(place_of(addr).wrapping_add(i)) {
-            *place = *byte;
-        }
-    }
-}
-
-/// These words.
-fn words_of(alloc: Global, texts: &[&str]) -> Result<Words, Fail> {
-    let mut words = Words::new(alloc);
-    for text in texts {
-        words.push(text)?;
-    }
-    Ok(words)
-}
-
-/// Runs an image over a tape, and compares the text and the status.
+/// Runs an image over a tape without an option, and compares the text and the status.
 fn check_image<R: Abort + Alloc<A = Global>>(
     rt: &R,
     image: &[u8],
@@ -79,17 +44,9 @@ fn check_image<R: Abort + Alloc<A = Global>>(
     text: &str,
     status: u8,
 ) -> Result<(), Fail> {
-    let alloc = rt.alloc();
-    let words = words_of(alloc, &["run", "i", "t"])?;
-    let mut shelf = MemoryShelf::new(alloc, 0, 0, &[])?;
-    shelf.put("i", image)?;
-    shelf.put("t", tape.as_bytes())?;
-    let mut out = MemorySink::new(alloc, 1000, &[])?;
-    let mut notes = MemorySink::new(alloc, 1000, &[])?;
-    let answer = gravitar(alloc, &words, &mut shelf, &mut out, &mut notes);
-    assert_eq!(rt; answer, status, "the tape {tape}");
-    assert_eq!(rt; out.bytes(), text.as_bytes(), "the tape {tape}");
-    assert_eq!(rt; shelf.stores().len(), 0);
+    let trial = try_files(rt.alloc(), "run i t", image, tape, &[], &[])?;
+    check_trial(rt, tape, &trial, status, text, "");
+    assert_eq!(rt; trial.shelf.stores().len(), 0);
     Ok(())
 }
 
@@ -101,7 +58,7 @@ fn check<R: Abort + Alloc<A = Global>>(
     text: &str,
     status: u8,
 ) -> Result<(), Fail> {
-    let image = image_of(rt.alloc(), program, 0xA000, &[])?;
+    let image = program_image(rt.alloc(), program)?;
     check_image(rt, &image, tape, text, status)
 }
 
@@ -110,7 +67,8 @@ fn a_latch_write_and_the_end_are_told(rt: HostRuntime) -> Result<(), Fail> {
     check(&rt, LATCH, "20 END\n", "L 12 05\nE 22\n", 0)?;
     check(&rt, LATCH, "0 END\n", "E 0\n", 0)?;
     check(&rt, LATCH, "8 END\n", "E 9\n", 0)?;
-    check(&rt, &[0x02], "100 END\n", "X 8 9000 02\n", 3)?;
+    check(&rt, LATCH, "1 IN0 00\n8 END\n", "E 9\n", 0)?;
+    check(&rt, JAM, "100 END\n", "X 8 9000 02\n", 3)?;
     Ok(())
 }
 
@@ -141,143 +99,85 @@ fn a_break_and_a_branch_go_where_they_lead(rt: HostRuntime) -> Result<(), Fail> 
 }
 
 #[test]
-fn worked_runs_are_told(rt: HostRuntime) -> Result<(), Fail> {
+fn worked_runs_are_told_with_cuts_and_without(rt: HostRuntime) -> Result<(), Fail> {
+    let cuts = line_with_cuts(rt.alloc(), 100)?;
     for row in ROWS {
         let image = image_of(rt.alloc(), row.program, row.at, row.more)?;
         check_image(&rt, &image, row.tape, row.text, 0)?;
+        let trial = try_files(rt.alloc(), &cuts, &image, row.tape, &[], &[])?;
+        check_trial(&rt, row.tape, &trial, 0, row.text, "");
+        assert_eq!(rt; trial.shelf.stores().len(), 0);
     }
     Ok(())
 }
 
 #[test]
-fn a_bad_tape_writes_nothing(rt: HostRuntime) -> Result<(), Fail> {
-    check(&rt, LATCH, "0x END\n", "", 4)?;
-    check(&rt, LATCH, "", "", 4)?;
+fn a_run_over_several_windows_is_one_log(rt: HostRuntime) -> Result<(), Fail> {
+    // 7 clocks of the reset, then 2, 4 and 2, then 10 times 2 + (256 * 5 - 1) + 5 less 1, 2 and 4.
+    let text = "L 12 01\nL 12879 02\nE 13000\n";
+    check(&rt, WINDOWS, "12999 END\n", text, 0)?;
     Ok(())
 }
 
 #[test]
-fn a_run_over_several_windows_is_one_log(rt: HostRuntime) -> Result<(), Fail> {
-    let words = words_of(rt.alloc(), &["run", "i", "t"])?;
-    let image = image_of(rt.alloc(), WINDOWS, 0xA000, &[])?;
-    let mut shelf = MemoryShelf::new(rt.alloc(), 0, 0, &[])?;
+fn files_and_an_output_that_never_fail_give_the_same_status(rt: HostRuntime) -> Result<(), Fail> {
+    let image = program_image(rt.alloc(), LATCH)?;
+    let jams = program_image(rt.alloc(), JAM)?;
+    let mut shelf = SteadyShelf::new(rt.alloc());
     shelf.put("i", &image)?;
-    shelf.put("t", b"12999 END\n")?;
-    let mut out = MemorySink::new(rt.alloc(), 1000, &[])?;
-    let mut notes = MemorySink::new(rt.alloc(), 1000, &[])?;
-    let status = gravitar(rt.alloc(), &words, &mut shelf, &mut out, &mut notes);
-    // 7 clocks of the reset, then 2, 4 and 2, then 10 times 2 + (256 * 5 - 1) + 5 less 1, 2 and 4.
-    assert_eq!(rt; out.bytes(), b"L 12 01\nL 12879 02\nE 13000\n".as_slice());
-    assert_eq!(rt; status, 0);
-    Ok(())
-}
-
-/// Runs words over a shelf of good and bad files, and compares the status and the note.
-fn check_note<R: Abort + Alloc<A = Global>>(
-    rt: &R,
-    texts: &[&str],
-    status: u8,
-    note: &str,
-) -> Result<(), Fail> {
-    let alloc = rt.alloc();
-    let words = words_of(alloc, texts)?;
-    let image = image_of(alloc, LATCH, 0xA000, &[])?;
-    let mut shelf = MemoryShelf::new(alloc, 0, 0, &[])?;
-    shelf.put("i", &image)?;
-    shelf.put("short", image.get(..43007).unwrap_or(&[]))?;
+    shelf.put("jams", &jams)?;
     shelf.put("t", b"20 END\n")?;
-    shelf.put("port", b"5 IN1 00\n")?;
-    shelf.put("falls", b"5 IN0 00\n4 END\n")?;
-    shelf.put("after", b"0 END\n1 END\n")?;
-    shelf.put("empty", b"")?;
-    shelf.put("form", b"0x END\n")?;
-    let mut out = MemorySink::new(alloc, 1000, &[])?;
-    let mut notes = MemorySink::new(alloc, 1000, &[])?;
-    let answer = gravitar(alloc, &words, &mut shelf, &mut out, &mut notes);
-    assert_eq!(rt; answer, status, "{note}");
-    assert_eq!(rt; notes.bytes(), note.as_bytes());
-    assert_eq!(rt; out.bytes(), b"".as_slice());
+    for (line, status, note) in [
+        ("run i t", 0, ""),
+        ("run jams t --cuts 5,50 --save s", 3, ""),
+        ("run i t --cuts 11 --save s --cost", 0, ""),
+        ("run i t --earom t", 4, "gravitar: t: length 7\n"),
+        ("show i", 4, "gravitar: i: length 4357\n"),
+        ("show s", 5, "gravitar: s: absent\n"),
+        ("show", 2, USAGE),
+    ] {
+        let words = words_of(rt.alloc(), line)?;
+        let mut notes = MemorySink::new(rt.alloc(), 1000, &[])?;
+        let answer = steady_status(rt.alloc(), &words, &mut shelf, &mut notes);
+        assert_eq!(rt; answer, status, "{line}");
+        assert_eq!(rt; notes.bytes(), note.as_bytes(), "{line}");
+    }
     Ok(())
 }
 
-/// Runs words that are no command.
-fn check_usage<R: Abort + Alloc<A = Global>>(rt: &R, texts: &[&str]) -> Result<(), Fail> {
-    check_note(rt, texts, 2, USAGE)
-}
-
-/// Runs an image over a tape, one of which isn't good.
-fn check_files<R: Abort + Alloc<A = Global>>(
-    rt: &R,
-    image: &str,
-    tape: &str,
-    status: u8,
-    note: &str,
-) -> Result<(), Fail> {
-    check_note(rt, &["run", image, tape], status, note)
+/// Does a command over a good image and a good tape.
+fn try_good(alloc: Global, words: &Words) -> Result<Trial, Fail> {
+    let image = program_image(alloc, LATCH)?;
+    let files = [("i", image.as_slice()), ("t", b"20 END\n".as_slice())];
+    try_words(alloc, words, &files, STEADY)
 }
 
 #[test]
 fn words_of_no_form_get_the_usage(rt: HostRuntime) -> Result<(), Fail> {
-    check_usage(&rt, &[])?;
-    check_usage(&rt, &["run", "i"])?;
-    check_usage(&rt, &["run", "i", "t", "--until", "5", "--until", "6"])?;
-    check_usage(&rt, &["run", "i", "t", "--cuts", "5,4"])?;
-    check_usage(&rt, &["run", "i", "--cost"])?;
-    check_usage(&rt, &["run", "", "t"])?;
-    check_usage(&rt, &["Run", "i", "t"])?;
-    check_usage(&rt, &["show", "s"])?;
-    Ok(())
-}
-
-#[test]
-fn a_bad_file_is_named_with_its_cause(rt: HostRuntime) -> Result<(), Fail> {
-    check_files(&rt, "short", "t", 4, "gravitar: short: length 43007\n")?;
-    check_files(&rt, "short", "no", 4, "gravitar: short: length 43007\n")?;
-    check_files(&rt, "i", "port", 4, "gravitar: port: line 1: port\n")?;
-    check_files(&rt, "i", "falls", 4, "gravitar: falls: line 2: falls\n")?;
-    check_files(&rt, "i", "after", 4, "gravitar: after: line 2: after end\n")?;
-    check_files(&rt, "i", "empty", 4, "gravitar: empty: line 1: no end\n")?;
-    check_files(&rt, "i", "form", 4, "gravitar: form: line 1: form\n")?;
-    Ok(())
-}
-
-#[test]
-fn an_absent_file_is_told(rt: HostRuntime) -> Result<(), Fail> {
-    check_files(&rt, "i", "no", 5, "gravitar: no: absent\n")?;
-    check_files(&rt, "-x", "no", 5, "gravitar: -x: absent\n")?;
-    Ok(())
-}
-
-/// Runs the store of a latch while these loads and writes fail, and compares what the output took
-/// and the status.
-fn check_fault<R: Abort>(
-    rt: &R,
-    alloc: Global,
-    loads: &[u64],
-    writes: &[u64],
-    text: &str,
-    status: u8,
-) -> Result<(), Fail> {
-    let words = words_of(alloc, &["run", "i", "t"])?;
-    let image = image_of(alloc, LATCH, 0xA000, &[])?;
-    let mut shelf = MemoryShelf::new(alloc, 0, 0, loads)?;
-    shelf.put("i", &image)?;
-    shelf.put("t", b"20 END\n")?;
-    let mut out = MemorySink::new(alloc, 1000, writes)?;
-    let mut notes = MemorySink::new(alloc, 1000, &[1])?;
-    let answer = gravitar(alloc, &words, &mut shelf, &mut out, &mut notes);
-    assert_eq!(rt; answer, status);
-    assert_eq!(rt; out.bytes(), text.as_bytes());
-    assert_eq!(rt; notes.bytes(), b"".as_slice());
-    Ok(())
-}
-
-#[test]
-fn each_fault_stops_the_run(rt: HostRuntime) -> Result<(), Fail> {
-    check_fault(&rt, rt.alloc(), &[1], &[], "", 6)?;
-    check_fault(&rt, rt.alloc(), &[2], &[], "", 6)?;
-    check_fault(&rt, rt.alloc(), &[], &[1], "", 6)?;
-    check_fault(&rt, rt.alloc(), &[], &[2], "L 12 05\n", 6)?;
-    check_fault(&rt, rt.alloc(), &[3], &[3], "L 12 05\nE 22\n", 0)?;
+    let none = try_good(rt.alloc(), &Words::new(rt.alloc()))?;
+    check_refused(&rt, "no words", &none, 2, USAGE);
+    let mut empty = Words::new(rt.alloc());
+    for word in ["run", "", "t"] {
+        empty.push(word)?;
+    }
+    let nameless = try_good(rt.alloc(), &empty)?;
+    check_refused(&rt, "an empty name", &nameless, 2, USAGE);
+    for line in [
+        "run i",
+        "run i t --until 5 --until 6",
+        "run i t --cuts 5,4",
+        "run i --cost",
+        "run i t --cost --cost",
+        "run i t --save",
+        "run i t x",
+        "Run i t",
+        "show",
+        "show i t",
+        "show i --cost",
+        "--help",
+    ] {
+        let trial = try_good(rt.alloc(), &words_of(rt.alloc(), line)?)?;
+        check_refused(&rt, line, &trial, 2, USAGE);
+    }
     Ok(())
 }

@@ -1,8 +1,11 @@
-ghost use Rattle.std.specs.Prelude.{◌≡◌, ◌++◌, ◌∷◌, [], OnOk, OnErr};
+ghost use Rattle.std.specs.Prelude.{◌≡◌, ◌++◌, ◌∷◌, [], IfSome, OnOk, OnErr};
 ghost use Rattle.std.specs.Option.{option_map};
-ghost use Rattle.gravitar_program.specs.Words.{command_of, is_name};
+ghost use Rattle.command_line.specs.Clocks.{HasClocks};
+ghost use Rattle.command_line.specs.CommandLine.{command_of};
+ghost use Rattle.command_line.specs.CommandWords.{command_value};
 
 use board_base::OutOfMemory;
+use command_line::{Command, read_command};
 use std::alloc::Global;
 use std::marker::Model;
 
@@ -41,34 +44,12 @@ impl Words {
         self.words.push(word)?;
         Ok(())
     }
-}
 
-/// The words of a run.
-#[derive(Clone, Copy)]
-pub struct Command<'a> {
-    pub image: &'a str,
-    pub tape: &'a str,
-}
-
-/// Whether a word is a file's name.
-fn is_name(word: &str) -> bool
-    ensures { result ≡ is_name word.now }
-{
-    !word.is_empty() && !word.as_bytes().starts_with(b"--")
-}
-
-/// The command of these words, if they are of a form.
-pub fn read_command(words: &Words) -> Option<Command<'_>>
-    ensures { option_map (λ command. record { image = command.image.now; tape = command.tape.now }) result ≡ command_of words.now }
-{
-    let [verb, image, tape] = words.words.as_slice() else {
-        return None;
-    };
-    if verb.as_str() == "run" && is_name(image.as_str()) && is_name(tape.as_str()) {
-        return Some(Command {
-            image: image.as_str(),
-            tape: tape.as_str(),
-        });
+    /// The command of these words, if they are of a form.
+    pub(crate) fn command(&self) -> Option<Command<'_>>
+        ensures command { option_map command_value result ≡ command_of self.now }
+        ensures clocks { IfSome result (λ command. HasClocks (command_value command)) }
+    {
+        read_command(self.words.as_slice())
     }
-    None
 }

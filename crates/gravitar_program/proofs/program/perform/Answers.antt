@@ -1,12 +1,10 @@
-use Rattle.std.proofs.Common.{refl}
-use Rattle.gravitar_program.proofs.EventLaws.{run_is-outcome, stop_is-outcome}
+use Rattle.std.proofs.Common.{ap}
+use Rattle.command_line.specs.CommandValue.{run_of}
+use Rattle.command_line.specs.CommandWords.{command_value}
+use Rattle.gravitar_program.proofs.StageLaws.{of-same}
 use Rattle.gravitar_program.proofs.program.perform.Goals as goal
 
-pub returns-in-Err-clause-outcome : goal.returns-in-Err-clause-outcome
-returns-in-Err-clause-outcome g c =
-    stop_is-outcome (g.S.Shelf.files c.args.shelf.now) _ c.in-Err.stop _ _ _ _ c.in-Err.ensures.content refl c.load_both.ensures.stores
-
-pub returns-in-Ok-clause-outcome : goal.returns-in-Ok-clause-outcome
-returns-in-Ok-clause-outcome g c =
-    run_is-outcome (g.S.Shelf.files c.args.shelf.now) _ (c.in-Ok.parts.image, c.in-Ok.parts.tape) _ _ _ _ c.run_parts.result
-    c.in-Ok.ensures.content c.run_parts.ensures.text c.run_parts.ensures.status c.run_parts.ensures.stops c.load_both.ensures.stores
+pub returns-in-Run-clause-outcome : goal.returns-in-Run-clause-outcome
+returns-in-Run-clause-outcome g c =
+    of-same _ (g.S.Shelf.files c.args.shelf.now) (run_of c.in-Run.words) (command_value c.args.command.now) (ap command_value c.in-Run.is)
+    c.perform_run.ensures.outcome
