@@ -214,10 +214,30 @@ unfolding command_outcome
 show-comes None name board holds good comes = tt
 show-comes (Some files) name board holds good comes = λ reading is. record { calls = 0; fits = tt; of_outcome = rw (good reading is) comes }
 
+-- an engine that is made for the parts of a run, with what the settings ask of it
+pub record IsMadeFor (said : SettingsValue) (parts : Parts) (limit : ℕ) (wanted : Wanted) (cuts : List ℕ) (before : ℕ) (first : Board) : Type 0 where
+  pub same_limit : limit ≡ limit_of said.until parts.tape.end
+  pub same_wanted : wanted ≡ wanted_by said
+  pub same_cuts : cuts ≡ said.cuts
+  pub five : before ≡ 5
+  pub same_first : first ≡ first_board said.timers parts
+
+-- the same from the settings as they are kept
+pub made-for : (kept said : SettingsValue) (parts : Parts) (end limit : ℕ) (cuts : List ℕ) (unused before : ℕ) (first : Board) → kept ≡ said
+    → end ≡ parts.tape.end → limit ≡ limit_of kept.until end → cuts ≡ kept.cuts → unused ≡ 0 → before ≡ counted_on unused 5
+    → first ≡ first_board kept.timers parts → IsMadeFor said parts limit (wanted_by kept) cuts before first
+made-for kept said parts end limit cuts unused before first same last is listed none counted begun =
+    rw (sym same) (record {
+      same_limit = is ∙ ap (limit_of kept.until) last;
+      same_wanted = refl;
+      same_cuts = listed;
+      five = omega arith;
+      same_first = begun;
+    })
+
 -- the run of an engine is that of its parts
 module _ (said : SettingsValue) (parts : Parts) (limit : ℕ) (wanted : Wanted) (cuts : List ℕ) (before : ℕ) (first : Board)
-    (same_limit : limit ≡ limit_of said.until parts.tape.end) (same_wanted : wanted ≡ wanted_by said) (same_cuts : cuts ≡ said.cuts) (five : before ≡ 5)
-    (same_first : first ≡ first_board said.timers parts) (out0 out1 : Option (List ℕ)) (stores0 stores1 : Option (List Kept)) where
+    (made : IsMadeFor said parts limit wanted cuts before first) (out0 out1 : Option (List ℕ)) (stores0 stores1 : Option (List Kept)) where
   pub run-done : (calls : ℕ) (ending : Ending) → Did (run_events parts.tape.entries limit wanted calls cuts first) out0 out1 stores0 stores1
       → FitsCalls parts.tape.entries limit (length cuts) first before calls
       → ending ≡ ending_by (last_board parts.tape.entries limit cuts first).cpu.jam
@@ -225,9 +245,9 @@ module _ (said : SettingsValue) (parts : Parts) (limit : ℕ) (wanted : Wanted) 
   unfolding run_outcome
   run-done calls ending did fits is = record {
     calls = calls;
-    fits = rw (sym same_limit, sym same_cuts, sym same_first, sym five) fits;
+    fits = rw (sym made.same_limit, sym made.same_cuts, sym made.same_first, sym made.five) fits;
     of_outcome =
-        rw (sym same_limit, sym same_cuts, sym same_first, sym same_wanted) (
+        rw (sym made.same_limit, sym made.same_cuts, sym made.same_first, sym made.same_wanted) (
           sym (ap status_of_ending is),
           refl,
           did,
@@ -239,8 +259,8 @@ module _ (said : SettingsValue) (parts : Parts) (limit : ℕ) (wanted : Wanted) 
   unfolding run_outcome
   run-cut stopped = record {
     calls = stopped.calls;
-    fits = rw (sym same_limit, sym same_cuts, sym same_first, sym five) stopped.fits;
-    of_outcome = rw (sym same_limit, sym same_cuts, sym same_first, sym same_wanted) stopped.did;
+    fits = rw (sym made.same_limit, sym made.same_cuts, sym made.same_first, sym made.five) stopped.fits;
+    of_outcome = rw (sym made.same_limit, sym made.same_cuts, sym made.same_first, sym made.same_wanted) stopped.did;
   }
 
 -- a run that has no memory

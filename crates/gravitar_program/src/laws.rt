@@ -17,8 +17,8 @@ pub fn log_is_one_list()
         → text_of_lists (to_boundary entries limit b) ≡ log_text (run_list entries limit b) }
 {}
 
-/// Cutting a run changes nothing in its text and nothing in its last board. It tells a law, and does
-/// nothing.
+/// Cutting a run changes nothing in its text, with the same number of device calls, and nothing in
+/// its last board. It tells a law, and does nothing.
 #[tactic(auto, using(crate::proofs::WholeLaws::cut_laws))]
 pub fn cuts_leave_the_run()
     ensures text { (entries : List TapeEntry) → (limit : ℕ) → (wanted : Wanted) → (calls : ℕ) → (cuts : List ℕ) → (b : Board) → IsPlaced b

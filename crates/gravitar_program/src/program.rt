@@ -1,4 +1,4 @@
-ghost use Rattle.std.specs.Prelude.{◌≡◌, ◌≢◌, ◌≤◌, ◌<◌, ◌↔◌, ◌⊎◌, [], ◌∷◌, IfSome, Contains, None, Some};
+ghost use Rattle.std.specs.Prelude.{◌≡◌, ◌≢◌, ◌+◌, ◌≤◌, ◌<◌, ◌↔◌, ◌⊎◌, [], ◌∷◌, IfSome, Contains, None, Some};
 ghost use Rattle.command_line.specs.CommandLine.{command_of};
 ghost use Rattle.command_line.specs.CommandValue.{run_of, show_of};
 ghost use Rattle.command_line.specs.CommandWords.{command_value};
@@ -32,11 +32,7 @@ pub const USAGE: &[u8] =
 
 /// The devices of a board.
 fn devices() -> Devices<FastVg, FastPokey, Earom, Divider>
-    ensures vector { result.vector.calls ≡ 0 }
-    ensures sound1 { result.sound1.calls ≡ 0 }
-    ensures sound2 { result.sound2.calls ≡ 0 }
-    ensures cells { result.cells.calls ≡ 0 }
-    ensures divider { result.divider.calls ≡ 0 }
+    ensures { result.vector.calls + result.sound1.calls + result.sound2.calls + result.cells.calls + result.divider.calls ≡ 0 }
 {
     Devices {
         vector: FastVg::new(),

@@ -6,6 +6,7 @@ pub mod Signed
 pub mod Spelled
 pub mod BoardsRead
 pub mod OneBoard
+pub mod OneReading
 pub mod Whole
 pub mod Parts
 pub mod Clock

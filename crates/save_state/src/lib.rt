@@ -10,10 +10,12 @@ mod read_middle;
 mod read_pokey;
 mod read_vg;
 mod reading;
+mod reading_law;
 mod writer;
 mod writing;
 
 pub use fault::StateFault;
+pub use reading_law::one_reading;
 pub use reading::read;
 pub use writing::write;
 

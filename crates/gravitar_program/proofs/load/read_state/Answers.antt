@@ -1,6 +1,7 @@
 use Rattle.std.proofs.Common.{◌∙◌, refl}
 use Rattle.gravitar_program.specs.declared.cause.Cause.TheVariants.{State}
-use Rattle.gravitar_program.proofs.ReadingLaws.{bad-absences, one_reading, refused-as}
+use Rattle.save_state.proofs.OneReading.{one_reading}
+use Rattle.gravitar_program.proofs.ReadingLaws.{bad-absences, refused-as}
 use Rattle.gravitar_program.proofs.load.read_state.Goals as goal
 
 pub returns-in-Ok-clause-content : goal.returns-in-Ok-clause-content
