@@ -12,19 +12,42 @@ use irq_watchdog::DividerUnit;
 use pokey_chip::SoundUnit;
 use save_state::STATE_LEN;
 
-/// The bytes of the board that an engine stands for.
-pub fn save_board<V: VectorUnit, P: SoundUnit, C: CellUnit, D: DividerUnit>(
-    engine: &Engine<V, P, C, D>,
-) -> [u8; STATE_LEN]
-    requires settled { engine.now.lagging ≡ 0 }
-    ensures bytes { result ≡ saved_bytes engine.now.board }
-    ensures whole { IsWhole (board_of engine.now.board.cpu engine.now.board.wires) }
-{
-    let mut state = BoardState::power_on();
-    engine.state(&mut state);
-    let mut bytes = [0; STATE_LEN];
-    save_state::write(&state, &mut bytes);
-    bytes
+/// A board and its bytes, each of which is copied into the place of the one before it.
+#[derive(Drop)]
+pub struct Saved {
+    state: BoardState,
+    pub bytes: [u8; STATE_LEN],
+}
+
+impl Saved {
+    /// The board that an engine stands for.
+    pub fn of<V: VectorUnit, P: SoundUnit, C: CellUnit, D: DividerUnit>(
+        engine: &Engine<V, P, C, D>,
+    ) -> Saved
+        requires settled { engine.now.lagging ≡ 0 }
+        ensures bytes { result.bytes ≡ saved_bytes engine.now.board }
+        ensures whole { IsWhole (board_of engine.now.board.cpu engine.now.board.wires) }
+    {
+        let mut saved = Saved {
+            state: BoardState::power_on(),
+            bytes: [0; STATE_LEN],
+        };
+        saved.save(engine);
+        saved
+    }
+
+    /// Takes the board that an engine stands for in the place of the one before.
+    pub fn save<V: VectorUnit, P: SoundUnit, C: CellUnit, D: DividerUnit>(
+        &mut self,
+        engine: &Engine<V, P, C, D>,
+    )
+        requires settled { engine.now.lagging ≡ 0 }
+        ensures bytes { self.new.bytes ≡ saved_bytes engine.now.board }
+        ensures whole { IsWhole (board_of engine.now.board.cpu engine.now.board.wires) }
+    {
+        engine.state(&mut self.state);
+        save_state::write(&self.state, &mut self.bytes);
+    }
 }
 
 /// Goes on from the board that is read back from its bytes. Five device calls.

@@ -12,7 +12,7 @@ ghost use Rattle.gravitar_program.specs.Slice.{window_price};
 ghost use Rattle.gravitar_program.specs.Slices.{FitsCalls, StopsIn, cost_line, cut_events, ending_text, last_board, last_events, run_events, storing, wanted_of};
 ghost use Rattle.gravitar_program.specs.Stages.{SliceFaults};
 
-use crate::board_bytes::{load_saved, save_board};
+use crate::board_bytes::{Saved, load_saved};
 use crate::slice::run_slice;
 use crate::stop::OutsideFault;
 use crate::until::Until;
@@ -42,12 +42,13 @@ fn store_under<S: Shelf>(name: Option<&str>, bytes: &[u8], shelf: &mut S) -> Res
 }
 
 /// Runs to a cut, writes its lines, stores its board under a name where one is given, and goes on
-/// from the board that is read back.
+/// from the board that is read back. `saved` had the board of the cut before.
 fn cut_slice<V: VectorUnit, P: SoundUnit, C: CellUnit, D: DividerUnit, S: Shelf, O: Sink>(
     engine: &mut Engine<V, P, C, D>,
     tape: &Tape,
     cut: u64,
     save: Option<&str>,
+    saved: &mut Saved,
     shelf: &mut S,
     out: &mut O,
 ) -> Result<(), OutsideFault>
@@ -68,11 +69,11 @@ fn cut_slice<V: VectorUnit, P: SoundUnit, C: CellUnit, D: DividerUnit, S: Shelf,
     let Ok(()) = run_slice(engine, tape, Until::Clock(cut), out) else {
         return Err(OutsideFault::Out);
     };
-    let bytes = save_board(engine);
-    let Ok(()) = store_under(save, &bytes, shelf) else {
+    saved.save(engine);
+    let Ok(()) = store_under(save, &saved.bytes, shelf) else {
         return Err(OutsideFault::Shelf);
     };
-    load_saved(engine, &bytes);
+    load_saved(engine, &saved.bytes);
     Ok(())
 }
 
@@ -161,7 +162,7 @@ fn end_slice<V: VectorUnit, P: SoundUnit, C: CellUnit, D: DividerUnit, S: Shelf,
     let Ok(()) = write_ending(engine, cost, out) else {
         return Err(OutsideFault::Out);
     };
-    let Ok(()) = store_under(save, &save_board(engine), shelf) else {
+    let Ok(()) = store_under(save, &Saved::of(engine).bytes, shelf) else {
         return Err(OutsideFault::Shelf);
     };
     let Ok(()) = store_under(earom, &cells_of(engine), shelf) else {
@@ -203,9 +204,9 @@ pub fn run_slices<V: VectorUnit, P: SoundUnit, C: CellUnit, D: DividerUnit, S: S
     ensures settled { OnOk result (engine.new.lagging ≡ 0) }
     ensures calls { OnOk result (FitsCalls tape.now.entries limit (length cuts.now) engine.old.board engine.old.calls engine.new.calls) }
 {
-    let _first = save_board(engine); // tells the ranges
+    let mut saved = Saved::of(engine); // tells the ranges
     for cut in cuts {
-        match cut_slice(engine, tape, (*cut).min(limit), save, shelf, out) {
+        match cut_slice(engine, tape, (*cut).min(limit), save, &mut saved, shelf, out) {
             Ok(()) => {}
             Err(fault) => return Err(fault),
         }

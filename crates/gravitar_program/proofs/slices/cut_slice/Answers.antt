@@ -19,7 +19,7 @@ pub returns-clause-done : goal.returns-clause-done
 unfolding cut_events
 returns-clause-done g c =
     let is = c.in-Ok.ensures.board ∙ ap cleared (clock-end c.args.tape.now.entries c.args.cut c.args.engine.now.board) in
-    let held = c.save_board-bytes.ensures.bytes ∙ saved-cleared _ c.run_slice.new.engine.board is in
+    let held = c.save.ensures.bytes ∙ saved-cleared _ c.run_slice.new.engine.board is in
     did-then _ _ _ _ _ _ _ _ (did-sending _ _ _ _ _ c.in-Ok.ensures.taken refl) (did-storing _ _ _ _ _ _ _ held refl c.in-Ok-store_under.ensures.stored)
 
 pub returns-clause-board : goal.returns-clause-board

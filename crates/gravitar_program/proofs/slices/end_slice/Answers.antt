@@ -35,7 +35,7 @@ returns-in_default-store_under-2-clause-stopped g c =
     let last = to_boundary c.args.tape.now.entries c.args.limit c.args.engine.now.board in
     let is = c.in-Ok.ensures.board ∙ ap cleared (boundary-end c.args.tape.now.entries c.args.limit c.args.engine.now.board) in
     let text = ending-cleared c.args.cost c.run_slice.new.engine.calls last c.run_slice.new.engine.board is in
-    let held = c.save_board.ensures.bytes ∙ saved-cleared last c.run_slice.new.engine.board is in
+    let held = c.of.ensures.bytes ∙ saved-cleared last c.run_slice.new.engine.board is in
     did-then-first _ _ _ _ _ _ _ _ (did-sending _ _ _ _ _ c.in-Ok.ensures.taken refl)
     (did-then-first _ _ _ _ _ _ _ _ (did-sending _ _ _ _ _ (rw text at c.in-Ok-write_ending.ensures.taken) refl)
     (did-then-first _ _ _ _ _ _ _ _ (did-storing _ _ _ _ _ _ _ held refl c.in-Ok-store_under.ensures.stored)
@@ -47,7 +47,7 @@ returns-clause-done g c =
     let last = to_boundary c.args.tape.now.entries c.args.limit c.args.engine.now.board in
     let is = c.in-Ok.ensures.board ∙ ap cleared (boundary-end c.args.tape.now.entries c.args.limit c.args.engine.now.board) in
     let text = ending-cleared c.args.cost c.run_slice.new.engine.calls last c.run_slice.new.engine.board is in
-    let held = c.save_board.ensures.bytes ∙ saved-cleared last c.run_slice.new.engine.board is in
+    let held = c.of.ensures.bytes ∙ saved-cleared last c.run_slice.new.engine.board is in
     let cells = c.cells_of.ensures ∙ cells-cleared last c.run_slice.new.engine.board is in
     did-then _ _ _ _ _ _ _ _ (did-sending _ _ _ _ _ c.in-Ok.ensures.taken refl)
     (did-then _ _ _ _ _ _ _ _ (did-sending _ _ _ _ _ (rw text at c.in-Ok-write_ending.ensures.taken) refl)

@@ -7,7 +7,7 @@ use Rattle.gravitar_program.proofs.slices.run_slices.Goals as goal
 pub loop-cut-init : goal.loop-cut-init
 loop-cut-init g c =
     cuts-start c.args.tape.now.entries c.args.limit (wanted_of c.args.save c.args.earom c.args.cost) c.args.cuts.now c.args.engine.now _ _ _ _ _
-    (fresh-whole c.args.engine.now c.requires.empty c.requires.settled c.save_board-first.ensures.whole)
+    (fresh-whole c.args.engine.now c.requires.empty c.requires.settled c.of-saved.ensures.whole)
 
 pub returns-in-Err-clause-stopped : goal.returns-in-Err-clause-stopped
 returns-in-Err-clause-stopped g c =

@@ -1,7 +1,7 @@
 use Rattle.std.proofs.Common.{ap, ◌∙◌}
 use Rattle.save_state.specs.StateBytes.{state_bytes}
 use Rattle.gravitar_program.specs.Slices.{saved_bytes}
-use Rattle.gravitar_program.proofs.board_bytes.save_board.Goals as goal
+use Rattle.gravitar_program.proofs.board_bytes.Saved.save.Goals as goal
 
 pub returns-clause-bytes : goal.returns-clause-bytes
 unfolding saved_bytes
