@@ -1,8 +1,10 @@
 use crate::fixtures::{
-    STEADY, check_refused, check_trial, overwrite, part_of, program_image, stored_board, try_files,
-    try_line,
+    STEADY, Trial, check_bad, check_refused, check_trial, overwrite, part_of, program_image,
+    stored_board, try_files, try_line,
 };
 use crate::programs::LATCH;
+use std::alloc::Global;
+use std::process::Abort;
 use std::test::Fail;
 
 /// What a saved board's bytes from an offset on are changed to, and the cause that is then told.
@@ -48,28 +50,57 @@ const PAIRS: [([(usize, &[u8]); 2], &str); 6] = [
     ([(0, &[1]), (30, &[1, 1, 0x4C])], "field 30"),
 ];
 
+/// Does the command of a line over the latch program and a state, which is refused for a cause.
+fn check_state<R: Abort + Alloc<A = Global>>(
+    rt: &R,
+    line: &str,
+    board: &[u8],
+    cause: &str,
+) -> Result<(), Fail> {
+    let image = program_image(rt.alloc(), LATCH)?;
+    let trial = try_files(rt.alloc(), line, &image, "20 END\n", board, &[])?;
+    check_bad(rt, &trial, "s", cause)
+}
+
+/// A copy of a board.
+fn copy(alloc: Global, board: &[u8]) -> Result<Vec<u8>, Fail> {
+    Ok(Vec::from_slice(alloc, board)?)
+}
+
+/// Runs a row of the table.
+fn check_change<R: Abort + Alloc<A = Global>>(
+    rt: &R,
+    good: &[u8],
+    row: &(usize, &[u8], &str),
+) -> Result<(), Fail> {
+    let (at, bytes, cause) = row;
+    let mut board = copy(rt.alloc(), good)?;
+    overwrite(&mut board, *at, bytes);
+    check_state(rt, "run i t --state s --save s --cost", &board, cause)?;
+    check_state(rt, "show s", &board, cause)
+}
+
+/// Runs a row of the table.
+fn check_pair<R: Abort + Alloc<A = Global>>(
+    rt: &R,
+    good: &[u8],
+    row: &([(usize, &[u8]); 2], &str),
+) -> Result<(), Fail> {
+    let ([(at, bytes), (later, others)], cause) = row;
+    let mut board = copy(rt.alloc(), good)?;
+    overwrite(&mut board, *at, bytes);
+    overwrite(&mut board, *later, others);
+    check_state(rt, "run i t --state s", &board, cause)
+}
+
 #[test]
 fn a_state_with_a_broken_field_is_refused(rt: HostRuntime) -> Result<(), Fail> {
-    let image = program_image(rt.alloc(), LATCH)?;
     let good = stored_board(rt.alloc(), "run i t --save s", LATCH, "20 END\n")?;
-    for (at, bytes, cause) in STATES {
-        let mut board = Vec::from_slice(rt.alloc(), &good)?;
-        overwrite(&mut board, at, bytes);
-        let note = format!(in rt.alloc(); "gravitar: s: {cause}\n")?;
-        for line in ["run i t --state s --save s --cost", "show s"] {
-            let trial = try_files(rt.alloc(), line, &image, "20 END\n", &board, &[])?;
-            check_refused(&rt, cause, &trial, 4, &note);
-        }
+    for row in &STATES {
+        check_change(&rt, &good, row)?;
     }
-    for (changes, cause) in PAIRS {
-        let mut board = Vec::from_slice(rt.alloc(), &good)?;
-        for (at, bytes) in changes {
-            overwrite(&mut board, at, bytes);
-        }
-        let note = format!(in rt.alloc(); "gravitar: s: {cause}\n")?;
-        let line = "run i t --state s";
-        let trial = try_files(rt.alloc(), line, &image, "20 END\n", &board, &[])?;
-        check_refused(&rt, cause, &trial, 4, &note);
+    for row in &PAIRS {
+        check_pair(&rt, &good, row)?;
     }
     Ok(())
 }
@@ -97,16 +128,34 @@ const TAPES: [(&str, &str); 19] = [
     ("5 IN0 00\n6 Q7 1G\n9 END\n", "line 2: form"),
 ];
 
+/// Runs a row of the table.
+fn check_tape<R: Abort + Alloc<A = Global>>(
+    rt: &R,
+    image: &[u8],
+    tape: &str,
+    cause: &str,
+) -> Result<(), Fail> {
+    let line = "run i t --save s --cost";
+    let trial = try_files(rt.alloc(), line, image, tape, &[], &[])?;
+    check_bad(rt, &trial, "t", cause)
+}
+
 #[test]
 fn a_bad_tape_is_refused(rt: HostRuntime) -> Result<(), Fail> {
     let image = program_image(rt.alloc(), LATCH)?;
-    for (tape, cause) in TAPES {
-        let line = "run i t --save s --cost";
-        let trial = try_files(rt.alloc(), line, &image, tape, &[], &[])?;
-        let note = format!(in rt.alloc(); "gravitar: t: {cause}\n")?;
-        check_refused(&rt, tape, &trial, 4, &note);
+    for (tape, cause) in &TAPES {
+        check_tape(&rt, &image, tape, cause)?;
     }
-    for tape in ["000000000000020 END", "20 END\n", "20 Q7 fF\n20 END"] {
+    Ok(())
+}
+
+/// Tapes that are read.
+const GOOD: [&str; 3] = ["000000000000020 END", "20 END\n", "20 Q7 fF\n20 END"];
+
+#[test]
+fn a_tape_of_another_spelling_is_read(rt: HostRuntime) -> Result<(), Fail> {
+    let image = program_image(rt.alloc(), LATCH)?;
+    for tape in &GOOD {
         let line = "run i t --until 20";
         let trial = try_files(rt.alloc(), line, &image, tape, &[], &[])?;
         check_trial(&rt, tape, &trial, 0, "L 12 05\nE 22\n", "");
@@ -140,34 +189,55 @@ const LENGTHS: [(&str, usize, &str); 12] = [
     ("e", 5000, "gravitar: e: length 65\n"),
 ];
 
+/// The files of a run, of which the one of this name has another length. `long` has zeros, and
+/// `board` more bytes than a board.
+fn try_length(
+    alloc: Global,
+    name: &str,
+    length: usize,
+    long: &[u8],
+    board: &[u8],
+) -> Result<Trial, Fail> {
+    let image = program_image(alloc, LATCH)?;
+    let other = part_of(long, 0, length);
+    let state = part_of(board, 0, if name == "s" { length } else { 4356 });
+    let files = [
+        ("i", if name == "i" { other } else { image.as_slice() }),
+        ("t", b"20 END\n".as_slice()),
+        ("s", state),
+        (
+            "e",
+            if name == "e" {
+                other
+            } else {
+                part_of(long, 0, 64)
+            },
+        ),
+    ];
+    let line = "run i t --state s --earom e --save s";
+    try_line(alloc, line, &files, STEADY)
+}
+
+/// Runs a row of the table.
+fn check_length<R: Abort + Alloc<A = Global>>(
+    rt: &R,
+    row: &(&str, usize, &str),
+    long: &[u8],
+    board: &[u8],
+) -> Result<(), Fail> {
+    let (name, length, note) = row;
+    let trial = try_length(rt.alloc(), name, *length, long, board)?;
+    check_refused(rt, note, &trial, 4, note);
+    Ok(())
+}
+
 #[test]
 fn a_file_of_another_length_is_refused(rt: HostRuntime) -> Result<(), Fail> {
     let long = vec![in rt.alloc(); 0u8; 50_000]?;
-    let image = program_image(rt.alloc(), LATCH)?;
-    let good = stored_board(rt.alloc(), "run i t --save s", LATCH, "20 END\n")?;
-    let mut board = Vec::from_slice(rt.alloc(), &good)?;
+    let mut board = stored_board(rt.alloc(), "run i t --save s", LATCH, "20 END\n")?;
     board.extend_from_slice(part_of(&long, 0, 1000))?;
-    for (name, length, note) in LENGTHS {
-        let zeros = part_of(&long, 0, length);
-        let files = [
-            ("i", if name == "i" { zeros } else { image.as_slice() }),
-            ("t", b"20 END\n".as_slice()),
-            (
-                "s",
-                part_of(&board, 0, if name == "s" { length } else { 4356 }),
-            ),
-            (
-                "e",
-                if name == "e" {
-                    zeros
-                } else {
-                    part_of(&long, 0, 64)
-                },
-            ),
-        ];
-        let line = "run i t --state s --earom e --save s";
-        let trial = try_line(rt.alloc(), line, &files, STEADY)?;
-        check_refused(&rt, note, &trial, 4, note);
+    for row in &LENGTHS {
+        check_length(&rt, row, &long, &board)?;
     }
     Ok(())
 }
@@ -227,26 +297,43 @@ const ORDERS: [(&str, u8, &str); 22] = [
     ("show i", 4, "gravitar: i: length 4357\n"),
 ];
 
+/// Does the command of a line over good and bad files.
+fn try_order(alloc: Global, line: &str, image: &[u8], board: &[u8]) -> Result<Trial, Fail> {
+    let files = [
+        ("i", image),
+        ("t", b"20 END\n".as_slice()),
+        ("s", board),
+        ("e", [0xFF; 64].as_slice()),
+        ("short", part_of(image, 0, 43007)),
+        ("form", b"0x END\n"),
+        ("board", part_of(board, 0, 4355)),
+        ("cells", [0; 63].as_slice()),
+    ];
+    try_line(alloc, line, &files, STEADY)
+}
+
+/// Runs a row of the table.
+fn check_order<R: Abort + Alloc<A = Global>>(
+    rt: &R,
+    row: &(&str, u8, &str),
+    image: &[u8],
+    board: &[u8],
+) -> Result<(), Fail> {
+    let (line, status, note) = row;
+    let trial = try_order(rt.alloc(), line, image, board)?;
+    check_refused(rt, line, &trial, *status, note);
+    Ok(())
+}
+
 #[test]
 fn the_first_file_that_is_absent_or_bad_is_told(rt: HostRuntime) -> Result<(), Fail> {
     let image = program_image(rt.alloc(), LATCH)?;
     let board = stored_board(rt.alloc(), "run i t --save s", LATCH, "20 END\n")?;
-    let files = [
-        ("i", image.as_slice()),
-        ("t", b"20 END\n".as_slice()),
-        ("s", board.as_slice()),
-        ("e", [0xFF; 64].as_slice()),
-        ("short", part_of(&image, 0, 43007)),
-        ("form", b"0x END\n"),
-        ("board", part_of(&board, 0, 4355)),
-        ("cells", [0; 63].as_slice()),
-    ];
-    for (line, status, note) in ORDERS {
-        let trial = try_line(rt.alloc(), line, &files, STEADY)?;
-        check_refused(&rt, line, &trial, status, note);
+    for row in &ORDERS {
+        check_order(&rt, row, &image, &board)?;
     }
     // A name that is only stored under is looked for nowhere.
-    let trial = try_line(rt.alloc(), "run i t --save no", &files, STEADY)?;
+    let trial = try_order(rt.alloc(), "run i t --save no", &image, &board)?;
     check_trial(&rt, "run i t --save no", &trial, 0, "L 12 05\nE 22\n", "");
     Ok(())
 }

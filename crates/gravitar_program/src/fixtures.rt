@@ -1,3 +1,4 @@
+use crate::programs::Rom;
 use crate::{Words, gravitar};
 use outside_io::{MemoryShelf, MemorySink, Stored};
 use rom_image::IMAGE_LEN;
@@ -48,6 +49,11 @@ pub(crate) fn image_of(
 /// An image with a program alone.
 pub(crate) fn program_image(alloc: Global, program: &[u8]) -> Result<Vec<u8>, AllocError> {
     image_of(alloc, program, 0xA000, &[])
+}
+
+/// The image of a program and what it needs beside it.
+pub(crate) fn image_for(alloc: Global, rom: &Rom) -> Result<Vec<u8>, AllocError> {
+    image_of(alloc, rom.program, rom.at, rom.more)
 }
 
 /// The words of a line, by its single spaces.
@@ -153,10 +159,49 @@ pub(crate) fn check_trial<R: Abort>(
     assert_eq!(rt; trial.status, status, "{line}: the status");
 }
 
+/// Ends the test unless a command made so many stores.
+pub(crate) fn check_count<R: Abort>(rt: &R, line: &str, trial: &Trial, count: usize) {
+    assert_eq!(rt; trial.shelf.stores().len(), count, "{line}: the stores");
+}
+
 /// Ends the test unless a command was refused with this status and note, and did nothing.
 pub(crate) fn check_refused<R: Abort>(rt: &R, line: &str, trial: &Trial, status: u8, note: &str) {
     check_trial(rt, line, trial, status, "", note);
-    assert_eq!(rt; trial.shelf.stores().len(), 0, "{line}: the stores");
+    check_count(rt, line, trial, 0);
+}
+
+/// Ends the test unless a command was refused for a bad file of this name, and did nothing.
+pub(crate) fn check_bad<R: Abort + Alloc<A = Global>>(
+    rt: &R,
+    trial: &Trial,
+    name: &str,
+    cause: &str,
+) -> Result<(), Fail> {
+    let note = format!(in rt.alloc(); "gravitar: {name}: {cause}\n")?;
+    check_refused(rt, cause, trial, 4, &note);
+    Ok(())
+}
+
+/// The bytes of a store, or none where it wasn't made.
+pub(crate) fn bytes_of(trial: &Trial, index: usize) -> &[u8] {
+    match trial.shelf.stores().get(index) {
+        Some(store) => store.bytes(),
+        None => &[],
+    }
+}
+
+/// Ends the test unless a store has these bytes from an offset on.
+pub(crate) fn check_store<R: Abort>(
+    rt: &R,
+    line: &str,
+    trial: &Trial,
+    index: usize,
+    from: usize,
+    wanted: &[u8],
+) {
+    let bytes = bytes_of(trial, index);
+    let found = part_of(bytes, from, from.wrapping_add(wanted.len()));
+    assert!(rt; found == wanted, "{line}: store {index} from {from}");
 }
 
 /// The bytes of a store.
@@ -176,18 +221,23 @@ pub(crate) fn clock_of(board: &Stored) -> Option<u64> {
     Some(u64::from_le_bytes(*bytes))
 }
 
+/// Ends the test unless this is a board in version 2 that was stored under `s`, at this clock.
+fn check_board<R: Abort>(rt: &R, line: &str, board: &Stored, clock: u64) {
+    assert!(rt; board.name() == "s", "{line}: the name");
+    assert_eq!(rt; board.bytes().len(), 4356, "{line}: the length");
+    assert!(rt;
+        board.bytes().starts_with(b"\x02GVS"),
+        "{line}: the version"
+    );
+    assert_eq!(rt; clock_of(board), Some(clock), "{line}: the clock");
+}
+
 /// Ends the test unless these boards were stored under `s`, each at its clock.
 pub(crate) fn check_clocks<R: Abort>(rt: &R, line: &str, trial: &Trial, clocks: &[u64]) {
     let stores = trial.shelf.stores();
     assert_eq!(rt; stores.len(), clocks.len(), "{line}: the stores");
     for (board, clock) in stores.iter().zip(clocks) {
-        assert_eq!(rt; board.name(), "s", "{line}: the name");
-        assert_eq!(rt; board.bytes().len(), 4356, "{line}: the length");
-        assert_eq!(rt;
-            part_of(board.bytes(), 0, 4),
-            [0x02, 0x47, 0x56, 0x53].as_slice()
-        );
-        assert_eq!(rt; clock_of(board), Some(*clock), "{line}: the clock");
+        check_board(rt, line, board, *clock);
     }
 }
 

@@ -65,3 +65,44 @@ pub(crate) const WRITE_CELL: &[u8] = &[
 pub(crate) const ERASE_CELL: &[u8] = &[
     0xA9, 0x3C, 0x8D, 0x45, 0x89, 0xA9, 0x0E, 0x8D, 0x00, 0x89, 0xEA, 0x4C, 0x0B, 0x90,
 ];
+
+/// A program at 9000, and more bytes of the image at an address.
+#[derive(Clone, Copy)]
+pub(crate) struct Rom {
+    pub program: &'static [u8],
+    pub at: u16,
+    pub more: &'static [u8],
+}
+
+pub(crate) const LATCH_ROM: Rom = Rom {
+    program: LATCH,
+    at: 0xA000,
+    more: &[],
+};
+
+pub(crate) const JAM_ROM: Rom = Rom {
+    program: JAM,
+    ..LATCH_ROM
+};
+
+pub(crate) const VECTOR_ROM: Rom = Rom {
+    program: VECTOR_TWICE,
+    ..LATCH_ROM
+};
+
+pub(crate) const TONE_ROM: Rom = Rom {
+    program: TONE,
+    ..LATCH_ROM
+};
+
+pub(crate) const INTERRUPT_ROM: Rom = Rom {
+    program: INTERRUPT,
+    at: 0x9100,
+    more: INTERRUPT_HANDLER,
+};
+
+pub(crate) const DRAW_ROM: Rom = Rom {
+    program: DRAW,
+    at: 0x2800,
+    more: ENDLESS_LIST,
+};

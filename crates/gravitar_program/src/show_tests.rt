@@ -1,8 +1,8 @@
 use crate::fixtures::{
-    OUTSIDE, Outside, STEADY, check_trial, image_of, overwrite, stored, stored_board, try_files,
-    try_line,
+    OUTSIDE, Outside, STEADY, bytes_of, check_count, check_trial, image_for, overwrite,
+    stored_board, try_files, try_line,
 };
-use crate::programs::{INTERRUPT, INTERRUPT_HANDLER, JAM, LATCH, TONE, VECTOR_TWICE, WRITE_CELL};
+use crate::programs::{INTERRUPT_ROM, JAM, LATCH, TONE, VECTOR_TWICE, WRITE_CELL};
 use std::alloc::Global;
 use std::process::Abort;
 use std::test::Fail;
@@ -20,7 +20,7 @@ fn check_shown<R: Abort + Alloc<A = Global>>(
     let trial = try_line(rt.alloc(), "show s", &[("s", board)], STEADY)?;
     let text = format!(in rt.alloc(); "{first}{AT_REST}")?;
     check_trial(rt, "show s", &trial, 0, &text, "");
-    assert_eq!(rt; trial.shelf.stores().len(), 0);
+    check_count(rt, "show s", &trial, 0);
     Ok(())
 }
 
@@ -61,24 +61,33 @@ const SHOWN: [(&[u8], &str, &str); 6] = [
     ),
 ];
 
+/// Runs a row of the table.
+fn check_shown_row<R: Abort + Alloc<A = Global>>(
+    rt: &R,
+    program: &[u8],
+    line: &str,
+    first: &str,
+) -> Result<(), Fail> {
+    let board = stored_board(rt.alloc(), line, program, "200 END\n")?;
+    check_shown(rt, &board, first)
+}
+
 #[test]
 fn the_boards_of_a_run_are_shown(rt: HostRuntime) -> Result<(), Fail> {
-    for (program, line, first) in SHOWN {
-        let board = stored_board(rt.alloc(), line, program, "200 END\n")?;
-        check_shown(&rt, &board, first)?;
+    for (program, line, first) in &SHOWN {
+        check_shown_row(&rt, program, line, first)?;
     }
     Ok(())
 }
 
 #[test]
 fn a_place_inside_an_interrupt_is_shown(rt: HostRuntime) -> Result<(), Fail> {
-    let image = image_of(rt.alloc(), INTERRUPT, 0x9100, INTERRUPT_HANDLER)?;
+    let image = image_for(rt.alloc(), &INTERRUPT_ROM)?;
     let line = "run i t --cuts 6148 --save s";
     let trial = try_files(rt.alloc(), line, &image, "6160 END\n", &[], &[])?;
     let first =
         "clock 6148\ncpu pc 9011 a 00 x 00 y 00 s FD p 02\njam -\nmid interrupt 4C 4C 90\nboard out 00 in0 3F in3 FF in4 FF\ndiv phase 4 irq 1 dog 1 reset 0\n";
-    check_shown(&rt, stored(&trial, 0)?, first)?;
-    Ok(())
+    check_shown(&rt, bytes_of(&trial, 0), first)
 }
 
 /// A program, a tape, and what is shown of the board at the end.
@@ -111,14 +120,25 @@ const DEVICES: [(&[u8], &str, &str); 5] = [
     ),
 ];
 
+/// Runs a row of the table.
+fn check_device<R: Abort + Alloc<A = Global>>(
+    rt: &R,
+    program: &[u8],
+    tape: &str,
+    part: &str,
+) -> Result<(), Fail> {
+    let board = stored_board(rt.alloc(), "run i t --save s", program, tape)?;
+    let trial = try_line(rt.alloc(), "show s", &[("s", board.as_slice())], STEADY)?;
+    assert_eq!(rt; trial.status, 0, "{part}");
+    let text = str::from_utf8(trial.out.bytes())?;
+    assert!(rt; text.contains(part), "{text} hasn't {part}");
+    Ok(())
+}
+
 #[test]
 fn the_devices_of_a_board_are_shown(rt: HostRuntime) -> Result<(), Fail> {
-    for (program, tape, part) in DEVICES {
-        let board = stored_board(rt.alloc(), "run i t --save s", program, tape)?;
-        let trial = try_line(rt.alloc(), "show s", &[("s", board.as_slice())], STEADY)?;
-        assert_eq!(rt; trial.status, 0, "{part}");
-        let text = str::from_utf8(trial.out.bytes())?;
-        assert!(rt; text.contains(part), "{text} hasn't {part}");
+    for (program, tape, part) in &DEVICES {
+        check_device(&rt, program, tape, part)?;
     }
     Ok(())
 }
@@ -133,21 +153,26 @@ fn a_board_of_version_1_is_shown(rt: HostRuntime) -> Result<(), Fail> {
     Ok(())
 }
 
+/// Shows a board under a fault, of the shelf or of the output.
+fn check_unshown<R: Abort + Alloc<A = Global>>(
+    rt: &R,
+    board: &[u8],
+    shelf: &[u64],
+    out: &[u64],
+) -> Result<(), Fail> {
+    let outside = Outside {
+        shelf,
+        out,
+        ..STEADY
+    };
+    let trial = try_line(rt.alloc(), "show s", &[("s", board)], outside)?;
+    check_trial(rt, "show s", &trial, 6, "", OUTSIDE);
+    Ok(())
+}
+
 #[test]
 fn a_board_that_is_not_read_or_shown_whole_is_a_fault(rt: HostRuntime) -> Result<(), Fail> {
     let board = stored_board(rt.alloc(), "run i t --save s", LATCH, "20 END\n")?;
-    let files = [("s", board.as_slice())];
-    let outside = Outside {
-        shelf: &[1],
-        ..STEADY
-    };
-    let unread = try_line(rt.alloc(), "show s", &files, outside)?;
-    check_trial(&rt, "show s", &unread, 6, "", OUTSIDE);
-    let outside = Outside {
-        out: &[1],
-        ..STEADY
-    };
-    let unwritten = try_line(rt.alloc(), "show s", &files, outside)?;
-    check_trial(&rt, "show s", &unwritten, 6, "", OUTSIDE);
-    Ok(())
+    check_unshown(&rt, &board, &[1], &[])?;
+    check_unshown(&rt, &board, &[], &[1])
 }

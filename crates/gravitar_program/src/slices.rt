@@ -206,7 +206,15 @@ pub fn run_slices<V: VectorUnit, P: SoundUnit, C: CellUnit, D: DividerUnit, S: S
 {
     let mut saved = Saved::of(engine); // tells the ranges
     for cut in cuts {
-        match cut_slice(engine, tape, (*cut).min(limit), save, &mut saved, shelf, out) {
+        match cut_slice(
+            engine,
+            tape,
+            (*cut).min(limit),
+            save,
+            &mut saved,
+            shelf,
+            out,
+        ) {
             Ok(()) => {}
             Err(fault) => return Err(fault),
         }

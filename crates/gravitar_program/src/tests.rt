@@ -1,9 +1,9 @@
 use crate::fixtures::{
-    STEADY, Trial, check_refused, check_trial, image_of, line_with_cuts, program_image, try_files,
-    try_words, words_of,
+    STEADY, check_count, check_refused, check_trial, image_of, line_with_cuts, program_image,
+    try_files, try_words, words_of,
 };
 use crate::programs::{JAM, LATCH};
-use crate::rows::ROWS;
+use crate::rows::{ROWS, Row};
 use crate::{Words, steady_status};
 use outside_io::{MemorySink, SteadyShelf};
 use std::alloc::Global;
@@ -46,7 +46,7 @@ fn check_image<R: Abort + Alloc<A = Global>>(
 ) -> Result<(), Fail> {
     let trial = try_files(rt.alloc(), "run i t", image, tape, &[], &[])?;
     check_trial(rt, tape, &trial, status, text, "");
-    assert_eq!(rt; trial.shelf.stores().len(), 0);
+    check_count(rt, tape, &trial, 0);
     Ok(())
 }
 
@@ -98,15 +98,21 @@ fn a_break_and_a_branch_go_where_they_lead(rt: HostRuntime) -> Result<(), Fail> 
     Ok(())
 }
 
+/// Runs a row of the table, without and with cuts.
+fn check_row<R: Abort + Alloc<A = Global>>(rt: &R, row: &Row, cuts: &str) -> Result<(), Fail> {
+    let image = image_of(rt.alloc(), row.program, row.at, row.more)?;
+    check_image(rt, &image, row.tape, row.text, 0)?;
+    let trial = try_files(rt.alloc(), cuts, &image, row.tape, &[], &[])?;
+    check_trial(rt, row.tape, &trial, 0, row.text, "");
+    check_count(rt, row.tape, &trial, 0);
+    Ok(())
+}
+
 #[test]
 fn worked_runs_are_told_with_cuts_and_without(rt: HostRuntime) -> Result<(), Fail> {
     let cuts = line_with_cuts(rt.alloc(), 100)?;
-    for row in ROWS {
-        let image = image_of(rt.alloc(), row.program, row.at, row.more)?;
-        check_image(&rt, &image, row.tape, row.text, 0)?;
-        let trial = try_files(rt.alloc(), &cuts, &image, row.tape, &[], &[])?;
-        check_trial(&rt, row.tape, &trial, 0, row.text, "");
-        assert_eq!(rt; trial.shelf.stores().len(), 0);
+    for row in &ROWS {
+        check_row(&rt, row, &cuts)?;
     }
     Ok(())
 }
@@ -119,65 +125,93 @@ fn a_run_over_several_windows_is_one_log(rt: HostRuntime) -> Result<(), Fail> {
     Ok(())
 }
 
-#[test]
-fn files_and_an_output_that_never_fail_give_the_same_status(rt: HostRuntime) -> Result<(), Fail> {
-    let image = program_image(rt.alloc(), LATCH)?;
-    let jams = program_image(rt.alloc(), JAM)?;
-    let mut shelf = SteadyShelf::new(rt.alloc());
+/// A line over files that never fail, its status and its note.
+const STEADILY: [(&str, u8, &str); 7] = [
+    ("run i t", 0, ""),
+    ("run jams t --cuts 5,50 --save s", 3, ""),
+    ("run i t --cuts 11 --save s --cost", 0, ""),
+    ("run i t --earom t", 4, "gravitar: t: length 7\n"),
+    ("show i", 4, "gravitar: i: length 4357\n"),
+    ("show s", 5, "gravitar: s: absent\n"),
+    ("show", 2, USAGE),
+];
+
+/// The files of these lines.
+fn steady_shelf(alloc: Global) -> Result<SteadyShelf, Fail> {
+    let image = program_image(alloc, LATCH)?;
+    let jams = program_image(alloc, JAM)?;
+    let mut shelf = SteadyShelf::new(alloc);
     shelf.put("i", &image)?;
     shelf.put("jams", &jams)?;
     shelf.put("t", b"20 END\n")?;
-    for (line, status, note) in [
-        ("run i t", 0, ""),
-        ("run jams t --cuts 5,50 --save s", 3, ""),
-        ("run i t --cuts 11 --save s --cost", 0, ""),
-        ("run i t --earom t", 4, "gravitar: t: length 7\n"),
-        ("show i", 4, "gravitar: i: length 4357\n"),
-        ("show s", 5, "gravitar: s: absent\n"),
-        ("show", 2, USAGE),
-    ] {
-        let words = words_of(rt.alloc(), line)?;
-        let mut notes = MemorySink::new(rt.alloc(), 1000, &[])?;
-        let answer = steady_status(rt.alloc(), &words, &mut shelf, &mut notes);
-        assert_eq!(rt; answer, status, "{line}");
-        assert_eq!(rt; notes.bytes(), note.as_bytes(), "{line}");
-    }
-    Ok(())
+    Ok(shelf)
 }
 
-/// Does a command over a good image and a good tape.
-fn try_good(alloc: Global, words: &Words) -> Result<Trial, Fail> {
-    let image = program_image(alloc, LATCH)?;
-    let files = [("i", image.as_slice()), ("t", b"20 END\n".as_slice())];
-    try_words(alloc, words, &files, STEADY)
+/// Runs a row of the table.
+fn check_steady<R: Abort + Alloc<A = Global>>(
+    rt: &R,
+    shelf: &mut SteadyShelf,
+    row: &(&str, u8, &str),
+) -> Result<(), Fail> {
+    let (line, status, note) = row;
+    let words = words_of(rt.alloc(), line)?;
+    let mut notes = MemorySink::new(rt.alloc(), 1000, &[])?;
+    let answer = steady_status(rt.alloc(), &words, shelf, &mut notes);
+    assert_eq!(rt; answer, *status, "{line}");
+    assert!(rt; notes.bytes() == note.as_bytes(), "{line}: the note");
+    Ok(())
 }
 
 #[test]
-fn words_of_no_form_get_the_usage(rt: HostRuntime) -> Result<(), Fail> {
-    let none = try_good(rt.alloc(), &Words::new(rt.alloc()))?;
-    check_refused(&rt, "no words", &none, 2, USAGE);
-    let mut empty = Words::new(rt.alloc());
-    for word in ["run", "", "t"] {
-        empty.push(word)?;
-    }
-    let nameless = try_good(rt.alloc(), &empty)?;
-    check_refused(&rt, "an empty name", &nameless, 2, USAGE);
-    for line in [
-        "run i",
-        "run i t --until 5 --until 6",
-        "run i t --cuts 5,4",
-        "run i --cost",
-        "run i t --cost --cost",
-        "run i t --save",
-        "run i t x",
-        "Run i t",
-        "show",
-        "show i t",
-        "show i --cost",
-        "--help",
-    ] {
-        let trial = try_good(rt.alloc(), &words_of(rt.alloc(), line)?)?;
-        check_refused(&rt, line, &trial, 2, USAGE);
+fn files_and_an_output_that_never_fail_give_the_same_status(rt: HostRuntime) -> Result<(), Fail> {
+    let mut shelf = steady_shelf(rt.alloc())?;
+    for row in &STEADILY {
+        check_steady(&rt, &mut shelf, row)?;
     }
     Ok(())
+}
+
+/// Does a command over a good image and a good tape, whose words are of no form.
+fn check_words<R: Abort + Alloc<A = Global>>(
+    rt: &R,
+    line: &str,
+    words: &Words,
+) -> Result<(), Fail> {
+    let image = program_image(rt.alloc(), LATCH)?;
+    let files = [("i", image.as_slice()), ("t", b"20 END\n".as_slice())];
+    let trial = try_words(rt.alloc(), words, &files, STEADY)?;
+    check_refused(rt, line, &trial, 2, USAGE);
+    Ok(())
+}
+
+/// Lines of no form.
+const FORMLESS: [&str; 12] = [
+    "run i",
+    "run i t --until 5 --until 6",
+    "run i t --cuts 5,4",
+    "run i --cost",
+    "run i t --cost --cost",
+    "run i t --save",
+    "run i t x",
+    "Run i t",
+    "show",
+    "show i t",
+    "show i --cost",
+    "--help",
+];
+
+#[test]
+fn lines_of_no_form_get_the_usage(rt: HostRuntime) -> Result<(), Fail> {
+    for line in &FORMLESS {
+        let words = words_of(rt.alloc(), line)?;
+        check_words(&rt, line, &words)?;
+    }
+    Ok(())
+}
+
+#[test]
+fn no_words_and_empty_names_get_the_usage(rt: HostRuntime) -> Result<(), Fail> {
+    check_words(&rt, "no words", &Words::new(rt.alloc()))?;
+    let nameless = words_of(rt.alloc(), "run  t")?;
+    check_words(&rt, "an empty name", &nameless)
 }
