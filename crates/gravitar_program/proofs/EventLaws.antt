@@ -13,6 +13,10 @@ pub on_ok : {T E P Q : Type 0} (result : Result T E) → (P → Q) → OnOk resu
 on_ok (Ok v) so p = so p
 on_ok (Err e) so p = tt
 
+pub always_on_ok : {T E Q : Type 0} (result : Result T E) → Q → OnOk result Q
+always_on_ok (Ok v) q = q
+always_on_ok (Err e) q = tt
+
 pub on_err : {T E P Q : Type 0} (result : Result T E) → (P → Q) → OnErr result P → OnErr result Q
 on_err (Ok v) so p = tt
 on_err (Err e) so p = so p

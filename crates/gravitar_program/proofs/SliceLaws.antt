@@ -106,6 +106,11 @@ slice-over entries (Clock cut) b ends not_window =
 slice-over entries (Boundary limit) b ends not_window =
     steps-none entries (is_over limit) ((limit - b.wires.clock) + 6) b (over-by_cause b.cpu.jam b.cpu.mid limit b ends not_window)
 
+-- an engine whose devices are brought to the present has the board that it had
+pub settled-board : (before after : EngineValue) (b : lockstep.Board) (calls : ℕ)
+    → after ≡ (let e : EngineValue = record before { lagging = 0; calls = calls } in e) → before.board ≡ b → after.board ≡ b
+settled-board before after b calls settled is = ap (λ (e : EngineValue). e.board) settled ∙ is
+
 -- no records are records in order
 made-fresh : (b : lockstep.Board) → HasNoRecords b → AreMadeBetween b.wires.clock (records_of b) b.wires.clock
 made-fresh b none = rw (none.strokes, none.levels1, none.levels2, none.written) (record {

@@ -2,7 +2,8 @@
 use Rattle.std.proofs.Common.{◌≡◌, ℕ, Bool, Option, Some, None, List, ◌++◌, take-append-drop, refl, ap, ◌∙◌}
 use Rattle.board_base.specs.declared.vector_memory.TheConstants.{VECTOR_RAM_LEN}
 use Rattle.tape_ports.specs.declared.entry.TapeEntry.{TapeEntry}
-use Rattle.catchup_engine.specs.EngineValue.{HasNoRecords, cleared}
+use Rattle.board_base.specs.Board.{BoardValue}
+use Rattle.catchup_engine.specs.EngineValue.{EngineValue, HasNoRecords, cleared, counted_on}
 use Rattle.catchup_engine.specs.Lockstep.{Board}
 use Rattle.catchup_engine.specs.Run.{run, to_boundary}
 use Rattle.catchup_engine.specs.Wires.{board_of, reloaded}
@@ -21,19 +22,36 @@ reload-same b none =
     (take-append-drop VECTOR_RAM_LEN b.wires.memory)
     ∙ cleared-fresh b none
 
+-- an engine that has taken on its own board again has five device calls more
+pub loaded-same : (now after : EngineValue) (s : BoardValue) → HasNoRecords now.board
+    → after ≡ (let e : EngineValue = record now { board = record { cpu = s.cpu; wires = reloaded now.board.wires s }; calls = counted_on now.calls 5 } in e)
+    → s ≡ board_of now.board.cpu now.board.wires
+    → after ≡ (let e : EngineValue = record now { calls = counted_on now.calls 5 } in e)
+loaded-same now after s none loaded same =
+    loaded
+    ∙ ap (λ (s : BoardValue). let e : EngineValue = record now { board = record { cpu = s.cpu; wires = reloaded now.board.wires s }; calls = counted_on now.calls 5 } in e) same
+    ∙ ap (λ (b : Board). let e : EngineValue = record now { board = b; calls = counted_on now.calls 5 } in e) (reload-same now.board none)
+
 -- records aren't saved
-pub saved-cleared : (b now : Board) → now ≡ cleared b → saved_bytes now ≡ saved_bytes b
+pub saved-cleared : (b now : Board) (held : List ℕ) → now ≡ cleared b → held ≡ saved_bytes now → held ≡ saved_bytes b
 unfolding saved_bytes
-saved-cleared b now is = ap saved_bytes is
+saved-cleared b now held is saved = saved ∙ ap saved_bytes is
 
 -- a slice ends where the run does
-pub clock-end : (entries : List TapeEntry) (cut : ℕ) (b : Board) → end_of entries (Clock cut) b ≡ run entries cut b
+clock-end : (entries : List TapeEntry) (cut : ℕ) (b : Board) → end_of entries (Clock cut) b ≡ run entries cut b
 unfolding run
 clock-end entries cut b = refl
 
-pub boundary-end : (entries : List TapeEntry) (limit : ℕ) (b : Board) → end_of entries (Boundary limit) b ≡ to_boundary entries limit b
+boundary-end : (entries : List TapeEntry) (limit : ℕ) (b : Board) → end_of entries (Boundary limit) b ≡ to_boundary entries limit b
 unfolding to_boundary
 boundary-end entries limit b = refl
+
+pub at-cut : (entries : List TapeEntry) (cut : ℕ) (b now : Board) → now ≡ cleared (end_of entries (Clock cut) b) → now ≡ cleared (run entries cut b)
+at-cut entries cut b now is = is ∙ ap cleared (clock-end entries cut b)
+
+pub at-end : (entries : List TapeEntry) (limit : ℕ) (b now : Board) → now ≡ cleared (end_of entries (Boundary limit) b)
+    → now ≡ cleared (to_boundary entries limit b)
+at-end entries limit b now is = is ∙ ap cleared (boundary-end entries limit b)
 
 -- the last line doesn't tell of records
 last_text-behind : (l : Recorded) (b : Board) (jam : Option ℕ) → last_text (behind l b) jam ≡ last_text b jam
@@ -46,5 +64,5 @@ ending-behind cost calls l b = ap (λ text. text ++ cost_line cost calls) (last_
 pub ending-cleared : (cost : Bool) (calls : ℕ) (b now : Board) → now ≡ cleared b → ending_text cost calls now ≡ ending_text cost calls b
 ending-cleared cost calls b now is = ap (ending_text cost calls) is ∙ from-behind (ending_text cost calls) (ending-behind cost calls) b
 
-pub cells-cleared : (b now : Board) → now ≡ cleared b → now.wires.earom.cells ≡ b.wires.earom.cells
-cells-cleared b now is = ap (λ (n : Board). n.wires.earom.cells) is
+pub cells-cleared : (b now : Board) (held : List ℕ) → now ≡ cleared b → held ≡ now.wires.earom.cells → held ≡ b.wires.earom.cells
+cells-cleared b now held is kept = kept ∙ ap (λ (n : Board). n.wires.earom.cells) is

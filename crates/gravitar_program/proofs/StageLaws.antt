@@ -2,6 +2,7 @@
 use Rattle.std.proofs.Common.{◌≡◌, ◌≢◌, ℕ, ◌*◌, List, [], ◌∷◌, length, Option, Some, None, Result, Ok, Err, IfSome, IfOk, Contains, refl, sym, ap, ◌∙◌, subst, arith}
 use Rattle.std.proofs.Math.Seq.{take-length}
 use Rattle.board_base.specs.Board.{BoardValue}
+use Rattle.board_base.specs.Cpu.{CpuValue}
 use Rattle.command_line.specs.CommandLine.{command_of}
 use Rattle.command_line.specs.CommandValue.{CommandValue, RunValue, run_of, show_of}
 use Rattle.command_line.specs.SettingsValue.{SettingsValue}
@@ -10,7 +11,7 @@ use Rattle.outside_io.specs.Known.{grown}
 use Rattle.outside_io.specs.Shelf.{Files, Kept}
 use Rattle.outside_io.specs.Sink.{Takes}
 use Rattle.outside_io.proofs.KnownLaws.{grown-nothing}
-use Rattle.catchup_engine.specs.EngineValue.{counted_on}
+use Rattle.catchup_engine.specs.EngineValue.{cleared, counted_on}
 use Rattle.catchup_engine.specs.Lockstep.{Board}
 use Rattle.gravitar_program.specs.declared.parts.Parts.{Parts}
 use Rattle.gravitar_program.specs.declared.stop.Ending.{Ending}
@@ -238,21 +239,23 @@ made-for kept said parts end limit cuts unused before first same last is listed 
 -- the run of an engine is that of its parts
 module _ (said : SettingsValue) (parts : Parts) (limit : ℕ) (wanted : Wanted) (cuts : List ℕ) (before : ℕ) (first : Board)
     (made : IsMadeFor said parts limit wanted cuts before first) (out0 out1 : Option (List ℕ)) (stores0 stores1 : Option (List Kept)) where
-  pub run-done : (calls : ℕ) (ending : Ending) → Did (run_events parts.tape.entries limit wanted calls cuts first) out0 out1 stores0 stores1
+  pub run-done : (calls : ℕ) (ending : Ending) (cpu : CpuValue) (now : Board) → Did (run_events parts.tape.entries limit wanted calls cuts first) out0 out1 stores0 stores1
       → FitsCalls parts.tape.entries limit (length cuts) first before calls
-      → ending ≡ ending_by (last_board parts.tape.entries limit cuts first).cpu.jam
+      → ending ≡ ending_by cpu.jam → cpu ≡ now.cpu → now ≡ cleared (last_board parts.tape.entries limit cuts first)
       → RunComes said parts (λ outcome. Ends outcome out0 out1 stores0 stores1 (Ok ending))
   unfolding run_outcome
-  run-done calls ending did fits is = record {
-    calls = calls;
-    fits = rw (sym made.same_limit, sym made.same_cuts, sym made.same_first, sym made.five) fits;
-    of_outcome =
-        rw (sym made.same_limit, sym made.same_cuts, sym made.same_first, sym made.same_wanted) (
-          sym (ap status_of_ending is),
-          refl,
-          did,
-        );
-  }
+  run-done calls ending cpu now did fits by here there =
+      let is = by ∙ ap (λ (c : CpuValue). ending_by c.jam) here ∙ ap (λ (b : Board). ending_by b.cpu.jam) there in
+      record {
+        calls = calls;
+        fits = rw (sym made.same_limit, sym made.same_cuts, sym made.same_first, sym made.five) fits;
+        of_outcome =
+            rw (sym made.same_limit, sym made.same_cuts, sym made.same_first, sym made.same_wanted) (
+              sym (ap status_of_ending is),
+              refl,
+              did,
+            );
+      }
 
   pub run-cut : StopsIn parts.tape.entries limit wanted before cuts first out0 out1 stores0 stores1
       → RunComes said parts (λ outcome. StopEnds outcome out0 out1 stores0 stores1 Outside)

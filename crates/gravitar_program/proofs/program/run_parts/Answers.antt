@@ -1,7 +1,3 @@
-use Rattle.std.proofs.Common.{ap, ◌∙◌}
-use Rattle.board_base.specs.Cpu.{CpuValue}
-use Rattle.catchup_engine.specs.Lockstep.{Board}
-use Rattle.gravitar_program.specs.LastLine.{ending_by}
 use Rattle.gravitar_program.proofs.StageLaws.{made-for, run-cut, run-done, run-unbegun}
 use Rattle.gravitar_program.proofs.program.run_parts.Goals as goal
 
@@ -13,11 +9,8 @@ returns-in-Ok-run_slices-clause-outcome g c =
     let made =
     made-for _ _ c.args.parts.now _ _ _ _ _ _ c.settings.view_is c.end.ensures.end c.run_limit-limit.ensures c.as_slice.ensures.value c.devices.ensures
     c.in-Ok.ensures.calls c.in-Ok.ensures.board in
-    let ending =
-    c.ending.ensures
-    ∙ ap (λ (p : CpuValue). ending_by p.jam) c.cpu.ensures
-    ∙ ap (λ (b : Board). ending_by b.cpu.jam) c.in-Ok-run_slices.ensures.board in
-    run-done _ _ _ _ _ _ _ made _ _ _ _ c.run_slices.new.engine.calls c.ending.result c.in-Ok-run_slices.ensures.done c.in-Ok-run_slices.ensures.calls ending
+    run-done _ _ _ _ _ _ _ made _ _ _ _ c.run_slices.new.engine.calls c.ending.result c.cpu.result.now c.run_slices.new.engine.board
+    c.in-Ok-run_slices.ensures.done c.in-Ok-run_slices.ensures.calls c.ending.ensures c.cpu.ensures c.in-Ok-run_slices.ensures.board
 
 pub returns-clause-outcome : goal.returns-clause-outcome
 returns-clause-outcome g c =

@@ -1,4 +1,6 @@
 use Rattle.std.proofs.Common.{Ok, ap, ◌∙◌, arith}
+use Rattle.catchup_engine.specs.Run.{cause_of}
+use Rattle.gravitar_program.specs.Slice.{clock_in}
 use Rattle.gravitar_program.proofs.SliceLaws.{sliced-start, sliced-window, sliced-cut, sliced-calls, slice-ends, wrap-paid}
 use Rattle.gravitar_program.proofs.slice.run_slice.Goals as goal
 
@@ -39,7 +41,7 @@ returns-in_default-stop g c =
     c.run_window.ensures.more in
     let ended =
     slice-ends c.args.tape.now.entries c.args.until c.args.engine.now c.run_window.new.engine _ _ _ _ sliced c.run_window.ensures.ends
-    (λ w. c.in_default-stop.not-Window (c.in-Ok.ensures.stop ∙ w)) in
+    (λ w. c.in_default-stop.not-Window (◌∙◌ {b = cause_of (clock_in c.args.until) c.run_window.new.engine.board} c.in-Ok.ensures.stop w)) in
     record {
       taken = ended.taken;
       cause = ended.cause;

@@ -1,19 +1,25 @@
-use Rattle.std.proofs.Common.{ap, ◌∙◌}
-use Rattle.catchup_engine.specs.EngineValue.{EngineValue}
-use Rattle.gravitar_program.proofs.SliceLaws.{window-trails, window-text}
+use Rattle.gravitar_program.specs.Slice.{window_steps}
+use Rattle.gravitar_program.proofs.SliceLaws.{settled-board, window-trails, window-text}
+use Rattle.catchup_engine.specs.Run.{stepped}
 use Rattle.gravitar_program.proofs.slice.run_window.Goals as goal
 
 pub write_records-requires-clause-trails : goal.write_records-requires-clause-trails
 write_records-requires-clause-trails g c =
-    let is = ap (λ (e : EngineValue). e.board) c.settle.ensures.value ∙ c.advance-stop.ensures.board in
-    rw is (window-trails c.args.tape.now.entries _ c.args.engine.now.board c.requires.fresh.empty)
+    let n = window_steps c.args.tape.now.entries c.args.until c.args.engine.now.board in
+    let there = stepped c.args.tape.now.entries n c.args.engine.now.board in
+    let is = settled-board c.advance-stop.new.engine c.settle.new.self there c.settle.new.self.calls c.settle.ensures.value c.advance-stop.ensures.board in
+    rw is (window-trails c.args.tape.now.entries n c.args.engine.now.board c.requires.fresh.empty)
 
 pub returns-in_default-clause-taken : goal.returns-in_default-clause-taken
 returns-in_default-clause-taken g c =
-    let is = ap (λ (e : EngineValue). e.board) c.settle.ensures.value ∙ c.advance-stop.ensures.board in
-    rw (window-text c.args.tape.now.entries _ c.args.engine.now.board c.settle.new.self.board c.requires.fresh.empty is) at c.in_default.ensures.taken
+    let n = window_steps c.args.tape.now.entries c.args.until c.args.engine.now.board in
+    let there = stepped c.args.tape.now.entries n c.args.engine.now.board in
+    let is = settled-board c.advance-stop.new.engine c.settle.new.self there c.settle.new.self.calls c.settle.ensures.value c.advance-stop.ensures.board in
+    rw (window-text c.args.tape.now.entries n c.args.engine.now.board c.settle.new.self.board c.requires.fresh.empty is) at c.in_default.ensures.taken
 
 pub returns-clause-taken : goal.returns-clause-taken
 returns-clause-taken g c =
-    let is = ap (λ (e : EngineValue). e.board) c.settle.ensures.value ∙ c.advance-stop.ensures.board in
-    rw (window-text c.args.tape.now.entries _ c.args.engine.now.board c.settle.new.self.board c.requires.fresh.empty is) at c.in-Ok.ensures.taken
+    let n = window_steps c.args.tape.now.entries c.args.until c.args.engine.now.board in
+    let there = stepped c.args.tape.now.entries n c.args.engine.now.board in
+    let is = settled-board c.advance-stop.new.engine c.settle.new.self there c.settle.new.self.calls c.settle.ensures.value c.advance-stop.ensures.board in
+    rw (window-text c.args.tape.now.entries n c.args.engine.now.board c.settle.new.self.board c.requires.fresh.empty is) at c.in-Ok.ensures.taken

@@ -1,7 +1,7 @@
 use Rattle.std.proofs.Common.{◌≡◌, length, arith}
 use Rattle.gravitar_program.specs.Slices.{wanted_of}
 use Rattle.gravitar_program.proofs.CutLaws.{cuts-start, cuts-on, cuts-stopped, cuts-ended, cuts-board, cuts-calls, cuts-cut, fresh-whole}
-use Rattle.gravitar_program.proofs.EventLaws.{on_ok, on_err}
+use Rattle.gravitar_program.proofs.EventLaws.{always_on_ok, on_ok, on_err}
 use Rattle.gravitar_program.proofs.slices.run_slices.Goals as goal
 
 pub loop-cut-init : goal.loop-cut-init
@@ -50,8 +50,7 @@ returns-clause-board g c =
 pub returns-clause-calls : goal.returns-clause-calls
 returns-clause-calls g c =
     let all : c.loop-cut.cut-index ≡ length c.args.cuts.now = (let low = c.loop-cut-test.false in let high = c.loop-cut.auto.cut-index-end in omega arith) in
-    on_ok c.end_slice.result
-    (λ _. cuts-calls c.args.tape.now.entries c.args.limit (wanted_of c.args.save c.args.earom c.args.cost) c.args.cuts.now c.args.engine.now
+    always_on_ok c.end_slice.result
+    (cuts-calls c.args.tape.now.entries c.args.limit (wanted_of c.args.save c.args.earom c.args.cost) c.args.cuts.now c.args.engine.now
     c.loop-cut.engine c.loop-cut.cut-index _ _ _ _ _ _ _ _ _ _ c.loop-cut.invariant all c.end_slice.new.engine c.end_slice.ensures.calls
     c.end_slice.ensures.more)
-    c.end_slice.ensures.done
