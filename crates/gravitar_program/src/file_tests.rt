@@ -191,18 +191,18 @@ const LENGTHS: [(&str, usize, &str); 12] = [
 
 /// The files of a run, of which the one of this name has another length. `long` has zeros, and
 /// `board` more bytes than a board.
-fn try_length(
+fn try_length<'a>(
     alloc: Global,
     name: &str,
     length: usize,
-    long: &[u8],
-    board: &[u8],
+    image: &'a [u8],
+    long: &'a [u8],
+    board: &'a [u8],
 ) -> Result<Trial, Fail> {
-    let image = program_image(alloc, LATCH)?;
     let other = part_of(long, 0, length);
     let state = part_of(board, 0, if name == "s" { length } else { 4356 });
     let files = [
-        ("i", if name == "i" { other } else { image.as_slice() }),
+        ("i", if name == "i" { other } else { image }),
         ("t", b"20 END\n".as_slice()),
         ("s", state),
         (
@@ -226,7 +226,8 @@ fn check_length<R: Abort + Alloc<A = Global>>(
     board: &[u8],
 ) -> Result<(), Fail> {
     let (name, length, note) = row;
-    let trial = try_length(rt.alloc(), name, *length, long, board)?;
+    let image = program_image(rt.alloc(), LATCH)?;
+    let trial = try_length(rt.alloc(), name, *length, &image, long, board)?;
     check_refused(rt, note, &trial, 4, note);
     Ok(())
 }
@@ -298,7 +299,12 @@ const ORDERS: [(&str, u8, &str); 22] = [
 ];
 
 /// Does the command of a line over good and bad files.
-fn try_order(alloc: Global, line: &str, image: &[u8], board: &[u8]) -> Result<Trial, Fail> {
+fn try_order<'a>(
+    alloc: Global,
+    line: &str,
+    image: &'a [u8],
+    board: &'a [u8],
+) -> Result<Trial, Fail> {
     let files = [
         ("i", image),
         ("t", b"20 END\n".as_slice()),

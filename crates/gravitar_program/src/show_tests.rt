@@ -154,11 +154,11 @@ fn a_board_of_version_1_is_shown(rt: HostRuntime) -> Result<(), Fail> {
 }
 
 /// Shows a board under a fault, of the shelf or of the output.
-fn check_unshown<R: Abort + Alloc<A = Global>>(
+fn check_unshown<'a, R: Abort + Alloc<A = Global>>(
     rt: &R,
     board: &[u8],
-    shelf: &[u64],
-    out: &[u64],
+    shelf: &'a [u64],
+    out: &'a [u64],
 ) -> Result<(), Fail> {
     let outside = Outside {
         shelf,
