@@ -15,8 +15,8 @@ mod writer;
 mod writing;
 
 pub use fault::StateFault;
-pub use reading_law::one_reading;
 pub use reading::read;
+pub use reading_law::one_reading;
 pub use writing::write;
 
 /// The number of bytes of a saved board.
