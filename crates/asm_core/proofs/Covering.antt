@@ -1,0 +1,163 @@
+-- Which bytes of the ROM the earlier lines give.
+use Rattle.std.proofs.Common.{◌≡◌, ℕ, ◌+◌, ◌-◌, ◌<◌, ◌≤◌, ◌⊎◌, inl, inr, Bool, true, false, ◌&&◌, ◌||◌, List, [], ◌∷◌, ◌++◌, Ok, length, get_or, take, drop, replicate, refl, sym, ap, ◌∙◌, arith, ltb, leb, Vec, Global}
+use Rattle.std.specs.List.{All, list_any}
+use Rattle.std.specs.Cmp.Derive.{both_true}
+use Rattle.std.proofs.Math.Bool.{and-false, or-false, or-true}
+use Rattle.std.proofs.lemmas.Bool.{cases_lt, le-leb, le-ltb, leb-true, lt-leb, lt-ltb, ltb-true}
+use Rattle.std.proofs.lemmas.Grind.{common_steps}
+use Rattle.std.proofs.lemmas.List.{get_or_default, get_or-drop, get_or-take}
+use Rattle.std.proofs.lemmas.List.Elements.{All-push}
+use Rattle.std.proofs.lemmas.List.Folds.{Any-from_list_any, list_any-append, list_any_at}
+use Rattle.std.proofs.lemmas.List.Sums.{get_or-le-sum_by}
+use Rattle.asm_core.specs.declared.cell.Cell.{Cell}
+use Rattle.asm_core.specs.declared.dialect.Rom.{Rom}
+use Rattle.asm_core.specs.declared.placed.Placed.{Placed}
+use Rattle.asm_text.specs.declared.fault.AsmCause.TheVariants.{Overlap}
+use Rattle.asm_core.specs.declared.first_round.FirstRound.{FirstRound}
+use Rattle.asm_core.specs.Cells.{all_fine, size_of}
+use Rattle.asm_core.specs.FirstRound.{Covers, IsPlaced, IsRom, IsRound, gives}
+use Rattle.asm_core.specs.Forms.{AreCells}
+use Rattle.asm_core.specs.Rounds.{Known, is_in_rom, meets, room_for, unless}
+
+-- two tests that pass together are one
+pub same_tests : (a b : Bool) → (a ≡ true → b ≡ true) → (b ≡ true → a ≡ true) → a ≡ b
+same_tests true b there back = sym (there refl)
+same_tests false true there back = back refl
+same_tests false false there back = refl
+
+-- both of two tests pass
+pub both_pass : (a b : Bool) → (a && b) ≡ true → (a ≡ true) × (b ≡ true)
+both_pass true b passed = (refl, passed)
+both_pass false b passed = absurd (cc)
+
+-- a statement that gives bytes gives one or more
+pub size-some : (cells : List Cell) → AreCells cells → 1 ≤ size_of cells
+size-some [] whole = absurd (omega (arith, whole.some))
+size-some (cell ∷ cells) whole =
+    let first = get_or-le-sum_by (λ c. c.size) (cell ∷ cells) 0 cell (omega arith) in
+    let some = (whole.each 0 cell (omega arith)).some in
+    omega (arith, first, some)
+
+-- a byte that a line gives
+pub given-by : (addr : ℕ) (p : Placed) → gives addr p ≡ true → (p.at ≤ addr) × (addr < p.at + size_of p.cells)
+given-by addr p given =
+    let both = both_pass (leb p.at addr) (ltb addr (p.at + size_of p.cells)) given in
+    (leb-true _ _ both.0, ltb-true _ _ both.1)
+
+pub gives-byte : (addr : ℕ) (p : Placed) → p.at ≤ addr → addr < p.at + size_of p.cells → gives addr p ≡ true
+gives-byte addr p low high = both_true (le-leb _ _ low) (lt-ltb _ _ high)
+
+-- a byte before or after a line's
+pub not-given : (addr : ℕ) (p : Placed) → (addr < p.at) ⊎ (p.at + size_of p.cells ≤ addr) → gives addr p ≡ false
+not-given addr p (inl before) = rw (lt-leb p.at addr before) refl
+not-given addr p (inr behind) = rw (le-ltb addr (p.at + size_of p.cells) behind) (and-false _)
+
+-- a byte of a line and of others, from an address on
+pub met-at : (at count : ℕ) (p : Placed) (k : ℕ) → k < count → gives (at + k) p ≡ true → meets at count p ≡ true
+met-at at count p k inside given =
+    let here = given-by (at + k) p given in
+    let low : at < p.at + size_of p.cells = omega (arith, here.0, here.1) in
+    let high : p.at < at + count = omega (arith, here.0, here.1) in
+    both_true (lt-ltb _ _ low) (lt-ltb _ _ high)
+
+pub met-byte : (at count : ℕ) (p : Placed) → 1 ≤ count → 1 ≤ size_of p.cells → meets at count p ≡ true
+    → (k : ℕ) × (k < count) × (gives (at + k) p ≡ true)
+met-byte at count p some whole met =
+    let both = both_pass (ltb at (p.at + size_of p.cells)) (ltb p.at (at + count)) met in
+    let before = ltb-true _ _ both.0 in
+    let after = ltb-true _ _ both.1 in
+    elim (cases_lt at p.at) [
+      | inl later ↦ (p.at - at, omega arith, gives-byte (at + (p.at - at)) p (omega arith) (omega arith))
+      | inr first ↦ (0, omega arith, gives-byte (at + 0) p (omega arith) (omega arith))
+    ]
+
+-- a line in the place of one that is the same
+met-there : (at count : ℕ) (q p : Placed) → q ≡ p → meets at count p ≡ true → meets at count q ≡ true
+met-there at count q p same met = rw same met
+
+given-there : (addr : ℕ) (q p : Placed) → q ≡ p → gives addr p ≡ true → gives addr q ≡ true
+given-there addr q p same given = rw same given
+
+-- some bytes of a ROM are given where an earlier line shares one with them
+pub given-meets : (rom : Rom) (taken : List Bool) (placed : List Placed) (at count : ℕ)
+    → Covers rom taken placed → All (IsPlaced rom) placed → rom.low ≤ at → 1 ≤ count → (at - rom.low) + count ≤ length taken
+    → list_any (λ given. given) (take count (drop (at - rom.low) taken)) ≡ list_any (meets at count) placed
+given-meets rom taken placed at count covers each low some inside =
+    let from = at - rom.low in
+    let part = take count (drop from taken) in
+    let part_len : length part ≡ count = grind (arith, common_steps) in
+    let item : (k : ℕ) → k < count → get_or part k false ≡ list_any (gives (at + k)) placed = λ k within.
+    let place : rom.low + (from + k) ≡ at + k = omega arith in
+    get_or-take count (drop from taken) k false within ∙ get_or-drop from taken k false ∙ covers (from + k) (omega arith) ∙ ap (λ a. list_any (gives a) placed) place in
+    same_tests (list_any (λ given. given) part) (list_any (meets at count) placed)
+    (λ passed.
+    let any = Any-from_list_any (λ given. given) part passed in
+    let k = any.0 in
+    let within : k < count = omega (arith, any.2, part_len) in
+    let here : list_any (gives (at + k)) placed ≡ true = sym (item k within) ∙ get_or_default part k false any.1 any.2 ∙ any.3 ∙ any.4 in
+    let line = Any-from_list_any (gives (at + k)) placed here in
+    let met = met-at at count line.1 k within line.4 in
+    list_any_at (meets at count) placed line.0 line.1 line.2 (met-there at count (get_or placed line.0 line.1) line.1 line.3 met))
+    (λ passed.
+    let line = Any-from_list_any (meets at count) placed passed in
+    let whole = each line.0 line.1 line.2 in
+    let size = rw line.3 at (size-some _ whole.cells) in
+    let byte = met-byte at count line.1 some size line.4 in
+    let given : list_any (gives (at + byte.0)) placed ≡ true = list_any_at (gives (at + byte.0)) placed line.0 line.1 line.2 (given-there (at + byte.0) (get_or placed line.0 line.1) line.1 line.3 byte.2) in
+    list_any_at (λ given. given) part byte.0 false (omega (arith, byte.1, part_len)) (item byte.0 byte.1 ∙ given))
+
+-- the bytes that are given once a line is placed
+pub Covers-push : (rom : Rom) (taken : List Bool) (placed : List Placed) (p : Placed)
+    → Covers rom taken placed → rom.low ≤ p.at → (p.at - rom.low) + size_of p.cells ≤ length taken
+    → Covers rom (take (p.at - rom.low) taken ++ replicate (size_of p.cells) true ++ drop ((p.at - rom.low) + size_of p.cells) taken) (placed ++ p ∷ [])
+Covers-push rom taken placed p covers low inside i within =
+    let from = p.at - rom.low in
+    let count = size_of p.cells in
+    let more : list_any (gives (rom.low + i)) (placed ++ p ∷ []) ≡ (list_any (gives (rom.low + i)) placed || gives (rom.low + i) p) =
+    list_any-append (gives (rom.low + i)) placed (p ∷ []) ∙ ap (λ b. list_any (gives (rom.low + i)) placed || b) (or-false (gives (rom.low + i) p)) in
+    let at : rom.low + from ≡ p.at = omega arith in
+    elim (cases_lt i from) [
+      | inl before ↦
+          let old : get_or (take from taken ++ replicate count true ++ drop (from + count) taken) i false ≡ get_or taken i false = grind (arith, common_steps) in
+          old ∙ covers i (omega arith) ∙ sym (more ∙ ap (λ b. list_any (gives (rom.low + i)) placed || b) (not-given (rom.low + i) p (inl (omega arith))) ∙ or-false _)
+      | inr behind ↦ elim (cases_lt i (from + count)) [
+        | inl here ↦
+            let new : get_or (take from taken ++ replicate count true ++ drop (from + count) taken) i false ≡ true = grind (arith, common_steps) in
+            new ∙ sym (more ∙ ap (λ b. list_any (gives (rom.low + i)) placed || b) (gives-byte (rom.low + i) p (omega arith) (omega arith)) ∙ or-true _)
+        | inr after ↦
+            let old : get_or (take from taken ++ replicate count true ++ drop (from + count) taken) i false ≡ get_or taken i false = grind (arith, common_steps) in
+            old ∙ covers i (grind (arith, common_steps)) ∙ sym (more ∙ ap (λ b. list_any (gives (rom.low + i)) placed || b) (not-given (rom.low + i) p (inr (omega arith))) ∙ or-false _)
+      ]
+    ]
+
+-- what is told of a line's room where its values are in their ranges and its bytes in the ROM
+pub room-told : (rom : Rom) (number : ℕ) (known : Known) (cells : List Cell) (met : Bool)
+    → all_fine known.names cells ≡ true → is_in_rom rom known.at (size_of cells) ≡ true → list_any (meets known.at (size_of cells)) known.placed ≡ met
+    → room_for rom number known cells ≡ unless met number Overlap (Ok (size_of cells))
+room-told rom number known cells met fine inside same = rw (fine, inside, same) refl
+
+-- whether some bytes of a line's room are given
+pub room-given : (rom : Rom) (round : FirstRound) (cells : List Cell) (taken : List Bool) (size : ℕ)
+    → IsRound rom round → AreCells cells → taken ≡ round.taken.items → size ≡ size_of cells → rom.low ≤ round.at → round.at + size ≤ rom.high
+    → list_any (meets round.at (size_of cells)) round.placed ≡ list_any (λ given. given) (take size (drop (round.at - rom.low) taken))
+room-given rom round cells taken size whole some is here low high =
+    let inside : (round.at - rom.low) + size_of cells ≤ length round.taken.items = omega (arith, whole.whole, here, high, low) in
+    rw (is, here) (sym (given-meets rom round.taken.items round.placed round.at (size_of cells) whole.covers whole.each low (size-some cells some) inside))
+
+-- what holds before a line holds after one that gives bytes
+pub round-next : (rom : Rom) (round : FirstRound) (line : ℕ) (cells : List Cell) (given : Vec Bool Global) (placed : List Placed) (size : ℕ)
+    → IsRom rom → IsRound rom round → AreCells cells → size ≡ size_of cells → rom.low ≤ round.at → round.at + size ≤ rom.high
+    → given.items ≡ take (round.at - rom.low) round.taken.items ++ replicate size true ++ drop ((round.at - rom.low) + size) round.taken.items
+    → placed ≡ round.placed ++ record { line = line; at = round.at; cells = cells } ∷ []
+    → IsRound rom (record { names = round.names; at = round.at + size; placed = placed; taken = given })
+round-next rom round line cells given placed size is_rom whole are here low high new more =
+    let p : Placed = record { line = line; at = round.at; cells = cells } in
+    let size_len : (round.at - rom.low) + size_of cells ≤ length round.taken.items = omega (arith, whole.whole, here, low, high) in
+    let given_len : length (take (round.at - rom.low) round.taken.items ++ replicate (size_of cells) true ++ drop ((round.at - rom.low) + size_of cells) round.taken.items) ≡ length round.taken.items = grind (arith, common_steps) in
+    let pushed = Covers-push rom round.taken.items round.placed p whole.covers low size_len in
+    record {
+      at = omega (arith, is_rom.high, high);
+      whole = rw (new, here, given_len) whole.whole;
+      covers = rw (new, here, more) pushed;
+      each = rw more (All-push (IsPlaced rom) round.placed p whole.each (record { low = low; high = rw here at high; cells = are }));
+    }

@@ -1,0 +1,10 @@
+pub mod Apart
+pub mod Covering
+pub mod Items
+pub mod Lists
+pub mod NameLaws
+pub mod Looking
+pub mod Putting
+pub mod SourceLaws
+pub mod Standing
+pub mod Terms

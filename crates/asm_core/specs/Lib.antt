@@ -1,0 +1,9 @@
+pub mod Words
+pub mod Expressions
+pub mod Cells
+pub mod FirstRound
+pub mod Forms
+pub mod Lines
+pub mod Rounds
+pub mod Images
+pub mod Laws

@@ -1,0 +1,37 @@
+ghost use Rattle.std.specs.Prelude.{◌≡◌, ℕ, ◌+◌, List, ◌++◌, Ok, length};
+ghost use Rattle.asm_text.specs.Lines.{lines_of};
+ghost use Rattle.rom_image.specs.declared.image.TheConstants.{IMAGE_LEN};
+ghost use Rattle.asm_core.specs.declared.dialect.Rom.{Rom};
+ghost use Rattle.asm_core.specs.FirstRound.{IsRom};
+ghost use Rattle.asm_core.specs.Images.{at_the_start, second_round};
+ghost use Rattle.asm_core.specs.Laws.{AreApart, AreInRom, HasBytes};
+ghost use Rattle.asm_core.specs.Lines.{Language};
+ghost use Rattle.asm_core.specs.Rounds.{Known, first_round, then_on};
+
+/// No two lines of a source share a byte, and their bytes are in the ROM. It tells a law, and does
+/// nothing.
+#[tactic(auto, using(crate::proofs::SourceLaws::lines))]
+pub fn lines_share_no_byte()
+    ensures apart { (language : Language) → (rom : Rom) → (text : List ℕ) → (known : Known)
+        → first_round language rom 1 at_the_start (lines_of text) ≡ Ok known → AreApart known.placed }
+    ensures inside { (language : Language) → (rom : Rom) → (text : List ℕ) → (known : Known)
+        → first_round language rom 1 at_the_start (lines_of text) ≡ Ok known → AreInRom rom known.placed }
+{}
+
+/// What is known after some lines, their addresses and sizes among it, rests on them alone, whatever
+/// stands behind them. It tells a law, and does nothing.
+#[tactic(auto, using(crate::proofs::SourceLaws::lines))]
+pub fn earlier_lines_decide()
+    ensures { (language : Language) → (rom : Rom) → (number : ℕ) → (known : Known) → (texts more : List (List ℕ))
+        → first_round language rom number known (texts ++ more)
+        ≡ then_on (λ next. first_round language rom (number + length texts) next more) (first_round language rom number known texts) }
+{}
+
+/// Where nothing is refused, each line's bytes stand at its address, and no other byte of the image
+/// has changed. It tells a law, and does nothing.
+#[tactic(auto, using(crate::proofs::SourceLaws::lines))]
+pub fn bytes_stand_at_their_addresses()
+    ensures { (language : Language) → (rom : Rom) → (text image after : List ℕ) → (known : Known) → IsRom rom → length image ≡ IMAGE_LEN
+        → first_round language rom 1 at_the_start (lines_of text) ≡ Ok known → second_round known.names image known.placed ≡ Ok after
+        → HasBytes known.names known.placed image after }
+{}

@@ -1,0 +1,31 @@
+//! What both assemblers share: expressions, the cells of a statement, and the two rounds over the
+//! lines of a source.
+#![tactic(auto)]
+
+mod assembly;
+mod cell;
+mod dialect;
+mod expression;
+mod first_round;
+pub mod laws;
+mod line;
+mod name;
+mod names;
+mod placed;
+mod row;
+mod second_round;
+mod word;
+
+pub use assembly::assemble;
+pub use cell::{BYTE, Cell, Field, Place, WORD};
+pub use dialect::{Dialect, Form, Rom};
+pub use expression::{Expression, Operand, Part, Term, read_expression, value};
+pub use line::{Body, Line, read_list, value_cell};
+pub use name::Name;
+pub use names::Names;
+pub use placed::Placed;
+pub use row::Row;
+pub use word::{Word, begins_with, is_plain, split_item};
+
+#[cfg(test)]
+mod tests;

@@ -1,0 +1,186 @@
+ghost use Rattle.std.specs.Prelude.{◌≡◌, ◌≤◌, IfOk, IfSome, OnOk, ok_or};
+ghost use Rattle.asm_core.specs.Cells.{IsCell, IsPlace};
+ghost use Rattle.asm_core.specs.Forms.{AreCells, IsBody};
+ghost use Rattle.asm_core.specs.Lines.{body_of, body_of_form, cells_of, equals_of, label_of, line_of, named_body_of, value_cell};
+ghost use Rattle.asm_core.specs.Words.{items_of};
+
+use crate::{
+    Cell, Dialect, Expression, Field, Form, Name, Names, Place, Row, WORD, Word, begins_with,
+    is_plain, read_expression, split_item,
+};
+use board_base::OutOfMemory;
+use std::alloc::Global;
+
+/// What a statement does.
+#[derive(Drop)]
+pub enum Body<'a> {
+    Nothing,
+    /// Gives a name a value.
+    Equals(Name<'a>, Expression<'a>),
+    /// Gives the next line its address.
+    Origin(Expression<'a>),
+    /// Gives bytes.
+    Gives(Row<Cell<'a>>),
+}
+
+/// A line, whose label may be missing.
+#[derive(Drop)]
+pub struct Line<'a> {
+    pub label: Option<Name<'a>>,
+    pub body: Body<'a>,
+}
+
+/// A cell of so many bytes that holds one expression's value.
+pub fn value_cell<'a>(
+    alloc: Global,
+    place: Place,
+    size: u8,
+    expression: Expression<'a>,
+) -> Result<Cell<'a>, OutOfMemory>
+    requires some { 1 ≤ size }
+    requires few { size ≤ 4 }
+    requires place { IsPlace place }
+    ensures value { IfOk result (λ cell. cell ≡ value_cell place size expression.entry) }
+    ensures cell { IfOk result IsCell }
+{
+    let mut fields = Row::new(alloc);
+    fields.push(Field {
+        expression,
+        origin: 0,
+        place,
+    })?;
+    Ok(Cell {
+        size,
+        base: 0,
+        fields,
+    })
+}
+
+/// A cell of so many bytes for each expression of a list that commas part.
+pub fn read_list<'a>(
+    alloc: Global,
+    words: &[Word<'a>],
+    place: Place,
+    size: u8,
+) -> Result<Option<Row<Cell<'a>>>, OutOfMemory>
+    requires some { 1 ≤ size }
+    requires few { size ≤ 4 }
+    requires place { IsPlace place }
+    ensures list { IfOk result (λ read. read ≡ cells_of place size (items_of words.now)) }
+    ensures cells { IfOk result (λ read. IfSome read AreCells) }
+{
+    let mut cells = Row::new(alloc);
+    let mut list = Some(words);
+    'items: while let Some(rest) = list {
+        let (item, after) = split_item(rest);
+        let Some(expression) = read_expression(alloc, item)? else {
+            return Ok(None);
+        };
+        let cell = value_cell(alloc, place, size, expression)?;
+        cells.push(cell)?;
+        list = after;
+    }
+    Ok(Some(cells))
+}
+
+/// The label of a line.
+fn read_label<'a>(words: &[Word<'a>]) -> Option<Name<'a>>
+    ensures { result ≡ label_of words.now }
+{
+    match words {
+        [first, second, ..] if second.is_mark(b':') => first.plain_name(),
+        _ => None,
+    }
+}
+
+/// A name that is given a value.
+fn read_equals<'a>(
+    alloc: Global,
+    name: &Name<'a>,
+    rest: &[Word<'a>],
+) -> Result<Option<Body<'a>>, OutOfMemory>
+    ensures body { IfOk result (λ read. read ≡ equals_of name.now rest.now) }
+    ensures cells { IfOk result (λ read. IfSome read IsBody) }
+{
+    if !begins_with(rest, b'=') || !is_plain(name.bytes()) {
+        return Ok(None);
+    }
+    match read_expression(alloc, &rest[1..])? {
+        Some(expression) => Ok(Some(Body::Equals(Name::new(name.bytes()), expression))),
+        None => Ok(None),
+    }
+}
+
+/// A statement that begins with a word.
+#[tactic(auto, unfolding(crate::specs::Lines::named_body_of))]
+fn read_named<'a, D: Dialect>(
+    alloc: Global,
+    dialect: &D,
+    name: &Name<'a>,
+    rest: &[Word<'a>],
+    names: &Names<'a>,
+    at: u32,
+) -> Result<Option<Body<'a>>, OutOfMemory>
+    requires at { at ≤ 65536 }
+    ensures body { IfOk result (λ read. read ≡ named_body_of (D.language names.now at) name.now rest.now) }
+    ensures cells { IfOk result (λ read. IfSome read IsBody) }
+{
+    if name.bytes().eq_ignore_ascii_case(b".org") {
+        return match read_expression(alloc, rest)? {
+            Some(expression) => Ok(Some(Body::Origin(expression))),
+            None => Ok(None),
+        };
+    }
+    if name.bytes().eq_ignore_ascii_case(b".word") {
+        return match read_list(alloc, rest, WORD, 2)? {
+            Some(cells) => Ok(Some(Body::Gives(cells))),
+            None => Ok(None),
+        };
+    }
+    match dialect.read_statement(alloc, name.bytes(), rest, names, at)? {
+        Form::NotReserved => read_equals(alloc, name, rest),
+        Form::NoSuchForm => Ok(None),
+        Form::Gives(cells) => Ok(Some(Body::Gives(cells))),
+    }
+}
+
+/// A statement.
+fn read_body<'a, D: Dialect>(
+    alloc: Global,
+    dialect: &D,
+    words: &[Word<'a>],
+    names: &Names<'a>,
+    at: u32,
+) -> Result<Option<Body<'a>>, OutOfMemory>
+    requires at { at ≤ 65536 }
+    ensures body { IfOk result (λ read. read ≡ body_of (D.language names.now at) words.now) }
+    ensures cells { IfOk result (λ read. IfSome read IsBody) }
+{
+    let [first, rest @ ..] = words else {
+        return Ok(Some(Body::Nothing));
+    };
+    match first {
+        Word::Name(name) => read_named(alloc, dialect, name, rest, names, at),
+        _ => Ok(None),
+    }
+}
+
+/// The line that these words are, all of them: a label, which may be missing, and a statement.
+pub(crate) fn read_line<'a, D: Dialect>(
+    alloc: Global,
+    dialect: &D,
+    words: &[Word<'a>],
+    names: &Names<'a>,
+    at: u32,
+) -> Result<Option<Line<'a>>, OutOfMemory>
+    requires at { at ≤ 65536 }
+    ensures line { IfOk result (λ read. read ≡ line_of (D.language names.now at) words.now) }
+    ensures cells { IfOk result (λ read. IfSome read (λ line. IsBody line.body)) }
+{
+    let label = read_label(words);
+    let statement = if label.is_some() { &words[2..] } else { words };
+    match read_body(alloc, dialect, statement, names, at)? {
+        Some(body) => Ok(Some(Line { label, body })),
+        None => Ok(None),
+    }
+}

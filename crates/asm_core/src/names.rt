@@ -1,0 +1,50 @@
+use board_base::OutOfMemory;
+use indexmap::IndexMap;
+use std::alloc::Global;
+use std::marker::Model;
+
+/// The names of a source that have a value, in the order in which they were given it.
+#[derive(Drop)]
+pub struct Names<'a> {
+    values: IndexMap<&'a [u8], i32>,
+}
+
+impl<'a> Model for Names<'a> {
+    ghost use Rattle.std.specs.Prelude.{map};
+    ghost use Rattle.asm_core.specs.Expressions.{NameValues};
+
+    ghost Value = { NameValues };
+
+    ghost view = { λ names. map (λ entry. (entry.0.now, entry.1)) names.values.entries };
+}
+
+impl<'a> Names<'a> {
+    ghost use Rattle.std.specs.Prelude.{◌≡◌, [], None, OnOk};
+    ghost use Rattle.asm_core.specs.Expressions.{value_of_name};
+    ghost use Rattle.asm_core.specs.Rounds.{with_name};
+
+    /// No names, which take no memory yet.
+    pub fn new(alloc: Global) -> Names<'a>
+        ensures { result ≡ [] }
+    {
+        Names {
+            values: IndexMap::new(alloc),
+        }
+    }
+
+    /// The value of a name that has one.
+    pub fn get(&self, name: &[u8]) -> Option<i32>
+        ensures { result ≡ value_of_name self.now name.now }
+    {
+        self.values.get(name).copied()
+    }
+
+    /// Gives a name its value.
+    pub fn define(&mut self, name: &'a [u8], value: i32) -> Result<(), OutOfMemory>
+        requires { value_of_name self.old name.now ≡ None }
+        ensures { OnOk result (self.new ≡ with_name self.old name.now value) }
+    {
+        self.values.insert(name, value)?;
+        Ok(())
+    }
+}
