@@ -1,0 +1,4 @@
+pub mod Encodings
+pub mod Names
+pub mod Operands
+pub mod Ranges

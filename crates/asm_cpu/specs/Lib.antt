@@ -1,0 +1,5 @@
+pub mod Mnemonics
+pub mod Operands
+pub mod Modes
+pub mod Statements
+pub mod Encodings
