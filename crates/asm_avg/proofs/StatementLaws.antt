@@ -1,0 +1,70 @@
+-- A statement's values and its bytes.
+use Rattle.std.proofs.Common.{◌≡◌, ◌∙◌, Bool, true, false, ◌&&◌, List, [], ◌∷◌, map, ◌+◌, Some, refl, sym, ap, inl, inr, append-nil, ℤ}
+use Rattle.std.specs.List.{list_all}
+use Rattle.asm_core.specs.declared.cell.Cell.{Cell}
+use Rattle.asm_core.specs.declared.cell.Field.{Field}
+use Rattle.asm_core.specs.declared.dialect.Form.TheVariants as form
+use Rattle.asm_core.specs.declared.word.Word.{Word}
+use Rattle.asm_core.specs.Cells.{all_fine, all_known, cell_bytes, cells_bytes, is_fine, is_known, low_bytes}
+use Rattle.asm_core.specs.Expressions.{NameValues}
+use Rattle.asm_avg.specs.declared.mnemonic.Mnemonic.{Mnemonic}
+use Rattle.asm_avg.specs.Language.{cell_of, statement_of}
+use Rattle.asm_avg.specs.Operands.{fields_of, operands_of}
+use Rattle.asm_avg.specs.ReadBack.{FitsWords, IsReadBack, Said, said_by, values_of}
+use Rattle.asm_avg.specs.Statements.{base_of, origin_of, places_of, size_of}
+use Rattle.asm_avg.proofs.Accepted.{accepted}
+use Rattle.asm_avg.proofs.ReadBackLaws.{read_back}
+use Rattle.asm_avg.proofs.Values.{added, both, option_cases, taken, valued}
+
+-- the fields of a statement that gives bytes
+pub record Fields (mnemonic : Mnemonic) (rest : List Word) (cells : List Cell) : Type 0 where
+  pub fields : List Field
+  pub are : fields_of (origin_of mnemonic) (places_of mnemonic) (operands_of rest) ≡ Some fields
+  pub cells_are : cells ≡ cell_of mnemonic fields ∷ []
+
+fields_in : (mnemonic : Mnemonic) (rest : List Word) (cells : List Cell) → statement_of mnemonic rest ≡ form.Gives cells → Fields mnemonic rest cells
+fields_in mnemonic rest cells gives = elim (option_cases (fields_of (origin_of mnemonic) (places_of mnemonic) (operands_of rest))) [
+  | inl none ↦ let no : form.NoSuchForm ≡ form.Gives cells = rw none at gives in cc
+  | inr (fields, are) ↦
+      let same : form.Gives (cell_of mnemonic fields ∷ []) ≡ form.Gives cells = rw are at gives in
+      record { fields = fields; are = are; cells_are = cc }
+]
+
+all_of_one : (b : Bool) → (b && true) ≡ b
+all_of_one true = refl
+all_of_one false = refl
+
+-- the values of a statement that gives bytes
+pub record Worth (names : NameValues) (mnemonic : Mnemonic) (rest : List Word) (cells : List Cell) : Type 0 where
+  pub values : List ℤ
+  pub values_are : values_of names rest ≡ map (λ v. Some v) values
+  pub fine : all_fine names cells ≡ taken (origin_of mnemonic) (places_of mnemonic) values
+  pub bytes : cells_bytes names cells ≡ low_bytes (size_of mnemonic) (base_of mnemonic + added (origin_of mnemonic) (places_of mnemonic) values)
+
+worth_of : (names : NameValues) (mnemonic : Mnemonic) (rest : List Word) (cells : List Cell) → statement_of mnemonic rest ≡ form.Gives cells → all_known names cells ≡ true
+    → Worth names mnemonic rest cells
+worth_of names mnemonic rest cells gives known =
+    let f = fields_in mnemonic rest cells gives in
+    let all : (list_all (λ field. is_known names field) f.fields && true) ≡ true = rw f.cells_are at known in
+    let each = (both (list_all (λ field. is_known names field) f.fields) true all).0 in
+    let v = valued names (origin_of mnemonic) (places_of mnemonic) (operands_of rest) f.fields f.are each in
+    record {
+      values = v.values;
+      values_are = v.items_are;
+      fine = ap (λ cs. all_fine names cs) f.cells_are ∙ (all_of_one (list_all (λ field. is_fine names field) f.fields) ∙ v.fine);
+      bytes = ap (λ cs. cells_bytes names cs) f.cells_are ∙ (append-nil (cell_bytes names (cell_of mnemonic f.fields)) ∙ ap (λ n. low_bytes (size_of mnemonic) (base_of mnemonic + n)) v.number);
+    }
+
+pub statement_back : (names : NameValues) (mnemonic : Mnemonic) (rest : List Word) (cells : List Cell)
+    → statement_of mnemonic rest ≡ form.Gives cells → all_known names cells ≡ true → all_fine names cells ≡ true
+    → IsReadBack mnemonic (values_of names rest) (cells_bytes names cells)
+statement_back names mnemonic rest cells gives known fine =
+    let w = worth_of names mnemonic rest cells gives known in
+    rw (w.values_are, w.bytes) (read_back mnemonic w.values (sym w.fine ∙ fine))
+
+pub statement_fine : (names : NameValues) (mnemonic : Mnemonic) (rest : List Word) (cells : List Cell) (said : Said)
+    → statement_of mnemonic rest ≡ form.Gives cells → all_known names cells ≡ true → said_by mnemonic (values_of names rest) ≡ Some said → FitsWords said
+    → all_fine names cells ≡ true
+statement_fine names mnemonic rest cells said gives known says fits =
+    let w = worth_of names mnemonic rest cells gives known in
+    w.fine ∙ accepted mnemonic w.values said (rw w.values_are at says) fits

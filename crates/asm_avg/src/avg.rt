@@ -1,0 +1,54 @@
+ghost use Rattle.std.specs.Prelude.{◌≡◌, IfOk};
+ghost use Rattle.asm_core.specs.Forms.{IsForm};
+ghost use Rattle.asm_avg.specs.Language.{language, statement_of};
+
+use crate::Mnemonic;
+use crate::operands::read_fields;
+use asm_core::{Cell, Dialect, Form, Names, Row, Word};
+use board_base::OutOfMemory;
+use std::alloc::Global;
+
+/// The language of the vector generator's statements.
+#[derive(Clone, Copy, Debug, PartialEq, Eq)]
+pub struct Avg;
+
+/// The form of a statement that begins with this word.
+fn read_form<'a>(
+    alloc: Global,
+    mnemonic: Mnemonic,
+    rest: &[Word<'a>],
+) -> Result<Form<'a>, OutOfMemory>
+    ensures form { IfOk result (λ form. form ≡ statement_of mnemonic rest.now) }
+    ensures cells { IfOk result IsForm }
+{
+    let Some(fields) = read_fields(alloc, mnemonic.origin(), mnemonic.places(), rest)? else {
+        return Ok(Form::NoSuchForm);
+    };
+    let mut cells = Row::new(alloc);
+    cells.push(Cell {
+        size: mnemonic.size(),
+        base: mnemonic.base(),
+        fields,
+    })?;
+    Ok(Form::Gives(cells))
+}
+
+impl Dialect for Avg {
+    ghost use Rattle.asm_avg.specs.Language.{language};
+
+    ghost language = { language };
+
+    fn read_statement<'a>(
+        &self,
+        alloc: Global,
+        first: &'a [u8],
+        rest: &[Word<'a>],
+        _names: &Names<'a>,
+        _at: u32,
+    ) -> Result<Form<'a>, OutOfMemory> {
+        match Mnemonic::of(first) {
+            Some(mnemonic) => read_form(alloc, mnemonic, rest),
+            None => Ok(Form::NotReserved),
+        }
+    }
+}

@@ -1,0 +1,16 @@
+//! The assembler of the vector generator's sources.
+#![tactic(auto)]
+
+mod assembly;
+mod avg;
+pub mod laws;
+mod layout;
+mod mnemonic;
+mod operands;
+
+pub use assembly::{VECTOR_ROM, assemble};
+pub use avg::Avg;
+pub use mnemonic::Mnemonic;
+
+#[cfg(test)]
+mod tests;
