@@ -1,8 +1,8 @@
 -- How the words of a command line are read. This project's own profile.
 use Rattle.std.specs.Prelude.{ℕ, not, List, [], ◌∷◌, drop, length, take_while, Option, None, option_and_then, option_map}
 use Rattle.command_line.specs.declared.verb.Verb.{Verb}
-use Rattle.command_line.specs.declared.verb.Verb.TheVariants.{Run, Show}
-use Rattle.command_line.specs.CommandValue.{CommandValue, run_of, show_of}
+use Rattle.command_line.specs.declared.verb.Verb.TheVariants.{Run, Asm, Show}
+use Rattle.command_line.specs.CommandValue.{CommandValue, asm_of, run_of, show_of}
 use Rattle.command_line.specs.Settings.{settings_of}
 use Rattle.command_line.specs.SettingsValue.{SettingsValue}
 use Rattle.command_line.specs.Words.{is_dashed, name_of, verb_of}
@@ -19,6 +19,8 @@ options_after words = drop (length (arguments_of words)) words
 abbrev pub built : Verb → List (List ℕ) → SettingsValue → Option CommandValue
 built Run (image ∷ tape ∷ []) said =
     option_and_then (λ i. option_map (λ t. run_of (record { image = i; tape = t; settings = said })) (name_of tape)) (name_of image)
+built Asm (processor ∷ generator ∷ image ∷ []) said =
+    option_and_then (λ p. option_and_then (λ g. option_map (λ i. asm_of (record { processor = p; generator = g; image = i })) (name_of image)) (name_of generator)) (name_of processor)
 built Show (state ∷ []) said = option_map show_of (name_of state)
 built _ _ said = None
 

@@ -8,7 +8,14 @@ pub record RunValue : Type 0 where
   pub tape : List ℕ
   pub settings : SettingsValue
 
--- a run, or the name of the state to show
+-- the names of the two sources of an image, and of the image's file
+pub record AsmValue : Type 0 where
+  pub processor : List ℕ
+  pub generator : List ℕ
+  pub image : List ℕ
+
+-- a run, two sources to assemble, or the name of the state to show
 pub data CommandValue : Type 0 where
   run_of : RunValue → CommandValue
+  asm_of : AsmValue → CommandValue
   show_of : List ℕ → CommandValue

@@ -28,11 +28,29 @@ impl<'a> Model for RunWords<'a> {
     ghost view = { λ r. record { image = r.image.now; tape = r.tape.now; settings = r.settings } };
 }
 
+/// The words of an assembly: two sources, and where the image is stored.
+#[derive(Drop)]
+pub struct AsmWords<'a> {
+    pub processor: &'a str,
+    pub generator: &'a str,
+    pub image: &'a str,
+}
+
+impl<'a> Model for AsmWords<'a> {
+    ghost use Rattle.command_line.specs.CommandValue.{AsmValue};
+
+    ghost Value = { AsmValue };
+
+    ghost view = { λ w. record { processor = w.processor.now; generator = w.generator.now; image = w.image.now } };
+}
+
 /// A command.
 #[derive(Drop)]
 pub enum Command<'a> {
     /// Runs an image with a tape.
     Run(RunWords<'a>),
+    /// Assembles two sources into an image.
+    Asm(AsmWords<'a>),
     /// Shows a state.
     Show(&'a str),
 }
@@ -98,6 +116,21 @@ fn read_run<'a>(arguments: &'a [String], settings: Settings<'a>) -> Option<Comma
     }))
 }
 
+/// Two sources to assemble and a name for their image, of the arguments.
+fn read_asm<'a>(arguments: &'a [String], settings: &Settings<'a>) -> Option<Command<'a>>
+    ensures command { option_map command_value result ≡ built Verb.Asm (map string_bytes arguments.now) settings.now }
+    ensures clocks { IfSome result (λ command. HasClocks (command_value command)) }
+{
+    let [processor, generator, image] = arguments else {
+        return None;
+    };
+    Some(Command::Asm(AsmWords {
+        processor: read_name(processor.as_str())?,
+        generator: read_name(generator.as_str())?,
+        image: read_name(image.as_str())?,
+    }))
+}
+
 /// A state to show, of the arguments.
 fn read_show<'a>(arguments: &'a [String], settings: &Settings<'a>) -> Option<Command<'a>>
     ensures command { option_map command_value result ≡ built Verb.Show (map string_bytes arguments.now) settings.now }
@@ -122,6 +155,7 @@ pub fn read_command<'a>(words: &'a [String]) -> Option<Command<'a>>
     let settings = read_settings(verb, options)?;
     match verb {
         Verb::Run => read_run(arguments, settings),
+        Verb::Asm => read_asm(arguments, &settings),
         Verb::Show => read_show(arguments, &settings),
     }
 }

@@ -8,7 +8,7 @@ pub mod settings;
 pub mod verb;
 mod word;
 
-pub use command::{Command, RunWords, read_command};
+pub use command::{AsmWords, Command, RunWords, read_command};
 pub use number::{CUTS, Cuts, DIGITS, read_cuts, read_number};
 pub use option::Opt;
 pub use settings::Settings;

@@ -31,6 +31,9 @@ pub const RUN_OPTIONS: [Opt; 7] = [
     Opt::Timers,
 ];
 
+/// The options of `asm`.
+pub const ASM_OPTIONS: [Opt; 0] = [];
+
 /// The options of `show`.
 pub const SHOW_OPTIONS: [Opt; 0] = [];
 

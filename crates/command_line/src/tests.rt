@@ -3,7 +3,7 @@ use std::alloc::{AllocError, Global};
 use std::test::Fail;
 
 /// Lines whose words are no command.
-const BAD: [&str; 70] = [
+const BAD: [&str; 73] = [
     "",
     "run",
     "run a",
@@ -18,7 +18,10 @@ const BAD: [&str; 70] = [
     "show a --state s",
     "show --state s",
     "show a --",
-    "asm a b c",
+    "asm",
+    "asm a b",
+    "asm a b c d",
+    "asm a b c --cost",
     "--help",
     "--version",
     "--cost run a b",
@@ -184,6 +187,18 @@ fn a_run_needs_no_option(rt: HostRuntime) -> Result<(), Fail> {
     assert_eq!(rt; save, None);
     assert!(rt; !cost);
     assert!(rt; !timers);
+    Ok(())
+}
+
+#[test]
+fn two_sources_are_assembled(rt: HostRuntime) -> Result<(), Fail> {
+    let words = words(rt.alloc(), "asm a -b asm")?;
+    let Some(Command::Asm(asm)) = read_command(words.as_slice()) else {
+        return Err("no sources".into());
+    };
+    assert_eq!(rt; asm.processor, "a");
+    assert_eq!(rt; asm.generator, "-b");
+    assert_eq!(rt; asm.image, "asm");
     Ok(())
 }
 

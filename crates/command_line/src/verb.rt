@@ -1,19 +1,21 @@
 ghost use Rattle.std.specs.Prelude.{◌≡◌};
 ghost use Rattle.command_line.specs.Words.{option_of, options_of, verb_of, verb_word};
 
-use crate::option::{Opt, RUN_OPTIONS, SHOW_OPTIONS};
+use crate::option::{ASM_OPTIONS, Opt, RUN_OPTIONS, SHOW_OPTIONS};
 
 /// What a command does.
 #[derive(Clone, Copy, Debug, PartialEq, Eq)]
 pub enum Verb {
     /// Runs an image with a tape.
     Run,
+    /// Assembles two sources into an image.
+    Asm,
     /// Shows a state.
     Show,
 }
 
 /// Each command.
-pub const VERBS: [Verb; 2] = [Verb::Run, Verb::Show];
+pub const VERBS: [Verb; 3] = [Verb::Run, Verb::Asm, Verb::Show];
 
 impl Verb {
     /// The word of the command.
@@ -22,6 +24,7 @@ impl Verb {
     {
         match self {
             Verb::Run => "run",
+            Verb::Asm => "asm",
             Verb::Show => "show",
         }
     }
@@ -32,6 +35,7 @@ impl Verb {
     {
         match self {
             Verb::Run => &RUN_OPTIONS,
+            Verb::Asm => &ASM_OPTIONS,
             Verb::Show => &SHOW_OPTIONS,
         }
     }

@@ -1,10 +1,10 @@
 -- Laws of the answers of a command.
-use Rattle.std.proofs.Common.{◌≡◌, ◌≢◌, ℕ, ◌*◌, List, [], ◌∷◌, length, Option, Some, None, Result, Ok, Err, IfSome, IfOk, Contains, refl, sym, ap, ◌∙◌, subst, arith}
+use Rattle.std.proofs.Common.{◌≡◌, ◌≢◌, ℕ, ◌*◌, List, [], ◌∷◌, length, take, Option, Some, None, Result, Ok, Err, IfSome, IfOk, Contains, refl, sym, ap, ◌∙◌, subst, arith}
 use Rattle.std.proofs.Math.Seq.{take-length}
 use Rattle.board_base.specs.Board.{BoardValue}
 use Rattle.board_base.specs.Cpu.{CpuValue}
 use Rattle.command_line.specs.CommandLine.{command_of}
-use Rattle.command_line.specs.CommandValue.{CommandValue, RunValue, run_of, show_of}
+use Rattle.command_line.specs.CommandValue.{AsmValue, CommandValue, RunValue, asm_of, run_of, show_of}
 use Rattle.command_line.specs.SettingsValue.{SettingsValue}
 use Rattle.outside_io.specs.Causes.{HasCause}
 use Rattle.outside_io.specs.Known.{grown}
@@ -13,18 +13,20 @@ use Rattle.outside_io.specs.Sink.{Takes}
 use Rattle.outside_io.proofs.KnownLaws.{grown-nothing}
 use Rattle.catchup_engine.specs.EngineValue.{cleared, counted_on}
 use Rattle.catchup_engine.specs.Lockstep.{Board}
+use Rattle.gravitar_program.specs.declared.assembled.Assembled.{Assembled}
 use Rattle.gravitar_program.specs.declared.parts.Parts.{Parts}
 use Rattle.gravitar_program.specs.declared.stop.Ending.{Ending}
 use Rattle.gravitar_program.specs.declared.stop.Ending.TheVariants.{Done, Jammed}
 use Rattle.gravitar_program.specs.declared.stop.Stop.{Stop}
 use Rattle.gravitar_program.specs.declared.stop.Stop.TheVariants.{Bad, Absent, Outside, NoMemory}
-use Rattle.gravitar_program.specs.Events.{Did, text_of, stores_of}
+use Rattle.gravitar_program.specs.Events.{Did, sending, text_of, stores_of}
 use Rattle.gravitar_program.specs.LastLine.{ending_by, status_of_ending}
-use Rattle.gravitar_program.specs.Outcome.{Comes, ComesOf, CommandComes, FitsRun, ForReading, Outcome, command_outcome, fault_text, finished, first_board, limit_of, memory_text, refused, run_files, run_outcome, show_outcome, state_file, usage_text, wanted_by}
-use Rattle.gravitar_program.specs.Slices.{FitsCalls, StopsIn, Wanted, last_board, run_events}
+use Rattle.gravitar_program.specs.Outcome.{Comes, ComesOf, asm_files, asm_outcome, CommandComes, FitsRun, ForReading, Outcome, command_outcome, fault_text, finished, first_board, limit_of, memory_text, refused, run_files, run_outcome, show_outcome, state_file, usage_text, wanted_by}
+use Rattle.gravitar_program.specs.Slices.{FitsCalls, StopsIn, Wanted, last_board, run_events, storing}
+use Rattle.gravitar_program.specs.Sources.{both_listings}
 use Rattle.gravitar_program.specs.Stages.{status_of, note_of, Ends, Noted, Refuses, RunComes, StopEnds, StopQuiet}
 use Rattle.gravitar_program.proofs.CutLaws.{fits-least}
-use Rattle.gravitar_program.proofs.EventLaws.{did-nothing}
+use Rattle.gravitar_program.proofs.EventLaws.{did-first-of, did-first-sending, did-nothing, did-sending, did-storing, did-then, did-then-first}
 
 -- one write of a note
 pub noted : {T E : Type 0} (notes0 notes1 : Option (List ℕ)) (faults0 faults1 : ℕ) (text : List ℕ) (result : Result T E)
@@ -193,6 +195,60 @@ run-comes (Some files) run said parts out0 out1 stores0 held stores1 result same
   fits = rw (good reading is, sym same) comes.fits;
   of_outcome = rw (good reading is, sym same, sym kept) comes.of_outcome;
 }
+
+-- sources that couldn't be had
+pub asm-stopped : (told : Option Files) (words : AsmValue) (stop : Stop) (out0 out1 : Option (List ℕ)) (stores0 stores1 : Option (List Kept))
+    → IfSome told (λ files. Refuses (asm_files files words) stop) → out1 ≡ out0 → stores1 ≡ stores0
+    → IfSome told (λ files. ForReading None files (λ reading.
+    CommandComes (asm_of words) files reading (λ outcome. StopEnds outcome out0 out1 stores0 stores1 stop)))
+unfolding command_outcome
+asm-stopped None words stop out0 out1 stores0 stores1 refuses took same = tt
+asm-stopped (Some files) words stop out0 out1 stores0 stores1 refuses took same = λ reading is. record {
+  calls = 0;
+  fits = tt;
+  of_outcome = stop-ends (asm_files files words) (asm_outcome words.image) stop out0 out1 stores0 stores1 refuses took same;
+}
+
+-- sources that are good
+pub asm-comes : (told : Option Files) (words : AsmValue) (made : Assembled) (holds : Outcome → Type 0)
+    → IfSome told (λ files. asm_files files words ≡ Ok made) → holds (asm_outcome words.image made)
+    → IfSome told (λ files. ForReading None files (λ reading. CommandComes (asm_of words) files reading holds))
+unfolding command_outcome
+asm-comes None words made holds good comes = tt
+asm-comes (Some files) words made holds good comes = λ reading is. record { calls = 0; fits = tt; of_outcome = rw good comes }
+
+-- what was done of good sources: both listings and the store, the listings alone, or a first part of them
+module _ (told : Option Files) (words : AsmValue) (made : Assembled) (good : IfSome told (λ files. asm_files files words ≡ Ok made)) (out0 out1 : Option (List ℕ))
+    (stores0 stores1 : Option (List Kept)) (text : List ℕ) (listed : text ≡ both_listings made) where
+  pub asm-done : (held : Option (List Kept)) (name bytes : List ℕ) → name ≡ words.image → bytes ≡ made.image → held ≡ stores0 → out1 ≡ grown out0 text
+      → stores1 ≡ grown held (stores_of (storing (Some name) bytes))
+      → IfSome told (λ files. ForReading None files (λ reading. CommandComes (asm_of words) files reading (λ outcome. Ends outcome out0 out1 stores0 stores1 (Ok Done))))
+  unfolding asm_outcome
+  asm-done held name bytes named whole kept took stored =
+      asm-comes told words made (λ outcome. Ends outcome out0 out1 stores0 stores1 (Ok Done)) good (
+        refl,
+        refl,
+        did-then (sending (both_listings made)) (storing (Some words.image) made.image) out0 out1 out1 stores0 held stores1
+            (did-sending (both_listings made) out0 out1 stores0 held (took ∙ ap (grown out0) listed) kept)
+            (did-storing (Some words.image) made.image bytes out1 out1 held stores1 whole refl (stored ∙ ap (λ n. grown held (stores_of (storing (Some n) bytes))) named)),
+      )
+
+  pub asm-unstored : (held : Option (List Kept)) → held ≡ stores0 → out1 ≡ grown out0 text → stores1 ≡ held
+      → IfSome told (λ files. ForReading None files (λ reading. CommandComes (asm_of words) files reading (λ outcome. StopEnds outcome out0 out1 stores0 stores1 Outside)))
+  unfolding asm_outcome
+  asm-unstored held kept took idle =
+      asm-comes told words made (λ outcome. StopEnds outcome out0 out1 stores0 stores1 Outside) good
+      (did-then-first (sending (both_listings made)) (storing (Some words.image) made.image) out0 out1 out1 stores0 held stores1
+      (did-sending (both_listings made) out0 out1 stores0 held (took ∙ ap (grown out0) listed) kept)
+      (did-nothing (storing (Some words.image) made.image) out1 out1 held stores1 refl idle))
+
+  pub asm-unwritten : (k : ℕ) × (out1 ≡ grown out0 (take k text)) → stores1 ≡ stores0
+      → IfSome told (λ files. ForReading None files (λ reading. CommandComes (asm_of words) files reading (λ outcome. StopEnds outcome out0 out1 stores0 stores1 Outside)))
+  unfolding asm_outcome
+  asm-unwritten cut idle =
+      asm-comes told words made (λ outcome. StopEnds outcome out0 out1 stores0 stores1 Outside) good
+      (did-first-of (sending (both_listings made)) (storing (Some words.image) made.image) out0 out1 stores0 stores1
+      (did-first-sending (both_listings made) out0 out1 stores0 stores1 (cut.0, cut.1 ∙ ap (λ t. grown out0 (take cut.0 t)) listed) idle))
 
 -- a state that couldn't be had
 pub show-stopped : (told : Option Files) (name : List ℕ) (stop : Stop) (out0 out1 : Option (List ℕ)) (stores0 stores1 : Option (List Kept))

@@ -6,4 +6,5 @@ pub mod OneList
 pub mod Outcome
 pub mod Slice
 pub mod Slices
+pub mod Sources
 pub mod Stages

@@ -1,5 +1,7 @@
 -- What a command writes, stores and answers, by its words and its files.
-use Rattle.std.specs.Prelude.{ℕ, ◌+◌, ◌==◌, min, Bool, List, [], ◌++◌, length, take, codes, nat_lt, Option, Some, None, Result, Ok, Err, IfSome, IfOk, if◌then◌else◌}
+use Rattle.std.specs.Prelude.{ℕ, ◌+◌, ◌==◌, min, Bool, List, [], ◌++◌, length, replicate, take, codes, nat_lt, Option, Some, None, Result, Ok, Err, IfSome, IfOk, if◌then◌else◌}
+use Rattle.asm_text.specs.declared.listing.ListingLine.{ListingLine}
+use Rattle.asm_text.specs.declared.scan.TheConstants.{TEXT_LIMIT}
 use Rattle.rom_image.specs.declared.image.TheConstants.{IMAGE_LEN}
 use Rattle.rom_image.specs.declared.fault.ImageFault.TheVariants.{Length}
 use Rattle.tape_ports.specs.declared.tape.TheConstants.{TAPE_LIMIT}
@@ -13,19 +15,23 @@ use Rattle.save_state.specs.Reading.{ReadsState}
 use Rattle.board_base.specs.Board.{BoardValue, board_at_power_on}
 use Rattle.board_debug.specs.BoardText.{board_text}
 use Rattle.command_line.specs.CommandLine.{command_of}
-use Rattle.command_line.specs.CommandValue.{CommandValue, RunValue, run_of, show_of}
+use Rattle.command_line.specs.CommandValue.{AsmValue, CommandValue, RunValue, asm_of, run_of, show_of}
 use Rattle.command_line.specs.SettingsValue.{SettingsValue}
 use Rattle.outside_io.specs.Shelf.{Files}
 use Rattle.catchup_engine.specs.Wires.{wires_of}
 use Rattle.catchup_engine.specs.Lockstep.{Board}
 use Rattle.gravitar_program.specs.declared.cause.TheConstants.{CELLS_LEN}
+use Rattle.gravitar_program.specs.declared.assembled.Assembled.{Assembled}
+use Rattle.gravitar_program.specs.declared.assembled.Language.{Language}
+use Rattle.gravitar_program.specs.declared.assembled.Language.TheVariants.{Processor, Generator}
 use Rattle.gravitar_program.specs.declared.parts.Parts.{Parts}
 use Rattle.gravitar_program.specs.declared.cause.Cause.{Cause}
 use Rattle.gravitar_program.specs.declared.cause.Cause.TheVariants.{Absent, Image, Tape, State, Cells}
 use Rattle.gravitar_program.specs.Causes.{cause_text}
 use Rattle.gravitar_program.specs.Events.{Event, sending}
 use Rattle.gravitar_program.specs.LastLine.{ending_by, status_of_ending}
-use Rattle.gravitar_program.specs.Slices.{FitsCalls, Wanted, last_board, run_events}
+use Rattle.gravitar_program.specs.Slices.{FitsCalls, Wanted, last_board, run_events, storing}
+use Rattle.gravitar_program.specs.Sources.{assembled_in, both_listings, source_read}
 
 pub record Outcome : Type 0 where
   pub status : ℕ
@@ -125,6 +131,17 @@ run_files files run reading =
     and_then (both_files files run) (λ both.
     and_then (start_files files run.settings reading) (λ board. Ok (record { image = both.0; tape = both.1; board = board })))
 
+-- a source, assembled into an image
+unfoldable pub source_file : Language → Files → List ℕ → List ℕ → Result (List ℕ × List ListingLine) Outcome
+source_file language files name image = and_then (first_bytes name TEXT_LIMIT (files name)) (λ bytes. read_as name (source_read (assembled_in language bytes image)))
+
+-- both sources, the processor's wholly before the generator's, into one blank image
+unfoldable pub asm_files : Files → AsmValue → Result Assembled Outcome
+asm_files files asm =
+    and_then (source_file Processor files asm.processor (replicate IMAGE_LEN 0)) (λ first.
+    and_then (source_file Generator files asm.generator first.0) (λ second.
+    Ok (record { image = second.0; processor = first.1; generator = second.1 })))
+
 -- the board that a run begins with: with `--timers` the POKEYs are wired to the interrupt line
 abbrev pub first_board : Bool → Parts → Board
 first_board wired parts = record { cpu = parts.board.cpu; wires = wires_of parts.image wired parts.board }
@@ -157,6 +174,10 @@ run_outcome said parts calls =
 abbrev pub show_outcome : BoardValue → Outcome
 show_outcome board = record { status = 0; note = []; events = sending (board_text board) }
 
+-- both listings, and then the image, stored under its name
+unfoldable pub asm_outcome : List ℕ → Assembled → Outcome
+asm_outcome name made = record { status = 0; note = []; events = sending (both_listings made) ++ storing (Some name) made.image }
+
 -- what comes of a command's files, or the refusal of one
 abbrev pub finished : {A : Type 0} → Result A Outcome → (A → Outcome) → Outcome
 finished (Ok a) outcome = outcome a
@@ -166,11 +187,13 @@ finished (Err refusal) outcome = refusal
 unfoldable pub command_outcome : CommandValue → Files → Result BoardValue StateFault → ℕ → Outcome
 command_outcome (run_of run) files reading calls =
     finished (run_files files run reading) (λ parts. run_outcome run.settings parts calls)
+command_outcome (asm_of asm) files reading calls = finished (asm_files files asm) (asm_outcome asm.image)
 command_outcome (show_of name) files reading calls = finished (state_file files name reading) show_outcome
 
 -- the name of a command's state file
 abbrev pub state_name : CommandValue → Option (List ℕ)
 state_name (run_of run) = run.settings.state
+state_name (asm_of asm) = None
 state_name (show_of name) = Some name
 
 -- the reading is that of the state file's bytes, where there are any
@@ -185,6 +208,7 @@ FitsRun said parts calls =
 
 abbrev pub IsNumber : CommandValue → Files → Result BoardValue StateFault → ℕ → Type 0
 IsNumber (run_of run) files reading calls = IfOk (run_files files run reading) (λ parts. FitsRun run.settings parts calls)
+IsNumber (asm_of asm) files reading calls = Unit {0}
 IsNumber (show_of name) files reading calls = Unit {0}
 
 -- this holds of the outcome of a command. Words and files fix it but for the number of device calls, which is one that fits.

@@ -1,3 +1,4 @@
+use asm_text::AsmFault;
 use rom_image::ImageFault;
 use save_state::StateFault;
 use tape_ports::TapeFault;
@@ -14,4 +15,5 @@ pub enum Cause {
     Tape(TapeFault),
     State(StateFault),
     Cells(usize),
+    Source(AsmFault),
 }

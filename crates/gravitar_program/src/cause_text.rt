@@ -14,6 +14,7 @@ impl fmt::Display for Cause {
             Cause::Tape(fault) => write!(f, "{fault}"),
             Cause::State(fault) => write!(f, "{fault}"),
             Cause::Cells(n) => write!(f, "length {n}"),
+            Cause::Source(fault) => write!(f, "{fault}"),
         }
     }
 }

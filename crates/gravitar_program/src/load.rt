@@ -31,7 +31,7 @@ fn note_on(alloc: Global, name: &str, cause: Cause) -> Result<String, Stop>
 }
 
 /// The refusal of a bad file.
-fn bad(alloc: Global, name: &str, cause: Cause) -> Stop
+pub fn bad(alloc: Global, name: &str, cause: Cause) -> Stop
     ensures { IsBadOrMemory (note_text name.now (cause_text cause)) result }
 {
     match note_on(alloc, name, cause) {
@@ -41,7 +41,12 @@ fn bad(alloc: Global, name: &str, cause: Cause) -> Stop
 }
 
 /// The first bytes of a file.
-fn fetch<S: Shelf>(alloc: Global, name: &str, limit: usize, shelf: &mut S) -> Result<Vec<u8>, Stop>
+pub fn fetch<S: Shelf>(
+    alloc: Global,
+    name: &str,
+    limit: usize,
+    shelf: &mut S,
+) -> Result<Vec<u8>, Stop>
     ensures content { IfSome (S.files shelf.old)
         (λ files. Gives (λ bytes. bytes.items) (first_bytes name.now limit (files name.now)) result) }
     ensures files { S.files shelf.new ≡ S.files shelf.old }

@@ -2,6 +2,10 @@
 #![tactic(auto)]
 
 mod answer;
+#[cfg(test)]
+mod asm_tests;
+mod assembled;
+mod assembling;
 mod board_bytes;
 mod cause;
 mod cause_text;

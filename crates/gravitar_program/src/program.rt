@@ -10,6 +10,7 @@ ghost use Rattle.gravitar_program.specs.Outcome.{Comes, ComesOf, CommandComes, F
 ghost use Rattle.gravitar_program.specs.Stages.{Ends, EndFaults, IsQuiet, Noted, RunComes, StageAbsences};
 
 use crate::answer::{ending_status, note, status};
+use crate::assembling::perform_asm;
 use crate::load::{load_run, load_state};
 use crate::parts::Parts;
 use crate::slices::run_slices;
@@ -162,6 +163,7 @@ fn perform<S: Shelf, O: Sink>(
 {
     match command {
         Command::Run(words) => perform_run(alloc, words, shelf, out),
+        Command::Asm(words) => perform_asm(alloc, words, shelf, out),
         Command::Show(name) => perform_show(alloc, name, shelf, out),
     }
 }

@@ -28,7 +28,7 @@ use tape_ports::Tape;
 
 /// Stores bytes under a name, where one is given.
 #[tactic(auto, unfolding(crate::specs::Events::stores_of))]
-fn store_under<S: Shelf>(name: Option<&str>, bytes: &[u8], shelf: &mut S) -> Result<(), Failed>
+pub fn store_under<S: Shelf>(name: Option<&str>, bytes: &[u8], shelf: &mut S) -> Result<(), Failed>
     ensures stored { OnOk result (S.stores shelf.new
         ≡ grown (S.stores shelf.old) (stores_of (storing (option_map (λ name. name.now) name.entry) bytes.now))) }
     ensures not_stored { OnErr result (S.stores shelf.new ≡ S.stores shelf.old) }
