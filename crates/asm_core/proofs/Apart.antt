@@ -36,7 +36,7 @@ then-ok next (Err e) y is = absurd (cc)
 abbrev pub fine : {X : Type 0} → X → Result X AsmFault
 fine x = Ok x
 
-ok-same : (x y : Known) → fine x ≡ fine y → x ≡ y
+pub ok-same : (x y : Known) → fine x ≡ fine y → x ≡ y
 ok-same x y is = cc
 
 -- the lines that give bytes stay, or one is added that is in the ROM and shares no byte with them

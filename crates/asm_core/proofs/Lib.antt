@@ -1,3 +1,4 @@
+pub mod Addresses
 pub mod Apart
 pub mod Covering
 pub mod Items

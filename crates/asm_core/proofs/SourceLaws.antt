@@ -8,6 +8,7 @@ use Rattle.asm_core.specs.Images.{at_the_start, second_round}
 use Rattle.asm_core.specs.Laws.{AreApart, AreInRom, HasBytes}
 use Rattle.asm_core.specs.Lines.{Language}
 use Rattle.asm_core.specs.Rounds.{Known, first_round}
+use Rattle.asm_core.proofs.Addresses.{lines-all, lines-behind, source-placed}
 use Rattle.asm_core.proofs.Apart.{round-apart, round-prefix}
 use Rattle.asm_core.proofs.Standing.{lines-have}
 
@@ -28,4 +29,4 @@ source-bytes language rom text image after known is_rom whole is wrote =
     let told = source-told language rom text known is in
     lines-have known.names rom known.placed image after is_rom whole told.1 told.0 wrote
 
-pub ruleset lines = (source-apart, source-inside, source-bytes, round-prefix)
+pub ruleset lines = (source-apart, source-inside, source-bytes, round-prefix, lines-all, lines-behind, source-placed)

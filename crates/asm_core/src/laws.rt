@@ -1,10 +1,11 @@
 ghost use Rattle.std.specs.Prelude.{◌≡◌, ℕ, ◌+◌, List, ◌++◌, Ok, length};
+ghost use Rattle.std.specs.List.{All};
 ghost use Rattle.asm_text.specs.Lines.{lines_of};
 ghost use Rattle.rom_image.specs.declared.image.TheConstants.{IMAGE_LEN};
 ghost use Rattle.asm_core.specs.declared.dialect.Rom.{Rom};
 ghost use Rattle.asm_core.specs.FirstRound.{IsRom};
 ghost use Rattle.asm_core.specs.Images.{at_the_start, second_round};
-ghost use Rattle.asm_core.specs.Laws.{AreApart, AreInRom, HasBytes};
+ghost use Rattle.asm_core.specs.Laws.{AreApart, AreInRom, HasBytes, IsAddressBehind, IsInPlace, lines_read};
 ghost use Rattle.asm_core.specs.Lines.{Language};
 ghost use Rattle.asm_core.specs.Rounds.{Known, first_round, then_on};
 
@@ -34,4 +35,19 @@ pub fn bytes_stand_at_their_addresses()
     ensures { (language : Language) → (rom : Rom) → (text image after : List ℕ) → (known : Known) → IsRom rom → length image ≡ IMAGE_LEN
         → first_round language rom 1 at_the_start (lines_of text) ≡ Ok known → second_round known.names image known.placed ≡ Ok after
         → HasBytes known.names known.placed image after }
+{}
+
+/// A line's address is the value of the last `.org` before it and the sizes of the lines between. It
+/// tells a law, and does nothing.
+///
+/// That is the address which is known after the lines before it, and the one at which its bytes are
+/// placed.
+#[tactic(auto, using(crate::proofs::SourceLaws::lines))]
+pub fn addresses_count_from_the_last_origin()
+    ensures all { (language : Language) → (rom : Rom) → (number : ℕ) → (known next : Known) → (texts : List (List ℕ))
+        → first_round language rom number known texts ≡ Ok next → length (lines_read language rom number known texts) ≡ length texts }
+    ensures known { (language : Language) → (rom : Rom) → (number : ℕ) → (known next : Known) → (texts : List (List ℕ))
+        → first_round language rom number known texts ≡ Ok next → IsAddressBehind known.at (lines_read language rom number known texts) next.at }
+    ensures placed { (language : Language) → (rom : Rom) → (text : List ℕ) → (known : Known)
+        → first_round language rom 1 at_the_start (lines_of text) ≡ Ok known → All (IsInPlace (lines_read language rom 1 at_the_start (lines_of text))) known.placed }
 {}

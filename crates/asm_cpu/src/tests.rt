@@ -462,10 +462,15 @@ fn a_comment_has_any_byte_but_lf(rt: HostRuntime) -> Result<(), Fail> {
 #[test]
 fn a_source_has_a_longest_length(rt: HostRuntime) -> Result<(), Fail> {
     let mut image = Image::blank(rt.alloc())?;
-    let longest = vec![in rt.alloc(); b'\n'; 1_048_576]?;
-    assert!(rt; assemble(rt.alloc(), &longest, &mut image).is_ok());
-    let longer = vec![in rt.alloc(); b'\n'; 1_048_577]?;
-    let found = assemble(rt.alloc(), &longer, &mut image).err();
+    let mut source = b".org 10\n".repeat(rt.alloc(), 131_069)?;
+    source.extend_from_slice(b".org $9000\n lda #5\n nop\n")?;
+    assert_eq!(rt; source.len(), 1_048_576);
+    let listing = assemble(rt.alloc(), &source, &mut image)?;
+    assert_eq!(rt; listing.lines().len(), 2);
+    assert!(rt; is_listed(&image, listing.lines()[0], (0x9000, 131_071, &[0xA9, 0x05])));
+    assert!(rt; is_listed(&image, listing.lines()[1], (0x9002, 131_072, &[0xEA])));
+    source.push(b'\n')?;
+    let found = assemble(rt.alloc(), &source, &mut image).err();
     assert_eq!(rt; found, Some(AsmFault::TooLong));
     Ok(())
 }
