@@ -1,8 +1,9 @@
 -- The line of a stroke, put together piece by piece.
-use Rattle.std.proofs.Common.{◌≡◌, ℕ, ℤ, List, [], ◌∷◌, ◌++◌, append_assoc, w32, to_z, of_z}
+use Rattle.std.proofs.Common.{◌≡◌, ℕ, ◌-◌, ◌≤◌, ℤ, List, [], ◌∷◌, ◌++◌, length, replicate, take, append_assoc, w32, to_z, of_z, ap, ◌∙◌}
 use Rattle.std.specs.Prelude.{codes, FitsSigned}
 use Rattle.std.specs.Fmt.{decimal, signed_decimal}
 use Rattle.std.proofs.lemmas.Int.{to_z-of_z}
+use Rattle.std.proofs.lemmas.List.{take-replicate}
 use Rattle.board_base.specs.declared.record.Record.{Record}
 use Rattle.board_base.specs.declared.record.Record.TheVariants.{Stroke}
 use Rattle.board_base.specs.declared.part.Part.{Part}
@@ -27,3 +28,9 @@ unfolding record_text
 stroke_line part made clock x0 y0 x1 y1 colour intensity l0 l1 l2 l3 l4 l5 l6 l7 c i e fx0 fy0 fx1 fy1 e0 e1 e2 e3 e4 ec e5 ei e6 e7 =
     rw (e, e7, e6, e5, same l3 l4 y1 fy1 e4, same l2 l3 x1 fx1 e3, same l1 l2 y0 fy0 e2, same l0 l1 x0 fx0 e1, e0, ec, ei)
     (words (decimal clock) (signed_decimal x0) (signed_decimal y0) (signed_decimal x1) (signed_decimal y1) (decimal colour) (decimal intensity))
+
+-- blanks in front of a list of blanks are blanks
+pub padded : (line text : List ℕ) (missing place : ℕ) → text ≡ line ++ take missing (replicate 113 32) → missing ≡ place - length line → missing ≤ 113
+    → text ≡ line ++ replicate (place - length line) 32
+padded line text missing place put is few =
+    put ∙ ap (λ (more : List ℕ). line ++ more) (take-replicate missing 113 32 few ∙ ap (λ n. replicate n 32) is)

@@ -1,4 +1,4 @@
-ghost use Rattle.std.specs.Prelude.{◌≡◌, ◌+◌, ◌<◌, ◌≤◌, [], ◌∷◌, ◌++◌, length, decimal, true};
+ghost use Rattle.std.specs.Prelude.{◌≡◌, ◌+◌, ◌-◌, ◌<◌, ◌≤◌, [], ◌∷◌, ◌++◌, length, max, replicate, decimal, true};
 ghost use Rattle.std.specs.Fmt.{digit_glyph, signed_decimal};
 ghost use Rattle.log_text.specs.Lines.{hex_byte, hex_word};
 
@@ -61,7 +61,7 @@ impl Line {
     }
 
     /// A piece of text more.
-    fn text(mut self, text: &[u8]) -> Line
+    pub fn text(mut self, text: &[u8]) -> Line
         requires { length self + length text.now ≤ LONGEST }
         ensures text { result ≡ self ++ text.now }
         ensures len { length result ≡ length self + length text.now }
@@ -111,12 +111,23 @@ impl Line {
     }
 
     /// Two hexadecimal digits.
-    fn hex(self, byte: u8) -> Line
+    pub fn hex(self, byte: u8) -> Line
         requires { length self + 2 ≤ LONGEST }
         ensures text { result ≡ self ++ hex_byte byte }
         ensures len { length result ≡ length self + 2 }
     {
         self.byte(hex_digit(byte / 16)).byte(hex_digit(byte % 16))
+    }
+
+    /// Blanks up to this place, where the line isn't as long yet.
+    pub fn pad_to(self, place: usize) -> Line
+        requires { place ≤ LONGEST }
+        ensures text { result ≡ self ++ replicate (place - length self) 32 }
+        ensures len { length result ≡ max (length self) place }
+    {
+        let blanks = [b' '; LONGEST];
+        let missing = place.saturating_sub(self.bytes.len());
+        self.text(&blanks[..missing])
     }
 
     /// A blank and a byte as two hexadecimal digits.

@@ -24,7 +24,7 @@ fn part(bytes: &[u8], separator: u8) -> (&[u8], Option<&[u8]>)
     }
 }
 
-/// The first line of a text, and what stands after its LF.
+/// The first line of a text, without its LF, and what stands after it.
 #[tactic(auto, using(crate::proofs::Parting::parting))]
 pub fn read_line(text: &[u8]) -> (&[u8], &[u8])
     requires { 0 < length text.now }
@@ -40,7 +40,7 @@ pub fn read_line(text: &[u8]) -> (&[u8], &[u8])
 
 /// The first word of a line, and what stands after its space, where it has one.
 #[tactic(auto, using(crate::proofs::Parting::parting))]
-fn read_word(line: &[u8]) -> (&[u8], Option<&[u8]>)
+pub fn read_word(line: &[u8]) -> (&[u8], Option<&[u8]>)
     ensures { MatchOption result.1 (words_of line.now ≡ result.0.now ∷ []) (λ rest. words_of line.now ≡ result.0.now ∷ words_of rest.now) }
 {
     part(line, b' ')
@@ -76,8 +76,8 @@ fn read_digit(byte: u8) -> Option<u8>
     }
 }
 
-/// A byte of two hexadecimal digits.
-fn read_value(word: &[u8]) -> Option<u8>
+/// A byte of two hexadecimal digits, each of either case.
+pub fn read_value(word: &[u8]) -> Option<u8>
     ensures { result ≡ value_of word.now }
 {
     match word {
