@@ -1,5 +1,6 @@
 pub mod AccessLaws
 pub mod Behind
+pub mod BreaksOn
 pub mod Budgets
 pub mod ClockLaws
 pub mod Clocks
@@ -17,6 +18,7 @@ pub mod RunsOn
 pub mod SettledLaws
 pub mod Steps
 pub mod TapeLaws
+pub mod TurnLaws
 pub mod Turns
 pub mod Windows
 pub mod Traces

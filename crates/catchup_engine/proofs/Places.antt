@@ -46,7 +46,7 @@ accessed-at : (r : RegistersValue) (q : Sequence) (bytes : List ℕ) (w : Wires)
 unfolding accessed
 accessed-at r q bytes w = accessed_by-at (next_of r q bytes) r q bytes w refl
 
-begun-cpu : (q : Sequence) (b : Board) → (begun q b).cpu ≡ b.cpu
+pub begun-cpu : (q : Sequence) (b : Board) → (begun q b).cpu ≡ b.cpu
 begun-cpu Reset b = refl
 begun-cpu Interrupt b = refl
 begun-cpu Opcode b = refl

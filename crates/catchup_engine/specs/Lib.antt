@@ -1,3 +1,4 @@
+pub mod Breaks
 pub mod Budget
 pub mod Bus
 pub mod EngineValue

@@ -1,10 +1,11 @@
 -- A run of the processor over the bus.
-use Rattle.std.specs.Prelude.{◌≡◌, ℕ, ◌+◌, ◌≤◌, List, true, None, IsSome}
+use Rattle.std.specs.Prelude.{◌≡◌, ℕ, ◌+◌, ◌-◌, ◌≤◌, ◌<◌, ◌||◌, List, true, None, IsSome}
 use Rattle.board_base.specs.declared.board.TheConstants.{CLOCK_LIMIT}
 use Rattle.board_base.specs.Cpu.{CpuValue}
 use Rattle.tape_ports.specs.declared.entry.TapeEntry.{TapeEntry}
 use Rattle.catchup_engine.specs.Lockstep.{Board}
 use Rattle.catchup_engine.specs.Run.{is_over, is_cut, to_boundary, to_cut, boundary_steps, cut_steps}
+use Rattle.catchup_engine.specs.Breaks.{is_at_any, BreakRun}
 use Rattle.catchup_engine.specs.Budget.{budget}
 use Rattle.catchup_engine.specs.Bus.{BusValue}
 use Rattle.catchup_engine.specs.Turn.{Goes}
@@ -36,3 +37,14 @@ pub record CutRun (entries : List TapeEntry) (cut wrap : ℕ) (c : CpuValue) (s 
   pub goes : Goes s t
   pub range : IsInRange e t
   pub later : s.wires.clock ≤ t.wires.clock
+
+-- and one that ends at one of these addresses too, a turn at least
+pub record BreakRunBus (entries : List TapeEntry) (limit : ℕ) (addresses : List ℕ) (c : CpuValue) (s t : BusValue) (e : CpuValue) : Type 0 where
+  pub turns : BreakRun entries limit addresses (over_bus c s) (over_bus e t)
+  pub ends : is_over limit (over_bus e t) || is_at_any addresses (over_bus e t) ≡ true
+  pub boundary : e.mid ≡ None
+  pub paid : t.calls ≤ s.calls + budget entries (t.wires.clock - s.wires.clock) (over_bus c s)
+  pub goes : Goes s t
+  pub range : IsInRange e t
+  pub since : s.wires.clock ≤ t.wires.clock
+  pub later : c.jam ≡ None → s.wires.clock < t.wires.clock

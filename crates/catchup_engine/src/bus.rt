@@ -790,6 +790,15 @@ impl<V: VectorUnit, P: SoundUnit, C: CellUnit, D: DividerUnit> BoardBus<V, P, C,
         self.divider.level(self.clock);
     }
 
+    /// Whether the generator is halted.
+    #[tactic(auto, using(board_base::proofs::TickLaws::level, crate::proofs::SettledLaws::settled))]
+    pub fn is_halted(&self) -> bool
+        requires settled { self.now.lagging ≡ 0 }
+        ensures { result ≡ self.now.wires.vg.halted }
+    {
+        self.vector.unit.halted()
+    }
+
     /// Whether each device stands at the present.
     pub fn is_settled(&self) -> bool
         ensures { result ≡ (self.now.lagging == 0) }

@@ -1,6 +1,7 @@
-ghost use Rattle.std.specs.Prelude.{◌≡◌, ◌+◌, ◌-◌, ◌≤◌, ◌<◌, ◌==◌, true, false, None, IfSome, IfOk, min};
+ghost use Rattle.std.specs.Prelude.{◌≡◌, ◌+◌, ◌-◌, ◌≤◌, ◌<◌, ◌==◌, ◌||◌, true, false, None, IfSome, IfOk, min};
 ghost use Rattle.cpu_core.specs.Places.{IsMiddle};
 ghost use Rattle.cpu_table.specs.Opcodes.{row_of};
+ghost use Rattle.catchup_engine.specs.Breaks.{is_at_any, BreakRun};
 ghost use Rattle.catchup_engine.specs.Budget.{budget};
 ghost use Rattle.catchup_engine.specs.EngineValue.{HasNoRecords, HasRoom, cleared, counted_on};
 ghost use Rattle.catchup_engine.specs.Memory.{memory_byte};
@@ -10,7 +11,7 @@ ghost use Rattle.catchup_engine.specs.Wires.{board_of, reloaded, wires_of};
 
 use crate::bus::BoardBus;
 use crate::devices::Devices;
-use crate::run::{run_to_cut, run_until};
+use crate::run::{run_to_break, run_to_cut, run_until};
 use crate::stop::Stop;
 use crate::trace::{Trace, trace_sequence};
 use avg_device::VectorUnit;
@@ -166,6 +167,33 @@ impl<V: VectorUnit, P: SoundUnit, C: CellUnit, D: DividerUnit> Engine<V, P, C, D
         self.cause(limit)
     }
 
+    /// Runs turn by turn, one turn at least, to the first boundary that isn't before the limit, at
+    /// which pc is one of these addresses, or that comes after the divider's next wrap, whichever
+    /// comes first. A board that is jammed takes no clock.
+    #[tactic(auto, using(crate::proofs::Windows::windows))]
+    pub fn run_to_break(&mut self, tape: &Tape, limit: u64, addresses: &[u16])
+        requires limit { limit ≤ CLOCK_LIMIT }
+        requires before { self.old.board.wires.clock < limit }
+        requires settled { self.old.lagging ≡ 0 }
+        requires empty { HasNoRecords self.old.board }
+        ensures run { BreakRun tape.now.entries limit addresses.now self.old.board self.new.board }
+        ensures ends { (is_over (window_limit limit self.old.board) self.new.board || is_at_any addresses.now self.new.board) ≡ true }
+        ensures boundary { self.new.board.cpu.mid ≡ None }
+        ensures later { self.old.board.cpu.jam ≡ None → self.old.board.wires.clock < self.new.board.wires.clock }
+        ensures calls { self.new.calls ≤ self.old.calls + budget tape.now.entries (self.new.board.wires.clock - self.old.board.wires.clock) self.old.board }
+        ensures more { self.old.calls ≤ self.new.calls }
+        ensures done { self.new.done ≡ counted_on self.old.done (self.new.board.wires.clock - self.old.board.wires.clock) }
+        ensures rooms { self.new.rooms ≡ self.old.rooms }
+    {
+        let wrap = self.bus.next_wrap();
+        let before = self.bus.clock();
+        self.bus.has_room();
+        self.bus.look_at(tape);
+        let cpu = Cpu::new(*self.cpu.state());
+        self.cpu = run_to_break(cpu, &mut self.bus, tape, limit.min(wrap), addresses);
+        self.count_clocks(before);
+    }
+
     /// Does what is left of the sequence under way, or else one instruction or sequence. A board that
     /// is jammed takes no clock.
     pub fn step(&mut self, tape: &Tape) -> Stop
@@ -280,6 +308,14 @@ impl<V: VectorUnit, P: SoundUnit, C: CellUnit, D: DividerUnit> Engine<V, P, C, D
         ensures { result.now ≡ self.now.board.cpu }
     {
         self.cpu.state()
+    }
+
+    /// Whether the vector generator is halted.
+    pub fn is_halted(&self) -> bool
+        requires settled { self.now.lagging ≡ 0 }
+        ensures { result ≡ self.now.board.wires.vg.halted }
+    {
+        self.bus.is_halted()
     }
 
     /// The byte at an address of the RAM, the vector RAM or a ROM; none elsewhere.

@@ -1,8 +1,9 @@
-ghost use Rattle.std.specs.Prelude.{◌≡◌, ℕ, ◌+◌, ◌*◌, ◌-◌, ◌≤◌, ◌<◌, List, true};
+ghost use Rattle.std.specs.Prelude.{◌≡◌, ℕ, ◌+◌, ◌*◌, ◌-◌, ◌≤◌, ◌<◌, List, true, None};
 ghost use Rattle.board_base.specs.declared.divider.TheConstants.{DIVIDER_PERIOD};
 ghost use Rattle.tape_ports.specs.declared.entry.TapeEntry.{TapeEntry};
 ghost use Rattle.catchup_engine.specs.Lockstep.{Board, step, access_in};
-ghost use Rattle.catchup_engine.specs.Run.{stepped, boundary_steps, clock_steps, cut_steps, to_boundary, run, to_cut, is_over, is_at, is_cut, IsPlaced};
+ghost use Rattle.catchup_engine.specs.Run.{stepped, boundary_steps, clock_steps, cut_steps, to_boundary, run, to_cut, is_jammed, is_over, is_at, is_cut, IsPlaced};
+ghost use Rattle.catchup_engine.specs.Breaks.{turn, turned, TurnsTo};
 ghost use Rattle.catchup_engine.specs.Budget.{budget, counted, device_accesses, wraps, entries_applied, requests, resets_begun};
 ghost use Rattle.catchup_engine.specs.EngineValue.{cleared};
 ghost use Rattle.catchup_engine.specs.Order.{AddsOneClock, AreMadeBetween, Recorded, behind, records_of};
@@ -44,6 +45,19 @@ pub fn places_of_runs()
     ensures run { (entries : List TapeEntry) → (cut : ℕ) → (b : Board) → IsPlaced b → IsPlaced (run entries cut b) }
     ensures boundary { (entries : List TapeEntry) → (limit : ℕ) → (b : Board) → IsPlaced b → IsPlaced (to_boundary entries limit b) }
     ensures cut { (entries : List TapeEntry) → (cut wrap : ℕ) → (b : Board) → IsPlaced b → IsPlaced (to_cut entries cut wrap b) }
+{}
+
+/// A run to a boundary is so many turns, before each of which it isn't over. The turn of a board
+/// that isn't jammed moves its clock on and ends at a boundary, and a jammed one stays as it is;
+/// turns add to the records made before. It tells a law, and does nothing.
+#[tactic(auto, using(crate::proofs::TurnLaws::turn_laws))]
+pub fn runs_are_turns()
+    ensures runs { (entries : List TapeEntry) → (limit : ℕ) → (b : Board) → IsPlaced b → TurnsTo entries limit b }
+    ensures later { (entries : List TapeEntry) → (b : Board) → b.cpu.jam ≡ None → b.wires.clock < (turn entries b).wires.clock }
+    ensures boundary { (entries : List TapeEntry) → (b : Board) → IsPlaced b → b.cpu.jam ≡ None → (turn entries b).cpu.mid ≡ None }
+    ensures jammed { (entries : List TapeEntry) → (b : Board) → is_jammed b ≡ true → turn entries b ≡ b }
+    ensures records { (entries : List TapeEntry) → (n : ℕ) → (l : Recorded) → (b : Board) → turned entries n (behind l b) ≡ behind l (turned entries n b) }
+    ensures place { (entries : List TapeEntry) → (n : ℕ) → (b : Board) → IsPlaced b → IsPlaced (turned entries n b) }
 {}
 
 /// Records made before change nothing that a board does: its runs add to them. It tells a law, and

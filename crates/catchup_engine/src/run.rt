@@ -1,8 +1,9 @@
 //! Runs of the processor over the bus, turn by turn.
-ghost use Rattle.std.specs.Prelude.{◌≡◌, ◌+◌, ◌≤◌, ◌<◌, ◌⊎◌, [], false};
+ghost use Rattle.std.specs.Prelude.{◌≡◌, ◌+◌, ◌≤◌, ◌<◌, ◌⊎◌, ◌||◌, [], false};
+ghost use Rattle.catchup_engine.specs.Breaks.{is_at_any};
 ghost use Rattle.catchup_engine.specs.Bus.{Fits};
 ghost use Rattle.catchup_engine.specs.Run.{is_over, is_cut};
-ghost use Rattle.catchup_engine.specs.Runs.{over_bus, BoundaryRun, CutRun, IsInRange};
+ghost use Rattle.catchup_engine.specs.Runs.{over_bus, BoundaryRun, BreakRunBus, CutRun, IsInRange};
 
 use crate::bus::{BoardBus, TRAIL_ROOM, WHOLE};
 use crate::turn::turn;
@@ -61,6 +62,47 @@ pub(crate) fn run_until<V: VectorUnit, P: SoundUnit, C: CellUnit, D: DividerUnit
         cpu = turn(cpu, bus, tape, WHOLE);
     }
     while !is_done(&cpu, bus, limit) {
+        cpu = turn(cpu, bus, tape, WHOLE);
+    }
+    cpu
+}
+
+/// Whether a run to a boundary is over, or has come to one of these addresses.
+fn is_at_break<V: VectorUnit, P: SoundUnit, C: CellUnit, D: DividerUnit>(
+    cpu: &Cpu,
+    bus: &BoardBus<V, P, C, D>,
+    limit: u64,
+    addresses: &[u16],
+) -> bool
+    ensures { result ≡ (is_over limit (over_bus cpu.now bus.now) || is_at_any addresses.now (over_bus cpu.now bus.now)) }
+{
+    is_done(cpu, bus, limit) || addresses.contains(&cpu.state().pc)
+}
+
+/// Does a turn, unless the processor is jammed, and then others up to the limit or to the first of
+/// these addresses.
+pub(crate) fn run_to_break<V: VectorUnit, P: SoundUnit, C: CellUnit, D: DividerUnit>(
+    mut cpu: Cpu,
+    bus: &mut BoardBus<V, P, C, D>,
+    tape: &Tape,
+    limit: u64,
+    addresses: &[u16],
+) -> Cpu
+    requires limit { limit ≤ CLOCK_LIMIT }
+    requires before { bus.old.wires.clock < limit }
+    requires window { limit ≤ bus.old.wires.clock + DIVIDER_PERIOD }
+    requires range { IsInRange cpu bus.old }
+    requires level { bus.old.begun ≡ false }
+    requires until { bus.old.wires.clock + TRAIL_ROOM ≤ bus.old.until }
+    requires written { bus.old.wires.written ≡ [] }
+    requires fits { Fits tape.now bus.old }
+    ensures runs { BreakRunBus tape.now.entries limit addresses.now cpu bus.old bus.new result }
+{
+    let _clock = bus.clock();
+    if cpu.state().jam.is_none() {
+        cpu = turn(cpu, bus, tape, WHOLE);
+    }
+    while !is_at_break(&cpu, bus, limit, addresses) {
         cpu = turn(cpu, bus, tape, WHOLE);
     }
     cpu

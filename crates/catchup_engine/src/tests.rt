@@ -74,6 +74,20 @@ const POTS: &str = "30 P0 05\n33 P1 06\n33 P1 07\n90000 END";
 const WRAPS: &str = "6142 Q2 05\n6143 IN0 2A\n6143 P0 30\n6143 Q7 31\n6143 IN3 01\n6144 IN4 02\n\
     6145 P1 E4\n12287 P3 04\n12287 P3 90\n12287 IN0 00\n12288 Q0 FF\n12289 P0 FF\n90000 END";
 
+/// Two instructions of two clocks and a jump of three back to the first.
+const THREE: &str = "EA EA 4C 00 90";
+/// Runs one after another, from power-on: the limit, the break addresses, and the clock and pc at
+/// the end.
+const BREAKS: [(u64, [u16; 2], (u64, u16)); 7] = [
+    (100, [0x9002, 0x9004], (11, 0x9002)),
+    (100, [0x9002, 0x9004], (18, 0x9002)),
+    (100, [0x9004, 0x9001], (23, 0x9001)),
+    (100, [0x9004, 0x8FFF], (100, 0x9001)),
+    (101, [0x9002, 0x9001], (102, 0x9002)),
+    (9000, [0x9003, 0x9004], (6146, 0x9000)),
+    (9000, [0x9004, 0x9004], (9002, 0x9000)),
+];
+
 type FastEngine = Engine<FastVg, FastPokey, Earom, Divider>;
 
 /// How two engines run beside each other: whether the timer requests are wired, the clock at which
@@ -441,6 +455,21 @@ fn a_jammed_board_takes_no_clock(rt: HostRuntime) -> Result<(), Fail> {
         engine.clear_trails();
         assert_eq!(rt; engine.run(&tape, 100), jam, "run {run}");
         assert_eq!(rt; (engine.clock(), engine.done()), (8, 8), "run {run}");
+    }
+    Ok(())
+}
+
+#[test]
+fn a_run_ends_at_a_break_address_past_its_first_turn(rt: HostRuntime) -> Result<(), Fail> {
+    let image = image_of(rt.alloc(), THREE, "")?;
+    let tape = Tape::read(rt.alloc(), EMPTY.as_bytes())?;
+    let mut engine = power_on(rt.alloc(), &image, true)?;
+    for (limit, addresses, end) in BREAKS {
+        engine.settle();
+        engine.clear_trails();
+        assert!(rt; engine.clock() < limit && limit < 10_000);
+        engine.run_to_break(&tape, limit, &addresses);
+        assert_eq!(rt; (engine.clock(), engine.cpu().pc), end, "limit {limit}");
     }
     Ok(())
 }

@@ -1,0 +1,146 @@
+-- A run to an address that is under way, turn by turn.
+use Rattle.std.proofs.Common.{◌≡◌, ℕ, ◌+◌, ◌-◌, ◌^◌, ◌≤◌, ◌<◌, Bool, true, false, ◌&&◌, ◌||◌, nat_le, is_some, is_none, List, Option, Some, None, IsSome, IfSome, suc, zero, refl, sym, arith}
+use Rattle.std.proofs.lemmas.Bool.{or_parts}
+use Rattle.std.proofs.lemmas.Bool.Decides.{nat_tests}
+use Rattle.board_base.specs.Cpu.{CpuValue, MidValue}
+use Rattle.cpu_core.specs.Places.{IsMiddle}
+use Rattle.tape_ports.specs.declared.entry.TapeEntry.{TapeEntry}
+use Rattle.catchup_engine.specs.Budget.{budget}
+use Rattle.catchup_engine.specs.Bus.{BusValue}
+use Rattle.catchup_engine.specs.Lockstep.{Board, step}
+use Rattle.catchup_engine.specs.Run.{is_over}
+use Rattle.catchup_engine.specs.Breaks.{is_at_any, BreakRun}
+use Rattle.catchup_engine.specs.Runs.{over_bus, BoundaryRun, BreakRunBus, IsInRange}
+use Rattle.catchup_engine.specs.Turn.{Through, TurnedBus}
+use Rattle.catchup_engine.proofs.Runs.{Reached}
+use Rattle.catchup_engine.proofs.RunsOn.{RunsOn, starts, goes_on, AtBoundary, boundary-starts, boundary-resumes, boundary-goes_on, boundary-ends, IsBefore, open-before, none-is, some-of}
+use Rattle.catchup_engine.proofs.TurnLaws.{break-one, breaks-append, turn-jammed}
+
+over-at : (jam : Option ℕ) (mid : Option MidValue) (limit clock : ℕ) → mid ≡ None → limit ≤ clock
+    → is_some jam || (is_none mid && nat_le limit clock) ≡ true
+over-at jam None limit clock e h = grind (arith, nat_tests)
+over-at jam (Some m) limit clock e h = cc
+
+open-at : (jam : Option ℕ) (boundary : Bool) (limit clock : ℕ) → jam ≡ None → clock < limit
+    → is_some jam || (boundary && nat_le limit clock) ≡ false
+open-at jam boundary limit clock e h = grind (arith, nat_tests)
+
+-- a turn that goes past a clock is a run to the next boundary after it
+turn-ends : (entries : List TapeEntry) (c : CpuValue) (s u : BusValue) (f : CpuValue) → AtBoundary entries (s.wires.clock + 1) c s u f
+    → TurnedBus entries 7 c s u f → BoundaryRun entries (s.wires.clock + 1) c s u f
+turn-ends entries c s u f at turned =
+    let clock = turned.turned.clock in
+    boundary-ends entries (s.wires.clock + 1) c s u f at (over-at f.jam f.mid (s.wires.clock + 1) u.wires.clock at.boundary (omega arith))
+
+-- a turn over the bus is one of the board
+turn-run : (entries : List TapeEntry) (c : CpuValue) (s u : BusValue) (f : CpuValue) → s.begun ≡ false → c.jam ≡ None → s.wires.clock < 2 ^ 48
+    → IfSome c.mid (λ _. IsMiddle c) → IsInRange c s → TurnedBus entries 7 c s u f → BoundaryRun entries (s.wires.clock + 1) c s u f
+turn-run entries c s u f level running early place range turned = by_mid (is_some c.mid) refl
+  where
+    by_mid : (some : Bool) → is_some c.mid ≡ some → BoundaryRun entries (s.wires.clock + 1) c s u f
+    by_mid true e =
+        turn-ends entries c s u f (boundary-resumes entries (s.wires.clock + 1) c s u f level (some-of c.mid e) place range turned) turned
+    by_mid false e =
+        turn-ends entries c s u f (boundary-goes_on entries (s.wires.clock + 1) c s s u c f (omega arith)
+        (boundary-starts entries (s.wires.clock + 1) c s level (none-is c.mid e) range)
+        (open-at c.jam (is_none c.mid) (s.wires.clock + 1) s.wires.clock running (omega arith)) turned)
+        turned
+
+-- no board is as asked, so that any step goes on
+abbrev pub never : Board → Bool
+never b = false
+
+through-on : (entries : List TapeEntry) (n : ℕ) (b last : Board) → Through entries n b last → Reached entries never n b last
+through-on entries zero b last e = e
+through-on entries (suc n) b last t = (refl, through-on entries n (step entries b) last t.1)
+
+-- a run to an address that stands at a boundary
+pub record AtTurn (entries : List TapeEntry) (limit : ℕ) (addresses : List ℕ) (c : CpuValue) (s t : BusValue) (e : CpuValue) : Type 0 where
+  pub run : RunsOn entries never c s t e
+  pub turns : BreakRun entries limit addresses (over_bus c s) (over_bus e t)
+  pub boundary : e.mid ≡ None
+  pub range : IsInRange e t
+  pub later : c.jam ≡ None → s.wires.clock < t.wires.clock
+
+jam-none : (jam : Option ℕ) → is_some jam ≡ false → jam ≡ None
+jam-none None e = refl
+jam-none (Some o) e = cc
+
+jammed-at : (c : CpuValue) (mid : Option MidValue) → is_some c.jam ≡ true → c.mid ≡ mid → IfSome mid (λ _. IsMiddle c) → mid ≡ None
+jammed-at c None jammed e place = refl
+jammed-at c (Some m) jammed e place = let running = place.0 in let none : is_some c.jam ≡ false = rw running refl in cc
+
+-- a jammed board takes its turn at once
+pub break-jammed : (entries : List TapeEntry) (limit : ℕ) (addresses : List ℕ) (c : CpuValue) (s : BusValue) → s.begun ≡ false → is_some c.jam ≡ true
+    → IfSome c.mid (λ _. IsMiddle c) → IsInRange c s → AtTurn entries limit addresses c s s c
+break-jammed entries limit addresses c s level jammed place range = record {
+  run = starts entries never c s level;
+  turns = break-one entries limit addresses (over_bus c s) (over_bus c s) (sym (turn-jammed entries (over_bus c s) jammed));
+  boundary = jammed-at c c.mid jammed refl place;
+  range = range;
+  later = λ running. (let none : is_some c.jam ≡ false = rw running refl in cc);
+}
+
+-- the first turn of another
+pub break-begins : (entries : List TapeEntry) (limit : ℕ) (addresses : List ℕ) (c : CpuValue) (s u : BusValue) (f : CpuValue) → s.begun ≡ false
+    → is_some c.jam ≡ false → s.wires.clock < 2 ^ 48 → IfSome c.mid (λ _. IsMiddle c) → IsInRange c s → TurnedBus entries 7 c s u f
+    → AtTurn entries limit addresses c s u f
+break-begins entries limit addresses c s u f level running early place range turned =
+    let made = turn-run entries c s u f level (jam-none c.jam running) early place range turned in
+    let clock = turned.turned.clock in
+    record {
+      run =
+          goes_on entries never 7 c s s u c f (starts entries never c s level) refl turned
+          (through-on entries turned.turned.count (step entries (over_bus c s)) (over_bus f u) turned.turned.through);
+      turns = break-one entries limit addresses (over_bus c s) (over_bus f u) made.board;
+      boundary = made.boundary;
+      range = made.range;
+      later = λ _. omega arith;
+    }
+
+-- a run that isn't to end yet stands before its limit, and isn't jammed
+pub break-before : (limit : ℕ) (addresses : List ℕ) (b : Board) → b.cpu.mid ≡ None → is_over limit b || is_at_any addresses b ≡ false → IsBefore limit b
+break-before limit addresses b boundary open_yet =
+    open-before limit b boundary (or_parts (is_over limit b) (is_at_any addresses b) open_yet).0
+
+-- a turn more
+pub break-goes_on : (entries : List TapeEntry) (limit : ℕ) (addresses : List ℕ) (c : CpuValue) (s t u : BusValue) (e f : CpuValue) → limit ≤ 2 ^ 48
+    → AtTurn entries limit addresses c s t e → is_over limit (over_bus e t) || is_at_any addresses (over_bus e t) ≡ false
+    → TurnedBus entries 7 e t u f → AtTurn entries limit addresses c s u f
+break-goes_on entries limit addresses c s t u e f last at open_yet turned =
+    let both = or_parts (is_over limit (over_bus e t)) (is_at_any addresses (over_bus e t)) open_yet in
+    let before = open-before limit (over_bus e t) at.boundary both.0 in
+    let early = before.clock in
+    let boundary = at.boundary in
+    let made = turn-run entries e t u f at.run.goes.level before.running (omega arith) (rw boundary tt) at.range turned in
+    let clock = turned.turned.clock in
+    let so_far = at.run.clock in
+    record {
+      run =
+          goes_on entries never 7 c s t u e f at.run refl turned
+          (through-on entries turned.turned.count (step entries (over_bus e t)) (over_bus f u) turned.turned.through);
+      turns =
+          breaks-append entries limit addresses (over_bus c s) (over_bus e t) (over_bus f u) at.turns both.0 both.1
+          (break-one entries limit addresses (over_bus e t) (over_bus f u) made.board);
+      boundary = made.boundary;
+      range = made.range;
+      later = λ _. omega arith;
+    }
+
+-- the end of a run
+pub break-ends : (entries : List TapeEntry) (limit : ℕ) (addresses : List ℕ) (c : CpuValue) (s t : BusValue) (e : CpuValue)
+    → AtTurn entries limit addresses c s t e → is_over limit (over_bus e t) || is_at_any addresses (over_bus e t) ≡ true
+    → BreakRunBus entries limit addresses c s t e
+break-ends entries limit addresses c s t e at over =
+    let clock = at.run.clock in
+    let steps : t.wires.clock - s.wires.clock ≡ at.run.count = omega arith in
+    record {
+      turns = at.turns;
+      ends = over;
+      boundary = at.boundary;
+      paid = rw steps at.run.paid;
+      goes = at.run.goes;
+      range = at.range;
+      since = omega arith;
+      later = at.later;
+    }
