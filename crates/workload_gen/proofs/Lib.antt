@@ -1,0 +1,6 @@
+pub mod AddressLaws
+pub mod DrawLaws
+pub mod ImageLaws
+pub mod SizeLaws
+pub mod TapeLaws
+pub mod WordLaws

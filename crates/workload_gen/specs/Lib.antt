@@ -1,0 +1,5 @@
+pub mod Draws
+pub mod Putting
+pub mod Roms
+pub mod Tape
+pub mod Words
