@@ -1,0 +1,2 @@
+mod SoakLaws
+mod SummaryLaws

@@ -1,0 +1,12 @@
+//! A large run told by seven numbers: the records are counted window by window, and no log is kept.
+#![tactic(auto)]
+
+mod soak;
+pub mod summary;
+mod text;
+
+pub use soak::run_soak;
+pub use summary::Summary;
+
+#[cfg(test)]
+mod tests;
