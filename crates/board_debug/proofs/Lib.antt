@@ -1,1 +1,5 @@
+pub mod ListingLaws
+pub mod SessionLaws
 pub mod TextLaws
+mod Turning
+mod WatchLaws

@@ -10,7 +10,7 @@ use outside_io::{Sink, SinkFault};
 
 /// Writes the clock and the processor's registers.
 #[tactic(auto, unfolding(crate::specs::BoardText::registers_text))]
-fn write_registers<O: Sink>(state: &BoardState, out: &mut O) -> Result<(), SinkFault>
+pub(crate) fn write_registers<O: Sink>(state: &BoardState, out: &mut O) -> Result<(), SinkFault>
     ensures taken { Takes (O.taken out.old) (O.taken out.new) (registers_text state.now) result }
     ensures cause { HasCause (O.faults out.old) (O.faults out.new) result }
 {
@@ -31,7 +31,7 @@ fn write_place<O: Sink>(cpu: &CpuState, out: &mut O) -> Result<(), SinkFault>
 
 /// Writes the ports and the devices.
 #[tactic(auto, unfolding(crate::specs::BoardText::devices_text))]
-fn write_devices<O: Sink>(state: &BoardState, out: &mut O) -> Result<(), SinkFault>
+pub(crate) fn write_devices<O: Sink>(state: &BoardState, out: &mut O) -> Result<(), SinkFault>
     ensures taken { Takes (O.taken out.old) (O.taken out.new) (devices_text state.now) result }
     ensures cause { HasCause (O.faults out.old) (O.faults out.new) result }
 {

@@ -1,12 +1,21 @@
-//! The text of a board: its clock, its processor's registers, and its devices.
+//! The debugger: the text of a board, and sessions of a script's commands over a board that runs.
 #![tactic(auto)]
 
 mod board_text;
 mod device_lines;
+pub mod found;
+mod listings;
+mod looks;
 mod processor_lines;
+pub mod script;
+mod session;
+mod stop_line;
+mod turns;
 mod write_lines;
 
 pub use board_text::write_board;
+pub use found::Found;
+pub use script::{DebugFault, run_script};
 
 #[cfg(test)]
 mod tests;

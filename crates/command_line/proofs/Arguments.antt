@@ -1,8 +1,10 @@
 -- The arguments of a command, as they stand in a list whose elements show as words.
-use Rattle.std.proofs.Common.{◌≡◌, ℕ, ◌+◌, ◌≤◌, Bool, true, false, not, cond, List, [], ◌∷◌, length, map, take, drop, refl, sym, ap, ◌∙◌, arith}
+use Rattle.std.proofs.Common.{◌≡◌, ℕ, ◌+◌, ◌≤◌, ◌<◌, ◌⊎◌, inl, inr, None, Bool, true, false, not, cond, List, [], ◌∷◌, length, map, take, drop, refl, sym, ap, ◌∙◌, arith}
 use Rattle.std.specs.List.{prefix_len, take_while}
 use Rattle.std.proofs.lemmas.List.{drop-map, length-map, length-take, take-map}
-use Rattle.command_line.specs.CommandLine.{arguments_of, options_after}
+use Rattle.command_line.specs.declared.verb.Verb.TheVariants.{Debug}
+use Rattle.command_line.specs.CommandLine.{arguments_of, built, options_after}
+use Rattle.command_line.specs.SettingsValue.{SettingsValue}
 use Rattle.command_line.specs.Words.{is_dashed}
 
 prefix_len-map : {X Y : Type 0} (p : Y → Bool) (f : X → Y) (xs : List X) → prefix_len p (map f xs) ≡ prefix_len (λ x. p (f x)) xs
@@ -33,3 +35,12 @@ options_shown f words n is =
     is ∙ (sym (length-map (take_while (λ word. not (is_dashed (f word))) words) f) ∙ ap length (sym (take_while-map (λ word. not (is_dashed word)) f words)))
     in
     sym (drop-map f n words) ∙ ap (λ m. drop m (map f words)) same
+
+-- a debugger's session has three arguments
+pub not_three : (words : List (List ℕ)) (said : SettingsValue) → (length words < 3) ⊎ (4 ≤ length words) → None ≡ built Debug words said
+not_three [] said other = refl
+not_three (a ∷ []) said other = refl
+not_three (a ∷ b ∷ []) said other = refl
+not_three (a ∷ b ∷ c ∷ []) said (inl few) = absurd (omega arith)
+not_three (a ∷ b ∷ c ∷ []) said (inr many) = absurd (omega arith)
+not_three (a ∷ b ∷ c ∷ d ∷ more) said other = refl

@@ -1,8 +1,8 @@
 -- How the words of a command line are read. This project's own profile.
 use Rattle.std.specs.Prelude.{ℕ, not, List, [], ◌∷◌, drop, length, take_while, Option, None, option_and_then, option_map}
 use Rattle.command_line.specs.declared.verb.Verb.{Verb}
-use Rattle.command_line.specs.declared.verb.Verb.TheVariants.{Run, Asm, Show}
-use Rattle.command_line.specs.CommandValue.{CommandValue, asm_of, run_of, show_of}
+use Rattle.command_line.specs.declared.verb.Verb.TheVariants.{Run, Asm, Debug, Show}
+use Rattle.command_line.specs.CommandValue.{CommandValue, asm_of, debug_of, run_of, show_of}
 use Rattle.command_line.specs.Settings.{settings_of}
 use Rattle.command_line.specs.SettingsValue.{SettingsValue}
 use Rattle.command_line.specs.Words.{is_dashed, name_of, verb_of}
@@ -21,6 +21,8 @@ built Run (image ∷ tape ∷ []) said =
     option_and_then (λ i. option_map (λ t. run_of (record { image = i; tape = t; settings = said })) (name_of tape)) (name_of image)
 built Asm (processor ∷ generator ∷ image ∷ []) said =
     option_and_then (λ p. option_and_then (λ g. option_map (λ i. asm_of (record { processor = p; generator = g; image = i })) (name_of image)) (name_of generator)) (name_of processor)
+built Debug (image ∷ tape ∷ script ∷ []) said =
+    option_and_then (λ i. option_and_then (λ t. option_map (λ s. debug_of (record { run = record { image = i; tape = t; settings = said }; script = s })) (name_of script)) (name_of tape)) (name_of image)
 built Show (state ∷ []) said = option_map show_of (name_of state)
 built _ _ said = None
 

@@ -14,8 +14,14 @@ pub record AsmValue : Type 0 where
   pub generator : List ℕ
   pub image : List ℕ
 
--- a run, two sources to assemble, or the name of the state to show
+-- the files of a debugger's session are those of a run, and its script
+pub record DebugValue : Type 0 where
+  pub run : RunValue
+  pub script : List ℕ
+
+-- a run, two sources to assemble, a debugger's session, or the name of the state to show
 pub data CommandValue : Type 0 where
   run_of : RunValue → CommandValue
   asm_of : AsmValue → CommandValue
+  debug_of : DebugValue → CommandValue
   show_of : List ℕ → CommandValue

@@ -1,10 +1,11 @@
 -- A command as a value.
 use Rattle.command_line.specs.declared.command.Command.{Command}
-use Rattle.command_line.specs.declared.command.Command.TheVariants.{Run, Asm, Show}
-use Rattle.command_line.specs.CommandValue.{CommandValue, asm_of, run_of, show_of}
+use Rattle.command_line.specs.declared.command.Command.TheVariants.{Run, Asm, Debug, Show}
+use Rattle.command_line.specs.CommandValue.{CommandValue, asm_of, debug_of, run_of, show_of}
 
 -- the words that a command holds
 abbrev pub command_value : Command → CommandValue
 command_value (Run words) = run_of words
 command_value (Asm words) = asm_of words
+command_value (Debug words) = debug_of words
 command_value (Show state) = show_of state.now

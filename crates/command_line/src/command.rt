@@ -44,6 +44,21 @@ impl<'a> Model for AsmWords<'a> {
     ghost view = { λ w. record { processor = w.processor.now; generator = w.generator.now; image = w.image.now } };
 }
 
+/// The words of a debugger's session: those of a run, whose options are fewer, and its script.
+#[derive(Drop)]
+pub struct DebugWords<'a> {
+    pub run: RunWords<'a>,
+    pub script: &'a str,
+}
+
+impl<'a> Model for DebugWords<'a> {
+    ghost use Rattle.command_line.specs.CommandValue.{DebugValue};
+
+    ghost Value = { DebugValue };
+
+    ghost view = { λ w. record { run = w.run; script = w.script.now } };
+}
+
 /// A command.
 #[derive(Drop)]
 pub enum Command<'a> {
@@ -51,6 +66,8 @@ pub enum Command<'a> {
     Run(RunWords<'a>),
     /// Assembles two sources into an image.
     Asm(AsmWords<'a>),
+    /// Debugs an image with a tape by a script.
+    Debug(DebugWords<'a>),
     /// Shows a state.
     Show(&'a str),
 }
@@ -131,6 +148,25 @@ fn read_asm<'a>(arguments: &'a [String], settings: &Settings<'a>) -> Option<Comm
     }))
 }
 
+/// A session with its arguments.
+fn read_debug<'a>(arguments: &'a [String], settings: Settings<'a>) -> Option<Command<'a>>
+    requires { AreClocks settings }
+    ensures command { option_map command_value result ≡ built Verb.Debug (map string_bytes arguments.now) settings.entry }
+    ensures clocks { IfSome result (λ command. HasClocks (command_value command)) }
+{
+    let [image, tape, script] = arguments else {
+        return None;
+    };
+    Some(Command::Debug(DebugWords {
+        run: RunWords {
+            image: read_name(image.as_str())?,
+            tape: read_name(tape.as_str())?,
+            settings,
+        },
+        script: read_name(script.as_str())?,
+    }))
+}
+
 /// A state to show, of the arguments.
 fn read_show<'a>(arguments: &'a [String], settings: &Settings<'a>) -> Option<Command<'a>>
     ensures command { option_map command_value result ≡ built Verb.Show (map string_bytes arguments.now) settings.now }
@@ -156,6 +192,7 @@ pub fn read_command<'a>(words: &'a [String]) -> Option<Command<'a>>
     match verb {
         Verb::Run => read_run(arguments, settings),
         Verb::Asm => read_asm(arguments, &settings),
+        Verb::Debug => read_debug(arguments, settings),
         Verb::Show => read_show(arguments, &settings),
     }
 }

@@ -8,8 +8,8 @@ pub mod settings;
 pub mod verb;
 mod word;
 
-pub use command::{AsmWords, Command, RunWords, read_command};
-pub use number::{CUTS, Cuts, DIGITS, read_cuts, read_number};
+pub use command::{AsmWords, Command, DebugWords, RunWords, read_command};
+pub use number::{CUTS, Cuts, DIGITS, read_cuts, read_digits, read_number};
 pub use option::Opt;
 pub use settings::Settings;
 pub use verb::{VERBS, Verb};

@@ -14,12 +14,11 @@ pub const CUTS: usize = 1000;
 /// The clocks of a run's cuts.
 pub type Cuts = ArrayVec<u64, CUTS>;
 
-/// A number of a word.
+/// A number of 1 to 15 decimal digits.
 #[tactic(auto, using(tape_ports::proofs::Digits::digits))]
-pub fn read_number(word: &str) -> Option<u64>
-    ensures { result ≡ number_of word.now }
+pub fn read_digits(digits: &[u8]) -> Option<u64>
+    ensures { result ≡ number_of digits.now }
 {
-    let digits = word.as_bytes();
     if digits.is_empty() || digits.len() > DIGITS {
         return None;
     }
@@ -34,6 +33,13 @@ pub fn read_number(word: &str) -> Option<u64>
         return None;
     }
     Some(number)
+}
+
+/// A number of a word.
+pub fn read_number(word: &str) -> Option<u64>
+    ensures { result ≡ number_of word.now }
+{
+    read_digits(word.as_bytes())
 }
 
 /// The cuts of a word.

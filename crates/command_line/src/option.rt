@@ -34,6 +34,9 @@ pub const RUN_OPTIONS: [Opt; 7] = [
 /// The options of `asm`.
 pub const ASM_OPTIONS: [Opt; 0] = [];
 
+/// The options of `debug`.
+pub const DEBUG_OPTIONS: [Opt; 3] = [Opt::State, Opt::Earom, Opt::Timers];
+
 /// The options of `show`.
 pub const SHOW_OPTIONS: [Opt; 0] = [];
 

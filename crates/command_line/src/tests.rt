@@ -3,7 +3,7 @@ use std::alloc::{AllocError, Global};
 use std::test::Fail;
 
 /// Lines whose words are no command.
-const BAD: [&str; 73] = [
+const BAD: [&str; 81] = [
     "",
     "run",
     "run a",
@@ -22,6 +22,14 @@ const BAD: [&str; 73] = [
     "asm a b",
     "asm a b c d",
     "asm a b c --cost",
+    "debug",
+    "debug a b",
+    "debug a b c d",
+    "debug a b c --cost",
+    "debug a b c --until 1",
+    "debug a b c --cuts 1",
+    "debug a b c --save s",
+    "debug a b c --timers --timers",
     "--help",
     "--version",
     "--cost run a b",
@@ -199,6 +207,22 @@ fn two_sources_are_assembled(rt: HostRuntime) -> Result<(), Fail> {
     assert_eq!(rt; asm.processor, "a");
     assert_eq!(rt; asm.generator, "-b");
     assert_eq!(rt; asm.image, "asm");
+    Ok(())
+}
+
+#[test]
+fn a_session_has_a_script_and_three_options(rt: HostRuntime) -> Result<(), Fail> {
+    let words = words(rt.alloc(), "debug a -b debug --timers --state s --earom e")?;
+    let Some(Command::Debug(session)) = read_command(words.as_slice()) else {
+        return Err("no session".into());
+    };
+    assert_eq!(rt; session.run.image, "a");
+    assert_eq!(rt; session.run.tape, "-b");
+    assert_eq!(rt; session.script, "debug");
+    let settings = session.run.settings;
+    assert_eq!(rt; settings.state, Some("s"));
+    assert_eq!(rt; settings.earom, Some("e"));
+    assert!(rt; settings.timers);
     Ok(())
 }
 

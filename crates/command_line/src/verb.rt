@@ -1,7 +1,7 @@
 ghost use Rattle.std.specs.Prelude.{◌≡◌};
 ghost use Rattle.command_line.specs.Words.{option_of, options_of, verb_of, verb_word};
 
-use crate::option::{ASM_OPTIONS, Opt, RUN_OPTIONS, SHOW_OPTIONS};
+use crate::option::{ASM_OPTIONS, DEBUG_OPTIONS, Opt, RUN_OPTIONS, SHOW_OPTIONS};
 
 /// What a command does.
 #[derive(Clone, Copy, Debug, PartialEq, Eq)]
@@ -10,12 +10,14 @@ pub enum Verb {
     Run,
     /// Assembles two sources into an image.
     Asm,
+    /// Debugs an image with a tape by a script.
+    Debug,
     /// Shows a state.
     Show,
 }
 
 /// Each command.
-pub const VERBS: [Verb; 3] = [Verb::Run, Verb::Asm, Verb::Show];
+pub const VERBS: [Verb; 4] = [Verb::Run, Verb::Asm, Verb::Debug, Verb::Show];
 
 impl Verb {
     /// The word of the command.
@@ -25,6 +27,7 @@ impl Verb {
         match self {
             Verb::Run => "run",
             Verb::Asm => "asm",
+            Verb::Debug => "debug",
             Verb::Show => "show",
         }
     }
@@ -36,6 +39,7 @@ impl Verb {
         match self {
             Verb::Run => &RUN_OPTIONS,
             Verb::Asm => &ASM_OPTIONS,
+            Verb::Debug => &DEBUG_OPTIONS,
             Verb::Show => &SHOW_OPTIONS,
         }
     }

@@ -1,16 +1,26 @@
 -- Laws of the answers of a command.
-use Rattle.std.proofs.Common.{◌≡◌, ◌≢◌, ℕ, ◌*◌, List, [], ◌∷◌, length, take, Option, Some, None, Result, Ok, Err, IfSome, IfOk, Contains, refl, sym, ap, ◌∙◌, subst, arith}
+use Rattle.std.proofs.Common.{◌≡◌, ◌≢◌, ℕ, ◌*◌, ◌≤◌, Bool, false, nat_lt, List, [], ◌∷◌, length, take, Option, Some, None, Result, Ok, Err, IfSome, IfOk, Contains, refl, sym, ap, ◌∙◌, subst, arith}
 use Rattle.std.proofs.Math.Seq.{take-length}
 use Rattle.board_base.specs.Board.{BoardValue}
 use Rattle.board_base.specs.Cpu.{CpuValue}
+use Rattle.save_state.specs.declared.fault.StateFault.{StateFault}
 use Rattle.command_line.specs.CommandLine.{command_of}
-use Rattle.command_line.specs.CommandValue.{AsmValue, CommandValue, RunValue, asm_of, run_of, show_of}
+use Rattle.command_line.specs.CommandValue.{AsmValue, CommandValue, DebugValue, RunValue, asm_of, debug_of, run_of, show_of}
 use Rattle.command_line.specs.SettingsValue.{SettingsValue}
 use Rattle.outside_io.specs.Causes.{HasCause}
 use Rattle.outside_io.specs.Known.{grown}
 use Rattle.outside_io.specs.Shelf.{Files, Kept}
 use Rattle.outside_io.specs.Sink.{Takes}
 use Rattle.outside_io.proofs.KnownLaws.{grown-nothing}
+use Rattle.std.proofs.lemmas.Bool.Decides.{nat_tests}
+use Rattle.board_debug.specs.Session.{session_text}
+use Rattle.debug_script.specs.declared.command.Command.{Command}
+use Rattle.debug_script.specs.declared.fault.ScriptFault.TheVariants as script
+use Rattle.debug_script.specs.declared.script.TheConstants.{SCRIPT_LIMIT}
+use Rattle.debug_script.specs.Script.{script_of}
+use Rattle.debug_script.specs.Stops.{no_stops}
+use Rattle.gravitar_program.specs.declared.cause.Cause.TheVariants.{Script}
+use Rattle.gravitar_program.specs.Causes.{cause_text}
 use Rattle.catchup_engine.specs.EngineValue.{cleared, counted_on}
 use Rattle.catchup_engine.specs.Lockstep.{Board}
 use Rattle.gravitar_program.specs.declared.assembled.Assembled.{Assembled}
@@ -21,10 +31,10 @@ use Rattle.gravitar_program.specs.declared.stop.Stop.{Stop}
 use Rattle.gravitar_program.specs.declared.stop.Stop.TheVariants.{Bad, Absent, Outside, NoMemory}
 use Rattle.gravitar_program.specs.Events.{Did, sending, text_of, stores_of}
 use Rattle.gravitar_program.specs.LastLine.{ending_by, status_of_ending}
-use Rattle.gravitar_program.specs.Outcome.{Comes, ComesOf, asm_files, asm_outcome, CommandComes, FitsRun, ForReading, Outcome, command_outcome, fault_text, finished, first_board, limit_of, memory_text, refused, run_files, run_outcome, show_outcome, state_file, usage_text, wanted_by}
+use Rattle.gravitar_program.specs.Outcome.{Comes, ComesOf, asm_files, asm_outcome, CommandComes, FitsRun, ForReading, Outcome, and_then, command_outcome, debug_files, debug_outcome, fault_text, finished, first_board, limit_of, memory_text, refused, read_as, run_files, run_outcome, script_file, script_read, show_outcome, state_file, usage_text, wanted_by, note_text}
 use Rattle.gravitar_program.specs.Slices.{FitsCalls, StopsIn, Wanted, last_board, run_events, storing}
 use Rattle.gravitar_program.specs.Sources.{both_listings}
-use Rattle.gravitar_program.specs.Stages.{status_of, note_of, Ends, Noted, Refuses, RunComes, StopEnds, StopQuiet}
+use Rattle.gravitar_program.specs.Stages.{status_of, note_of, Ends, IsBadOrMemory, Noted, Refuses, RunComes, StageAbsences, StopEnds, StopQuiet, session_outcome}
 use Rattle.gravitar_program.proofs.CutLaws.{fits-least}
 use Rattle.gravitar_program.proofs.EventLaws.{did-first-of, did-first-sending, did-nothing, did-sending, did-storing, did-then, did-then-first}
 
@@ -249,6 +259,158 @@ module _ (told : Option Files) (words : AsmValue) (made : Assembled) (good : IfS
       asm-comes told words made (λ outcome. StopEnds outcome out0 out1 stores0 stores1 Outside) good
       (did-first-of (sending (both_listings made)) (storing (Some words.image) made.image) out0 out1 stores0 stores1
       (did-first-sending (both_listings made) out0 out1 stores0 stores1 (cut.0, cut.1 ∙ ap (λ t. grown out0 (take cut.0 t)) listed) idle))
+
+-- a stage that knows no count of absences leaves the one before it
+pub absences-on : (before now : ℕ) (result : Result Ending Stop) → ((n : ℕ) → StageAbsences n n result) → before ≤ now → StageAbsences before now result
+absences-on before now (Ok ending) knows later = later
+absences-on before now (Err (Bad note)) knows later = later
+absences-on before now (Err (Absent note)) knows later = let none = (knows 0).rose in absurd (omega arith)
+absences-on before now (Err Outside) knows later = later
+absences-on before now (Err NoMemory) knows later = later
+
+-- a session whose files couldn't be had
+refused-first : {A B : Type 0} (given : Result A Outcome) (next : A → Result B Outcome) (stop : Stop) → Refuses given stop → Refuses (and_then given next) stop
+refused-first given next (Bad note) refuses = ap (λ r. and_then r next) refuses
+refused-first given next (Absent note) refuses = ap (λ r. and_then r next) refuses
+refused-first given next Outside refuses = tt
+refused-first given next NoMemory refuses = tt
+
+refused-then : {A B : Type 0} (given : Result A Outcome) (a : A) (next : A → Result B Outcome) (stop : Stop) → given ≡ Ok a → Refuses (next a) stop
+    → Refuses (and_then given next) stop
+refused-then given a next (Bad note) is refuses = ap (λ r. and_then r next) is ∙ refuses
+refused-then given a next (Absent note) is refuses = ap (λ r. and_then r next) is ∙ refuses
+refused-then given a next Outside is refuses = tt
+refused-then given a next NoMemory is refuses = tt
+
+debug-refused : (told : Option Files) (words : DebugValue) (stop : Stop) (out0 out1 : Option (List ℕ)) (stores0 stores1 : Option (List Kept))
+    → IfSome told (λ files. ForReading words.run.settings.state files (λ reading. Refuses (debug_files files words reading) stop)) → out1 ≡ out0
+    → stores1 ≡ stores0
+    → IfSome told (λ files. ForReading words.run.settings.state files (λ reading.
+    CommandComes (debug_of words) files reading (λ outcome. StopEnds outcome out0 out1 stores0 stores1 stop)))
+unfolding command_outcome
+debug-refused None words stop out0 out1 stores0 stores1 refuses took same = tt
+debug-refused (Some files) words stop out0 out1 stores0 stores1 refuses took same = λ reading is. record {
+  calls = 0;
+  fits = tt;
+  of_outcome =
+      stop-ends (debug_files files words reading) (λ session. debug_outcome words.run.settings.timers session.0 session.1) stop out0 out1 stores0 stores1
+      (refuses reading is) took same;
+}
+
+pub debug-stopped : (told : Option Files) (words : DebugValue) (run : RunValue) (stop : Stop) (out0 out1 : Option (List ℕ)) (stores0 stores1 : Option (List Kept))
+    → run ≡ words.run
+    → IfSome told (λ files. ForReading run.settings.state files (λ reading. Refuses (run_files files run reading) stop)) → out1 ≡ out0 → stores1 ≡ stores0
+    → IfSome told (λ files. ForReading words.run.settings.state files (λ reading.
+    CommandComes (debug_of words) files reading (λ outcome. StopEnds outcome out0 out1 stores0 stores1 stop)))
+unfolding debug_files
+debug-stopped told words run stop out0 out1 stores0 stores1 same refuses took kept =
+    debug-refused told words stop out0 out1 stores0 stores1 (by_told told (rw (← same) refuses)) took kept
+  where
+    first : (files : Files) (reading : Result BoardValue StateFault) → Refuses (run_files files words.run reading) stop → Refuses (debug_files files words reading) stop
+    first files reading r = refused-first (run_files files words.run reading) _ stop r
+
+    by_told : (told : Option Files) → IfSome told (λ files. ForReading words.run.settings.state files (λ reading. Refuses (run_files files words.run reading) stop))
+        → IfSome told (λ files. ForReading words.run.settings.state files (λ reading. Refuses (debug_files files words reading) stop))
+    by_told None r = tt
+    by_told (Some files) r = λ reading is. first files reading (r reading is)
+
+-- a session whose script couldn't be had
+pub debug-unread : (told again : Option Files) (words : DebugValue) (run : RunValue) (name : List ℕ) (parts : Parts) (stop : Stop) (out0 out1 : Option (List ℕ))
+    (stores0 stores1 : Option (List Kept)) → run ≡ words.run → name ≡ words.script → again ≡ told
+    → IfSome told (λ files. ForReading run.settings.state files (λ reading. run_files files run reading ≡ Ok parts))
+    → IfSome again (λ files. Refuses (script_file files name) stop) → out1 ≡ out0 → stores1 ≡ stores0
+    → IfSome told (λ files. ForReading words.run.settings.state files (λ reading.
+    CommandComes (debug_of words) files reading (λ outcome. StopEnds outcome out0 out1 stores0 stores1 stop)))
+unfolding debug_files
+debug-unread told again words run name parts stop out0 out1 stores0 stores1 same named kept good refuses took held =
+    debug-refused told words stop out0 out1 stores0 stores1 (by_told told (rw (← same) good) (rw (← kept, ← named) refuses)) took held
+  where
+    then_ : (files : Files) (reading : Result BoardValue StateFault) → run_files files words.run reading ≡ Ok parts → Refuses (script_file files words.script) stop
+        → Refuses (debug_files files words reading) stop
+    then_ files reading g r =
+        refused-then (run_files files words.run reading) parts _ stop g (refused-first (script_file files words.script) (λ commands. Ok (parts, commands)) stop r)
+
+    by_told : (told : Option Files) → IfSome told (λ files. ForReading words.run.settings.state files (λ reading. run_files files words.run reading ≡ Ok parts))
+        → IfSome told (λ files. Refuses (script_file files words.script) stop)
+        → IfSome told (λ files. ForReading words.run.settings.state files (λ reading. Refuses (debug_files files words reading) stop))
+    by_told None g r = tt
+    by_told (Some files) g r = λ reading is. then_ files reading (g reading is) r
+
+finished-session : (wired : Bool) (parts : Parts) (read : Result (List Command) Outcome)
+    → finished {A = Parts × List Command} (and_then read (λ commands. Ok (parts, commands))) (λ session. debug_outcome wired session.0 session.1)
+    ≡ finished read (debug_outcome wired parts)
+finished-session wired parts (Ok commands) = refl
+finished-session wired parts (Err refusal) = refl
+
+session-outcome : (files : Files) (reading : Result BoardValue StateFault) (words : DebugValue) (bytes : List ℕ) (parts : Parts)
+    → run_files files words.run reading ≡ Ok parts → script_file files words.script ≡ read_as words.script (script_read bytes)
+    → command_outcome (debug_of words) files reading 0 ≡ session_outcome words.run.settings.timers words.script parts bytes
+unfolding command_outcome debug_files
+session-outcome files reading words bytes parts good read =
+    rw good (rw read (finished-session words.run.settings.timers parts (read_as words.script (script_read bytes))))
+
+-- a session whose files are there
+session-told : (told : Option Files) (words : DebugValue) (bytes : List ℕ) (parts : Parts) (holds : Outcome → Type 0)
+    → IfSome told (λ files. ForReading words.run.settings.state files (λ reading. run_files files words.run reading ≡ Ok parts))
+    → IfSome told (λ files. script_file files words.script ≡ read_as words.script (script_read bytes))
+    → holds (session_outcome words.run.settings.timers words.script parts bytes)
+    → IfSome told (λ files. ForReading words.run.settings.state files (λ reading. CommandComes (debug_of words) files reading holds))
+session-told None words bytes parts holds good read comes = tt
+session-told (Some files) words bytes parts holds good read comes = λ reading is. record {
+  calls = 0;
+  fits = tt;
+  of_outcome = subst holds (sym (session-outcome files reading words bytes parts (good reading is) read)) comes;
+}
+
+pub debug-comes : (told again : Option Files) (words : DebugValue) (wired : Bool) (run : RunValue) (name bytes : List ℕ) (parts : Parts) (holds : Outcome → Type 0)
+    → wired ≡ words.run.settings.timers → run ≡ words.run → name ≡ words.script → again ≡ told
+    → IfSome told (λ files. ForReading run.settings.state files (λ reading. run_files files run reading ≡ Ok parts))
+    → IfSome again (λ files. script_file files name ≡ read_as name (script_read bytes))
+    → holds (session_outcome wired name parts bytes)
+    → IfSome told (λ files. ForReading words.run.settings.state files (λ reading. CommandComes (debug_of words) files reading holds))
+debug-comes told again words wired run name bytes parts holds asked same named kept good read comes =
+    session-told told words bytes parts holds (rw (← same) good) (rw (← kept, ← named) read) (rw (← asked, ← named) comes)
+
+script-good : (bytes : List ℕ) (commands : List Command) → length bytes ≤ SCRIPT_LIMIT → script_of bytes ≡ Ok commands → script_read bytes ≡ Ok commands
+unfolding script_read
+script-good bytes commands short is =
+    let fits : nat_lt SCRIPT_LIMIT (length bytes) ≡ false = grind (arith, nat_tests) in
+    rw (fits, is) refl
+
+script-bad : (bytes : List ℕ) (number : ℕ) → length bytes ≤ SCRIPT_LIMIT → script_of bytes ≡ Err number
+    → script_read bytes ≡ Err (Script (script.BadCommand number))
+unfolding script_read
+script-bad bytes number short is =
+    let fits : nat_lt SCRIPT_LIMIT (length bytes) ≡ false = grind (arith, nat_tests) in
+    rw (fits, is) refl
+
+-- what a session comes to, over the engine that was made for its parts
+module _ (wired : Bool) (name bytes : List ℕ) (parts : Parts) (out0 out1 : Option (List ℕ)) (short : length bytes ≤ SCRIPT_LIMIT) where
+  pub session-done : (commands : List Command) (first : Board) → first ≡ first_board wired parts → script_of bytes ≡ Ok commands
+      → out1 ≡ grown out0 (session_text parts.tape no_stops commands first) → (stores : Option (List Kept))
+      → Ends (session_outcome wired name parts bytes) out0 out1 stores stores (Ok Done)
+  unfolding debug_outcome
+  session-done commands first made is took stores =
+      rw (script-good bytes commands short is) (
+        refl,
+        refl,
+        did-sending _ out0 out1 stores stores (rw (← made) took) refl,
+      )
+
+  pub session-cut : (commands : List Command) (first : Board) → first ≡ first_board wired parts → script_of bytes ≡ Ok commands
+      → (k : ℕ) × (out1 ≡ grown out0 (take k (session_text parts.tape no_stops commands first))) → (stores : Option (List Kept))
+      → StopEnds (session_outcome wired name parts bytes) out0 out1 stores stores Outside
+  unfolding debug_outcome
+  session-cut commands first made is cut stores =
+      rw (script-good bytes commands short is) (did-first-sending _ out0 out1 stores stores (rw (← made) cut) refl)
+
+  pub session-bad : (number : ℕ) (stop : Stop) → script_of bytes ≡ Err number
+      → IsBadOrMemory (note_text name (cause_text (Script (script.BadCommand number)))) stop → (stores : Option (List Kept))
+      → StopEnds (session_outcome wired name parts bytes) out0 out1 stores stores stop
+  session-bad number (Bad note) is noted stores = rw (script-bad bytes number short is) (ap (refused 4) (sym noted))
+  session-bad number (Absent note) is noted stores = absurd noted
+  session-bad number Outside is noted stores = absurd noted
+  session-bad number NoMemory is noted stores = tt
 
 -- a state that couldn't be had
 pub show-stopped : (told : Option Files) (name : List ℕ) (stop : Stop) (out0 out1 : Option (List ℕ)) (stores0 stores1 : Option (List Kept))

@@ -14,8 +14,14 @@ use Rattle.save_state.specs.declared.fault.StateFault.{StateFault}
 use Rattle.save_state.specs.Reading.{ReadsState}
 use Rattle.board_base.specs.Board.{BoardValue, board_at_power_on}
 use Rattle.board_debug.specs.BoardText.{board_text}
+use Rattle.board_debug.specs.Session.{session_text}
+use Rattle.debug_script.specs.declared.command.Command.{Command}
+use Rattle.debug_script.specs.declared.fault.ScriptFault.TheVariants as script
+use Rattle.debug_script.specs.declared.script.TheConstants.{SCRIPT_LIMIT}
+use Rattle.debug_script.specs.Script.{script_of}
+use Rattle.debug_script.specs.Stops.{no_stops}
 use Rattle.command_line.specs.CommandLine.{command_of}
-use Rattle.command_line.specs.CommandValue.{AsmValue, CommandValue, RunValue, asm_of, run_of, show_of}
+use Rattle.command_line.specs.CommandValue.{AsmValue, CommandValue, DebugValue, RunValue, asm_of, debug_of, run_of, show_of}
 use Rattle.command_line.specs.SettingsValue.{SettingsValue}
 use Rattle.outside_io.specs.Shelf.{Files}
 use Rattle.catchup_engine.specs.Wires.{wires_of}
@@ -26,7 +32,7 @@ use Rattle.gravitar_program.specs.declared.assembled.Language.{Language}
 use Rattle.gravitar_program.specs.declared.assembled.Language.TheVariants.{Processor, Generator}
 use Rattle.gravitar_program.specs.declared.parts.Parts.{Parts}
 use Rattle.gravitar_program.specs.declared.cause.Cause.{Cause}
-use Rattle.gravitar_program.specs.declared.cause.Cause.TheVariants.{Absent, Image, Tape, State, Cells}
+use Rattle.gravitar_program.specs.declared.cause.Cause.TheVariants.{Absent, Image, Tape, State, Cells, Script}
 use Rattle.gravitar_program.specs.Causes.{cause_text}
 use Rattle.gravitar_program.specs.Events.{Event, sending}
 use Rattle.gravitar_program.specs.LastLine.{ending_by, status_of_ending}
@@ -142,6 +148,22 @@ asm_files files asm =
     and_then (source_file Generator files asm.generator first.0) (λ second.
     Ok (record { image = second.0; processor = first.1; generator = second.1 })))
 
+-- the commands of a script, or the cause of its refusal
+abbrev pub script_or_cause : Result (List Command) ℕ → Result (List Command) Cause
+script_or_cause (Ok commands) = Ok commands
+script_or_cause (Err number) = Err (Script (script.BadCommand number))
+
+unfoldable pub script_read : List ℕ → Result (List Command) Cause
+script_read bytes = if nat_lt SCRIPT_LIMIT (length bytes) then Err (Script script.TooLong) else script_or_cause (script_of bytes)
+
+unfoldable pub script_file : Files → List ℕ → Result (List Command) Outcome
+script_file files name = and_then (first_bytes name SCRIPT_LIMIT (files name)) (λ bytes. read_as name (script_read bytes))
+
+-- the files of a debugger's session: those of a run, and then its script
+unfoldable pub debug_files : Files → DebugValue → Result BoardValue StateFault → Result (Parts × List Command) Outcome
+debug_files files debug reading =
+    and_then (run_files files debug.run reading) (λ parts. and_then (script_file files debug.script) (λ commands. Ok (parts, commands)))
+
 -- the board that a run begins with: with `--timers` the POKEYs are wired to the interrupt line
 abbrev pub first_board : Bool → Parts → Board
 first_board wired parts = record { cpu = parts.board.cpu; wires = wires_of parts.image wired parts.board }
@@ -174,6 +196,11 @@ run_outcome said parts calls =
 abbrev pub show_outcome : BoardValue → Outcome
 show_outcome board = record { status = 0; note = []; events = sending (board_text board) }
 
+-- what the commands of a script print
+unfoldable pub debug_outcome : Bool → Parts → List Command → Outcome
+debug_outcome wired parts commands =
+    record { status = 0; note = []; events = sending (session_text parts.tape no_stops commands (first_board wired parts)) }
+
 -- both listings, and then the image, stored under its name
 unfoldable pub asm_outcome : List ℕ → Assembled → Outcome
 asm_outcome name made = record { status = 0; note = []; events = sending (both_listings made) ++ storing (Some name) made.image }
@@ -188,12 +215,15 @@ unfoldable pub command_outcome : CommandValue → Files → Result BoardValue St
 command_outcome (run_of run) files reading calls =
     finished (run_files files run reading) (λ parts. run_outcome run.settings parts calls)
 command_outcome (asm_of asm) files reading calls = finished (asm_files files asm) (asm_outcome asm.image)
+command_outcome (debug_of debug) files reading calls =
+    finished (debug_files files debug reading) (λ session. debug_outcome debug.run.settings.timers session.0 session.1)
 command_outcome (show_of name) files reading calls = finished (state_file files name reading) show_outcome
 
 -- the name of a command's state file
 abbrev pub state_name : CommandValue → Option (List ℕ)
 state_name (run_of run) = run.settings.state
 state_name (asm_of asm) = None
+state_name (debug_of debug) = debug.run.settings.state
 state_name (show_of name) = Some name
 
 -- the reading is that of the state file's bytes, where there are any
@@ -209,6 +239,7 @@ FitsRun said parts calls =
 abbrev pub IsNumber : CommandValue → Files → Result BoardValue StateFault → ℕ → Type 0
 IsNumber (run_of run) files reading calls = IfOk (run_files files run reading) (λ parts. FitsRun run.settings parts calls)
 IsNumber (asm_of asm) files reading calls = Unit {0}
+IsNumber (debug_of debug) files reading calls = Unit {0}
 IsNumber (show_of name) files reading calls = Unit {0}
 
 -- this holds of the outcome of a command. Words and files fix it but for the number of device calls, which is one that fits.

@@ -1,8 +1,8 @@
 -- What the stages of a command promise.
-use Rattle.std.specs.Prelude.{◌≡◌, ℕ, ◌≤◌, List, [], Option, Result, Ok, Err, take, string_bytes, ◌⊎◌}
+use Rattle.std.specs.Prelude.{◌≡◌, ℕ, ◌≤◌, Bool, List, [], Option, Result, Ok, Err, take, string_bytes, ◌⊎◌}
 use Rattle.outside_io.specs.Causes.{Rose, Raised}
 use Rattle.outside_io.specs.Known.{grown}
-use Rattle.outside_io.specs.Shelf.{Kept}
+use Rattle.outside_io.specs.Shelf.{Files, Kept}
 use Rattle.command_line.specs.SettingsValue.{SettingsValue}
 use Rattle.gravitar_program.specs.declared.parts.Parts.{Parts}
 use Rattle.gravitar_program.specs.declared.stop.Stop.{Stop}
@@ -12,7 +12,7 @@ use Rattle.gravitar_program.specs.declared.stop.OutsideFault.{OutsideFault}
 use Rattle.gravitar_program.specs.declared.stop.OutsideFault.TheVariants.{Shelf, Out}
 use Rattle.gravitar_program.specs.Events.{Did, DidFirst}
 use Rattle.gravitar_program.specs.LastLine.{status_of_ending}
-use Rattle.gravitar_program.specs.Outcome.{Outcome, FitsRun, refused, run_outcome, fault_text, memory_text}
+use Rattle.gravitar_program.specs.Outcome.{Outcome, FitsRun, debug_outcome, fault_text, finished, memory_text, read_as, refused, run_outcome, script_file, script_read}
 
 -- the status of a command that stopped
 abbrev pub status_of : Stop → ℕ
@@ -37,6 +37,15 @@ Refuses defined stop = defined ≡ Err (refused (status_of stop) (note_of stop))
 abbrev pub Gives : {A B : Type 0} → (A → B) → Result B Outcome → Result A Stop → Type 0
 Gives view defined (Ok a) = defined ≡ Ok (view a)
 Gives view defined (Err stop) = Refuses defined stop
+
+-- a script's bytes, which are still to be read, or what stopped them
+abbrev pub GivesScript : {V : Type 0} → (V → List ℕ) → Files → List ℕ → Result V Stop → Type 0
+GivesScript view files name (Ok bytes) = script_file files name ≡ read_as name (script_read (view bytes))
+GivesScript view files name (Err stop) = Refuses (script_file files name) stop
+
+-- what a script's bytes come to in a session
+abbrev pub session_outcome : Bool → List ℕ → Parts → List ℕ → Outcome
+session_outcome wired name parts bytes = finished (read_as name (script_read bytes)) (debug_outcome wired parts)
 
 -- only an outside fault has raised the count, and it always has
 abbrev pub StopFaults : ℕ → ℕ → Stop → Type 0

@@ -1,4 +1,5 @@
 use asm_text::AsmFault;
+use debug_script::ScriptFault;
 use rom_image::ImageFault;
 use save_state::StateFault;
 use tape_ports::TapeFault;
@@ -16,4 +17,5 @@ pub enum Cause {
     State(StateFault),
     Cells(usize),
     Source(AsmFault),
+    Script(ScriptFault),
 }

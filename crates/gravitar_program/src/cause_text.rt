@@ -15,6 +15,7 @@ impl fmt::Display for Cause {
             Cause::State(fault) => write!(f, "{fault}"),
             Cause::Cells(n) => write!(f, "length {n}"),
             Cause::Source(fault) => write!(f, "{fault}"),
+            Cause::Script(fault) => write!(f, "{fault}"),
         }
     }
 }

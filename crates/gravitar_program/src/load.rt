@@ -267,6 +267,7 @@ pub fn load_run<S: Shelf>(alloc: Global, words: &RunWords<'_>, shelf: &mut S) ->
     ensures content { IfSome (S.files shelf.old) (λ files. ForReading words.now.settings.state files
         (λ reading. Gives (λ parts. parts) (run_files files words.now reading) result)) }
     ensures place { IfOk result (λ parts. IsProcessor parts.board.cpu) }
+    ensures files { S.files shelf.new ≡ S.files shelf.old }
     ensures stores { S.stores shelf.new ≡ S.stores shelf.old }
     ensures faults { StageFaults (S.faults shelf.old) (S.faults shelf.new) result }
     ensures absences { StageAbsences (S.absences shelf.old) (S.absences shelf.new) result }

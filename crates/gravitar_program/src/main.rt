@@ -7,12 +7,16 @@ mod asm_tests;
 mod assembled;
 mod assembling;
 mod board_bytes;
+mod board_devices;
 mod cause;
 mod cause_text;
 #[cfg(test)]
 mod cost_tests;
 #[cfg(test)]
 mod cut_tests;
+#[cfg(test)]
+mod debug_tests;
+mod debugging;
 #[cfg(test)]
 mod fault_tests;
 #[cfg(test)]

@@ -11,38 +11,23 @@ ghost use Rattle.gravitar_program.specs.Stages.{Ends, EndFaults, IsQuiet, Noted,
 
 use crate::answer::{ending_status, note, status};
 use crate::assembling::perform_asm;
+use crate::board_devices::devices;
+use crate::debugging::perform_debug;
 use crate::load::{load_run, load_state};
 use crate::parts::Parts;
 use crate::slices::run_slices;
 use crate::stop::{Ending, Stop};
 use crate::words::Words;
-use avg_device::FastVg;
 use board_base::CpuState;
 use board_debug::write_board;
-use catchup_engine::{Devices, Engine};
+use catchup_engine::Engine;
 use command_line::{Command, RunWords, Settings};
-use earom_cells::Earom;
-use irq_watchdog::Divider;
 use outside_io::{Shelf, Sink};
-use pokey_chip::FastPokey;
 use std::alloc::Global;
 
 /// The note on words of no form.
 pub const USAGE: &[u8] =
     b"gravitar: usage: run IMAGE TAPE, asm CPUSRC VGSRC OUT, debug IMAGE TAPE SCRIPT, show STATE, soak SEED\n";
-
-/// The devices of a board.
-fn devices() -> Devices<FastVg, FastPokey, Earom, Divider>
-    ensures { result.vector.calls + result.sound1.calls + result.sound2.calls + result.cells.calls + result.divider.calls ≡ 0 }
-{
-    Devices {
-        vector: FastVg::new(),
-        sound1: FastPokey::new(),
-        sound2: FastPokey::new(),
-        cells: Earom::new(),
-        divider: Divider::new(),
-    }
-}
 
 /// The clock that a run ends at: the tape's END, or that of `--until` where it is smaller.
 fn run_limit(until: Option<u64>, end: u64) -> u64
@@ -164,6 +149,7 @@ fn perform<S: Shelf, O: Sink>(
     match command {
         Command::Run(words) => perform_run(alloc, words, shelf, out),
         Command::Asm(words) => perform_asm(alloc, words, shelf, out),
+        Command::Debug(words) => perform_debug(alloc, words, shelf, out),
         Command::Show(name) => perform_show(alloc, name, shelf, out),
     }
 }

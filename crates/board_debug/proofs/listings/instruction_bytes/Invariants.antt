@@ -1,0 +1,12 @@
+use Rattle.std.proofs.Common.{◌≡◌, ◌-◌, ◌++◌, length}
+use Rattle.debug_lines.specs.Bytes.{further}
+use Rattle.debug_lines.specs.Instructions.{readable}
+use Rattle.board_debug.specs.Session.{seen_in}
+use Rattle.board_debug.proofs.listings.instruction_bytes.Given as goal
+
+abbrev pub invariant-loop-i : goal.invariant-loop-i
+invariant-loop-i g l = record {
+  items : readable (seen_in l.fn.engine.board) l.fn.address 3
+      ≡ l.bytes.items ++ readable (seen_in l.fn.engine.board) (further l.fn.address l.i) (3 - l.i);
+  len : length l.bytes.items ≡ l.i;
+}

@@ -1,0 +1,75 @@
+-- What a debugger looks at, and how it tells what it found. This project's own profile.
+use Rattle.std.specs.Prelude.{◌≡◌, ℕ, ◌==◌, Bool, not, ◌&&◌, List, [], ◌∷◌, ◌++◌, find, map, codes, decimal, nat_le, unwrap_or, Option, Some, None, if◌then◌else◌}
+use Rattle.std.specs.Option.{option_map}
+use Rattle.log_text.specs.Lines.{line, hex_byte, hex_word}
+use Rattle.catchup_engine.specs.Lockstep.{Board}
+use Rattle.catchup_engine.specs.Memory.{memory_byte}
+use Rattle.debug_script.specs.Stops.{StopsValue}
+use Rattle.board_debug.specs.declared.found.Found.{Found}
+use Rattle.board_debug.specs.declared.looks.Before.{Before}
+use Rattle.board_debug.specs.declared.found.Found.TheVariants.{Jam, End, Break, Watch, Vg, Step, Until}
+
+-- the first of some looks that found something
+abbrev pub first_of : List (Option Found) → Option Found
+first_of [] = None
+first_of (None ∷ looks) = first_of looks
+first_of (Some found ∷ looks) = Some found
+
+-- a jammed board
+abbrev pub jam_look : Board → Option Found
+jam_look b = option_map Jam b.cpu.jam
+
+-- a clock at the tape's END or after it
+abbrev pub end_look : ℕ → Board → Option Found
+end_look end b = if nat_le end b.wires.clock then Some End else None
+
+-- pc at one of these addresses
+abbrev pub break_look : List ℕ → Board → Option Found
+break_look breaks b = option_map Break (find (λ address. address == b.cpu.pc) breaks)
+
+-- the byte at an address of the RAM or of the vector RAM
+abbrev pub watched_byte : Board → ℕ → ℕ
+watched_byte b address = unwrap_or (memory_byte address b.wires) 0
+
+-- one of these bytes has changed since the boundary before
+abbrev pub watch_look : List ℕ → Board → Board → Option Found
+watch_look watches before b = option_map Watch (find (λ address. not (watched_byte before address == watched_byte b address)) watches)
+
+-- the generator is halted, and wasn't at the boundary before
+abbrev pub vg_look : Bool → Board → Board → Option Found
+vg_look asked before b = if asked && (b.wires.vg.halted && not before.wires.vg.halted) then Some Vg else None
+
+-- a clock at this one or after it
+abbrev pub until_look : ℕ → Board → Option Found
+until_look clock b = if nat_le clock b.wires.clock then Some Until else None
+
+-- before each turn: a jam, and then the tape's END
+abbrev pub look_before : ℕ → Board → Option Found
+look_before end b = first_of (jam_look b ∷ end_look end b ∷ [])
+
+-- and of `until`, whether its clock has come
+abbrev pub look_until : ℕ → ℕ → Board → Option Found
+look_until end clock b = first_of (jam_look b ∷ end_look end b ∷ until_look clock b ∷ [])
+
+-- after a turn of `go`: a jam, the tape's END, the breaks and the watches in their order, and then the generator
+abbrev pub look_after : ℕ → StopsValue → Board → Board → Option Found
+look_after end stops before b =
+    first_of (jam_look b ∷ end_look end b ∷ break_look stops.breaks b ∷ watch_look stops.watches before b ∷ vg_look stops.vg before b ∷ [])
+
+-- stop, what was found, and the clock
+abbrev pub found_words : Found → Board → List (List ℕ)
+found_words (Jam opcode) b = codes "jam" ∷ hex_word b.cpu.pc ∷ hex_byte opcode ∷ []
+found_words End b = codes "end" ∷ []
+found_words (Break address) b = codes "break" ∷ hex_word address ∷ []
+found_words (Watch address) b = codes "watch" ∷ hex_word address ∷ []
+found_words Vg b = codes "vg" ∷ []
+found_words Step b = codes "step" ∷ []
+found_words Until b = codes "until" ∷ []
+
+unfoldable pub stop_text : Found → Board → List ℕ
+stop_text found b = line (codes "stop" ∷ (found_words found b ++ codes "at" ∷ decimal b.wires.clock ∷ []))
+
+-- what was seen of a board before a turn: the watched bytes, and whether the generator was halted
+pub record IsBefore (stops : StopsValue) (b : Board) (before : Before) : Type 0 where
+  pub bytes : before.bytes.items ≡ map (watched_byte b) stops.watches
+  pub halted : before.halted ≡ b.wires.vg.halted

@@ -1,0 +1,130 @@
+//! The bytes and the instructions of a board, in lines.
+ghost use Rattle.std.specs.Prelude.{◌≡◌, ◌≤◌, ◌*◌, ◌<◌, length};
+ghost use Rattle.debug_lines.specs.Bytes.{bytes_from, further, mem_text};
+ghost use Rattle.debug_lines.specs.Instructions.{dis_text, readable};
+ghost use Rattle.debug_lines.specs.Statements.{vdis_text, vg_further, word_seen};
+ghost use Rattle.outside_io.specs.Causes.{HasCause};
+ghost use Rattle.outside_io.specs.Sink.{Takes};
+ghost use Rattle.board_debug.specs.Session.{seen_in};
+
+use arrayvec::ArrayVec;
+use avg_device::VectorUnit;
+use catchup_engine::Engine;
+use debug_lines::{ROW, dis_line, mem_line, vdis_line};
+use debug_script::Span;
+use earom_cells::CellUnit;
+use irq_watchdog::DividerUnit;
+use outside_io::{Sink, SinkFault};
+use pokey_chip::SoundUnit;
+
+/// So many bytes from an address on, 16 at most.
+fn row<V: VectorUnit, P: SoundUnit, C: CellUnit, D: DividerUnit>(
+    engine: &Engine<V, P, C, D>,
+    address: u16,
+    count: u16,
+) -> ArrayVec<Option<u8>, ROW>
+    requires { count ≤ ROW }
+    ensures { result.items ≡ bytes_from (seen_in engine.now.board) address count }
+{
+    let mut bytes = ArrayVec::new();
+    for i in 0..count {
+        bytes.push(engine.byte_at(address.wrapping_add(i)));
+    }
+    bytes
+}
+
+/// Writes bytes, in lines of 16.
+pub fn write_mem<V: VectorUnit, P: SoundUnit, C: CellUnit, D: DividerUnit, O: Sink>(
+    engine: &Engine<V, P, C, D>,
+    span: Span,
+    out: &mut O,
+) -> Result<(), SinkFault>
+    ensures taken { Takes (O.taken out.old) (O.taken out.new) (mem_text (seen_in engine.now.board) span.from span.count) result }
+    ensures cause { HasCause (O.faults out.old) (O.faults out.new) result }
+{
+    for k in 0..span.count.div_ceil(16) {
+        let address = span.from.wrapping_add(16 * k);
+        let bytes = row(engine, address, (span.count - 16 * k).min(16));
+        let Ok(()) = out.write(mem_line(address, &bytes).bytes()) else {
+            return Err(SinkFault);
+        };
+    }
+    Ok(())
+}
+
+/// The bytes from an address on, up to the first that can't be seen, three at most.
+fn instruction_bytes<V: VectorUnit, P: SoundUnit, C: CellUnit, D: DividerUnit>(
+    engine: &Engine<V, P, C, D>,
+    address: u16,
+) -> ArrayVec<u8, 3>
+    ensures { result.items ≡ readable (seen_in engine.now.board) address 3 }
+{
+    let mut bytes = ArrayVec::new();
+    for i in 0..3 {
+        match engine.byte_at(address.wrapping_add(i)) {
+            Some(byte) => bytes.push(byte),
+            None => return bytes,
+        }
+    }
+    bytes
+}
+
+/// Writes instructions of the processor, a line each.
+pub fn write_dis<V: VectorUnit, P: SoundUnit, C: CellUnit, D: DividerUnit, O: Sink>(
+    engine: &Engine<V, P, C, D>,
+    span: Span,
+    out: &mut O,
+) -> Result<(), SinkFault>
+    ensures taken { Takes (O.taken out.old) (O.taken out.new) (dis_text (seen_in engine.now.board) span.from span.count) result }
+    ensures cause { HasCause (O.faults out.old) (O.faults out.new) result }
+{
+    let mut address = span.from;
+    for _shown in 0..span.count {
+        let (line, size) = dis_line(address, &instruction_bytes(engine, address));
+        let Ok(()) = out.write(line.bytes()) else {
+            return Err(SinkFault);
+        };
+        address = address.wrapping_add(u16::from(size));
+    }
+    Ok(())
+}
+
+/// The word of the vector generator at an address.
+fn word_at<V: VectorUnit, P: SoundUnit, C: CellUnit, D: DividerUnit>(
+    engine: &Engine<V, P, C, D>,
+    address: u16,
+) -> u16
+    ensures { result ≡ word_seen (seen_in engine.now.board) address }
+{
+    let low = engine.byte_at(address).unwrap_or(0);
+    let high = engine.byte_at(address.wrapping_add(1)).unwrap_or(0);
+    u16::from_le_bytes([low, high])
+}
+
+/// The address so many bytes further in the generator's memory.
+fn further_on(address: u16, n: u8) -> u16
+    ensures { result ≡ vg_further address n }
+{
+    0x2000 + (address.saturating_sub(0x2000) + u16::from(n)) % 0x4000
+}
+
+/// Writes instructions of the vector generator, a line each.
+pub fn write_vdis<V: VectorUnit, P: SoundUnit, C: CellUnit, D: DividerUnit, O: Sink>(
+    engine: &Engine<V, P, C, D>,
+    span: Span,
+    out: &mut O,
+) -> Result<(), SinkFault>
+    ensures taken { Takes (O.taken out.old) (O.taken out.new) (vdis_text (seen_in engine.now.board) span.from span.count) result }
+    ensures cause { HasCause (O.faults out.old) (O.faults out.new) result }
+{
+    let mut address = span.from;
+    for _shown in 0..span.count {
+        let second = word_at(engine, further_on(address, 2));
+        let (line, size) = vdis_line(address, word_at(engine, address), second);
+        let Ok(()) = out.write(line.bytes()) else {
+            return Err(SinkFault);
+        };
+        address = further_on(address, size);
+    }
+    Ok(())
+}

@@ -1,0 +1,140 @@
+//! A session: the commands of a script, one after another.
+ghost use Rattle.std.specs.Prelude.{◌≡◌, IfSome, OnOk, length};
+ghost use Rattle.std.specs.Option.{option_map};
+ghost use Rattle.outside_io.specs.Causes.{HasCause};
+ghost use Rattle.outside_io.specs.Sink.{Takes};
+ghost use Rattle.catchup_engine.specs.Run.{IsPlaced};
+ghost use Rattle.catchup_engine.specs.Wires.{board_of};
+ghost use Rattle.debug_script.specs.Stops.{Fit, no_stops};
+ghost use Rattle.board_debug.specs.Ready.{IsReady};
+ghost use Rattle.board_debug.specs.Session.{board_after, command_text, reached_by, session_board, session_text, shown_text};
+
+use crate::board_text::{write_devices, write_registers};
+use crate::found::Found;
+use crate::listings::{write_dis, write_mem, write_vdis};
+use crate::stop_line::write_stop;
+use crate::turns::{go, step, until};
+use avg_device::VectorUnit;
+use board_base::{BoardState, CpuState, Mid};
+use catchup_engine::Engine;
+use debug_script::{Command, Stops};
+use earom_cells::CellUnit;
+use irq_watchdog::DividerUnit;
+use outside_io::{Sink, SinkFault};
+use pokey_chip::SoundUnit;
+use tape_ports::Tape;
+
+/// Makes the turns of a command that makes some.
+fn make_turns<V: VectorUnit, P: SoundUnit, C: CellUnit, D: DividerUnit>(
+    engine: &mut Engine<V, P, C, D>,
+    tape: &Tape,
+    stops: &Stops,
+    command: Command,
+) -> Option<Found>
+    requires ready { IsReady engine.old }
+    ensures reached { option_map (λ found. record { found = found; board = engine.new.board }) result ≡ reached_by tape.now stops.now command engine.old.board }
+    ensures board { engine.new.board ≡ board_after tape.now stops.now command engine.old.board }
+    ensures ready { IsReady engine.new }
+{
+    match command {
+        Command::Go => Some(go(engine, tape, stops)),
+        Command::Step(count) => Some(step(engine, tape, count)),
+        Command::Until(clock) => Some(until(engine, tape, clock)),
+        _ => None,
+    }
+}
+
+/// How many clocks of the sequence under way are done.
+fn clocks_done(mid: &Mid) -> u8
+    ensures { length mid.now.bytes ≡ 6 }
+{
+    mid.count
+}
+
+/// How far a processor is inside a sequence.
+fn place_of(cpu: &CpuState) -> u8
+    ensures { IfSome cpu.now.mid (λ m. length m.bytes ≡ 6) }
+{
+    match &cpu.mid {
+        None => 0,
+        Some(mid) => clocks_done(mid),
+    }
+}
+
+/// The board that an engine stands for.
+pub fn state_of<V: VectorUnit, P: SoundUnit, C: CellUnit, D: DividerUnit>(
+    engine: &Engine<V, P, C, D>,
+) -> BoardState
+    requires settled { engine.now.lagging ≡ 0 }
+    ensures board { result ≡ board_of engine.now.board.cpu engine.now.board.wires }
+    ensures placed { IsPlaced engine.now.board }
+{
+    let mut state = BoardState::power_on();
+    engine.state(&mut state);
+    let _place = place_of(engine.cpu()); // tells that its bytes are six
+    state
+}
+
+/// Shows what a command asks for that makes no turn.
+fn show<V: VectorUnit, P: SoundUnit, C: CellUnit, D: DividerUnit, O: Sink>(
+    engine: &Engine<V, P, C, D>,
+    command: Command,
+    out: &mut O,
+) -> Result<(), SinkFault>
+    requires settled { engine.now.lagging ≡ 0 }
+    ensures taken { Takes (O.taken out.old) (O.taken out.new) (shown_text command engine.now.board) result }
+    ensures cause { HasCause (O.faults out.old) (O.faults out.new) result }
+{
+    match command {
+        Command::Regs => write_registers(&state_of(engine), out),
+        Command::Dev => write_devices(&state_of(engine), out),
+        Command::Mem(span) => write_mem(engine, span, out),
+        Command::Dis(span) => write_dis(engine, span, out),
+        Command::Vdis(span) => write_vdis(engine, span, out),
+        _ => Ok(()),
+    }
+}
+
+/// Does a command, and writes what it prints.
+fn perform<V: VectorUnit, P: SoundUnit, C: CellUnit, D: DividerUnit, O: Sink>(
+    engine: &mut Engine<V, P, C, D>,
+    tape: &Tape,
+    stops: &Stops,
+    command: Command,
+    out: &mut O,
+) -> Result<(), SinkFault>
+    requires ready { IsReady engine.old }
+    ensures taken { Takes (O.taken out.old) (O.taken out.new) (command_text tape.now stops.now command engine.old.board) result }
+    ensures cause { HasCause (O.faults out.old) (O.faults out.new) result }
+    ensures board { engine.new.board ≡ board_after tape.now stops.now command engine.old.board }
+    ensures ready { IsReady engine.new }
+{
+    match make_turns(engine, tape, stops, command) {
+        Some(found) => write_stop(engine, found, out),
+        None => show(engine, command, out),
+    }
+}
+
+/// Does the commands of a script, one after another.
+pub fn run_commands<V: VectorUnit, P: SoundUnit, C: CellUnit, D: DividerUnit, O: Sink>(
+    engine: &mut Engine<V, P, C, D>,
+    tape: &Tape,
+    commands: &[Command],
+    out: &mut O,
+) -> Result<(), SinkFault>
+    requires fit { Fit no_stops commands.now }
+    requires ready { IsReady engine.old }
+    ensures taken { Takes (O.taken out.old) (O.taken out.new) (session_text tape.now no_stops commands.now engine.old.board) result }
+    ensures cause { HasCause (O.faults out.old) (O.faults out.new) result }
+    ensures board { OnOk result (engine.new.board ≡ session_board tape.now no_stops commands.now engine.old.board) }
+    ensures ready { IsReady engine.new }
+{
+    let mut stops = Stops::new();
+    for command in commands {
+        let Ok(()) = perform(engine, tape, &stops, *command, out) else {
+            return Err(SinkFault);
+        };
+        stops.note(*command);
+    }
+    Ok(())
+}

@@ -1,0 +1,4 @@
+pub mod Bytes
+pub mod Columns
+pub mod Instructions
+pub mod Statements

@@ -1,0 +1,9 @@
+-- The words for why a text is no script. They are this project's own.
+use Rattle.std.specs.Prelude.{ℕ, List, ◌++◌, codes, decimal}
+use Rattle.debug_script.specs.declared.fault.ScriptFault.{ScriptFault}
+use Rattle.debug_script.specs.declared.fault.ScriptFault.TheVariants.{TooLong, BadCommand, OutOfMemory}
+
+abbrev pub fault_text : ScriptFault → List ℕ
+fault_text TooLong = codes "too long"
+fault_text (BadCommand line) = codes "line " ++ (decimal line ++ codes ": command")
+fault_text OutOfMemory = codes "no memory"

@@ -1,0 +1,29 @@
+use std::error::Error;
+use std::fmt;
+
+/// Why a text is no script.
+#[derive(Clone, Copy, Debug, PartialEq, Eq)]
+pub enum ScriptFault {
+    /// More than `SCRIPT_LIMIT` bytes, which comes before all else.
+    TooLong,
+    /// The first line of no form, counted from 1.
+    BadCommand(u32),
+    OutOfMemory,
+}
+
+impl fmt::Display for ScriptFault {
+    ghost use Rattle.std.specs.Prelude.{Some};
+    ghost use Rattle.debug_script.specs.Texts.{fault_text};
+
+    ghost output = { λ fault. Some (fault_text fault) };
+
+    fn fmt<W: fmt::Write>(&self, f: &mut fmt::Formatter<W>) -> fmt::Result {
+        match self {
+            ScriptFault::TooLong => f.write_str("too long"),
+            ScriptFault::BadCommand(line) => write!(f, "line {line}: command"),
+            ScriptFault::OutOfMemory => f.write_str("no memory"),
+        }
+    }
+}
+
+impl Error for ScriptFault {}

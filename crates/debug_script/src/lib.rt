@@ -1,0 +1,16 @@
+//! The script of a debugger: its text read as commands.
+#![tactic(auto)]
+
+pub mod command;
+pub mod fault;
+mod line;
+pub mod script;
+pub mod stops;
+
+pub use command::{Command, Span};
+pub use fault::ScriptFault;
+pub use script::{SCRIPT_LIMIT, read_script};
+pub use stops::{STOPS, Stops};
+
+#[cfg(test)]
+mod tests;

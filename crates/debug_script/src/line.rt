@@ -1,0 +1,127 @@
+ghost use Rattle.std.specs.Prelude.{◌≡◌, ◌≤◌};
+ghost use Rattle.tape_ports.specs.Grammar.{words_of};
+ghost use Rattle.debug_script.specs.Commands.{address_of, argument_command, command_of, count_of, is_watchable, is_word_address, plain_command, span_command, span_of};
+
+use crate::command::{Command, Span};
+use command_line::read_digits;
+use tape_ports::{read_value, read_word};
+
+/// The most turns of `step`.
+pub const MOST_TURNS: u64 = 1_000_000;
+
+/// The most bytes of `mem`.
+pub const MOST_BYTES: u64 = 256;
+
+/// The most instructions of `dis` and of `vdis`.
+pub const MOST_INSTRUCTIONS: u64 = 64;
+
+/// An address of four hexadecimal digits.
+fn read_address(word: &[u8]) -> Option<u16>
+    ensures { result ≡ address_of word.now }
+{
+    if word.len() != 4 {
+        return None;
+    }
+    let high = read_value(&word[..2])?;
+    let low = read_value(&word[2..])?;
+    Some(u16::from_be_bytes([high, low]))
+}
+
+/// A number from 1 on.
+fn read_count(most: u64, word: &[u8]) -> Option<u64>
+    ensures { result ≡ count_of most word.now }
+{
+    let count = read_digits(word)?;
+    if count == 0 || count > most {
+        return None;
+    }
+    Some(count)
+}
+
+/// So many items from an address on.
+fn read_span(most: u64, from: &[u8], count: &[u8]) -> Option<Span>
+    requires { most ≤ 65535 }
+    ensures { result ≡ span_of most from.now count.now }
+{
+    let from = read_address(from)?;
+    let count = read_count(most, count)? as u16;
+    Some(Span { from, count })
+}
+
+/// Whether a byte may be watched.
+fn is_watchable(address: u16) -> bool
+    ensures { result ≡ is_watchable address }
+{
+    matches!(address, 0..=0x7FF | 0x2000..=0x27FF)
+}
+
+/// Whether a word of the vector generator begins there.
+fn is_word_address(address: u16) -> bool
+    ensures { result ≡ is_word_address address }
+{
+    matches!(address, 0x2000..=0x5FFF) && address % 2 == 0
+}
+
+/// A command of one word.
+fn read_plain(word: &[u8]) -> Option<Command>
+    ensures { result ≡ plain_command word.now }
+{
+    if word == b"stopvg".as_slice() {
+        return Some(Command::StopVg);
+    }
+    match word {
+        b"clear" => Some(Command::Clear),
+        b"go" => Some(Command::Go),
+        b"regs" => Some(Command::Regs),
+        b"dev" => Some(Command::Dev),
+        _ => None,
+    }
+}
+
+/// A command with one argument.
+fn read_argument(verb: &[u8], argument: &[u8]) -> Option<Command>
+    ensures { result ≡ argument_command verb.now argument.now }
+{
+    match verb {
+        b"break" => Some(Command::Break(read_address(argument)?)),
+        b"watch" => match read_address(argument) {
+            Some(address) if is_watchable(address) => Some(Command::Watch(address)),
+            _ => None,
+        },
+        b"step" => Some(Command::Step(read_count(MOST_TURNS, argument)?)),
+        b"until" => Some(Command::Until(read_digits(argument)?)),
+        _ => None,
+    }
+}
+
+/// A command with an address and a count.
+fn read_spanned(verb: &[u8], from: &[u8], count: &[u8]) -> Option<Command>
+    ensures { result ≡ span_command verb.now from.now count.now }
+{
+    match verb {
+        b"mem" => Some(Command::Mem(read_span(MOST_BYTES, from, count)?)),
+        b"dis" => Some(Command::Dis(read_span(MOST_INSTRUCTIONS, from, count)?)),
+        b"vdis" => match read_span(MOST_INSTRUCTIONS, from, count) {
+            Some(span) if is_word_address(span.from) => Some(Command::Vdis(span)),
+            _ => None,
+        },
+        _ => None,
+    }
+}
+
+/// The command of a line that isn't empty.
+#[tactic(auto, using(crate::proofs::Words::command_of_more))]
+pub fn read_command(line: &[u8]) -> Option<Command>
+    ensures { result ≡ command_of (words_of line.now) }
+{
+    match read_word(line) {
+        (verb, None) => read_plain(verb),
+        (verb, Some(rest)) => match read_word(rest) {
+            (argument, None) => read_argument(verb, argument),
+            (from, Some(rest)) => match read_word(rest) {
+                (count, None) => read_spanned(verb, from, count),
+                _ => None,
+            },
+        },
+    }
+}

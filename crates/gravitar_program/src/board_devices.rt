@@ -1,0 +1,20 @@
+ghost use Rattle.std.specs.Prelude.{◌≡◌, ◌+◌};
+
+use avg_device::FastVg;
+use catchup_engine::Devices;
+use earom_cells::Earom;
+use irq_watchdog::Divider;
+use pokey_chip::FastPokey;
+
+/// The devices of a board.
+pub fn devices() -> Devices<FastVg, FastPokey, Earom, Divider>
+    ensures { result.vector.calls + result.sound1.calls + result.sound2.calls + result.cells.calls + result.divider.calls ≡ 0 }
+{
+    Devices {
+        vector: FastVg::new(),
+        sound1: FastPokey::new(),
+        sound2: FastPokey::new(),
+        cells: Earom::new(),
+        divider: Divider::new(),
+    }
+}
