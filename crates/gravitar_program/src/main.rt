@@ -14,8 +14,6 @@ mod cause_text;
 mod cost_tests;
 #[cfg(test)]
 mod cut_tests;
-#[cfg(test)]
-mod debug_tests;
 mod debugging;
 #[cfg(test)]
 mod fault_tests;
