@@ -1,10 +1,8 @@
 -- The commands of a session, one after another.
-use Rattle.std.proofs.Common.{◌≡◌, ℕ, ◌+◌, ◌<◌, ◌≤◌, true, List, [], ◌∷◌, ◌++◌, Option, Some, None, length, take, drop, get_or, sym, ap, subst, ◌∙◌, add-one, arith}
+use Rattle.std.proofs.Common.{◌≡◌, ℕ, ◌+◌, ◌<◌, ◌≤◌, true, List, [], ◌∷◌, ◌++◌, Option, Some, None, length, drop, get_or, sym, ap, subst, ◌∙◌, add-one}
 use Rattle.std.specs.Option.{option_map}
 use Rattle.std.proofs.Math.Seq.{drop-cons}
-use Rattle.std.proofs.lemmas.List.{drop_all, length-take-le}
-use Rattle.std.specs.Prelude.{IfSome, IsSomeAnd}
-use Rattle.board_base.specs.Cpu.{MidValue}
+use Rattle.std.proofs.lemmas.List.{drop_all}
 use Rattle.tape_ports.specs.Tape.{TapeValue}
 use Rattle.catchup_engine.specs.Lockstep.{Board}
 use Rattle.debug_script.specs.declared.command.Command.{Command}
@@ -86,13 +84,3 @@ pub board-last : (tape : TapeValue) (stops : StopsValue) (commands : List Comman
     → session_board tape stops (drop i commands) b ≡ b
 unfolding session_board
 board-last tape stops commands i b all = ap (λ (cs : List Command). session_board tape stops cs b) (drop_all i commands all)
-
--- a processor inside a sequence has made one access at least
-pub placed-by : (jam : Option ℕ) (mid : Option MidValue) (P : MidValue → Type 0) → IfSome mid (λ _. (jam ≡ None) × IsSomeAnd mid P)
-    → IfSome mid (λ m. length m.bytes ≡ 6) → ((m : MidValue) → P m → (1 ≤ m.count) × (m.count ≤ 6))
-    → IfSome mid (λ m. 1 ≤ length (take m.count m.bytes))
-placed-by jam None P middle six begun = tt
-placed-by jam (Some m) P middle six begun =
-    let (some, few) = begun m middle.1 in
-    let taken = length-take-le m.count m.bytes (omega arith) in
-    omega arith

@@ -10,23 +10,17 @@ use Rattle.catchup_engine.specs.declared.stop.Stop.TheVariants.{Window}
 use Rattle.catchup_engine.specs.Breaks.{BreakRun, TurnsTo, is_at_any, turn, turned}
 use Rattle.catchup_engine.specs.EngineValue.{HasNoRecords, cleared}
 use Rattle.catchup_engine.specs.Lockstep.{Board}
-use Rattle.catchup_engine.specs.Order.{Recorded, behind, records_of}
-use Rattle.catchup_engine.specs.Run.{IsPlaced, cause_at, cause_of, is_over, to_boundary}
+use Rattle.catchup_engine.specs.Order.{records_of}
+use Rattle.catchup_engine.specs.Run.{IsPlaced, cause_of, is_over, to_boundary}
 use Rattle.catchup_engine.proofs.Behind.{behind-cleared}
+use Rattle.catchup_engine.proofs.Ended.{cleared-empty}
 use Rattle.catchup_engine.proofs.RunsOn.{open-before}
-use Rattle.catchup_engine.proofs.TurnLaws.{turn-behind, turn-boundary, turn-later, turn-placed, turned-next, turned-placed, turns-to}
+use Rattle.catchup_engine.proofs.TurnLaws.{turn-behind, turn-boundary, turn-later, turned-next, turned-placed, turns-to}
 use Rattle.debug_script.specs.Stops.{StopsValue}
 use Rattle.board_debug.specs.declared.found.Found.{Found}
 use Rattle.board_debug.specs.declared.found.Found.TheVariants.{Jam, End, Step, Until}
 use Rattle.board_debug.specs.Looks.{break_look, first_of, jam_look, look_after, look_before, look_until}
 use Rattle.board_debug.specs.Session.{Reached, go_from, moved, step_from, turning, unless_found, until_from}
-
--- a board without records is as it is when they are forgotten
-pub cleared-ready : (b : Board) → HasNoRecords b → cleared b ≡ b
-cleared-ready b none =
-    let nothing : Recorded = record { strokes = []; levels1 = []; levels2 = []; written = [] } in
-    let same : nothing ≡ records_of b = rw (none.strokes, none.levels1, none.levels2, none.written) refl in
-    ap (λ l. behind l (cleared b)) same ∙ behind-cleared b
 
 -- a look that finds nothing stands before its limit, and isn't jammed
 pub record Opens (limit : ℕ) (b : Board) : Type 0 where
@@ -103,7 +97,7 @@ module _ (entries : List TapeEntry) where
   cleared-turned (suc n) b = cleared-turned n (turn entries b) ∙ ap (moves n) (sym (turn-cleared b))
 
   pub moves-are : (n : ℕ) (b c : Board) → HasNoRecords b → c ≡ cleared (turned entries n b) → c ≡ moves n b
-  moves-are n b c none is = is ∙ cleared-turned n b ∙ ap (moves n) (cleared-ready b none)
+  moves-are n b c none is = is ∙ cleared-turned n b ∙ ap (moves n) (cleared-empty b none)
 
   pub moved-later : (b : Board) → b.cpu.jam ≡ None → b.wires.clock < (moved entries b).wires.clock
   unfolding moved

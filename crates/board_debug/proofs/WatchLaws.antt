@@ -1,10 +1,9 @@
 -- The first of some watched bytes that has changed.
-use Rattle.std.proofs.Common.{◌≡◌, ℕ, ◌==◌, ◌<◌, not, find, get_or, map, List, [], ◌∷◌, Option, Some, None, length, suc, zero, refl, sym, ap, ◌∙◌, arith}
+use Rattle.std.proofs.Common.{◌≡◌, ℕ, ◌==◌, ◌<◌, not, find, get_or, map, List, [], ◌∷◌, Some, None, length, suc, zero, refl, sym, ap, ◌∙◌, arith}
 use Rattle.std.specs.Option.{option_map}
 use Rattle.std.proofs.lemmas.Bool.{eq-eqb, ne_eqb}
 use Rattle.std.proofs.lemmas.List.{get_or-map}
 use Rattle.catchup_engine.specs.Lockstep.{Board}
-use Rattle.board_debug.specs.declared.found.Found.{Found}
 use Rattle.board_debug.specs.declared.found.Found.TheVariants.{Watch}
 use Rattle.board_debug.specs.Looks.{watch_look, watched_byte}
 

@@ -16,7 +16,7 @@ use Rattle.debug_script.specs.Stops.{StopsValue, stops_after}
 use Rattle.board_debug.specs.declared.found.Found.{Found}
 use Rattle.board_debug.specs.declared.found.Found.TheVariants.{End, Step}
 use Rattle.board_debug.specs.BoardText.{devices_text, registers_text}
-use Rattle.board_debug.specs.Looks.{first_of, jam_look, look_after, look_before, look_until, stop_text}
+use Rattle.board_debug.specs.Looks.{jam_look, look_after, look_before, look_until, stop_text}
 
 -- a turn: what is left of the sequence under way, or else one instruction or sequence. A debugger shows no records, and
 -- forgets them.

@@ -1,5 +1,5 @@
 //! A session: the commands of a script, one after another.
-ghost use Rattle.std.specs.Prelude.{◌≡◌, IfSome, OnOk, length};
+ghost use Rattle.std.specs.Prelude.{◌≡◌, OnOk};
 ghost use Rattle.std.specs.Option.{option_map};
 ghost use Rattle.outside_io.specs.Causes.{HasCause};
 ghost use Rattle.outside_io.specs.Sink.{Takes};
@@ -15,7 +15,7 @@ use crate::listings::{write_dis, write_mem, write_vdis};
 use crate::stop_line::write_stop;
 use crate::turns::{go, step, until};
 use avg_device::VectorUnit;
-use board_base::{BoardState, CpuState, Mid};
+use board_base::BoardState;
 use catchup_engine::Engine;
 use debug_script::{Command, Stops};
 use earom_cells::CellUnit;
@@ -44,23 +44,6 @@ fn make_turns<V: VectorUnit, P: SoundUnit, C: CellUnit, D: DividerUnit>(
     }
 }
 
-/// How many clocks of the sequence under way are done.
-fn clocks_done(mid: &Mid) -> u8
-    ensures { length mid.now.bytes ≡ 6 }
-{
-    mid.count
-}
-
-/// How far a processor is inside a sequence.
-fn place_of(cpu: &CpuState) -> u8
-    ensures { IfSome cpu.now.mid (λ m. length m.bytes ≡ 6) }
-{
-    match &cpu.mid {
-        None => 0,
-        Some(mid) => clocks_done(mid),
-    }
-}
-
 /// The board that an engine stands for.
 pub fn state_of<V: VectorUnit, P: SoundUnit, C: CellUnit, D: DividerUnit>(
     engine: &Engine<V, P, C, D>,
@@ -71,7 +54,9 @@ pub fn state_of<V: VectorUnit, P: SoundUnit, C: CellUnit, D: DividerUnit>(
 {
     let mut state = BoardState::power_on();
     engine.state(&mut state);
-    let _place = place_of(engine.cpu()); // tells that its bytes are six
+    if let Some(mid) = state.cpu.mid {
+        let _count = mid.count; // opens the model
+    }
     state
 }
 

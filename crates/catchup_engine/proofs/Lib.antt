@@ -5,6 +5,7 @@ pub mod Budgets
 pub mod ClockLaws
 pub mod Clocks
 pub mod DividerLaws
+pub mod Ended
 pub mod Ends
 pub mod EventLaws
 pub mod InOrder

@@ -6,7 +6,7 @@ ghost use Rattle.catchup_engine.specs.Run.{is_over, is_cut};
 ghost use Rattle.catchup_engine.specs.Runs.{over_bus, BoundaryRun, BreakRunBus, CutRun, IsInRange};
 
 use crate::bus::{BoardBus, TRAIL_ROOM, WHOLE};
-use crate::turn::turn;
+use crate::turn::{turn, turn_slowly};
 use avg_device::VectorUnit;
 use board_base::{CLOCK_LIMIT, DIVIDER_PERIOD};
 use cpu_core::Cpu;
@@ -59,7 +59,7 @@ pub(crate) fn run_until<V: VectorUnit, P: SoundUnit, C: CellUnit, D: DividerUnit
 {
     let _clock = bus.clock();
     if cpu.state().mid.is_some() {
-        cpu = turn(cpu, bus, tape, WHOLE);
+        cpu = turn_slowly(cpu, bus, tape, WHOLE);
     }
     while !is_done(&cpu, bus, limit) {
         cpu = turn(cpu, bus, tape, WHOLE);
@@ -100,7 +100,7 @@ pub(crate) fn run_to_break<V: VectorUnit, P: SoundUnit, C: CellUnit, D: DividerU
 {
     let _clock = bus.clock();
     if cpu.state().jam.is_none() {
-        cpu = turn(cpu, bus, tape, WHOLE);
+        cpu = turn_slowly(cpu, bus, tape, WHOLE);
     }
     while !is_at_break(&cpu, bus, limit, addresses) {
         cpu = turn(cpu, bus, tape, WHOLE);

@@ -155,7 +155,7 @@ fn resume<V: VectorUnit, P: SoundUnit, C: CellUnit, D: DividerUnit>(
 
 /// Does a turn that may begin with anything.
 #[inline(never)]
-fn turn_slowly<V: VectorUnit, P: SoundUnit, C: CellUnit, D: DividerUnit>(
+pub(crate) fn turn_slowly<V: VectorUnit, P: SoundUnit, C: CellUnit, D: DividerUnit>(
     mut cpu: Cpu,
     bus: &mut BoardBus<V, P, C, D>,
     tape: &Tape,

@@ -1,18 +1,17 @@
 -- A large run, window by window.
-use Rattle.std.proofs.Common.{◌≡◌, ◌≢◌, ℕ, ◌+◌, ◌-◌, ◌^◌, ◌≤◌, ◌<◌, Bool, true, false, ◌&&◌, ◌||◌, nat_le, is_some, is_none, List, ◌++◌, length, Option, Some, None, zero, suc, refl, sym, ap, ◌∙◌, arith, length-append, append_assoc, append-nil}
+use Rattle.std.proofs.Common.{◌≡◌, ◌≢◌, ℕ, ◌+◌, ◌-◌, ◌^◌, ◌≤◌, ◌<◌, List, ◌++◌, length, None, zero, suc, refl, sym, ap, ◌∙◌, arith, length-append, append_assoc, append-nil}
 use Rattle.board_base.specs.declared.record.Record.{Record}
-use Rattle.board_base.specs.Cpu.{MidValue}
 use Rattle.tape_ports.specs.declared.entry.TapeEntry.{TapeEntry}
 use Rattle.catchup_engine.specs.declared.stop.Stop.TheVariants.{Window}
 use Rattle.catchup_engine.specs.Lockstep.{Board, step}
-use Rattle.catchup_engine.specs.Run.{stepped, is_over, to_boundary, boundary_steps, window_limit, cause_of, cause_at, IsPlaced}
+use Rattle.catchup_engine.specs.Run.{stepped, to_boundary, boundary_steps, window_limit, cause_of, IsPlaced}
 use Rattle.catchup_engine.specs.EngineValue.{EngineValue, HasNoRecords, cleared}
 use Rattle.catchup_engine.specs.Order.{Recorded, behind, records_of}
 use Rattle.catchup_engine.proofs.Behind.{behind-cleared, to_boundary-behind}
+use Rattle.catchup_engine.proofs.Ended.{over-stays, over-stop}
 use Rattle.catchup_engine.proofs.Ends.{boundary-split, boundary_steps-few, to_boundary-clock}
 use Rattle.catchup_engine.proofs.InOrder.{adds-one}
 use Rattle.catchup_engine.proofs.Places.{to_boundary-placed}
-use Rattle.catchup_engine.proofs.Runs.{steps-none}
 use Rattle.soak_run.specs.declared.summary.Summary.{Summary}
 use Rattle.soak_run.specs.Sizes.{AreFew, IsSmall, most_clocks}
 use Rattle.soak_run.specs.Summary.{no_records, recorded, summary_of, together}
@@ -112,27 +111,6 @@ window-small entries limit n b after l total window none told is small counted =
     rw clocks
     (small-together n (last.wires.clock - b.wires.clock) total window small
     (counted (last.wires.clock - b.wires.clock) (rw told (run-few entries (window_limit limit b) b none))))
-
--- a run is over where its limit is reached or its processor is jammed
-at-boundary : (jam : Option ℕ) (mid : Option MidValue) (late : Bool) → mid ≡ None → (jam ≡ None → late ≡ true)
-    → is_some jam || (is_none mid && late) ≡ true
-at-boundary (Some o) mid late none reached = refl
-at-boundary None None late none reached = reached refl
-at-boundary None (Some m) late none reached = cc
-
-late-by : (limit : ℕ) (b : Board) (late : Bool) → nat_le limit b.wires.clock ≡ late → (cause_at None limit b ≢ Window) → late ≡ true
-late-by limit b true e not_window = refl
-late-by limit b false e not_window = absurd (not_window (rw e refl))
-
-over-by : (limit : ℕ) (b : Board) → b.cpu.mid ≡ None → (cause_of limit b ≢ Window) → is_over limit b ≡ true
-over-by limit b none not_window =
-    at-boundary b.cpu.jam b.cpu.mid (nat_le limit b.wires.clock) none
-    (λ running. late-by limit b (nat_le limit b.wires.clock) refl (rw running at not_window))
-
--- a board from which a run is over is its end
-ended : (entries : List TapeEntry) (limit : ℕ) (b : Board) → is_over limit b ≡ true → to_boundary entries limit b ≡ b
-unfolding to_boundary stepped
-ended entries limit b over = rw (steps-none entries (is_over limit) ((limit - b.wires.clock) + 6) b over) refl
 
 -- the records of a board behind others, where it has none of its own
 alone : (l : Recorded) (b : Board) → HasNoRecords b → records_of (behind l b) ≡ l
@@ -251,7 +229,7 @@ module _ (entries : List TapeEntry) (limit : ℕ) (start now : EngineValue) (tot
     soak-ends boundary not_window =
         let none = cleared-empty (window_end entries limit now.board) next.board is in
         let whole : to_boundary entries limit start.board ≡ behind made_on next.board =
-        board-on ∙ ap (behind made_on) (ended entries limit next.board (over-by limit next.board boundary not_window)) in
+        board-on ∙ ap (behind made_on) (over-stays entries limit next.board (over-stop limit next.board boundary not_window)) in
         record {
           summary = total-on ∙ ap summary_of (sym (ap records_of whole ∙ alone made_on next.board none));
           board = sym (cleared-none next.board none) ∙ ap cleared (sym whole);

@@ -1,4 +1,4 @@
-use Rattle.std.proofs.Common.{◌≡◌, ◌+◌, ◌-◌, suc, refl, sym, ap, ◌∙◌, arith}
+use Rattle.std.proofs.Common.{◌+◌, ◌-◌, sym, ap, ◌∙◌, arith}
 use Rattle.board_debug.specs.Session.{step_from}
 use Rattle.board_debug.proofs.Turning.{step-found, step-last, step-next}
 use Rattle.board_debug.proofs.turns.step.Goals as goal

@@ -1,4 +1,4 @@
-use Rattle.std.proofs.Common.{◌≡◌, ◌||◌, ◌<◌, ◌^◌, false, not, is_some, ap, sym, ◌∙◌, arith}
+use Rattle.std.proofs.Common.{◌≡◌, ◌||◌, false, not, is_some, ap, sym, ◌∙◌, arith}
 use Rattle.board_base.specs.Cpu.{CpuValue}
 use Rattle.catchup_engine.specs.Breaks.{is_at_any}
 use Rattle.catchup_engine.specs.Run.{is_over}
@@ -16,9 +16,9 @@ loop-cpu-init g c =
       | then-is_none w ↦
           rw (w.cpu-is, w.bus-is) (record {
             at =
-                break-begins c.args.tape.now.entries c.args.limit c.args.addresses.now c.args.cpu c.args.bus.now w.turn-cpu.new.bus w.turn-cpu.result c.requires.level
-                (jammed ∙ ap not w.if-is_none.true) (omega arith) (rw c.state.ensures.value at c.state.ensures.place) c.requires.range w.turn-cpu.ensures.turned;
-            fits = w.turn-cpu.ensures.fits;
+                break-begins c.args.tape.now.entries c.args.limit c.args.addresses.now c.args.cpu c.args.bus.now w.turn_slowly-cpu.new.bus w.turn_slowly-cpu.result c.requires.level
+                (jammed ∙ ap not w.if-is_none.true) (omega arith) (rw c.state.ensures.value at c.state.ensures.place) c.requires.range w.turn_slowly-cpu.ensures.turned;
+            fits = w.turn_slowly-cpu.ensures.fits;
           })
       | else-is_none w ↦
           rw (w.cpu-is, w.bus-is) (record {
@@ -35,9 +35,9 @@ loop-cpu-preserved g c =
     sym c.is_at_break.ensures ∙ c.loop-cpu-test.true in
     record {
       at =
-          break-goes_on c.args.tape.now.entries c.args.limit c.args.addresses.now c.args.cpu c.args.bus.now c.loop-cpu.bus c.turn-cpu-in-loop-cpu.new.bus c.loop-cpu.cpu
-          c.turn-cpu-in-loop-cpu.result c.requires.limit c.loop-cpu.invariant.at open_yet c.turn-cpu-in-loop-cpu.ensures.turned;
-      fits = c.turn-cpu-in-loop-cpu.ensures.fits;
+          break-goes_on c.args.tape.now.entries c.args.limit c.args.addresses.now c.args.cpu c.args.bus.now c.loop-cpu.bus c.turn-cpu.new.bus c.loop-cpu.cpu
+          c.turn-cpu.result c.requires.limit c.loop-cpu.invariant.at open_yet c.turn-cpu.ensures.turned;
+      fits = c.turn-cpu.ensures.fits;
     }
 
 pub returns : goal.returns

@@ -15,9 +15,9 @@ loop-cpu-init g c =
       | then-is_some w ↦
           rw (w.cpu-is, w.bus-is) (record {
             at =
-                boundary-resumes c.args.tape.now.entries c.args.limit c.args.cpu c.args.bus.now w.turn-cpu.new.bus w.turn-cpu.result c.requires.level
-                (some-of c.args.cpu.mid (middle ∙ w.if-is_some.true)) (rw c.state.ensures.value at c.state.ensures.place) c.requires.range w.turn-cpu.ensures.turned;
-            fits = w.turn-cpu.ensures.fits;
+                boundary-resumes c.args.tape.now.entries c.args.limit c.args.cpu c.args.bus.now w.turn_slowly-cpu.new.bus w.turn_slowly-cpu.result c.requires.level
+                (some-of c.args.cpu.mid (middle ∙ w.if-is_some.true)) (rw c.state.ensures.value at c.state.ensures.place) c.requires.range w.turn_slowly-cpu.ensures.turned;
+            fits = w.turn_slowly-cpu.ensures.fits;
           })
       | else-is_some w ↦
           rw (w.cpu-is, w.bus-is) (record {
@@ -33,9 +33,9 @@ loop-cpu-preserved g c =
     let open_yet : is_over c.args.limit (over_bus c.loop-cpu.cpu c.loop-cpu.bus) ≡ false = sym c.is_done.ensures ∙ c.loop-cpu-test.true in
     record {
       at =
-          boundary-goes_on c.args.tape.now.entries c.args.limit c.args.cpu c.args.bus.now c.loop-cpu.bus c.turn-cpu-in-loop-cpu.new.bus c.loop-cpu.cpu c.turn-cpu-in-loop-cpu.result
-          c.requires.limit c.loop-cpu.invariant.at open_yet c.turn-cpu-in-loop-cpu.ensures.turned;
-      fits = c.turn-cpu-in-loop-cpu.ensures.fits;
+          boundary-goes_on c.args.tape.now.entries c.args.limit c.args.cpu c.args.bus.now c.loop-cpu.bus c.turn-cpu.new.bus c.loop-cpu.cpu c.turn-cpu.result
+          c.requires.limit c.loop-cpu.invariant.at open_yet c.turn-cpu.ensures.turned;
+      fits = c.turn-cpu.ensures.fits;
     }
 
 pub returns : goal.returns

@@ -1,4 +1,4 @@
-use Rattle.std.proofs.Common.{◌≡◌, ◌≤◌, length, map, take}
+use Rattle.std.proofs.Common.{◌≡◌, length, map, take}
 use Rattle.board_debug.specs.Looks.{watched_byte}
 use Rattle.board_debug.proofs.looks.Before.of.Given as goal
 
