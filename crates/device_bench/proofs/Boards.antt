@@ -1,5 +1,5 @@
 -- The records of a run in windows are those of the whole run.
-use Rattle.std.proofs.Common.{◌≡◌, ℕ, ◌+◌, ◌-◌, ◌≤◌, List, [], ◌++◌, Bool, true, false, ◌||◌, ◌&&◌, nat_le, is_some, is_none, Option, Some, None, refl, sym, ap, ◌∙◌, subst, arith, append_assoc}
+use Rattle.std.proofs.Common.{◌≡◌, ℕ, ◌+◌, ◌-◌, ◌≤◌, List, [], ◌++◌, true, Option, None, refl, sym, ap, ◌∙◌, subst, arith, append_assoc}
 use Rattle.board_base.specs.Cpu.{MidValue}
 use Rattle.tape_ports.specs.declared.entry.TapeEntry.{TapeEntry}
 use Rattle.catchup_engine.specs.declared.stop.Stop.{Stop}
@@ -7,10 +7,10 @@ use Rattle.catchup_engine.specs.declared.stop.Stop.TheVariants.{Window}
 use Rattle.catchup_engine.specs.EngineValue.{HasNoRecords, cleared}
 use Rattle.catchup_engine.specs.Lockstep.{Board}
 use Rattle.catchup_engine.specs.Order.{Recorded, behind, records_of}
-use Rattle.catchup_engine.specs.Run.{IsPlaced, cause_at, cause_of, is_over, stepped, to_boundary, window_limit}
+use Rattle.catchup_engine.specs.Run.{IsPlaced, cause_of, is_over, to_boundary, window_limit}
 use Rattle.catchup_engine.proofs.Behind.{behind-cleared, to_boundary-behind}
+use Rattle.catchup_engine.proofs.Ended.{over-stays, over-stop}
 use Rattle.catchup_engine.proofs.Ends.{boundary-split}
-use Rattle.catchup_engine.proofs.Runs.{steps-none}
 use Rattle.device_bench.specs.declared.board.BoardTally.{BoardTally}
 use Rattle.device_bench.specs.Boards.{empty_tallies, tallies_of, with_records}
 use Rattle.device_bench.proofs.Slices.{tally-joined}
@@ -40,22 +40,6 @@ behind-joined l m b =
 -- a board that stands between two sequences is placed
 placed-between : (b : Board) → b.cpu.mid ≡ None → IsPlaced b
 placed-between b between = subst (λ (m : Option MidValue). IsPlaced (record b { cpu = record b.cpu { mid = m } })) (sym between) tt
-
--- a run that is over makes no step
-boundary-here : (entries : List TapeEntry) (limit : ℕ) (b : Board) → is_over limit b ≡ true → to_boundary entries limit b ≡ b
-unfolding to_boundary stepped
-boundary-here entries limit b over = ap (λ n. stepped entries n b) (steps-none entries (is_over limit) ((limit - b.wires.clock) + 6) b over)
-
--- a run between two sequences that didn't end with its window alone is over
-stop-over : (limit : ℕ) (b : Board) → b.cpu.mid ≡ None → (cause_of limit b ≡ Window → ⊥) → is_over limit b ≡ true
-stop-over limit b between not_window = by_cases b.cpu.jam b.cpu.mid (nat_le limit b.wires.clock) refl between not_window
-  where
-    by_cases : (jam : Option ℕ) (mid : Option MidValue) (late : Bool) → nat_le limit b.wires.clock ≡ late → mid ≡ None
-        → (cause_at jam limit b ≡ Window → ⊥) → is_some jam || (is_none mid && nat_le limit b.wires.clock) ≡ true
-    by_cases (Some o) mid late e none not = refl
-    by_cases None (Some m) late e none not = cc
-    by_cases None None true e none not = e
-    by_cases None None false e none not = absurd (not (rw e refl))
 
 -- a run in windows that is under way: what is counted so far, and what the rest of the run has behind it
 pub record Counted (entries : List TapeEntry) (limit : ℕ) (start now : Board) (tally : BoardTally) : Type 0 where
@@ -116,10 +100,10 @@ pub counted-end : (entries : List TapeEntry) (limit : ℕ) (start now after next
     → stop ≡ cause_of limit after → (stop ≡ Window → ⊥)
     → Ended entries limit start next tally
 counted-end entries limit start now after next before tally stop c is between clear more why not_window =
-    let over : is_over limit after ≡ true = stop-over limit after between (λ h. not_window (why ∙ h)) in
+    let over : is_over limit after ≡ true = over-stop limit after between (λ h. not_window (why ∙ h)) in
     let last : to_boundary entries limit start ≡ behind c.counted after =
     c.whole
-    ∙ ap (behind c.counted) (window-split entries limit now c.between ∙ ap (to_boundary entries limit) (sym is) ∙ boundary-here entries limit after over) in
+    ∙ ap (behind c.counted) (window-split entries limit now c.between ∙ ap (to_boundary entries limit) (sym is) ∙ over-stays entries limit after over) in
     record {
       board = clear ∙ ap cleared (sym last);
       tallied =

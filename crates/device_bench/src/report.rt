@@ -181,15 +181,15 @@ pub fn sounds<R: io::Print + CpuClock>(rt: &R, alloc: Global, report: Report) ->
     pokeys(rt, alloc, report, Tune::ShortestOnTheBaseClock)?;
     pokeys(rt, alloc, report, Tune::ShortestOnTheChipClock)?;
     println!(rt; "the four polynomial registers alone")?;
-    registers(rt, report, Form::Plain)?;
-    let bare = registers(rt, report, Form::Folded)?;
+    let bare = registers(rt, report, Form::Shifts)?;
+    registers(rt, report, Form::Leap)?;
     report.ratio(
         rt,
-        "FastPokey with four channels to folded shifts",
+        "FastPokey with four channels to single shifts",
         four,
         bare,
     )?;
-    report.ratio(rt, "FastPokey with one channel to folded shifts", one, bare)?;
+    report.ratio(rt, "FastPokey with one channel to single shifts", one, bare)?;
     Ok(())
 }
 

@@ -51,8 +51,8 @@ impl Registers {
     }
 }
 
-/// The registers after this many clocks from all ones, with nothing else done in a clock: the limit
-/// for a POKEY that moves the plain registers.
+/// The registers after this many clocks from all ones, shift by shift, with nothing else done in a
+/// clock.
 #[tactic(auto, using(crate::proofs::Slices::shifts))]
 fn bare_shifts(clocks: u64) -> Registers
     ensures four { result.four ≡ times (shifted Four) clocks 15 }
@@ -67,53 +67,44 @@ fn bare_shifts(clocks: u64) -> Registers
     registers
 }
 
-/// The same by shifts of the folded form: the limit for a POKEY that moves its registers so.
-#[tactic(auto, using(crate::proofs::Slices::shifts))]
-fn folded_shifts(clocks: u64) -> Registers
+/// The same at once.
+fn leaps(clocks: u64) -> Registers
     ensures four { result.four ≡ times (shifted Four) clocks 15 }
     ensures five { result.five ≡ times (shifted Five) clocks 31 }
     ensures nine { result.nine ≡ times (shifted Nine) clocks 511 }
     ensures seventeen { result.seventeen ≡ times (shifted Seventeen) clocks 131071 }
 {
-    let mut four = Poly::Four.fold(0xF);
-    let mut five = Poly::Five.fold(0x1F);
-    let mut nine = Poly::Nine.fold(0x1FF);
-    let mut seventeen = Poly::Seventeen.fold(0x1FFFF);
-    for done in 0..clocks {
-        four = Poly::Four.shift_folded(four);
-        five = Poly::Five.shift_folded(five);
-        nine = Poly::Nine.shift_folded(nine);
-        seventeen = Poly::Seventeen.shift_folded(seventeen);
-    }
     Registers {
-        four: Poly::Four.fold(four) as u8,
-        five: Poly::Five.fold(five) as u8,
-        nine: Poly::Nine.fold(nine) as u16,
-        seventeen: Poly::Seventeen.fold(seventeen),
+        four: Poly::Four.leap(0xF, clocks) as u8,
+        five: Poly::Five.leap(0x1F, clocks) as u8,
+        nine: Poly::Nine.leap(0x1FF, clocks) as u16,
+        seventeen: Poly::Seventeen.leap(0x1FFFF, clocks),
     }
 }
 
-/// A form of the registers.
+/// How the registers are moved.
 #[derive(Clone, Copy, Debug, PartialEq, Eq)]
 pub enum Form {
-    Plain,
-    Folded,
+    /// Shift by shift.
+    Shifts,
+    /// All shifts at once.
+    Leap,
 }
 
 impl Form {
-    /// What its shifts are called in a report.
+    /// What it is called in a report.
     pub fn name(self) -> &'static str {
         match self {
-            Form::Plain => "plain shifts",
-            Form::Folded => "folded shifts",
+            Form::Shifts => "single shifts",
+            Form::Leap => "leaps",
         }
     }
 
-    /// The registers after so many shifts in this form.
+    /// The registers after so many shifts.
     pub fn shifts(self, clocks: u64) -> Registers {
         match self {
-            Form::Plain => bare_shifts(clocks),
-            Form::Folded => folded_shifts(clocks),
+            Form::Shifts => bare_shifts(clocks),
+            Form::Leap => leaps(clocks),
         }
     }
 }

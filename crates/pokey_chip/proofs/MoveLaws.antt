@@ -7,7 +7,6 @@ use Rattle.board_base.specs.Pokey.{PokeyValue}
 use Rattle.board_base.specs.Ticks.{ticks, times}
 use Rattle.board_base.specs.Trail.{TrailValue, Extended}
 use Rattle.pokey_poly.specs.declared.poly.Poly.TheVariants.{Four, Five, Nine, Seventeen}
-use Rattle.pokey_poly.specs.Folded.{folded}
 use Rattle.pokey_chip.specs.declared.channel.Channel.{Channel}
 use Rattle.pokey_chip.specs.declared.channel.Channel.TheVariants.{First, Second, Third, Fourth}
 use Rattle.pokey_chip.specs.declared.voice.Voice.{Voice}
@@ -56,29 +55,29 @@ module _ (p : PokeyValue) (k at : ℕ) (within : k ≤ at) (held : Bool) (is : h
   held-there : held ≡ is_held (times pokey_tick k p).skctl
   held-there = is ∙ ap is_held (sym (kept k p).skctl_kept)
 
-  pub four-then : (r s : ℕ) → folded Four r ≡ (times pokey_tick k p).poly4 → folded Four s ≡ times (rolled held Four) (at - k) (folded Four r)
-      → folded Four s ≡ (times pokey_tick at p).poly4
+  pub four-then : (r s : ℕ) → r ≡ (times pokey_tick k p).poly4 → s ≡ times (rolled held Four) (at - k) r
+      → s ≡ (times pokey_tick at p).poly4
   four-then r s e f =
       f ∙ ap (times (rolled held Four) (at - k)) e
       ∙ ap (λ (b : Bool). times (rolled b Four) (at - k) (times pokey_tick k p).poly4) held-there
       ∙ sym (ap (λ (q : PokeyValue). q.poly4) from-there ∙ poly4-after (times pokey_tick k p) (at - k))
 
-  pub five-then : (r s : ℕ) → folded Five r ≡ (times pokey_tick k p).poly5 → folded Five s ≡ times (rolled held Five) (at - k) (folded Five r)
-      → folded Five s ≡ (times pokey_tick at p).poly5
+  pub five-then : (r s : ℕ) → r ≡ (times pokey_tick k p).poly5 → s ≡ times (rolled held Five) (at - k) r
+      → s ≡ (times pokey_tick at p).poly5
   five-then r s e f =
       f ∙ ap (times (rolled held Five) (at - k)) e
       ∙ ap (λ (b : Bool). times (rolled b Five) (at - k) (times pokey_tick k p).poly5) held-there
       ∙ sym (ap (λ (q : PokeyValue). q.poly5) from-there ∙ poly5-after (times pokey_tick k p) (at - k))
 
-  pub nine-then : (r s : ℕ) → folded Nine r ≡ (times pokey_tick k p).poly9 → folded Nine s ≡ times (rolled held Nine) (at - k) (folded Nine r)
-      → folded Nine s ≡ (times pokey_tick at p).poly9
+  pub nine-then : (r s : ℕ) → r ≡ (times pokey_tick k p).poly9 → s ≡ times (rolled held Nine) (at - k) r
+      → s ≡ (times pokey_tick at p).poly9
   nine-then r s e f =
       f ∙ ap (times (rolled held Nine) (at - k)) e
       ∙ ap (λ (b : Bool). times (rolled b Nine) (at - k) (times pokey_tick k p).poly9) held-there
       ∙ sym (ap (λ (q : PokeyValue). q.poly9) from-there ∙ poly9-after (times pokey_tick k p) (at - k))
 
-  pub seventeen-then : (r s : ℕ) → folded Seventeen r ≡ (times pokey_tick k p).poly17 → folded Seventeen s ≡ times (rolled held Seventeen) (at - k) (folded Seventeen r)
-      → folded Seventeen s ≡ (times pokey_tick at p).poly17
+  pub seventeen-then : (r s : ℕ) → r ≡ (times pokey_tick k p).poly17 → s ≡ times (rolled held Seventeen) (at - k) r
+      → s ≡ (times pokey_tick at p).poly17
   seventeen-then r s e f =
       f ∙ ap (times (rolled held Seventeen) (at - k)) e
       ∙ ap (λ (b : Bool). times (rolled b Seventeen) (at - k) (times pokey_tick k p).poly17) held-there

@@ -1,5 +1,5 @@
 -- The pulses that are to come, and the next underflow of a channel, while no register is written.
-use Rattle.std.specs.Prelude.{◌≡◌, ℕ, ◌+◌, ◌-◌, ◌<◌, Bool, true, false, zero, suc, List, [], ◌∷◌, Option, MatchOption}
+use Rattle.std.specs.Prelude.{◌≡◌, ℕ, ◌+◌, ◌-◌, ◌<◌, Bool, true, false, zero, suc, Option, MatchOption}
 use Rattle.std.specs.Int.{from_bool}
 use Rattle.bit_words.specs.Bits.{is_bit}
 use Rattle.board_base.specs.Pokey.{PokeyValue}

@@ -7,7 +7,7 @@ ghost use Rattle.pokey_chip.specs.Tick.{levelled, levels_made, pokey_tick};
 
 use crate::channel::Channel;
 use crate::counts::put_counts;
-use crate::folded::FoldedRegisters;
+use crate::poly_registers::PolyRegisters;
 use crate::quiet::quiet_clocks;
 use crate::registers::{read_register, write_register};
 use crate::tick::{is_held, levels, record_change, turn};
@@ -80,7 +80,7 @@ fn advance_by_underflows(state: &mut PokeyState, from: u64, n: u64, trail: &mut 
     let start = *state;
     let held = is_held(start.skctl);
     let mut voices = Voices::of(&start);
-    let mut registers = FoldedRegisters::of(&start);
+    let mut registers = PolyRegisters::of(&start);
     let mut done = 0;
     let mut at = 1;
     while at <= n {

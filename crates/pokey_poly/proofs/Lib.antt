@@ -1,3 +1,4 @@
 pub mod BitLaws
-pub mod FoldedLaws
+pub mod LeapLaws
 pub mod Moves
+pub mod WindowLaws

@@ -1,6 +1,6 @@
 ghost use Rattle.std.specs.Prelude.{◌≡◌, ℕ, ◌+◌, ◌-◌, ◌^◌, ◌<◌, ◌≤◌};
 ghost use Rattle.bit_words.specs.Bits.{is_bit};
-ghost use Rattle.pokey_poly.specs.Folded.{folded, folded_at, folded_moved, folded_shifted};
+ghost use Rattle.board_base.specs.Ticks.{times};
 ghost use Rattle.pokey_poly.specs.Shift.{incoming, moved, shifted, tap_of, width_of};
 
 /// A polynomial register, by its number of bits (POKEY C012294 data sheet).
@@ -11,6 +11,50 @@ pub enum Poly {
     Nine,
     Seventeen,
 }
+
+/// The next 18 bits that leave the 4-bit register from each value on, the lowest first: one period of
+/// 15 bits, and the first 3 again.
+const FOUR_ON: [u32; 16] = [
+    0x00000, 0x0F591, 0x11EB2, 0x1EB23, 0x23D64, 0x2C8F5, 0x323D6, 0x3D647, 0x07AC8, 0x08F59,
+    0x1647A, 0x191EB, 0x247AC, 0x2B23D, 0x3591E, 0x3AC8F,
+];
+
+/// The next 35 bits that leave the 5-bit register from each value on, the lowest first: one period of
+/// 31 bits, and the first 4 again.
+const FIVE_ON: [u64; 32] = [
+    0x0_0000_0000,
+    0x0_AEC7_CD21,
+    0x1_5D8F_9A42,
+    0x1_F348_5763,
+    0x2_15D8_F9A4,
+    0x2_BB1F_3485,
+    0x3_4857_63E6,
+    0x3_E690_AEC7,
+    0x4_2BB1_F348,
+    0x4_8576_3E69,
+    0x5_763E_690A,
+    0x5_D8F9_A42B,
+    0x6_3E69_0AEC,
+    0x6_90AE_C7CD,
+    0x7_63E6_90AE,
+    0x7_CD21_5D8F,
+    0x0_5763_E690,
+    0x0_F9A4_2BB1,
+    0x1_0AEC_7CD2,
+    0x1_A42B_B1F3,
+    0x2_42BB_1F34,
+    0x2_EC7C_D215,
+    0x3_1F34_8576,
+    0x3_B1F3_4857,
+    0x4_7CD2_15D8,
+    0x4_D215_D8F9,
+    0x5_215D_8F9A,
+    0x5_8F9A_42BB,
+    0x6_690A_EC7C,
+    0x6_C7CD_215D,
+    0x7_3485_763E,
+    0x7_9A42_BB1F,
+];
 
 impl Poly {
     /// The register after one shift.
@@ -31,39 +75,21 @@ impl Poly {
         }
     }
 
-    /// A register in its folded form, and a register in its folded form plain again.
-    #[inline(always)]
-    #[tactic(auto, unfolding(crate::specs::Folded::folded))]
-    pub fn fold(self, r: u32) -> u32
+    /// The register after `n` shifts. The bits that leave the two short registers stand in tables, one
+    /// period from each value on, and the register is a window on them. The two long registers move
+    /// by blocks of as many shifts as need no bit that has come in within the block.
+    #[inline]
+    #[tactic(auto, unfolding(crate::specs::Shift::shifted))]
+    pub fn leap(self, r: u32, n: u64) -> u32
         requires fits { r < 2 ^ width_of self }
-        ensures value { result ≡ folded self r }
-        ensures back { folded self result ≡ r }
-        ensures output { is_bit result 0 ≡ is_bit r 0 }
+        ensures value { result ≡ times (shifted self) n r }
         ensures fits { result < 2 ^ width_of self }
     {
         match self {
-            Poly::Four => fold_at(r, 1, 3),
-            Poly::Five => fold_at(r, 2, 4),
-            Poly::Nine => fold_at(r, 4, 8),
-            Poly::Seventeen => fold_at(r, 5, 16),
-        }
-    }
-
-    /// A register in its folded form after one shift: where the bit that leaves is 1, it is added at
-    /// two places.
-    #[inline(always)]
-    #[tactic(auto, unfolding(crate::specs::Folded::folded, crate::specs::Folded::folded_shifted, crate::specs::Shift::shifted))]
-    pub fn shift_folded(self, g: u32) -> u32
-        requires fits { g < 2 ^ width_of self }
-        ensures value { result ≡ folded_shifted self g }
-        ensures plain { folded self result ≡ shifted self (folded self g) }
-        ensures fits { result < 2 ^ width_of self }
-    {
-        match self {
-            Poly::Four => move_folded(g, 1, 3),
-            Poly::Five => move_folded(g, 2, 4),
-            Poly::Nine => move_folded(g, 4, 8),
-            Poly::Seventeen => move_folded(g, 5, 16),
+            Poly::Four => four_after(r, n),
+            Poly::Five => five_after(r, n),
+            Poly::Nine => moved_on(r, 4, 8, n),
+            Poly::Seventeen => moved_on(r, 5, 16, n),
         }
     }
 }
@@ -85,36 +111,60 @@ fn moved_down(r: u32, tap: u32, top: u32) -> u32
     (r >> 1) | (bit << top)
 }
 
-/// A register with its lowest `tap` bits added to its highest, of which the top one has the place
-/// `top`.
+/// The 4-bit register after `n` shifts.
 #[inline(always)]
-#[tactic(auto, using(crate::proofs::FoldedLaws::folds))]
-fn fold_at(r: u32, tap: u32, top: u32) -> u32
-    requires tap { tap + tap ≤ top + 1 }
-    requires top { top < 31 }
-    requires fits { r < 2 ^ (top + 1) }
-    ensures value { result ≡ folded_at (top + 1) tap r }
-    ensures back { folded_at (top + 1) tap result ≡ r }
-    ensures output { tap ≤ top → is_bit result 0 ≡ is_bit r 0 }
-    ensures fits { result < 2 ^ (top + 1) }
+#[tactic(auto, using(crate::proofs::WindowLaws::four_windows))]
+fn four_after(r: u32, n: u64) -> u32
+    requires fits { r < 2 ^ 4 }
+    ensures value { result ≡ times (moved 4 1) n r }
+    ensures fits { result < 2 ^ 4 }
 {
-    r ^ ((r & ((1 << tap) - 1)) << (top + 1 - tap))
+    (FOUR_ON[r as usize] >> (n % 15)) & 0xF
 }
 
-/// A register in its folded form after one shift, where the bit that leaves is added at the place
-/// `top` and at that `tap` below it.
+/// The 5-bit register after `n` shifts.
 #[inline(always)]
-#[tactic(auto, using(crate::proofs::FoldedLaws::folded_shifts))]
-fn move_folded(g: u32, tap: u32, top: u32) -> u32
-    requires some { 1 ≤ tap }
-    requires tap { tap + tap ≤ top + 1 }
+#[tactic(auto, using(crate::proofs::WindowLaws::five_windows))]
+fn five_after(r: u32, n: u64) -> u32
+    requires fits { r < 2 ^ 5 }
+    ensures value { result ≡ times (moved 5 2) n r }
+    ensures fits { result < 2 ^ 5 }
+{
+    ((FIVE_ON[r as usize] >> (n % 31)) & 0x1F) as u32
+}
+
+/// A register after `k` shifts, so few that each bit that comes in is the sum of two that stand in
+/// the register from the start.
+#[inline(always)]
+#[tactic(auto, using(crate::proofs::LeapLaws::leaps))]
+fn moved_by(r: u32, tap: u32, top: u32, k: u32) -> u32
+    requires tap { tap ≤ top }
+    requires room { tap + k ≤ top + 1 }
     requires top { top < 31 }
-    requires fits { g < 2 ^ (top + 1) }
-    ensures value { result ≡ folded_moved (top + 1) tap g }
-    ensures plain { folded_at (top + 1) tap result ≡ moved (top + 1) tap (folded_at (top + 1) tap g) }
+    requires fits { r < 2 ^ (top + 1) }
+    ensures value { result ≡ times (moved (top + 1) tap) k r }
     ensures fits { result < 2 ^ (top + 1) }
 {
-    let leaving = 0u32.wrapping_sub(g & 1);
-    let places = (1 << top) ^ (1 << (top - tap));
-    (g >> 1) ^ (places & leaving)
+    let coming = (r ^ (r >> tap)) & ((1 << k) - 1);
+    (r >> k) | (coming << (top + 1 - k))
+}
+
+/// A register after any number of shifts, by blocks as long as `moved_by` takes them.
+#[inline(always)]
+#[tactic(auto, using(crate::proofs::LeapLaws::blocks))]
+fn moved_on(r: u32, tap: u32, top: u32, n: u64) -> u32
+    requires tap { tap ≤ top }
+    requires top { top < 31 }
+    requires fits { r < 2 ^ (top + 1) }
+    ensures value { result ≡ times (moved (top + 1) tap) n r }
+    ensures fits { result < 2 ^ (top + 1) }
+{
+    let reach = top + 1 - tap;
+    let mut now = r;
+    let mut left = n;
+    while left >= u64::from(reach) {
+        now = moved_by(now, tap, top, reach);
+        left -= u64::from(reach);
+    }
+    moved_by(now, tap, top, left as u32)
 }

@@ -1,8 +1,6 @@
 use Rattle.std.proofs.Common.{◌≡◌, ◌+◌, ◌-◌, ◌<◌, ◌≤◌, suc}
 use Rattle.board_base.specs.Ticks.{times}
 use Rattle.board_base.specs.Trail.{Extended}
-use Rattle.pokey_poly.specs.declared.poly.Poly.TheVariants.{Four, Five, Nine, Seventeen}
-use Rattle.pokey_poly.specs.Folded.{folded}
 use Rattle.pokey_chip.specs.declared.channel.Channel.TheVariants.{First, Second, Third, Fourth}
 use Rattle.pokey_chip.specs.Moves.{IsVoice}
 use Rattle.pokey_chip.specs.Tick.{is_held, levels_made, levels_of, pokey_tick}
@@ -17,10 +15,10 @@ invariant-loop-at l = record {
   held : l.held ≡ is_held l.fn.state.skctl;
   state : l.state ≡ stood l.fn.state (times pokey_tick l.done l.fn.state);
   settled : suc l.done < l.at → (times pokey_tick l.done l.fn.state).last ≡ levels_of (times pokey_tick l.done l.fn.state);
-  four : folded Four l.registers.four ≡ (times pokey_tick l.done l.fn.state).poly4;
-  five : folded Five l.registers.five ≡ (times pokey_tick l.done l.fn.state).poly5;
-  nine : folded Nine l.registers.nine ≡ (times pokey_tick l.done l.fn.state).poly9;
-  seventeen : folded Seventeen l.registers.seventeen ≡ (times pokey_tick l.done l.fn.state).poly17;
+  four : l.registers.four ≡ (times pokey_tick l.done l.fn.state).poly4;
+  five : l.registers.five ≡ (times pokey_tick l.done l.fn.state).poly5;
+  nine : l.registers.nine ≡ (times pokey_tick l.done l.fn.state).poly9;
+  seventeen : l.registers.seventeen ≡ (times pokey_tick l.done l.fn.state).poly17;
   first : IsVoice First l.done l.fn.state l.voices.first;
   second : IsVoice Second l.done l.fn.state l.voices.second;
   third : IsVoice Third l.done l.fn.state l.voices.third;
