@@ -1,1 +1,2 @@
 mod DecodedLaws
+mod ListedLaws

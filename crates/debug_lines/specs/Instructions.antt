@@ -1,5 +1,5 @@
 -- Instructions of the processor as a debugger shows them (MCS6500 Programming Manual, its notation of operands).
-use Rattle.std.specs.Prelude.{ℕ, ◌+◌, ◌-◌, ◌*◌, ◌%◌, ◌<◌, List, [], ◌∷◌, ◌++◌, take, nat_lt, codes, Option, Some, None, zero, suc, if◌then◌else◌}
+use Rattle.std.specs.Prelude.{ℕ, ◌+◌, List, [], ◌∷◌, ◌++◌, take, nat_lt, codes, Option, Some, None, zero, suc, if◌then◌else◌}
 use Rattle.std.specs.List.{flat_map}
 use Rattle.std.specs.Option.{option_map_or}
 use Rattle.asm_cpu.specs.Mnemonics.{name_of}
@@ -8,7 +8,7 @@ use Rattle.cpu_table.specs.declared.instruction.Mode.{Mode}
 use Rattle.cpu_table.specs.declared.instruction.Mode.TheVariants.{Implied, Accumulator, Immediate, ZeroPage, ZeroPageX, ZeroPageY, Absolute, AbsoluteX, AbsoluteY, Indirect, IndirectX, IndirectY, Relative}
 use Rattle.cpu_table.specs.Decoding.{decoded, length_of}
 use Rattle.log_text.specs.Lines.{hex_byte, hex_word}
-use Rattle.debug_lines.specs.Bytes.{Seen, byte_text, further}
+use Rattle.debug_lines.specs.Bytes.{Seen, further}
 use Rattle.debug_lines.specs.Columns.{listed}
 
 -- where a branch goes: its byte counts from the next instruction, and from 80 on it is a minus (two's complement)

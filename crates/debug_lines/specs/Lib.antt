@@ -1,4 +1,5 @@
 pub mod Bytes
 pub mod Columns
 pub mod Instructions
+pub mod Listed
 pub mod Statements
