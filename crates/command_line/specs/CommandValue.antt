@@ -19,9 +19,10 @@ pub record DebugValue : Type 0 where
   pub run : RunValue
   pub script : List ℕ
 
--- a run, two sources to assemble, a debugger's session, or the name of the state to show
+-- a run, two sources to assemble, a debugger's session, the name of the state to show, or the number of a workload
 pub data CommandValue : Type 0 where
   run_of : RunValue → CommandValue
   asm_of : AsmValue → CommandValue
   debug_of : DebugValue → CommandValue
   show_of : List ℕ → CommandValue
+  soak_of : ℕ → CommandValue

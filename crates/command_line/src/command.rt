@@ -6,6 +6,7 @@ ghost use Rattle.command_line.specs.CommandWords.{command_value};
 ghost use Rattle.command_line.specs.Settings.{settings_of};
 ghost use Rattle.command_line.specs.Words.{is_dashed};
 
+use crate::number::read_number;
 use crate::option::Opt;
 use crate::settings::Settings;
 use crate::verb::Verb;
@@ -70,6 +71,8 @@ pub enum Command<'a> {
     Debug(DebugWords<'a>),
     /// Shows a state.
     Show(&'a str),
+    /// Runs the workload of a number.
+    Soak(u64),
 }
 
 /// The number of the words before the first that begins with two dashes.
@@ -178,6 +181,17 @@ fn read_show<'a>(arguments: &'a [String], settings: &Settings<'a>) -> Option<Com
     Some(Command::Show(read_name(state.as_str())?))
 }
 
+/// The number of a workload, of the arguments.
+fn read_soak<'a>(arguments: &'a [String], settings: &Settings<'a>) -> Option<Command<'a>>
+    ensures command { option_map command_value result ≡ built Verb.Soak (map string_bytes arguments.now) settings.now }
+    ensures clocks { IfSome result (λ command. HasClocks (command_value command)) }
+{
+    let [seed] = arguments else {
+        return None;
+    };
+    Some(Command::Soak(read_number(seed.as_str())?))
+}
+
 /// The command of the words of a command line, without the program's name.
 pub fn read_command<'a>(words: &'a [String]) -> Option<Command<'a>>
     ensures command { option_map command_value result ≡ command_of (map string_bytes words.now) }
@@ -194,5 +208,6 @@ pub fn read_command<'a>(words: &'a [String]) -> Option<Command<'a>>
         Verb::Asm => read_asm(arguments, &settings),
         Verb::Debug => read_debug(arguments, settings),
         Verb::Show => read_show(arguments, &settings),
+        Verb::Soak => read_soak(arguments, &settings),
     }
 }

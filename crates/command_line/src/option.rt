@@ -40,6 +40,9 @@ pub const DEBUG_OPTIONS: [Opt; 3] = [Opt::State, Opt::Earom, Opt::Timers];
 /// The options of `show`.
 pub const SHOW_OPTIONS: [Opt; 0] = [];
 
+/// The options of `soak`.
+pub const SOAK_OPTIONS: [Opt; 0] = [];
+
 impl Opt {
     /// The word that gives the option.
     pub fn word(self) -> &'static str

@@ -3,7 +3,7 @@ use std::alloc::{AllocError, Global};
 use std::test::Fail;
 
 /// Lines whose words are no command.
-const BAD: [&str; 81] = [
+const BAD: [&str; 95] = [
     "",
     "run",
     "run a",
@@ -30,6 +30,20 @@ const BAD: [&str; 81] = [
     "debug a b c --cuts 1",
     "debug a b c --save s",
     "debug a b c --timers --timers",
+    "soak",
+    "soak 1 2",
+    "Soak 1",
+    "soaks 1",
+    "soak x",
+    "soak -1",
+    "soak +1",
+    "soak 0x1",
+    "soak 1 --cost",
+    "soak 1 --until 5",
+    "soak --until 5",
+    "soak 281474976710657",
+    "soak 1000000000000000",
+    "soak 0000000000000001",
     "--help",
     "--version",
     "--cost run a b",
@@ -129,6 +143,7 @@ fn other_words_are_no_command(rt: HostRuntime) -> Result<(), Fail> {
         "run a %",
         "run a b %",
         "show %",
+        "soak %",
         "run a b --state %",
         "run a b --save %",
         "run a b --until %",
@@ -239,6 +254,23 @@ fn a_state_is_shown(rt: HostRuntime) -> Result<(), Fail> {
             return Err("no state".into());
         };
         assert_eq!(rt; state, name);
+    }
+    Ok(())
+}
+
+#[test]
+fn a_workload_has_a_number(rt: HostRuntime) -> Result<(), Fail> {
+    for (line, number) in [
+        ("soak 1", 1),
+        ("soak 0", 0),
+        ("soak 007", 7),
+        ("soak 281474976710656", 281_474_976_710_656),
+    ] {
+        let words = words(rt.alloc(), line)?;
+        let Some(Command::Soak(seed)) = read_command(words.as_slice()) else {
+            return Err("no workload".into());
+        };
+        assert_eq!(rt; seed, number, "{line:?}");
     }
     Ok(())
 }

@@ -1,7 +1,7 @@
 ghost use Rattle.std.specs.Prelude.{◌≡◌};
 ghost use Rattle.command_line.specs.Words.{option_of, options_of, verb_of, verb_word};
 
-use crate::option::{ASM_OPTIONS, DEBUG_OPTIONS, Opt, RUN_OPTIONS, SHOW_OPTIONS};
+use crate::option::{ASM_OPTIONS, DEBUG_OPTIONS, Opt, RUN_OPTIONS, SHOW_OPTIONS, SOAK_OPTIONS};
 
 /// What a command does.
 #[derive(Clone, Copy, Debug, PartialEq, Eq)]
@@ -14,10 +14,12 @@ pub enum Verb {
     Debug,
     /// Shows a state.
     Show,
+    /// Runs the workload of a number.
+    Soak,
 }
 
 /// Each command.
-pub const VERBS: [Verb; 4] = [Verb::Run, Verb::Asm, Verb::Debug, Verb::Show];
+pub const VERBS: [Verb; 5] = [Verb::Run, Verb::Asm, Verb::Debug, Verb::Show, Verb::Soak];
 
 impl Verb {
     /// The word of the command.
@@ -29,6 +31,7 @@ impl Verb {
             Verb::Asm => "asm",
             Verb::Debug => "debug",
             Verb::Show => "show",
+            Verb::Soak => "soak",
         }
     }
 
@@ -41,6 +44,7 @@ impl Verb {
             Verb::Asm => &ASM_OPTIONS,
             Verb::Debug => &DEBUG_OPTIONS,
             Verb::Show => &SHOW_OPTIONS,
+            Verb::Soak => &SOAK_OPTIONS,
         }
     }
 

@@ -1,59 +1,12 @@
 //! The program `gravitar`: a command line's words, done on real files and streams.
 #![tactic(auto)]
 
-mod answer;
-#[cfg(test)]
-mod asm_tests;
-mod assembled;
-mod assembling;
-mod board_bytes;
-mod board_devices;
-mod cause;
-mod cause_text;
-#[cfg(test)]
-mod cost_tests;
-#[cfg(test)]
-mod cut_tests;
-mod debugging;
-#[cfg(test)]
-mod fault_tests;
-#[cfg(test)]
-mod file_tests;
-#[cfg(test)]
-mod fixtures;
-mod laws;
-mod load;
-#[cfg(test)]
-mod option_tests;
-mod parts;
-mod program;
-#[cfg(test)]
-mod programs;
-#[cfg(test)]
-mod rows;
-#[cfg(test)]
-mod show_tests;
-mod slice;
-mod slices;
-mod steady;
-mod stop;
-#[cfg(test)]
-mod tests;
-mod until;
-mod words;
-#[cfg(test)]
-mod workload;
-
-pub use laws::{cuts_leave_the_run, log_is_one_list};
+pub use gravitar_commands::{gravitar, run_slices};
+use gravitar_commands::{NO_MEMORY, USAGE, Words};
 use outside_io::{FileShelf, Sink, TextSink};
-pub use program::gravitar;
-pub use slices::run_slices;
 use std::alloc::Global;
 use std::process::ExitCode;
 use std::{env, io};
-pub use steady::steady_status;
-pub use stop::OutsideFault;
-pub use words::Words;
 
 /// Why a command line can't be taken.
 #[derive(Clone, Copy, Debug, PartialEq, Eq)]
@@ -91,11 +44,11 @@ fn main(rt: HostRuntime) -> ExitCode {
             ExitCode::from(gravitar(rt.alloc(), &words, &mut shelf, &mut out, &mut notes))
         }
         Err(Unread::NotText) => {
-            let _ = notes.write(program::USAGE);
+            let _ = notes.write(USAGE);
             ExitCode::from(2)
         }
         Err(Unread::NoMemory) => {
-            let _ = notes.write(answer::NO_MEMORY);
+            let _ = notes.write(NO_MEMORY);
             ExitCode::from(7)
         }
     }

@@ -1,0 +1,524 @@
+-- Laws of the answers of a command.
+use Rattle.std.proofs.Common.{◌≡◌, ◌≢◌, ℕ, ◌*◌, ◌≤◌, Bool, false, nat_lt, List, [], ◌∷◌, length, take, Option, Some, None, Result, Ok, Err, IfSome, IfOk, Contains, refl, sym, ap, ◌∙◌, subst, arith}
+use Rattle.std.proofs.Math.Seq.{take-length}
+use Rattle.board_base.specs.Board.{BoardValue, board_at_power_on}
+use Rattle.board_base.specs.Cpu.{CpuValue}
+use Rattle.save_state.specs.declared.fault.StateFault.{StateFault}
+use Rattle.command_line.specs.CommandLine.{command_of}
+use Rattle.command_line.specs.CommandValue.{AsmValue, CommandValue, DebugValue, RunValue, asm_of, debug_of, run_of, show_of, soak_of}
+use Rattle.command_line.specs.SettingsValue.{SettingsValue}
+use Rattle.outside_io.specs.Causes.{HasCause}
+use Rattle.outside_io.specs.Known.{grown}
+use Rattle.outside_io.specs.Shelf.{Files, Kept}
+use Rattle.outside_io.specs.Sink.{Takes}
+use Rattle.outside_io.proofs.KnownLaws.{grown-nothing}
+use Rattle.std.proofs.lemmas.Bool.Decides.{nat_tests}
+use Rattle.board_debug.specs.Session.{session_text}
+use Rattle.debug_script.specs.declared.command.Command.{Command}
+use Rattle.debug_script.specs.declared.fault.ScriptFault.TheVariants as script
+use Rattle.debug_script.specs.declared.script.TheConstants.{SCRIPT_LIMIT}
+use Rattle.debug_script.specs.Script.{script_of}
+use Rattle.debug_script.specs.Stops.{no_stops}
+use Rattle.soak_run.specs.SoakText.{run_text}
+use Rattle.tape_ports.specs.Tape.{TapeValue}
+use Rattle.workload_gen.specs.Roms.{image_of}
+use Rattle.workload_gen.specs.Tape.{tape_of}
+use Rattle.gravitar_commands.specs.declared.cause.Cause.TheVariants.{Script}
+use Rattle.gravitar_commands.specs.Causes.{cause_text}
+use Rattle.catchup_engine.specs.EngineValue.{cleared, counted_on}
+use Rattle.catchup_engine.specs.Lockstep.{Board}
+use Rattle.gravitar_commands.specs.declared.assembled.Assembled.{Assembled}
+use Rattle.gravitar_commands.specs.declared.parts.Parts.{Parts}
+use Rattle.gravitar_commands.specs.declared.stop.Ending.{Ending}
+use Rattle.gravitar_commands.specs.declared.stop.Ending.TheVariants.{Done, Jammed}
+use Rattle.gravitar_commands.specs.declared.stop.Stop.{Stop}
+use Rattle.gravitar_commands.specs.declared.stop.Stop.TheVariants.{Bad, Absent, Outside, NoMemory}
+use Rattle.gravitar_commands.specs.Events.{Did, sending, text_of, stores_of}
+use Rattle.gravitar_commands.specs.LastLine.{ending_by, status_of_ending}
+use Rattle.gravitar_commands.specs.Outcome.{Comes, ComesOf, asm_files, asm_outcome, CommandComes, FitsRun, ForReading, Outcome, and_then, command_outcome, debug_files, debug_outcome, fault_text, finished, first_board, limit_of, memory_text, refused, read_as, run_files, run_outcome, script_file, script_read, show_outcome, soak_outcome, state_file, usage_text, wanted_by, note_text, workload_of}
+use Rattle.gravitar_commands.specs.Slices.{FitsCalls, StopsIn, Wanted, last_board, run_events, storing}
+use Rattle.gravitar_commands.specs.Sources.{both_listings}
+use Rattle.gravitar_commands.specs.Stages.{status_of, note_of, Ends, IsBadOrMemory, Noted, Refuses, RunComes, StageAbsences, StopEnds, StopQuiet, session_outcome}
+use Rattle.gravitar_commands.proofs.CutLaws.{fits-least}
+use Rattle.gravitar_commands.proofs.EventLaws.{did-first-of, did-first-sending, did-nothing, did-sending, did-storing, did-then, did-then-first}
+
+-- one write of a note
+pub noted : {T E : Type 0} (notes0 notes1 : Option (List ℕ)) (faults0 faults1 : ℕ) (text : List ℕ) (result : Result T E)
+    → Takes notes0 notes1 text result → HasCause faults0 faults1 result → Noted notes0 notes1 faults0 faults1 text
+noted notes0 notes1 faults0 faults1 text (Ok a) took same = record {
+  later = omega arith;
+  part = (length text, took ∙ ap (grown notes0) (sym (take-length text)));
+  whole = λ _. took;
+}
+noted notes0 notes1 faults0 faults1 text (Err a) cut raised = record {
+  later = raised.later;
+  part = cut;
+  whole = λ not_risen. absurd (not_risen raised.rose);
+}
+
+did-idle : (out0 out1 : Option (List ℕ)) (stores0 stores1 : Option (List Kept)) → out1 ≡ out0 → stores1 ≡ stores0
+    → Did [] out0 out1 stores0 stores1
+unfolding text_of stores_of
+did-idle out0 out1 stores0 stores1 took same = record { text = took ∙ sym (grown-nothing out0); stores = same ∙ sym (grown-nothing stores0) }
+
+-- what comes of an outcome comes of that of a command
+pub comes-map : (first second : Outcome → Type 0) (command : Option CommandValue) (files : Files) → ((outcome : Outcome) → first outcome → second outcome)
+    → ComesOf command files first → ComesOf command files second
+comes-map first second None files so comes = so (refused 2 usage_text) comes
+comes-map first second (Some command) files so comes = λ reading is.
+    (let c = comes reading is in record { calls = c.calls; fits = c.fits; of_outcome = so (command_outcome command files reading c.calls) c.of_outcome })
+
+-- of words that are those of this command
+of-command : (first second : Outcome → Type 0) (words : List (List ℕ)) (command : CommandValue) (told : Option Files) → Some command ≡ command_of words
+    → ((outcome : Outcome) → first outcome → second outcome)
+    → IfSome told (λ files. ComesOf (Some command) files first) → IfSome told (λ files. Comes words files second)
+of-command first second words command None some so comes = tt
+of-command first second words command (Some files) some so comes =
+    subst (λ c. ComesOf c files second) some (comes-map first second (Some command) files so comes)
+
+-- of a command that is this one
+pub of-same : (holds : Outcome → Type 0) (told : Option Files) (command other : CommandValue) → other ≡ command
+    → IfSome told (λ files. ComesOf (Some command) files holds) → IfSome told (λ files. ComesOf (Some other) files holds)
+of-same holds told command other same comes = rw same comes
+
+-- of words of no form
+of-usage : (holds : Outcome → Type 0) (words : List (List ℕ)) (told : Option Files) → None ≡ command_of words → holds (refused 2 usage_text)
+    → IfSome told (λ files. Comes words files holds)
+of-usage holds words None none h = tt
+of-usage holds words (Some files) none h = subst (λ c. ComesOf c files holds) none h
+
+pub usage-outcome : (told : Option Files) (words : List (List ℕ)) (out0 out1 : Option (List ℕ)) (stores0 stores1 : Option (List Kept))
+    → None ≡ command_of words → out1 ≡ out0 → stores1 ≡ stores0
+    → IfSome told (λ files. Comes words files (λ outcome. (2 ≡ outcome.status) × Did outcome.events out0 out1 stores0 stores1))
+usage-outcome told words out0 out1 stores0 stores1 none took same =
+    of-usage (λ outcome. (2 ≡ outcome.status) × Did outcome.events out0 out1 stores0 stores1) words told none
+    (refl, did-idle out0 out1 stores0 stores1 took same)
+
+pub usage-note : (told : Option Files) (words : List (List ℕ)) (notes0 notes1 : Option (List ℕ)) (faults0 faults1 : ℕ)
+    → None ≡ command_of words → Noted notes0 notes1 faults0 faults1 usage_text
+    → IfSome told (λ files. Comes words files (λ outcome. Noted notes0 notes1 faults0 faults1 outcome.note))
+usage-note told words notes0 notes1 faults0 faults1 none h =
+    of-usage (λ outcome. Noted notes0 notes1 faults0 faults1 outcome.note) words told none h
+
+-- a refusal that is the outcome
+refusal : (outcome : Outcome) (stop : Stop) (status : ℕ) (out0 out1 : Option (List ℕ)) (stores0 stores1 : Option (List Kept))
+    → status ≡ status_of stop → StopEnds outcome out0 out1 stores0 stores1 stop → status ≢ 6 → status ≢ 7
+    → outcome ≡ refused (status_of stop) (note_of stop)
+refusal outcome (Bad note) status out0 out1 stores0 stores1 is ends not6 not7 = ends
+refusal outcome (Absent note) status out0 out1 stores0 stores1 is ends not6 not7 = ends
+refusal outcome Outside status out0 out1 stores0 stores1 is ends not6 not7 = absurd (not6 is)
+refusal outcome NoMemory status out0 out1 stores0 stores1 is ends not6 not7 = absurd (not7 is)
+
+quiet-of : (stop : Stop) (status : ℕ) (out0 out1 : Option (List ℕ)) (stores0 stores1 : Option (List Kept)) → status ≡ status_of stop
+    → StopQuiet out0 out1 stores0 stores1 stop → status ≢ 6 → (out1 ≡ out0) × (stores1 ≡ stores0)
+quiet-of (Bad note) status out0 out1 stores0 stores1 is quiet not6 = quiet
+quiet-of (Absent note) status out0 out1 stores0 stores1 is quiet not6 = quiet
+quiet-of Outside status out0 out1 stores0 stores1 is quiet not6 = absurd (not6 is)
+quiet-of NoMemory status out0 out1 stores0 stores1 is quiet not6 = quiet
+
+module _ (told : Option Files) (words : List (List ℕ)) (command : CommandValue) (stop : Stop) (status : ℕ) (out0 out1 : Option (List ℕ))
+    (stores0 stores1 : Option (List Kept)) (some : Some command ≡ command_of words) (is : status ≡ status_of stop)
+    (comes : IfSome told (λ files. ComesOf (Some command) files (λ outcome. StopEnds outcome out0 out1 stores0 stores1 stop))) where
+  pub stop-outcome : StopQuiet out0 out1 stores0 stores1 stop → status ≢ 6 → status ≢ 7
+      → IfSome told (λ files. Comes words files (λ outcome. (status ≡ outcome.status) × Did outcome.events out0 out1 stores0 stores1))
+  stop-outcome quiet not6 not7 =
+      let nothing = quiet-of stop status out0 out1 stores0 stores1 is quiet not6 in
+      of-command (λ outcome. StopEnds outcome out0 out1 stores0 stores1 stop)
+      (λ outcome. (status ≡ outcome.status) × Did outcome.events out0 out1 stores0 stores1) words command told some
+      (λ outcome ends.
+      rw (refusal outcome stop status out0 out1 stores0 stores1 is ends not6 not7)
+      (is, did-idle out0 out1 stores0 stores1 nothing.0 nothing.1)) comes
+
+  pub stop-note : (notes0 notes1 : Option (List ℕ)) (faults0 faults1 : ℕ) → Noted notes0 notes1 faults0 faults1 (note_of stop) → status ≢ 6 → status ≢ 7
+      → IfSome told (λ files. Comes words files (λ outcome. Noted notes0 notes1 faults0 faults1 outcome.note))
+  stop-note notes0 notes1 faults0 faults1 h not6 not7 =
+      of-command (λ outcome. StopEnds outcome out0 out1 stores0 stores1 stop) (λ outcome. Noted notes0 notes1 faults0 faults1 outcome.note) words command
+      told some (λ outcome ends. rw (refusal outcome stop status out0 out1 stores0 stores1 is ends not6 not7) h) comes
+
+pub fault-note : (stop : Stop) (status : ℕ) (notes0 notes1 : Option (List ℕ)) (faults0 faults1 : ℕ) → status ≡ status_of stop
+    → Noted notes0 notes1 faults0 faults1 (note_of stop) → status ≡ 6 → Noted notes0 notes1 faults0 faults1 fault_text
+fault-note (Bad note) status notes0 notes1 faults0 faults1 is h six = absurd (omega arith)
+fault-note (Absent note) status notes0 notes1 faults0 faults1 is h six = absurd (omega arith)
+fault-note Outside status notes0 notes1 faults0 faults1 is h six = h
+fault-note NoMemory status notes0 notes1 faults0 faults1 is h six = absurd (omega arith)
+
+pub memory-note : (stop : Stop) (status : ℕ) (notes0 notes1 : Option (List ℕ)) (faults0 faults1 : ℕ) → status ≡ status_of stop
+    → Noted notes0 notes1 faults0 faults1 (note_of stop) → status ≡ 7 → Noted notes0 notes1 faults0 faults1 memory_text
+memory-note (Bad note) status notes0 notes1 faults0 faults1 is h seven = absurd (omega arith)
+memory-note (Absent note) status notes0 notes1 faults0 faults1 is h seven = absurd (omega arith)
+memory-note Outside status notes0 notes1 faults0 faults1 is h seven = absurd (omega arith)
+memory-note NoMemory status notes0 notes1 faults0 faults1 is h seven = h
+
+-- the statuses that there are
+pub usage-status : Contains {X = ℕ} (0 ∷ 2 ∷ 3 ∷ 4 ∷ 5 ∷ 6 ∷ 7 ∷ []) 2
+usage-status = (1, omega arith, refl)
+
+pub stop-status : (stop : Stop) (status : ℕ) → status ≡ status_of stop → Contains {X = ℕ} (0 ∷ 2 ∷ 3 ∷ 4 ∷ 5 ∷ 6 ∷ 7 ∷ []) status
+stop-status (Bad note) status is = rw is (3, omega arith, refl)
+stop-status (Absent note) status is = rw is (4, omega arith, refl)
+stop-status Outside status is = rw is (5, omega arith, refl)
+stop-status NoMemory status is = rw is (6, omega arith, refl)
+
+pub ending-contained : (ending : Ending) (status : ℕ) → status ≡ status_of_ending ending → Contains {X = ℕ} (0 ∷ 2 ∷ 3 ∷ 4 ∷ 5 ∷ 6 ∷ 7 ∷ []) status
+ending-contained Done status is = rw is (0, omega arith, refl)
+ending-contained Jammed status is = rw is (2, omega arith, refl)
+
+-- some number fits a run that isn't begun
+some-calls : (said : SettingsValue) (files : Result Parts Outcome) → (calls : ℕ) × IfOk files (λ parts. FitsRun said parts calls)
+some-calls said (Ok parts) =
+    let limit = limit_of said.until parts.tape.end in (
+      counted_on 5 (5 * length said.cuts),
+      fits-least parts.tape.entries limit (length said.cuts) (first_board said.timers parts) 5,
+    )
+some-calls said (Err refusal) = (0, tt)
+
+-- a stage that stopped before anything was done
+stop-ends : {A : Type 0} (files : Result A Outcome) (outcome : A → Outcome) (stop : Stop) (out0 out1 : Option (List ℕ)) (stores0 stores1 : Option (List Kept))
+    → Refuses files stop → out1 ≡ out0 → stores1 ≡ stores0 → StopEnds (finished files outcome) out0 out1 stores0 stores1 stop
+stop-ends files outcome (Bad note) out0 out1 stores0 stores1 refuses took same = ap (λ r. finished r outcome) refuses
+stop-ends files outcome (Absent note) out0 out1 stores0 stores1 refuses took same = ap (λ r. finished r outcome) refuses
+stop-ends files outcome Outside out0 out1 stores0 stores1 refuses took same = did-nothing _ out0 out1 stores0 stores1 took same
+stop-ends files outcome NoMemory out0 out1 stores0 stores1 refuses took same = tt
+
+-- a run that stopped at its files
+pub run-stopped : (told : Option Files) (run : RunValue) (stop : Stop) (out0 out1 : Option (List ℕ)) (stores0 stores1 : Option (List Kept))
+    → IfSome told (λ files. ForReading run.settings.state files (λ reading. Refuses (run_files files run reading) stop)) → out1 ≡ out0 → stores1 ≡ stores0
+    → IfSome told (λ files. ForReading run.settings.state files (λ reading.
+    CommandComes (run_of run) files reading (λ outcome. StopEnds outcome out0 out1 stores0 stores1 stop)))
+unfolding command_outcome
+run-stopped None run stop out0 out1 stores0 stores1 refuses took same = tt
+run-stopped (Some files) run stop out0 out1 stores0 stores1 refuses took same = λ reading is.
+    (let (calls, fits) = some-calls run.settings (run_files files run reading) in record {
+      calls = calls;
+      fits = fits;
+      of_outcome =
+          stop-ends (run_files files run reading) (λ parts. run_outcome run.settings parts calls) stop out0 out1 stores0 stores1 (refuses reading is) took same;
+    })
+
+-- a run whose files were good
+pub run-comes : (told : Option Files) (run : RunValue) (said : SettingsValue) (parts : Parts) (out0 out1 : Option (List ℕ))
+    (stores0 held stores1 : Option (List Kept)) (result : Result Ending Stop) → said ≡ run.settings → held ≡ stores0
+    → IfSome told (λ files. ForReading run.settings.state files (λ reading. run_files files run reading ≡ Ok parts))
+    → RunComes said parts (λ outcome. Ends outcome out0 out1 held stores1 result)
+    → IfSome told (λ files. ForReading run.settings.state files (λ reading.
+    CommandComes (run_of run) files reading (λ outcome. Ends outcome out0 out1 stores0 stores1 result)))
+unfolding command_outcome
+run-comes None run said parts out0 out1 stores0 held stores1 result same kept good comes = tt
+run-comes (Some files) run said parts out0 out1 stores0 held stores1 result same kept good comes = λ reading is. record {
+  calls = comes.calls;
+  fits = rw (good reading is, sym same) comes.fits;
+  of_outcome = rw (good reading is, sym same, sym kept) comes.of_outcome;
+}
+
+-- sources that couldn't be had
+pub asm-stopped : (told : Option Files) (words : AsmValue) (stop : Stop) (out0 out1 : Option (List ℕ)) (stores0 stores1 : Option (List Kept))
+    → IfSome told (λ files. Refuses (asm_files files words) stop) → out1 ≡ out0 → stores1 ≡ stores0
+    → IfSome told (λ files. ForReading None files (λ reading.
+    CommandComes (asm_of words) files reading (λ outcome. StopEnds outcome out0 out1 stores0 stores1 stop)))
+unfolding command_outcome
+asm-stopped None words stop out0 out1 stores0 stores1 refuses took same = tt
+asm-stopped (Some files) words stop out0 out1 stores0 stores1 refuses took same = λ reading is. record {
+  calls = 0;
+  fits = tt;
+  of_outcome = stop-ends (asm_files files words) (asm_outcome words.image) stop out0 out1 stores0 stores1 refuses took same;
+}
+
+-- sources that are good
+pub asm-comes : (told : Option Files) (words : AsmValue) (made : Assembled) (holds : Outcome → Type 0)
+    → IfSome told (λ files. asm_files files words ≡ Ok made) → holds (asm_outcome words.image made)
+    → IfSome told (λ files. ForReading None files (λ reading. CommandComes (asm_of words) files reading holds))
+unfolding command_outcome
+asm-comes None words made holds good comes = tt
+asm-comes (Some files) words made holds good comes = λ reading is. record { calls = 0; fits = tt; of_outcome = rw good comes }
+
+-- what was done of good sources: both listings and the store, the listings alone, or a first part of them
+module _ (told : Option Files) (words : AsmValue) (made : Assembled) (good : IfSome told (λ files. asm_files files words ≡ Ok made)) (out0 out1 : Option (List ℕ))
+    (stores0 stores1 : Option (List Kept)) (text : List ℕ) (listed : text ≡ both_listings made) where
+  pub asm-done : (held : Option (List Kept)) (name bytes : List ℕ) → name ≡ words.image → bytes ≡ made.image → held ≡ stores0 → out1 ≡ grown out0 text
+      → stores1 ≡ grown held (stores_of (storing (Some name) bytes))
+      → IfSome told (λ files. ForReading None files (λ reading. CommandComes (asm_of words) files reading (λ outcome. Ends outcome out0 out1 stores0 stores1 (Ok Done))))
+  unfolding asm_outcome
+  asm-done held name bytes named whole kept took stored =
+      asm-comes told words made (λ outcome. Ends outcome out0 out1 stores0 stores1 (Ok Done)) good (
+        refl,
+        refl,
+        did-then (sending (both_listings made)) (storing (Some words.image) made.image) out0 out1 out1 stores0 held stores1
+            (did-sending (both_listings made) out0 out1 stores0 held (took ∙ ap (grown out0) listed) kept)
+            (did-storing (Some words.image) made.image bytes out1 out1 held stores1 whole refl (stored ∙ ap (λ n. grown held (stores_of (storing (Some n) bytes))) named)),
+      )
+
+  pub asm-unstored : (held : Option (List Kept)) → held ≡ stores0 → out1 ≡ grown out0 text → stores1 ≡ held
+      → IfSome told (λ files. ForReading None files (λ reading. CommandComes (asm_of words) files reading (λ outcome. StopEnds outcome out0 out1 stores0 stores1 Outside)))
+  unfolding asm_outcome
+  asm-unstored held kept took idle =
+      asm-comes told words made (λ outcome. StopEnds outcome out0 out1 stores0 stores1 Outside) good
+      (did-then-first (sending (both_listings made)) (storing (Some words.image) made.image) out0 out1 out1 stores0 held stores1
+      (did-sending (both_listings made) out0 out1 stores0 held (took ∙ ap (grown out0) listed) kept)
+      (did-nothing (storing (Some words.image) made.image) out1 out1 held stores1 refl idle))
+
+  pub asm-unwritten : (k : ℕ) × (out1 ≡ grown out0 (take k text)) → stores1 ≡ stores0
+      → IfSome told (λ files. ForReading None files (λ reading. CommandComes (asm_of words) files reading (λ outcome. StopEnds outcome out0 out1 stores0 stores1 Outside)))
+  unfolding asm_outcome
+  asm-unwritten cut idle =
+      asm-comes told words made (λ outcome. StopEnds outcome out0 out1 stores0 stores1 Outside) good
+      (did-first-of (sending (both_listings made)) (storing (Some words.image) made.image) out0 out1 stores0 stores1
+      (did-first-sending (both_listings made) out0 out1 stores0 stores1 (cut.0, cut.1 ∙ ap (λ t. grown out0 (take cut.0 t)) listed) idle))
+
+-- a stage that knows no count of absences leaves the one before it
+pub absences-on : (before now : ℕ) (result : Result Ending Stop) → ((n : ℕ) → StageAbsences n n result) → before ≤ now → StageAbsences before now result
+absences-on before now (Ok ending) knows later = later
+absences-on before now (Err (Bad note)) knows later = later
+absences-on before now (Err (Absent note)) knows later = let none = (knows 0).rose in absurd (omega arith)
+absences-on before now (Err Outside) knows later = later
+absences-on before now (Err NoMemory) knows later = later
+
+-- a session whose files couldn't be had
+refused-first : {A B : Type 0} (given : Result A Outcome) (next : A → Result B Outcome) (stop : Stop) → Refuses given stop → Refuses (and_then given next) stop
+refused-first given next (Bad note) refuses = ap (λ r. and_then r next) refuses
+refused-first given next (Absent note) refuses = ap (λ r. and_then r next) refuses
+refused-first given next Outside refuses = tt
+refused-first given next NoMemory refuses = tt
+
+refused-then : {A B : Type 0} (given : Result A Outcome) (a : A) (next : A → Result B Outcome) (stop : Stop) → given ≡ Ok a → Refuses (next a) stop
+    → Refuses (and_then given next) stop
+refused-then given a next (Bad note) is refuses = ap (λ r. and_then r next) is ∙ refuses
+refused-then given a next (Absent note) is refuses = ap (λ r. and_then r next) is ∙ refuses
+refused-then given a next Outside is refuses = tt
+refused-then given a next NoMemory is refuses = tt
+
+debug-refused : (told : Option Files) (words : DebugValue) (stop : Stop) (out0 out1 : Option (List ℕ)) (stores0 stores1 : Option (List Kept))
+    → IfSome told (λ files. ForReading words.run.settings.state files (λ reading. Refuses (debug_files files words reading) stop)) → out1 ≡ out0
+    → stores1 ≡ stores0
+    → IfSome told (λ files. ForReading words.run.settings.state files (λ reading.
+    CommandComes (debug_of words) files reading (λ outcome. StopEnds outcome out0 out1 stores0 stores1 stop)))
+unfolding command_outcome
+debug-refused None words stop out0 out1 stores0 stores1 refuses took same = tt
+debug-refused (Some files) words stop out0 out1 stores0 stores1 refuses took same = λ reading is. record {
+  calls = 0;
+  fits = tt;
+  of_outcome =
+      stop-ends (debug_files files words reading) (λ session. debug_outcome words.run.settings.timers session.0 session.1) stop out0 out1 stores0 stores1
+      (refuses reading is) took same;
+}
+
+pub debug-stopped : (told : Option Files) (words : DebugValue) (run : RunValue) (stop : Stop) (out0 out1 : Option (List ℕ)) (stores0 stores1 : Option (List Kept))
+    → run ≡ words.run
+    → IfSome told (λ files. ForReading run.settings.state files (λ reading. Refuses (run_files files run reading) stop)) → out1 ≡ out0 → stores1 ≡ stores0
+    → IfSome told (λ files. ForReading words.run.settings.state files (λ reading.
+    CommandComes (debug_of words) files reading (λ outcome. StopEnds outcome out0 out1 stores0 stores1 stop)))
+unfolding debug_files
+debug-stopped told words run stop out0 out1 stores0 stores1 same refuses took kept =
+    debug-refused told words stop out0 out1 stores0 stores1 (by_told told (rw (← same) refuses)) took kept
+  where
+    first : (files : Files) (reading : Result BoardValue StateFault) → Refuses (run_files files words.run reading) stop → Refuses (debug_files files words reading) stop
+    first files reading r = refused-first (run_files files words.run reading) _ stop r
+
+    by_told : (told : Option Files) → IfSome told (λ files. ForReading words.run.settings.state files (λ reading. Refuses (run_files files words.run reading) stop))
+        → IfSome told (λ files. ForReading words.run.settings.state files (λ reading. Refuses (debug_files files words reading) stop))
+    by_told None r = tt
+    by_told (Some files) r = λ reading is. first files reading (r reading is)
+
+-- a session whose script couldn't be had
+pub debug-unread : (told again : Option Files) (words : DebugValue) (run : RunValue) (name : List ℕ) (parts : Parts) (stop : Stop) (out0 out1 : Option (List ℕ))
+    (stores0 stores1 : Option (List Kept)) → run ≡ words.run → name ≡ words.script → again ≡ told
+    → IfSome told (λ files. ForReading run.settings.state files (λ reading. run_files files run reading ≡ Ok parts))
+    → IfSome again (λ files. Refuses (script_file files name) stop) → out1 ≡ out0 → stores1 ≡ stores0
+    → IfSome told (λ files. ForReading words.run.settings.state files (λ reading.
+    CommandComes (debug_of words) files reading (λ outcome. StopEnds outcome out0 out1 stores0 stores1 stop)))
+unfolding debug_files
+debug-unread told again words run name parts stop out0 out1 stores0 stores1 same named kept good refuses took held =
+    debug-refused told words stop out0 out1 stores0 stores1 (by_told told (rw (← same) good) (rw (← kept, ← named) refuses)) took held
+  where
+    then_ : (files : Files) (reading : Result BoardValue StateFault) → run_files files words.run reading ≡ Ok parts → Refuses (script_file files words.script) stop
+        → Refuses (debug_files files words reading) stop
+    then_ files reading g r =
+        refused-then (run_files files words.run reading) parts _ stop g (refused-first (script_file files words.script) (λ commands. Ok (parts, commands)) stop r)
+
+    by_told : (told : Option Files) → IfSome told (λ files. ForReading words.run.settings.state files (λ reading. run_files files words.run reading ≡ Ok parts))
+        → IfSome told (λ files. Refuses (script_file files words.script) stop)
+        → IfSome told (λ files. ForReading words.run.settings.state files (λ reading. Refuses (debug_files files words reading) stop))
+    by_told None g r = tt
+    by_told (Some files) g r = λ reading is. then_ files reading (g reading is) r
+
+finished-session : (wired : Bool) (parts : Parts) (read : Result (List Command) Outcome)
+    → finished {A = Parts × List Command} (and_then read (λ commands. Ok (parts, commands))) (λ session. debug_outcome wired session.0 session.1)
+    ≡ finished read (debug_outcome wired parts)
+finished-session wired parts (Ok commands) = refl
+finished-session wired parts (Err refusal) = refl
+
+session-outcome : (files : Files) (reading : Result BoardValue StateFault) (words : DebugValue) (bytes : List ℕ) (parts : Parts)
+    → run_files files words.run reading ≡ Ok parts → script_file files words.script ≡ read_as words.script (script_read bytes)
+    → command_outcome (debug_of words) files reading 0 ≡ session_outcome words.run.settings.timers words.script parts bytes
+unfolding command_outcome debug_files
+session-outcome files reading words bytes parts good read =
+    rw good (rw read (finished-session words.run.settings.timers parts (read_as words.script (script_read bytes))))
+
+-- a session whose files are there
+session-told : (told : Option Files) (words : DebugValue) (bytes : List ℕ) (parts : Parts) (holds : Outcome → Type 0)
+    → IfSome told (λ files. ForReading words.run.settings.state files (λ reading. run_files files words.run reading ≡ Ok parts))
+    → IfSome told (λ files. script_file files words.script ≡ read_as words.script (script_read bytes))
+    → holds (session_outcome words.run.settings.timers words.script parts bytes)
+    → IfSome told (λ files. ForReading words.run.settings.state files (λ reading. CommandComes (debug_of words) files reading holds))
+session-told None words bytes parts holds good read comes = tt
+session-told (Some files) words bytes parts holds good read comes = λ reading is. record {
+  calls = 0;
+  fits = tt;
+  of_outcome = subst holds (sym (session-outcome files reading words bytes parts (good reading is) read)) comes;
+}
+
+pub debug-comes : (told again : Option Files) (words : DebugValue) (wired : Bool) (run : RunValue) (name bytes : List ℕ) (parts : Parts) (holds : Outcome → Type 0)
+    → wired ≡ words.run.settings.timers → run ≡ words.run → name ≡ words.script → again ≡ told
+    → IfSome told (λ files. ForReading run.settings.state files (λ reading. run_files files run reading ≡ Ok parts))
+    → IfSome again (λ files. script_file files name ≡ read_as name (script_read bytes))
+    → holds (session_outcome wired name parts bytes)
+    → IfSome told (λ files. ForReading words.run.settings.state files (λ reading. CommandComes (debug_of words) files reading holds))
+debug-comes told again words wired run name bytes parts holds asked same named kept good read comes =
+    session-told told words bytes parts holds (rw (← same) good) (rw (← kept, ← named) read) (rw (← asked, ← named) comes)
+
+script-good : (bytes : List ℕ) (commands : List Command) → length bytes ≤ SCRIPT_LIMIT → script_of bytes ≡ Ok commands → script_read bytes ≡ Ok commands
+unfolding script_read
+script-good bytes commands short is =
+    let fits : nat_lt SCRIPT_LIMIT (length bytes) ≡ false = grind (arith, nat_tests) in
+    rw (fits, is) refl
+
+script-bad : (bytes : List ℕ) (number : ℕ) → length bytes ≤ SCRIPT_LIMIT → script_of bytes ≡ Err number
+    → script_read bytes ≡ Err (Script (script.BadCommand number))
+unfolding script_read
+script-bad bytes number short is =
+    let fits : nat_lt SCRIPT_LIMIT (length bytes) ≡ false = grind (arith, nat_tests) in
+    rw (fits, is) refl
+
+-- what a session comes to, over the engine that was made for its parts
+module _ (wired : Bool) (name bytes : List ℕ) (parts : Parts) (out0 out1 : Option (List ℕ)) (short : length bytes ≤ SCRIPT_LIMIT) where
+  pub session-done : (commands : List Command) (first : Board) → first ≡ first_board wired parts → script_of bytes ≡ Ok commands
+      → out1 ≡ grown out0 (session_text parts.tape no_stops commands first) → (stores : Option (List Kept))
+      → Ends (session_outcome wired name parts bytes) out0 out1 stores stores (Ok Done)
+  unfolding debug_outcome
+  session-done commands first made is took stores =
+      rw (script-good bytes commands short is) (
+        refl,
+        refl,
+        did-sending _ out0 out1 stores stores (rw (← made) took) refl,
+      )
+
+  pub session-cut : (commands : List Command) (first : Board) → first ≡ first_board wired parts → script_of bytes ≡ Ok commands
+      → (k : ℕ) × (out1 ≡ grown out0 (take k (session_text parts.tape no_stops commands first))) → (stores : Option (List Kept))
+      → StopEnds (session_outcome wired name parts bytes) out0 out1 stores stores Outside
+  unfolding debug_outcome
+  session-cut commands first made is cut stores =
+      rw (script-good bytes commands short is) (did-first-sending _ out0 out1 stores stores (rw (← made) cut) refl)
+
+  pub session-bad : (number : ℕ) (stop : Stop) → script_of bytes ≡ Err number
+      → IsBadOrMemory (note_text name (cause_text (Script (script.BadCommand number)))) stop → (stores : Option (List Kept))
+      → StopEnds (session_outcome wired name parts bytes) out0 out1 stores stores stop
+  session-bad number (Bad note) is noted stores = rw (script-bad bytes number short is) (ap (refused 4) (sym noted))
+  session-bad number (Absent note) is noted stores = absurd noted
+  session-bad number Outside is noted stores = absurd noted
+  session-bad number NoMemory is noted stores = tt
+
+-- a state that couldn't be had
+pub show-stopped : (told : Option Files) (name : List ℕ) (stop : Stop) (out0 out1 : Option (List ℕ)) (stores0 stores1 : Option (List Kept))
+    → IfSome told (λ files. ForReading (Some name) files (λ reading. Refuses (state_file files name reading) stop)) → out1 ≡ out0 → stores1 ≡ stores0
+    → IfSome told (λ files. ForReading (Some name) files (λ reading.
+    CommandComes (show_of name) files reading (λ outcome. StopEnds outcome out0 out1 stores0 stores1 stop)))
+unfolding command_outcome
+show-stopped None name stop out0 out1 stores0 stores1 refuses took same = tt
+show-stopped (Some files) name stop out0 out1 stores0 stores1 refuses took same = λ reading is. record {
+  calls = 0;
+  fits = tt;
+  of_outcome = stop-ends (state_file files name reading) show_outcome stop out0 out1 stores0 stores1 (refuses reading is) took same;
+}
+
+-- a state that is there
+pub show-comes : (told : Option Files) (name : List ℕ) (board : BoardValue) (holds : Outcome → Type 0)
+    → IfSome told (λ files. ForReading (Some name) files (λ reading. state_file files name reading ≡ Ok board)) → holds (show_outcome board)
+    → IfSome told (λ files. ForReading (Some name) files (λ reading. CommandComes (show_of name) files reading holds))
+unfolding command_outcome
+show-comes None name board holds good comes = tt
+show-comes (Some files) name board holds good comes = λ reading is. record { calls = 0; fits = tt; of_outcome = rw (good reading is) comes }
+
+-- a large run needs no file
+pub soak-comes : (told : Option Files) (seed : ℕ) (holds : Outcome → Type 0) → holds (soak_outcome seed)
+    → IfSome told (λ files. ComesOf (Some (soak_of seed)) files holds)
+unfolding command_outcome
+soak-comes None seed holds comes = tt
+soak-comes (Some files) seed holds comes = λ reading is. record { calls = 0; fits = tt; of_outcome = comes }
+
+-- what a large run comes to, over the engine that was made for its workload
+module _ (seed : ℕ) (image : List ℕ) (tape : TapeValue) (end : ℕ) (start : BoardValue) (first : Board) (is_image : image ≡ image_of seed)
+    (is_tape : tape ≡ tape_of seed) (ends : end ≡ tape.end) (begun : start ≡ board_at_power_on)
+    (made : first ≡ first_board false (record { image = image; tape = tape; board = start })) (out0 out1 : Option (List ℕ)) where
+  same-text : run_text tape.entries end first ≡ (let parts = workload_of seed in run_text parts.tape.entries parts.tape.end (first_board false parts))
+  same-text =
+      ap (λ e. run_text tape.entries e first) ends
+      ∙ ap (run_text tape.entries tape.end) made
+      ∙ ap (λ b. run_text tape.entries tape.end (first_board false (record { image = image; tape = tape; board = b }))) begun
+      ∙ ap (λ i. run_text tape.entries tape.end (first_board false (record { image = i; tape = tape; board = board_at_power_on }))) is_image
+      ∙ ap (λ (t : TapeValue). run_text t.entries t.end (first_board false (record { image = image_of seed; tape = t; board = board_at_power_on }))) is_tape
+
+  pub soak-done : out1 ≡ grown out0 (run_text tape.entries end first) → (stores : Option (List Kept))
+      → Ends (soak_outcome seed) out0 out1 stores stores (Ok Done)
+  unfolding soak_outcome
+  soak-done took stores = (refl, refl, did-sending _ out0 out1 stores stores (took ∙ ap (grown out0) same-text) refl)
+
+  pub soak-cut : (k : ℕ) × (out1 ≡ grown out0 (take k (run_text tape.entries end first))) → (stores : Option (List Kept))
+      → StopEnds (soak_outcome seed) out0 out1 stores stores Outside
+  unfolding soak_outcome
+  soak-cut (k, cut) stores =
+      did-first-sending _ out0 out1 stores stores (k, cut ∙ ap (λ text. grown out0 (take k text)) same-text) refl
+
+-- an engine that is made for the parts of a run, with what the settings ask of it
+pub record IsMadeFor (said : SettingsValue) (parts : Parts) (limit : ℕ) (wanted : Wanted) (cuts : List ℕ) (before : ℕ) (first : Board) : Type 0 where
+  pub same_limit : limit ≡ limit_of said.until parts.tape.end
+  pub same_wanted : wanted ≡ wanted_by said
+  pub same_cuts : cuts ≡ said.cuts
+  pub five : before ≡ 5
+  pub same_first : first ≡ first_board said.timers parts
+
+-- the same from the settings as they are kept
+pub made-for : (kept said : SettingsValue) (parts : Parts) (end limit : ℕ) (cuts : List ℕ) (unused before : ℕ) (first : Board) → kept ≡ said
+    → end ≡ parts.tape.end → limit ≡ limit_of kept.until end → cuts ≡ kept.cuts → unused ≡ 0 → before ≡ counted_on unused 5
+    → first ≡ first_board kept.timers parts → IsMadeFor said parts limit (wanted_by kept) cuts before first
+made-for kept said parts end limit cuts unused before first same last is listed none counted begun =
+    rw (sym same) (record {
+      same_limit = is ∙ ap (limit_of kept.until) last;
+      same_wanted = refl;
+      same_cuts = listed;
+      five = omega arith;
+      same_first = begun;
+    })
+
+-- the run of an engine is that of its parts
+module _ (said : SettingsValue) (parts : Parts) (limit : ℕ) (wanted : Wanted) (cuts : List ℕ) (before : ℕ) (first : Board)
+    (made : IsMadeFor said parts limit wanted cuts before first) (out0 out1 : Option (List ℕ)) (stores0 stores1 : Option (List Kept)) where
+  pub run-done : (calls : ℕ) (ending : Ending) (cpu : CpuValue) (now : Board) → Did (run_events parts.tape.entries limit wanted calls cuts first) out0 out1 stores0 stores1
+      → FitsCalls parts.tape.entries limit (length cuts) first before calls
+      → ending ≡ ending_by cpu.jam → cpu ≡ now.cpu → now ≡ cleared (last_board parts.tape.entries limit cuts first)
+      → RunComes said parts (λ outcome. Ends outcome out0 out1 stores0 stores1 (Ok ending))
+  unfolding run_outcome
+  run-done calls ending cpu now did fits by here there =
+      let is = by ∙ ap (λ (c : CpuValue). ending_by c.jam) here ∙ ap (λ (b : Board). ending_by b.cpu.jam) there in
+      record {
+        calls = calls;
+        fits = rw (sym made.same_limit, sym made.same_cuts, sym made.same_first, sym made.five) fits;
+        of_outcome =
+            rw (sym made.same_limit, sym made.same_cuts, sym made.same_first, sym made.same_wanted) (
+              sym (ap status_of_ending is),
+              refl,
+              did,
+            );
+      }
+
+  pub run-cut : StopsIn parts.tape.entries limit wanted before cuts first out0 out1 stores0 stores1
+      → RunComes said parts (λ outcome. StopEnds outcome out0 out1 stores0 stores1 Outside)
+  unfolding run_outcome
+  run-cut stopped = record {
+    calls = stopped.calls;
+    fits = rw (sym made.same_limit, sym made.same_cuts, sym made.same_first, sym made.five) stopped.fits;
+    of_outcome = rw (sym made.same_limit, sym made.same_cuts, sym made.same_first, sym made.same_wanted) stopped.did;
+  }
+
+-- a run that has no memory
+pub run-unbegun : (said : SettingsValue) (parts : Parts) → RunComes said parts (λ outcome. Unit {0})
+run-unbegun said parts =
+    let some = some-calls said (Ok parts) in record { calls = some.0; fits = some.1; of_outcome = tt }

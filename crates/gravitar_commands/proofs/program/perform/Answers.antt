@@ -1,0 +1,34 @@
+use Rattle.std.proofs.Common.{ap}
+use Rattle.command_line.specs.CommandValue.{asm_of, debug_of, run_of, soak_of}
+use Rattle.command_line.specs.CommandWords.{command_value}
+use Rattle.gravitar_commands.proofs.StageLaws.{of-same, soak-comes}
+use Rattle.gravitar_commands.proofs.program.perform.Goals as goal
+
+pub returns-in-Run-clause-outcome : goal.returns-in-Run-clause-outcome
+returns-in-Run-clause-outcome g c =
+    of-same _ (g.S.Shelf.files c.args.shelf.now) (run_of c.in-Run.words) (command_value c.args.command.now) (ap command_value c.in-Run.is)
+    c.perform_run.ensures.outcome
+
+pub returns-in-Asm-clause-outcome : goal.returns-in-Asm-clause-outcome
+returns-in-Asm-clause-outcome g c =
+    of-same _ (g.S.Shelf.files c.args.shelf.now) (asm_of c.in-Asm.words) (command_value c.args.command.now) (ap command_value c.in-Asm.is)
+    c.perform_asm.ensures.outcome
+
+pub returns-in-Debug-clause-outcome : goal.returns-in-Debug-clause-outcome
+returns-in-Debug-clause-outcome g c =
+    of-same _ (g.S.Shelf.files c.args.shelf.now) (debug_of c.in-Debug.words) (command_value c.args.command.now) (ap command_value c.in-Debug.is)
+    c.perform_debug.ensures.outcome
+
+pub returns-in-Soak-clause-outcome : goal.returns-in-Soak-clause-outcome
+returns-in-Soak-clause-outcome g c =
+    of-same _ (g.S.Shelf.files c.args.shelf.now) (soak_of c.in-Soak.seed) (command_value c.args.command.now) (ap command_value c.in-Soak.is)
+    (soak-comes (g.S.Shelf.files c.args.shelf.now) c.in-Soak.seed _ (c.perform_soak.ensures.outcome _))
+
+pub returns-in-Soak-clause-quiet : goal.returns-in-Soak-clause-quiet
+returns-in-Soak-clause-quiet g c = c.perform_soak.ensures.quiet _
+
+pub returns-in-Soak-clause-faults : goal.returns-in-Soak-clause-faults
+returns-in-Soak-clause-faults g c = c.perform_soak.ensures.faults _
+
+pub returns-in-Soak-clause-absences : goal.returns-in-Soak-clause-absences
+returns-in-Soak-clause-absences g c = c.perform_soak.ensures.absences _

@@ -1,0 +1,44 @@
+ghost use Rattle.std.specs.Prelude.{◌≡◌};
+ghost use Rattle.gravitar_commands.specs.LastLine.{status_of_ending};
+ghost use Rattle.gravitar_commands.specs.Stages.{status_of, note_of};
+
+use crate::stop::{Ending, Stop};
+
+/// The note on a fault of the shelf or of the output.
+pub const OUTSIDE_FAULT: &[u8] = b"gravitar: outside fault\n";
+
+/// The note on want of memory.
+pub const NO_MEMORY: &[u8] = b"gravitar: no memory\n";
+
+/// The status of a command that stopped.
+pub fn status(stop: &Stop) -> u8
+    ensures { result ≡ status_of stop.now }
+{
+    match stop {
+        Stop::Bad(_) => 4,
+        Stop::Absent(_) => 5,
+        Stop::Outside => 6,
+        Stop::NoMemory => 7,
+    }
+}
+
+/// The note of a command that stopped.
+pub fn note(stop: &Stop) -> &[u8]
+    ensures { result.now ≡ note_of stop.now }
+{
+    match stop {
+        Stop::Bad(note) | Stop::Absent(note) => note.as_bytes(),
+        Stop::Outside => OUTSIDE_FAULT,
+        Stop::NoMemory => NO_MEMORY,
+    }
+}
+
+/// The status of a run that has ended.
+pub fn ending_status(ending: Ending) -> u8
+    ensures { result ≡ status_of_ending ending }
+{
+    match ending {
+        Ending::Done => 0,
+        Ending::Jammed => 3,
+    }
+}

@@ -1,0 +1,141 @@
+ghost use Rattle.std.specs.Prelude.{◌≡◌, ◌+◌, ◌≤◌, ℕ, IfOk, IfSome, None, OnOk};
+ghost use Rattle.command_line.specs.CommandValue.{asm_of};
+ghost use Rattle.outside_io.specs.Causes.{Rose};
+ghost use Rattle.gravitar_commands.specs.Outcome.{CommandComes, ForReading, asm_files, read_as, source_file};
+ghost use Rattle.gravitar_commands.specs.Sources.{assembled_in, both_listings, source_read};
+ghost use Rattle.gravitar_commands.specs.Stages.{Ends, EndFaults, Gives, IsQuiet, StageAbsences, StageFaults};
+
+use crate::assembled::{Assembled, Language, assemble};
+use crate::cause::Cause;
+use crate::load::{bad, fetch};
+use crate::slices::store_under;
+use crate::stop::{Ending, Stop};
+use asm_listing::{Text, push_listing};
+use asm_text::{AsmFault, Listing, TEXT_LIMIT};
+use board_base::OutOfMemory;
+use command_line::AsmWords;
+use outside_io::{Shelf, Sink};
+use rom_image::Image;
+use std::alloc::Global;
+
+/// What these bytes give as a source, put into an image.
+fn read_source(
+    alloc: Global,
+    language: Language,
+    name: &str,
+    bytes: &[u8],
+    image: &mut Image,
+) -> Result<Listing, Stop>
+    ensures content { Gives (λ listing. (image.new, listing)) (read_as name.now (source_read (assembled_in language bytes.now image.old))) result }
+    ensures faults { (n : ℕ) → StageFaults n n result }
+{
+    match assemble(alloc, language, bytes, image) {
+        Ok(listing) => Ok(listing),
+        Err(AsmFault::TooLong) => Err(bad(alloc, name, Cause::Source(AsmFault::TooLong))),
+        Err(AsmFault::Line { line, cause }) => Err(bad(
+            alloc,
+            name,
+            Cause::Source(AsmFault::Line { line, cause }),
+        )),
+        Err(AsmFault::OutOfMemory) => Err(Stop::NoMemory),
+    }
+}
+
+/// A source file, put into an image.
+#[tactic(auto, unfolding(crate::specs::Outcome::source_file))]
+fn load_source<S: Shelf>(
+    alloc: Global,
+    language: Language,
+    name: &str,
+    image: &mut Image,
+    shelf: &mut S,
+) -> Result<Listing, Stop>
+    ensures content { IfSome (S.files shelf.old) (λ files.
+        Gives (λ listing. (image.new, listing)) (source_file language files name.now image.old) result) }
+    ensures files { S.files shelf.new ≡ S.files shelf.old }
+    ensures stores { S.stores shelf.new ≡ S.stores shelf.old }
+    ensures faults { StageFaults (S.faults shelf.old) (S.faults shelf.new) result }
+    ensures absences { StageAbsences (S.absences shelf.old) (S.absences shelf.new) result }
+{
+    let bytes = fetch(alloc, name, TEXT_LIMIT, shelf)?;
+    read_source(alloc, language, name, &bytes, image)
+}
+
+/// Both sources, the processor's wholly before the generator's, in one blank image.
+#[tactic(auto, unfolding(crate::specs::Outcome::asm_files))]
+fn load_asm<S: Shelf>(alloc: Global, words: &AsmWords<'_>, shelf: &mut S) -> Result<Assembled, Stop>
+    ensures content { IfSome (S.files shelf.old) (λ files. Gives (λ made. made) (asm_files files words.now) result) }
+    ensures stores { S.stores shelf.new ≡ S.stores shelf.old }
+    ensures faults { StageFaults (S.faults shelf.old) (S.faults shelf.new) result }
+    ensures absences { StageAbsences (S.absences shelf.old) (S.absences shelf.new) result }
+{
+    let Ok(mut image) = Image::blank(alloc) else {
+        return Err(Stop::NoMemory);
+    };
+    match load_source(
+        alloc,
+        Language::Processor,
+        words.processor,
+        &mut image,
+        shelf,
+    ) {
+        Err(stop) => Err(stop),
+        Ok(processor) => {
+            match load_source(
+                alloc,
+                Language::Generator,
+                words.generator,
+                &mut image,
+                shelf,
+            ) {
+                Err(stop) => Err(stop),
+                Ok(generator) => Ok(Assembled {
+                    image,
+                    processor,
+                    generator,
+                }),
+            }
+        }
+    }
+}
+
+/// The listing of the processor's source, and then that of the generator's.
+fn list_both(alloc: Global, made: &Assembled) -> Result<Text, OutOfMemory>
+    ensures { IfOk result (λ text. text ≡ both_listings made.now) }
+{
+    let mut text = Text::new(alloc);
+    push_listing(&mut text, &made.processor, &made.image)?;
+    push_listing(&mut text, &made.generator, &made.image)?;
+    Ok(text)
+}
+
+/// Assembles two sources into an image, writes their listings, and stores the image. All memory is
+/// taken before anything is written.
+pub fn perform_asm<S: Shelf, O: Sink>(
+    alloc: Global,
+    words: &AsmWords<'_>,
+    shelf: &mut S,
+    out: &mut O,
+) -> Result<Ending, Stop>
+    ensures outcome { IfSome (S.files shelf.old) (λ files. ForReading None files (λ reading.
+        CommandComes (asm_of words.now) files reading (λ outcome.
+        Ends outcome (O.taken out.old) (O.taken out.new) (S.stores shelf.old) (S.stores shelf.new) result))) }
+    ensures quiet { IsQuiet (O.taken out.old) (O.taken out.new) (S.stores shelf.old) (S.stores shelf.new) result }
+    ensures faults { EndFaults (S.faults shelf.old) (S.faults shelf.new) (O.faults out.old) (O.faults out.new) result }
+    ensures absences { StageAbsences (S.absences shelf.old) (S.absences shelf.new) result }
+{
+    let made = match load_asm(alloc, words, shelf) {
+        Ok(made) => made,
+        Err(stop) => return Err(stop),
+    };
+    let Ok(text) = list_both(alloc, &made) else {
+        return Err(Stop::NoMemory);
+    };
+    let Ok(()) = out.write(text.bytes()) else {
+        return Err(Stop::Outside);
+    };
+    let Ok(()) = store_under(Some(words.image), made.image.bytes(), shelf) else {
+        return Err(Stop::Outside);
+    };
+    Ok(Ending::Done)
+}

@@ -1,0 +1,118 @@
+ghost use Rattle.std.specs.Prelude.{◌≡◌, ◌≤◌, ℕ, IfOk, IfSome, List, Option, length};
+ghost use Rattle.command_line.specs.CommandValue.{debug_of};
+ghost use Rattle.cpu_core.specs.Places.{IsProcessor};
+ghost use Rattle.debug_script.specs.declared.script.TheConstants.{SCRIPT_LIMIT};
+ghost use Rattle.outside_io.specs.Shelf.{Kept};
+ghost use Rattle.gravitar_commands.specs.Outcome.{CommandComes, ForReading};
+ghost use Rattle.gravitar_commands.specs.Stages.{Ends, EndFaults, GivesScript, IsQuiet, StageAbsences, StageFaults, session_outcome};
+
+use crate::board_devices::devices;
+use crate::cause::Cause;
+use crate::load::{bad, fetch, load_run};
+use crate::parts::Parts;
+use crate::stop::{Ending, Stop};
+use board_debug::{DebugFault, run_script};
+use catchup_engine::Engine;
+use command_line::{DebugWords, RunWords, Settings};
+use debug_script::{SCRIPT_LIMIT, ScriptFault};
+use outside_io::{Shelf, Sink};
+use std::alloc::Global;
+
+/// The bytes of a script, which are read as commands when they are run.
+#[tactic(auto, unfolding(crate::specs::Outcome::script_file, crate::specs::Outcome::script_read))]
+fn load_script<S: Shelf>(alloc: Global, name: &str, shelf: &mut S) -> Result<Vec<u8>, Stop>
+    ensures content { IfSome (S.files shelf.old) (λ files. GivesScript (λ bytes. bytes.items) files name.now result) }
+    ensures length { IfOk result (λ bytes. length bytes.items ≤ SCRIPT_LIMIT) }
+    ensures stores { S.stores shelf.new ≡ S.stores shelf.old }
+    ensures faults { StageFaults (S.faults shelf.old) (S.faults shelf.new) result }
+    ensures absences { StageAbsences (S.absences shelf.old) (S.absences shelf.new) result }
+{
+    let bytes = fetch(alloc, name, SCRIPT_LIMIT, shelf)?;
+    if bytes.len() > SCRIPT_LIMIT {
+        return Err(bad(alloc, name, Cause::Script(ScriptFault::TooLong)));
+    }
+    Ok(bytes)
+}
+
+/// Takes the memory of a session, and then runs its script.
+fn run_session<O: Sink>(
+    alloc: Global,
+    wired: bool,
+    name: &str,
+    parts: &Parts,
+    script: &[u8],
+    out: &mut O,
+) -> Result<Ending, Stop>
+    requires length { length script.now ≤ SCRIPT_LIMIT }
+    requires place { IsProcessor parts.now.board.cpu }
+    ensures outcome { (stores : Option (List Kept)) → Ends (session_outcome wired name.now parts.now script.now)
+        (O.taken out.old) (O.taken out.new) stores stores result }
+    ensures quiet { (stores : Option (List Kept)) → IsQuiet (O.taken out.old) (O.taken out.new) stores stores result }
+    ensures faults { (n : ℕ) → EndFaults n n (O.faults out.old) (O.faults out.new) result }
+    ensures absences { (n : ℕ) → StageAbsences n n result }
+{
+    let Ok(mut engine) = Engine::new(alloc, &parts.image, &parts.board, devices(), wired) else {
+        return Err(Stop::NoMemory);
+    };
+    match run_script(alloc, &mut engine, &parts.tape, script, out) {
+        Ok(()) => Ok(Ending::Done),
+        Err(DebugFault::BadCommand(line)) => Err(bad(
+            alloc,
+            name,
+            Cause::Script(ScriptFault::BadCommand(line)),
+        )),
+        Err(DebugFault::SinkFault) => Err(Stop::Outside),
+        Err(DebugFault::OutOfMemory) => Err(Stop::NoMemory),
+    }
+}
+
+/// Whether the timer requests of the POKEYs reach the interrupt line.
+fn has_timers(settings: &Settings<'_>) -> bool
+    ensures { result ≡ settings.now.timers }
+{
+    settings.timers
+}
+
+/// Loads the files of a session, and runs its script.
+fn debug_run<S: Shelf, O: Sink>(
+    alloc: Global,
+    run: &RunWords<'_>,
+    name: &str,
+    shelf: &mut S,
+    out: &mut O,
+) -> Result<Ending, Stop>
+    ensures outcome { IfSome (S.files shelf.old) (λ files. ForReading run.now.settings.state files (λ reading.
+        CommandComes (debug_of (record { run = run.now; script = name.now })) files reading (λ outcome.
+        Ends outcome (O.taken out.old) (O.taken out.new) (S.stores shelf.old) (S.stores shelf.new) result))) }
+    ensures quiet { IsQuiet (O.taken out.old) (O.taken out.new) (S.stores shelf.old) (S.stores shelf.new) result }
+    ensures faults { EndFaults (S.faults shelf.old) (S.faults shelf.new) (O.faults out.old) (O.faults out.new) result }
+    ensures absences { StageAbsences (S.absences shelf.old) (S.absences shelf.new) result }
+{
+    let parts = match load_run(alloc, run, shelf) {
+        Ok(parts) => parts,
+        Err(stop) => return Err(stop),
+    };
+    let script = match load_script(alloc, name, shelf) {
+        Ok(script) => script,
+        Err(stop) => return Err(stop),
+    };
+    let wired = has_timers(&run.settings);
+    run_session(alloc, wired, name, &parts, &script, out)
+}
+
+/// Debugs an image with a tape by a script.
+pub fn perform_debug<S: Shelf, O: Sink>(
+    alloc: Global,
+    words: &DebugWords<'_>,
+    shelf: &mut S,
+    out: &mut O,
+) -> Result<Ending, Stop>
+    ensures outcome { IfSome (S.files shelf.old) (λ files. ForReading words.now.run.settings.state files (λ reading.
+        CommandComes (debug_of words.now) files reading (λ outcome.
+        Ends outcome (O.taken out.old) (O.taken out.new) (S.stores shelf.old) (S.stores shelf.new) result))) }
+    ensures quiet { IsQuiet (O.taken out.old) (O.taken out.new) (S.stores shelf.old) (S.stores shelf.new) result }
+    ensures faults { EndFaults (S.faults shelf.old) (S.faults shelf.new) (O.faults out.old) (O.faults out.new) result }
+    ensures absences { StageAbsences (S.absences shelf.old) (S.absences shelf.new) result }
+{
+    debug_run(alloc, &words.run, words.script, shelf, out)
+}

@@ -1,0 +1,57 @@
+//! What the program `gravitar` does for the words of a command line, over any shelf of files and any
+//! sinks for its text and its notes.
+#![tactic(auto)]
+
+mod answer;
+#[cfg(test)]
+mod asm_tests;
+mod assembled;
+mod assembling;
+mod board_bytes;
+mod board_devices;
+mod cause;
+mod cause_text;
+#[cfg(test)]
+mod cost_tests;
+#[cfg(test)]
+mod cut_tests;
+#[cfg(test)]
+mod debug_tests;
+mod debugging;
+#[cfg(test)]
+mod fault_tests;
+#[cfg(test)]
+mod file_tests;
+#[cfg(test)]
+mod fixtures;
+mod laws;
+mod load;
+#[cfg(test)]
+mod option_tests;
+mod parts;
+mod program;
+#[cfg(test)]
+mod programs;
+#[cfg(test)]
+mod rows;
+#[cfg(test)]
+mod show_tests;
+mod slice;
+mod slices;
+#[cfg(test)]
+mod soak_tests;
+mod soaking;
+mod steady;
+mod stop;
+#[cfg(test)]
+mod tests;
+mod until;
+mod words;
+
+pub use answer::NO_MEMORY;
+pub use laws::{cuts_leave_the_run, log_is_one_list};
+pub use program::{USAGE, gravitar};
+pub use slices::run_slices;
+pub use steady::steady_status;
+pub use stop::OutsideFault;
+pub use words::Words;

@@ -1,0 +1,210 @@
+ghost use Rattle.std.specs.Prelude.{◌≡◌, ◌≢◌, ◌+◌, ◌≤◌, ◌<◌, ◌↔◌, ◌⊎◌, [], ◌∷◌, IfSome, Contains, None, Some};
+ghost use Rattle.command_line.specs.CommandLine.{command_of};
+ghost use Rattle.command_line.specs.CommandValue.{run_of, show_of};
+ghost use Rattle.command_line.specs.CommandWords.{command_value};
+ghost use Rattle.cpu_core.specs.Places.{IsProcessor};
+ghost use Rattle.outside_io.specs.Causes.{Rose};
+ghost use Rattle.gravitar_commands.specs.Events.{Did, DidFirst};
+ghost use Rattle.gravitar_commands.specs.LastLine.{ending_by};
+ghost use Rattle.gravitar_commands.specs.Outcome.{Comes, ComesOf, CommandComes, ForReading, limit_of, usage_text, fault_text, memory_text};
+ghost use Rattle.gravitar_commands.specs.Stages.{Ends, EndFaults, IsQuiet, Noted, RunComes, StageAbsences};
+
+use crate::answer::{ending_status, note, status};
+use crate::assembling::perform_asm;
+use crate::board_devices::devices;
+use crate::debugging::perform_debug;
+use crate::load::{load_run, load_state};
+use crate::parts::Parts;
+use crate::slices::run_slices;
+use crate::soaking::perform_soak;
+use crate::stop::{Ending, Stop};
+use crate::words::Words;
+use board_base::CpuState;
+use board_debug::write_board;
+use catchup_engine::Engine;
+use command_line::{Command, RunWords, Settings};
+use outside_io::{Shelf, Sink};
+use std::alloc::Global;
+
+/// The note on words of no form.
+pub const USAGE: &[u8] =
+    b"gravitar: usage: run IMAGE TAPE, asm CPUSRC VGSRC OUT, debug IMAGE TAPE SCRIPT, show STATE, soak SEED\n";
+
+/// The clock that a run ends at: the tape's END, or that of `--until` where it is smaller.
+fn run_limit(until: Option<u64>, end: u64) -> u64
+    ensures { result ≡ limit_of until end }
+{
+    match until {
+        Some(until) => until.min(end),
+        None => end,
+    }
+}
+
+/// How a run has ended.
+fn ending(cpu: &CpuState) -> Ending
+    ensures { result ≡ ending_by cpu.now.jam }
+{
+    match cpu.jam {
+        Some(_) => Ending::Jammed,
+        None => Ending::Done,
+    }
+}
+
+/// Takes the memory of a run, and then runs it.
+fn run_parts<S: Shelf, O: Sink>(
+    alloc: Global,
+    settings: &Settings<'_>,
+    parts: &Parts,
+    shelf: &mut S,
+    out: &mut O,
+) -> Result<Ending, Stop>
+    requires place { IsProcessor parts.now.board.cpu }
+    ensures outcome { RunComes settings.now parts.now (λ outcome.
+        Ends outcome (O.taken out.old) (O.taken out.new) (S.stores shelf.old) (S.stores shelf.new) result) }
+    ensures quiet { IsQuiet (O.taken out.old) (O.taken out.new) (S.stores shelf.old) (S.stores shelf.new) result }
+    ensures faults { EndFaults (S.faults shelf.old) (S.faults shelf.new) (O.faults out.old) (O.faults out.new) result }
+    ensures absences { StageAbsences (S.absences shelf.old) (S.absences shelf.new) result }
+{
+    let limit = run_limit(settings.until, parts.tape.end());
+    match Engine::new(
+        alloc,
+        &parts.image,
+        &parts.board,
+        devices(),
+        settings.timers,
+    ) {
+        Err(_) => Err(Stop::NoMemory),
+        Ok(mut engine) => match run_slices(
+            &mut engine,
+            &parts.tape,
+            settings.cuts.as_slice(),
+            limit,
+            settings.save,
+            settings.earom,
+            settings.cost,
+            shelf,
+            out,
+        ) {
+            Ok(()) => Ok(ending(engine.cpu())),
+            Err(_) => Err(Stop::Outside),
+        },
+    }
+}
+
+/// Runs an image with a tape.
+fn perform_run<S: Shelf, O: Sink>(
+    alloc: Global,
+    words: &RunWords<'_>,
+    shelf: &mut S,
+    out: &mut O,
+) -> Result<Ending, Stop>
+    ensures outcome { IfSome (S.files shelf.old) (λ files. ForReading words.now.settings.state files (λ reading.
+        CommandComes (run_of words.now) files reading (λ outcome.
+        Ends outcome (O.taken out.old) (O.taken out.new) (S.stores shelf.old) (S.stores shelf.new) result))) }
+    ensures quiet { IsQuiet (O.taken out.old) (O.taken out.new) (S.stores shelf.old) (S.stores shelf.new) result }
+    ensures faults { EndFaults (S.faults shelf.old) (S.faults shelf.new) (O.faults out.old) (O.faults out.new) result }
+    ensures absences { StageAbsences (S.absences shelf.old) (S.absences shelf.new) result }
+{
+    match load_run(alloc, words, shelf) {
+        Err(stop) => Err(stop),
+        Ok(parts) => run_parts(alloc, &words.settings, &parts, shelf, out),
+    }
+}
+
+/// Writes the text of a saved board.
+fn perform_show<S: Shelf, O: Sink>(
+    alloc: Global,
+    name: &str,
+    shelf: &mut S,
+    out: &mut O,
+) -> Result<Ending, Stop>
+    ensures outcome { IfSome (S.files shelf.old) (λ files. ForReading (Some name.now) files (λ reading.
+        CommandComes (show_of name.now) files reading (λ outcome.
+        Ends outcome (O.taken out.old) (O.taken out.new) (S.stores shelf.old) (S.stores shelf.new) result))) }
+    ensures quiet { IsQuiet (O.taken out.old) (O.taken out.new) (S.stores shelf.old) (S.stores shelf.new) result }
+    ensures faults { EndFaults (S.faults shelf.old) (S.faults shelf.new) (O.faults out.old) (O.faults out.new) result }
+    ensures absences { StageAbsences (S.absences shelf.old) (S.absences shelf.new) result }
+{
+    match load_state(alloc, name, shelf) {
+        Err(stop) => Err(stop),
+        Ok(board) => match write_board(&board, out) {
+            Ok(()) => Ok(Ending::Done),
+            Err(_) => Err(Stop::Outside),
+        },
+    }
+}
+
+/// Does a command.
+fn perform<S: Shelf, O: Sink>(
+    alloc: Global,
+    command: &Command<'_>,
+    shelf: &mut S,
+    out: &mut O,
+) -> Result<Ending, Stop>
+    ensures outcome { IfSome (S.files shelf.old) (λ files. ComesOf (Some (command_value command.now)) files (λ outcome.
+        Ends outcome (O.taken out.old) (O.taken out.new) (S.stores shelf.old) (S.stores shelf.new) result)) }
+    ensures quiet { IsQuiet (O.taken out.old) (O.taken out.new) (S.stores shelf.old) (S.stores shelf.new) result }
+    ensures faults { EndFaults (S.faults shelf.old) (S.faults shelf.new) (O.faults out.old) (O.faults out.new) result }
+    ensures absences { StageAbsences (S.absences shelf.old) (S.absences shelf.new) result }
+{
+    match command {
+        Command::Run(words) => perform_run(alloc, words, shelf, out),
+        Command::Asm(words) => perform_asm(alloc, words, shelf, out),
+        Command::Debug(words) => perform_debug(alloc, words, shelf, out),
+        Command::Show(name) => perform_show(alloc, name, shelf, out),
+        Command::Soak(seed) => perform_soak(alloc, *seed, out),
+    }
+}
+
+/// What the program does for its words, with the text of its notes, and its status.
+///
+/// 0: done. 2: the words are of no form. 3: the board is jammed at the end. 4: a file is bad. 5: a
+/// file is absent. 6: a fault of the shelf or of the output. 7: no memory. A run takes its memory
+/// before it moves or writes anything, and writes nothing behind a fault. What becomes of the notes
+/// has no part in the status.
+pub fn gravitar<S: Shelf, O: Sink, N: Sink>(
+    alloc: Global,
+    words: &Words,
+    shelf: &mut S,
+    out: &mut O,
+    notes: &mut N,
+) -> u8
+    // Without a fault and with memory, all is as defined.
+    ensures outcome { result ≢ 6 → result ≢ 7 → IfSome (S.files shelf.old) (λ files. Comes words.now files (λ outcome.
+        (result ≡ outcome.status) × Did outcome.events (O.taken out.old) (O.taken out.new) (S.stores shelf.old) (S.stores shelf.new))) }
+
+    // After 6 the first part of what is defined was done, and nothing after it.
+    ensures stopped { result ≡ 6 → IfSome (S.files shelf.old) (λ files. Comes words.now files (λ outcome.
+        DidFirst outcome.events (O.taken out.old) (O.taken out.new) (S.stores shelf.old) (S.stores shelf.new))) }
+
+    // Nothing was written or stored, whether the files are told or not.
+    ensures quiet { Contains (2 ∷ 4 ∷ 5 ∷ 7 ∷ []) result → (O.taken out.new ≡ O.taken out.old) × (S.stores shelf.new ≡ S.stores shelf.old) }
+
+    ensures statuses { Contains (0 ∷ 2 ∷ 3 ∷ 4 ∷ 5 ∷ 6 ∷ 7 ∷ []) result }
+    ensures usage { (result ≡ 2) ↔ (command_of words.now ≡ None) }
+    ensures absent { result ≡ 5 → Rose (S.absences shelf.old) (S.absences shelf.new) }
+    ensures fault { result ≡ 6 → Rose (S.faults shelf.old) (S.faults shelf.new) ⊎ Rose (O.faults out.old) (O.faults out.new) }
+    ensures shelf_fault { S.faults shelf.old < S.faults shelf.new → result ≡ 6 }
+    ensures out_fault { O.faults out.old < O.faults out.new → result ≡ 6 }
+    ensures later { (S.faults shelf.old ≤ S.faults shelf.new) × (O.faults out.old ≤ O.faults out.new) }
+
+    // The note, of which a failed write took a part.
+    ensures usage_note { result ≡ 2 → Noted (N.taken notes.old) (N.taken notes.new) (N.faults notes.old) (N.faults notes.new) usage_text }
+    ensures fault_note { result ≡ 6 → Noted (N.taken notes.old) (N.taken notes.new) (N.faults notes.old) (N.faults notes.new) fault_text }
+    ensures memory_note { result ≡ 7 → Noted (N.taken notes.old) (N.taken notes.new) (N.faults notes.old) (N.faults notes.new) memory_text }
+    ensures note { result ≢ 6 → result ≢ 7 → IfSome (S.files shelf.old) (λ files. Comes words.now files (λ outcome.
+        Noted (N.taken notes.old) (N.taken notes.new) (N.faults notes.old) (N.faults notes.new) outcome.note)) }
+    ensures no_note { Contains (0 ∷ 3 ∷ []) result → notes.new ≡ notes.old }
+{
+    let Some(command) = words.command() else {
+        let _ = notes.write(USAGE);
+        return 2;
+    };
+    match perform(alloc, &command, shelf, out) {
+        Ok(ending) => ending_status(ending),
+        Err(stop) => {
+            let _ = notes.write(note(&stop));
+            status(&stop)
+        }
+    }
+}

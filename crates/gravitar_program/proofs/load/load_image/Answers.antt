@@ -1,5 +1,0 @@
-use Rattle.gravitar_program.proofs.load.load_image.Goals as goal
-
--- a file that came raised no count, and its reader knows none
-pub returns-clause-faults : goal.returns-clause-faults
-returns-clause-faults g c = rw c.in_ok-bytes.ensures.faults (c.read_image.ensures.faults _)
