@@ -1,8 +1,6 @@
 -- Each line's command takes the definition one line on, or ends it.
 use Rattle.std.proofs.Common.{◌≡◌, ◌∷◌, ◌++◌, [], ◌<◌, length, sym, ◌∙◌, arith}
 use Rattle.std.proofs.lemmas.Grind.{common_steps}
-use Rattle.debug_script.specs.Script.{next_command}
-use Rattle.debug_script.specs.Stops.{are_few, stops_after}
 use Rattle.debug_script.proofs.Reading.{so_far-all, so_far-bad, so_far-command, so_far-empty}
 use Rattle.debug_script.proofs.script.read_script.Goals as goal
 
