@@ -1,5 +1,5 @@
 -- A run to an address that is under way, turn by turn.
-use Rattle.std.proofs.Common.{◌≡◌, ℕ, ◌+◌, ◌-◌, ◌^◌, ◌≤◌, ◌<◌, Bool, true, false, ◌&&◌, ◌||◌, nat_le, is_some, is_none, List, Option, Some, None, IfSome, suc, zero, refl, sym, arith}
+use Rattle.std.proofs.Common.{◌≡◌, ℕ, ◌+◌, ◌-◌, ◌^◌, ◌≤◌, ◌<◌, Bool, true, false, ◌&&◌, ◌||◌, nat_le, is_some, is_none, List, Option, Some, None, IfSome, suc, zero, inl, inr, refl, sym, arith}
 use Rattle.std.proofs.lemmas.Bool.{or_parts}
 use Rattle.std.proofs.lemmas.Bool.Decides.{nat_tests}
 use Rattle.board_base.specs.Cpu.{CpuValue, MidValue}
@@ -9,10 +9,10 @@ use Rattle.catchup_engine.specs.Bus.{BusValue}
 use Rattle.catchup_engine.specs.Lockstep.{Board, step}
 use Rattle.catchup_engine.specs.Run.{is_over}
 use Rattle.catchup_engine.specs.Breaks.{is_at_any, BreakRun}
-use Rattle.catchup_engine.specs.Runs.{over_bus, BoundaryRun, BreakRunBus, IsInRange}
+use Rattle.catchup_engine.specs.Runs.{over_bus, Reached, RunsOn, TurnsOn, TurnsRun, BoundaryRun, BreakRunBus, IsInRange}
 use Rattle.catchup_engine.specs.Turn.{Through, TurnedBus}
-use Rattle.catchup_engine.proofs.Runs.{Reached}
-use Rattle.catchup_engine.proofs.RunsOn.{RunsOn, starts, goes_on, AtBoundary, boundary-starts, boundary-resumes, boundary-goes_on, boundary-ends, IsBefore, open-before, none-is, some-of}
+use Rattle.catchup_engine.proofs.RunsOn.{starts, goes_on, runs-asked, runs-join, AtBoundary, boundary-starts, boundary-resumes, boundary-goes_on, boundary-ends, open-before, none-is, some-of}
+use Rattle.catchup_engine.proofs.Runs.{through-reached}
 use Rattle.catchup_engine.proofs.TurnLaws.{break-one, breaks-append, turn-jammed}
 
 over-at : (jam : Option ℕ) (mid : Option MidValue) (limit clock : ℕ) → mid ≡ None → limit ≤ clock
@@ -97,49 +97,57 @@ break-begins entries limit addresses c s u f level running early place range tur
       later = λ _. omega arith;
     }
 
--- a run that isn't to end yet stands before its limit, and isn't jammed
-pub break-before : (limit : ℕ) (addresses : List ℕ) (b : Board) → b.cpu.mid ≡ None → is_over limit b || is_at_any addresses b ≡ false → IsBefore limit b
-break-before limit addresses b boundary open_yet =
-    open-before limit b boundary (or_parts (is_over limit b) (is_at_any addresses b) open_yet).0
+-- no turn is made yet
+pub turns-start : (entries : List TapeEntry) (limit : ℕ) (addresses : List ℕ) (c : CpuValue) (s : BusValue) → s.begun ≡ false → c.mid ≡ None
+    → IsInRange c s → TurnsOn entries limit addresses c s s c
+turns-start entries limit addresses c s level boundary range = record {
+  run = starts entries (is_over limit) c s level;
+  near = inl refl;
+  turns = λ b run. run;
+  boundary = boundary;
+  range = range;
+}
 
 -- a turn more
-pub break-goes_on : (entries : List TapeEntry) (limit : ℕ) (addresses : List ℕ) (c : CpuValue) (s t u : BusValue) (e f : CpuValue) → limit ≤ 2 ^ 48
-    → AtTurn entries limit addresses c s t e → is_over limit (over_bus e t) || is_at_any addresses (over_bus e t) ≡ false
-    → TurnedBus entries 7 e t u f → AtTurn entries limit addresses c s u f
-break-goes_on entries limit addresses c s t u e f last at open_yet turned =
+pub turns-go_on : (entries : List TapeEntry) (limit : ℕ) (addresses : List ℕ) (c : CpuValue) (s t u : BusValue) (e f : CpuValue) → limit ≤ 2 ^ 48
+    → TurnsOn entries limit addresses c s t e → is_over limit (over_bus e t) || is_at_any addresses (over_bus e t) ≡ false
+    → TurnedBus entries 7 e t u f → TurnsOn entries limit addresses c s u f
+turns-go_on entries limit addresses c s t u e f last on open_yet turned =
     let both = or_parts (is_over limit (over_bus e t)) (is_at_any addresses (over_bus e t)) open_yet in
-    let before = open-before limit (over_bus e t) at.boundary both.0 in
+    let before = open-before limit (over_bus e t) on.boundary both.0 in
     let early = before.clock in
-    let boundary = at.boundary in
-    let made = turn-run entries e t u f at.run.goes.level before.running (omega arith) (rw boundary tt) at.range turned in
-    let clock = turned.turned.clock in
-    let so_far = at.run.clock in
+    let boundary = on.boundary in
+    let made = turn-run entries e t u f on.run.goes.level before.running (omega arith) (rw boundary tt) on.range turned in
+    let most = turned.at_most in
+    let so_far = on.run.clock in
     record {
       run =
-          goes_on entries never 7 c s t u e f at.run refl turned
-          (through-on entries turned.turned.count (step entries (over_bus e t)) (over_bus f u) turned.turned.through);
+          goes_on entries (is_over limit) 7 c s t u e f on.run both.0 turned
+          (through-reached entries limit turned.turned.count (step entries (over_bus e t)) (over_bus f u) turned.turned.through);
+      near = inr (record { before = omega arith; within = omega arith });
       turns =
-          breaks-append entries limit addresses (over_bus c s) (over_bus e t) (over_bus f u) at.turns both.0 both.1
+          λ b run. breaks-append entries limit addresses b (over_bus e t) (over_bus f u) (on.turns b run) both.0 both.1
           (break-one entries limit addresses (over_bus e t) (over_bus f u) made.board);
       boundary = made.boundary;
       range = made.range;
-      later = λ _. omega arith;
     }
 
--- the end of a run
-pub break-ends : (entries : List TapeEntry) (limit : ℕ) (addresses : List ℕ) (c : CpuValue) (s t : BusValue) (e : CpuValue)
-    → AtTurn entries limit addresses c s t e → is_over limit (over_bus e t) || is_at_any addresses (over_bus e t) ≡ true
-    → BreakRunBus entries limit addresses c s t e
-break-ends entries limit addresses c s t e at over =
-    let clock = at.run.clock in
-    let steps : t.wires.clock - s.wires.clock ≡ at.run.count = omega arith in
+-- the end of a run, whose first turn is made and whose others have come to their end
+pub break-ends : (entries : List TapeEntry) (limit : ℕ) (addresses : List ℕ) (c : CpuValue) (s u t : BusValue) (f e : CpuValue)
+    → AtTurn entries limit addresses c s u f → TurnsRun entries limit addresses f u t e → BreakRunBus entries limit addresses c s t e
+break-ends entries limit addresses c s u t f e at rest =
+    let more = runs-asked entries never (is_over limit) (λ b open_yet. refl) f u t e rest.on.run in
+    let run = runs-join entries never c s u t f e at.run more in
+    let clock = run.clock in
+    let clock_then = rest.on.run.clock in
+    let steps : t.wires.clock - s.wires.clock ≡ run.count = omega arith in
     record {
-      turns = at.turns;
-      ends = over;
-      boundary = at.boundary;
-      paid = rw steps at.run.paid;
-      goes = at.run.goes;
-      range = at.range;
+      turns = rest.on.turns (over_bus c s) at.turns;
+      ends = rest.ends;
+      boundary = rest.on.boundary;
+      paid = rw steps run.paid;
+      goes = run.goes;
+      range = rest.on.range;
       since = omega arith;
-      later = at.later;
+      later = λ running. (let first = at.later running in omega arith);
     }

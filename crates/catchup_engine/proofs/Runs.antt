@@ -3,12 +3,8 @@ use Rattle.std.proofs.Common.{◌≡◌, ℕ, ◌+◌, ◌-◌, ◌≤◌, Bool,
 use Rattle.tape_ports.specs.declared.entry.TapeEntry.{TapeEntry}
 use Rattle.catchup_engine.specs.Lockstep.{Board, step}
 use Rattle.catchup_engine.specs.Run.{stepped, steps_until, is_over, is_at, is_cut, to_boundary, run, to_cut}
+use Rattle.catchup_engine.specs.Runs.{Reached}
 use Rattle.catchup_engine.specs.Turn.{IsInside, Through}
-
--- n steps lead to the board last, none of them from a board that is as asked
-abbrev pub Reached : List TapeEntry → (Board → Bool) → ℕ → Board → Board → Type 0
-Reached entries asked zero b last = last ≡ b
-Reached entries asked (suc n) b last = (asked b ≡ false) × Reached entries asked n (step entries b) last
 
 stepped-none : (entries : List TapeEntry) (b : Board) → stepped entries 0 b ≡ b
 unfolding stepped
@@ -121,7 +117,7 @@ stepped-add entries zero m b = rw (zero-add m) refl
 stepped-add entries (suc n) m b = let e : suc n + m ≡ suc (n + m) = omega arith in rw e (stepped-add entries n m (step entries b))
 
 -- no step was made from a board at which another run had come to its end, where it comes to it no sooner
-reached-asked : (entries : List TapeEntry) (asked sooner : Board → Bool) → ((c : Board) → sooner c ≡ false → asked c ≡ false)
+pub reached-asked : (entries : List TapeEntry) (asked sooner : Board → Bool) → ((c : Board) → sooner c ≡ false → asked c ≡ false)
     → (n : ℕ) (b last : Board) → Reached entries sooner n b last → Reached entries asked n b last
 reached-asked entries asked sooner weaker zero b last r = r
 reached-asked entries asked sooner weaker (suc n) b last r =

@@ -1,35 +1,26 @@
 -- A run that is under way, turn by turn.
-use Rattle.std.proofs.Common.{◌≡◌, ℕ, ◌+◌, ◌-◌, ◌^◌, ◌≤◌, ◌<◌, Bool, true, false, ◌&&◌, ◌||◌, nat_le, is_some, is_none, List, [], length, Option, Some, None, IsSome, IfSome, suc, zero, inl, inr, ◌⊎◌, refl, sym, ap, ◌∙◌, arith, rules, add-zero}
+use Rattle.std.proofs.Common.{◌≡◌, ℕ, ◌+◌, ◌-◌, ◌^◌, ◌≤◌, ◌<◌, Bool, true, false, ◌&&◌, ◌||◌, nat_le, is_some, is_none, min, List, [], Option, Some, None, IsSome, IfSome, suc, zero, inl, inr, ◌⊎◌, refl, sym, ap, ◌∙◌, arith, rules, add-zero}
 use Rattle.std.proofs.lemmas.Bool.{leb-false, lt-leb}
-use Rattle.board_base.specs.declared.record.Record.{Record}
 use Rattle.board_base.specs.Cpu.{CpuValue, MidValue}
 use Rattle.cpu_core.specs.Places.{IsMiddle}
 use Rattle.tape_ports.specs.declared.entry.TapeEntry.{TapeEntry}
 use Rattle.catchup_engine.specs.Budget.{budget, counted}
-use Rattle.catchup_engine.specs.Bus.{BusValue, room_of}
+use Rattle.catchup_engine.specs.Bus.{BusValue}
 use Rattle.catchup_engine.specs.Lockstep.{Board, step}
+use Rattle.catchup_engine.specs.Breaks.{is_at_any}
 use Rattle.catchup_engine.specs.Run.{stepped, is_over, is_cut, boundary_steps, cut_steps}
-use Rattle.catchup_engine.specs.Runs.{over_bus, BoundaryRun, CutRun, IsInRange}
-use Rattle.catchup_engine.specs.Turn.{Goes, IsInside, Through, TurnedBus}
+use Rattle.catchup_engine.specs.Runs.{over_bus, Reached, RunsOn, TurnsRun, BoundaryRun, CutRun, IsInRange}
+use Rattle.catchup_engine.specs.Turn.{IsInside, Through, TurnedBus}
 use Rattle.catchup_engine.proofs.Budgets.{budget-add}
-use Rattle.catchup_engine.proofs.Clocks.{through-clock}
-use Rattle.catchup_engine.proofs.Runs.{Reached, reached-append, stepped-is, steps_until-is, through-reached, to_boundary-is, to_cut-is}
-
--- from c and s some steps have led to e and t, none of them from a board that is as asked
-pub record RunsOn (entries : List TapeEntry) (asked : Board → Bool) (c : CpuValue) (s t : BusValue) (e : CpuValue) : Type 0 where
-  pub count : ℕ
-  pub reached : Reached entries asked count (over_bus c s) (over_bus e t)
-  pub clock : t.wires.clock ≡ s.wires.clock + count
-  pub written : length t.wires.written ≤ length s.wires.written + count
-  pub paid : t.calls ≤ s.calls + budget entries count (over_bus c s)
-  pub goes : Goes s t
+use Rattle.catchup_engine.proofs.Clocks.{step-clock, through-clock}
+use Rattle.catchup_engine.proofs.Runs.{reached-append, reached-asked, stepped-is, steps_until-is, through-reached, to_boundary-is, to_cut-is}
 
 no-budget : (entries : List TapeEntry) (b : Board) → budget entries 0 b ≡ 0
 unfolding counted
 no-budget entries b = refl
 
 -- no step is made yet
-pub starts : (entries : List TapeEntry) (asked : Board → Bool) (c : CpuValue) (s : BusValue) → s.begun ≡ false → RunsOn entries asked c s s c
+abbrev pub starts : (entries : List TapeEntry) (asked : Board → Bool) (c : CpuValue) (s : BusValue) → s.begun ≡ false → RunsOn entries asked c s s c
 starts entries asked c s level = record {
   count = 0;
   reached = refl;
@@ -39,36 +30,67 @@ starts entries asked c s level = record {
   goes = record { more = omega arith; rooms = refl; until = omega arith; level = level };
 }
 
+-- a run goes on by another
+pub runs-join : (entries : List TapeEntry) (asked : Board → Bool) (c : CpuValue) (s t u : BusValue) (e f : CpuValue)
+    → RunsOn entries asked c s t e → RunsOn entries asked e t u f → RunsOn entries asked c s u f
+runs-join entries asked c s t u e f run more =
+    let n = run.count in
+    let m = more.count in
+    let clock = run.clock in
+    let clock_then = more.clock in
+    let written = run.written in
+    let written_then = more.written in
+    let paid = run.paid in
+    let paid_then = more.paid in
+    let here : stepped entries n (over_bus c s) ≡ over_bus e t = stepped-is entries asked n (over_bus c s) (over_bus e t) run.reached in
+    let whole : budget entries (n + m) (over_bus c s) ≡ budget entries n (over_bus c s) + budget entries m (over_bus e t) =
+    budget-add entries n m (over_bus c s) ∙ ap (λ (b : Board). budget entries n (over_bus c s) + budget entries m b) here in
+    let more_first = run.goes.more in
+    let more_then = more.goes.more in
+    let until_first = run.goes.until in
+    let until_then = more.goes.until in
+    record {
+      count = n + m;
+      reached = reached-append entries asked n m (over_bus c s) (over_bus e t) (over_bus f u) run.reached more.reached;
+      clock = omega arith;
+      written = omega arith;
+      paid = omega arith;
+      goes = record { more = omega arith; rooms = more.goes.rooms ∙ run.goes.rooms; until = omega arith; level = more.goes.level };
+    }
+
+-- one turn is a run
+abbrev pub turn-runs : (entries : List TapeEntry) (asked : Board → Bool) (clocks : ℕ) (e f : CpuValue) (t u : BusValue)
+    → asked (over_bus e t) ≡ false → (turned : TurnedBus entries clocks e t u f)
+    → Reached entries asked turned.turned.count (step entries (over_bus e t)) (over_bus f u)
+    → RunsOn entries asked e t u f
+turn-runs entries asked clocks e f t u open_yet turned reached = record {
+  count = suc turned.turned.count;
+  reached = (open_yet, reached);
+  clock = turned.turned.clock;
+  written = turned.turned.written;
+  paid = turned.turned.paid;
+  goes = turned.goes;
+}
+
 -- a turn more
 pub goes_on : (entries : List TapeEntry) (asked : Board → Bool) (clocks : ℕ) (c : CpuValue) (s t u : BusValue) (e f : CpuValue)
     → (run : RunsOn entries asked c s t e) → asked (over_bus e t) ≡ false → (turned : TurnedBus entries clocks e t u f)
     → Reached entries asked turned.turned.count (step entries (over_bus e t)) (over_bus f u)
     → RunsOn entries asked c s u f
 goes_on entries asked clocks c s t u e f run open_yet turned reached =
-    let n = run.count in
-    let m = turned.turned.count in
-    let all : Reached entries asked (suc m) (over_bus e t) (over_bus f u) = (open_yet, reached) in
-    let clock = run.clock in
-    let clock_then = turned.turned.clock in
-    let written = run.written in
-    let written_then = turned.turned.written in
-    let paid = run.paid in
-    let paid_then = turned.turned.paid in
-    let here : stepped entries n (over_bus c s) ≡ over_bus e t = stepped-is entries asked n (over_bus c s) (over_bus e t) run.reached in
-    let whole : budget entries (n + suc m) (over_bus c s) ≡ budget entries n (over_bus c s) + budget entries (suc m) (over_bus e t) =
-    budget-add entries n (suc m) (over_bus c s) ∙ ap (λ (b : Board). budget entries n (over_bus c s) + budget entries (suc m) b) here in
-    let more_first = run.goes.more in
-    let more_then = turned.goes.more in
-    let until_first = run.goes.until in
-    let until_then = turned.goes.until in
-    record {
-      count = n + suc m;
-      reached = reached-append entries asked n (suc m) (over_bus c s) (over_bus e t) (over_bus f u) run.reached all;
-      clock = omega arith;
-      written = omega arith;
-      paid = omega arith;
-      goes = record { more = omega arith; rooms = turned.goes.rooms ∙ run.goes.rooms; until = omega arith; level = turned.goes.level };
-    }
+    runs-join entries asked c s t u e f run (turn-runs entries asked clocks e f t u open_yet turned reached)
+
+-- where a run isn't over, another that comes to its end no sooner isn't either
+pub runs-asked : (entries : List TapeEntry) (asked sooner : Board → Bool) → ((b : Board) → sooner b ≡ false → asked b ≡ false)
+    → (c : CpuValue) (s t : BusValue) (e : CpuValue) → RunsOn entries sooner c s t e → RunsOn entries asked c s t e
+runs-asked entries asked sooner weaker c s t e run = record {
+  count = run.count;
+  reached = reached-asked entries asked sooner weaker run.count (over_bus c s) (over_bus e t) run.reached;
+  clock = run.clock;
+  written = run.written;
+  paid = run.paid;
+  goes = run.goes;
+}
 
 -- a run to a boundary that stands at one
 pub record AtBoundary (entries : List TapeEntry) (limit : ℕ) (c : CpuValue) (s t : BusValue) (e : CpuValue) : Type 0 where
@@ -80,14 +102,7 @@ pub record AtBoundary (entries : List TapeEntry) (limit : ℕ) (c : CpuValue) (s
 pub boundary-starts : (entries : List TapeEntry) (limit : ℕ) (c : CpuValue) (s : BusValue) → s.begun ≡ false → c.mid ≡ None → IsInRange c s
     → AtBoundary entries limit c s s c
 boundary-starts entries limit c s level boundary range = record {
-  run = record {
-    count = 0;
-    reached = refl;
-    clock = sym (add-zero s.wires.clock);
-    written = omega arith;
-    paid = omega arith;
-    goes = record { more = omega arith; rooms = refl; until = omega arith; level = level };
-  };
+  run = starts entries (is_over limit) c s level;
   few = omega arith;
   boundary = boundary;
   range = range;
@@ -149,14 +164,9 @@ boundary-resumes entries limit c s u f level inside place range turned =
     let clock = turned.turned.clock in
     let one = no-budget entries (over_bus c s) in
     record {
-      run = record {
-        count = suc turned.turned.count;
-        reached = (open_yet, through-reached entries limit turned.turned.count (step entries (over_bus c s)) (over_bus f u) turned.turned.through);
-        clock = clock;
-        written = turned.turned.written;
-        paid = turned.turned.paid;
-        goes = turned.goes;
-      };
+      run =
+          turn-runs entries (is_over limit) 7 c f s u open_yet turned
+          (through-reached entries limit turned.turned.count (step entries (over_bus c s)) (over_bus f u) turned.turned.through);
       few = omega arith;
       boundary = ends;
       range = record { clock = omega arith; middle = λ some. none-some f.mid ends some };
@@ -207,22 +217,27 @@ boundary-ends entries limit c s t e at over =
       later = omega arith;
     }
 
--- in a window there is room for the records of one turn more
-pub window-room : (entries : List TapeEntry) (asked : Board → Bool) (limit : ℕ) (c : CpuValue) (s t : BusValue) (e : CpuValue) → RunsOn entries asked c s t e
-    → t.wires.clock < limit → limit ≤ s.wires.clock + 6144 → t.wires.clock ≤ 2 ^ 48 + 16 → s.wires.written ≡ []
-    → s.wires.clock + 6160 ≤ s.until → 6160 ≤ s.rooms.board → 9 ≤ room_of t
-window-room entries asked limit c s t e run before window range none until room =
-    let clock = run.clock in
-    let written = run.written in
-    let empty : length s.wires.written ≡ 0 = ap (λ (records : List Record). length records) none in
-    let later = run.goes.until in
-    let same : t.rooms.board ≡ s.rooms.board = ap (λ r. r.board) run.goes.rooms in
-    omega arith
-
-pub start-room : (s : BusValue) → s.wires.clock ≤ 2 ^ 48 + 16 → s.wires.written ≡ [] → s.wires.clock + 6160 ≤ s.until → 6160 ≤ s.rooms.board → 9 ≤ room_of s
-start-room s range none until room =
-    let empty : length s.wires.written ≡ 0 = ap (λ (records : List Record). length records) none in
-    omega arith
+-- a run to a boundary is what its first turn made, if it had one, and whole turns
+pub boundary-turns : (entries : List TapeEntry) (limit : ℕ) (c : CpuValue) (s u t : BusValue) (f e : CpuValue) → AtBoundary entries limit c s u f
+    → TurnsRun entries limit [] f u t e → BoundaryRun entries limit c s t e
+boundary-turns entries limit c s u t f e at rest =
+    let run = runs-join entries (is_over limit) c s u t f e at.run rest.on.run in
+    let first = at.few in
+    let clock = at.run.clock in
+    let clock_then = rest.on.run.clock in
+    let few : run.count ≤ (limit - s.wires.clock) + 6 = elim rest.on.near [
+      | inl none ↦ omega arith
+      | inr near ↦ (let within = near.within in omega arith)
+    ] in
+    boundary-ends entries limit c s t e (record { run = run; few = few; boundary = rest.on.boundary; range = rest.on.range })
+    (no-break limit (over_bus e t) rest.ends)
+  where
+    no-break : (most : ℕ) (b : Board) → is_over most b || is_at_any [] b ≡ true → is_over most b ≡ true
+    no-break most b ends = by_test (is_over most b) refl ends
+      where
+        by_test : (over : Bool) → is_over most b ≡ over → over || is_at_any [] b ≡ true → is_over most b ≡ true
+        by_test true e ends = e
+        by_test false e ends = cc
 
 -- a run to a cut
 pub record AtCut (entries : List TapeEntry) (cut wrap : ℕ) (c : CpuValue) (s t : BusValue) (e : CpuValue) : Type 0 where
@@ -233,39 +248,11 @@ pub record AtCut (entries : List TapeEntry) (cut wrap : ℕ) (c : CpuValue) (s t
 
 pub cut-starts : (entries : List TapeEntry) (cut wrap : ℕ) (c : CpuValue) (s : BusValue) → s.begun ≡ false → IsInRange c s → AtCut entries cut wrap c s s c
 cut-starts entries cut wrap c s level range = record {
-  run = record {
-    count = 0;
-    reached = refl;
-    clock = sym (add-zero s.wires.clock);
-    written = omega arith;
-    paid = omega arith;
-    goes = record { more = omega arith; rooms = refl; until = omega arith; level = level };
-  };
+  run = starts entries (is_cut cut wrap) c s level;
   few = omega arith;
   range = range;
   inside = λ some. inl refl;
 }
-
--- a run to a cut that isn't over stands before it, and isn't jammed
-pub cut-before : (cut wrap : ℕ) (b : Board) → is_cut cut wrap b ≡ false → IsBefore cut b
-cut-before cut wrap b open_yet = before b.cpu.jam (nat_le cut b.wires.clock) refl refl open_yet
-  where
-    before : (jam : Option ℕ) (at : Bool) → b.cpu.jam ≡ jam → nat_le cut b.wires.clock ≡ at
-        → is_some jam || (at || (is_none b.cpu.mid && nat_le wrap b.wires.clock)) ≡ false → IsBefore cut b
-    before (Some o) at f e h = cc
-    before None true f e h = cc
-    before None false f e h = record { clock = leb-false cut b.wires.clock e; running = f }
-
--- at a boundary it stands before the wrap too
-cut-near : (cut wrap : ℕ) (b : Board) → is_cut cut wrap b ≡ false → b.cpu.mid ≡ None → b.wires.clock < wrap
-cut-near cut wrap b open_yet boundary = near b.cpu.jam (nat_le cut b.wires.clock) b.cpu.mid boundary open_yet
-  where
-    near : (jam : Option ℕ) (at : Bool) (mid : Option MidValue) → mid ≡ None
-        → is_some jam || (at || (is_none mid && nat_le wrap b.wires.clock)) ≡ false → b.wires.clock < wrap
-    near (Some o) at mid e h = cc
-    near None true mid e h = cc
-    near None false None e h = leb-false wrap b.wires.clock h
-    near None false (Some m) e h = cc
 
 inside-open : (cut wrap : ℕ) (b : Board) → IsInside b → b.wires.clock < cut → is_cut cut wrap b ≡ false
 inside-open cut wrap b inside before = by_parts b.cpu.jam b.cpu.mid inside.running inside.middle (lt-leb cut b.wires.clock before)
@@ -322,21 +309,58 @@ cut-ends entries cut wrap c s t e at over =
       later = omega arith;
     }
 
--- before a cut that comes in a window there is room for the records of one turn more
-pub cut-room : (entries : List TapeEntry) (cut wrap clocks : ℕ) (c : CpuValue) (s t : BusValue) (e : CpuValue) → AtCut entries cut wrap c s t e
-    → is_cut cut wrap (over_bus e t) ≡ false → cut ≤ 2 ^ 48 → wrap ≤ s.wires.clock + 6144 → s.wires.written ≡ []
-    → s.wires.clock + 6160 ≤ s.until → 6160 ≤ s.rooms.board → clocks ≤ 7 → clocks + 2 ≤ room_of t
-cut-room entries cut wrap clocks c s t e at open_yet last window none until room few =
-    let before = (cut-before cut wrap (over_bus e t) open_yet).clock in
-    let near : t.wires.clock < s.wires.clock + 6145 = by_mid e.mid refl (cut-near cut wrap (over_bus e t) open_yet) in
-    let clock = at.run.clock in
-    let written = at.run.written in
-    let empty : length s.wires.written ≡ 0 = ap (λ (records : List Record). length records) none in
-    let later = at.run.goes.until in
-    let same : t.rooms.board ≡ s.rooms.board = ap (λ r. r.board) at.run.goes.rooms in
-    omega arith
+-- steps that lead to a boundary by turns from before a limit are none from a board at which a run to a later cut is over
+over-cut : (entries : List TapeEntry) (cut wrap limit n : ℕ) (b last : Board) → limit ≤ wrap → Reached entries (is_over limit) n b last
+    → b.wires.clock + n ≤ cut → Reached entries (is_cut cut wrap) n b last
+over-cut entries cut wrap limit zero b last sooner r within = r
+over-cut entries cut wrap limit (suc n) b last sooner r within =
+    let clock = step-clock entries b in
+    (over-open b r.0 (omega arith), over-cut entries cut wrap limit n (step entries b) last sooner r.1 (omega arith))
   where
-    by_mid : (mid : Option MidValue) → e.mid ≡ mid → (e.mid ≡ None → t.wires.clock < wrap) → t.wires.clock < s.wires.clock + 6145
-    by_mid None is early = let h = early is in omega arith
-    by_mid (Some m) is early = let before = (cut-before cut wrap (over_bus e t) open_yet).clock in
-        elim (at.inside (rw is (search rules))) [ inl here ↦ omega arith | inr there ↦ absurd (omega arith) ]
+    by_parts : (jam : Option ℕ) (boundary : Bool) (clock : ℕ) → clock < cut → is_some jam || (boundary && nat_le limit clock) ≡ false
+        → is_some jam || (nat_le cut clock || (boundary && nat_le wrap clock)) ≡ false
+    by_parts (Some o) boundary clock before e = cc
+    by_parts None true clock before e =
+        let early = leb-false limit clock e in
+        rw (lt-leb cut clock before, lt-leb wrap clock (omega arith)) refl
+    by_parts None false clock before e = rw (lt-leb cut clock before) refl
+
+    over-open : (a : Board) → is_over limit a ≡ false → a.wires.clock < cut → is_cut cut wrap a ≡ false
+    over-open a e before = by_parts a.cpu.jam (is_none a.cpu.mid) a.wires.clock before e
+
+-- a run to a cut goes on by whole turns that end before it
+pub cut-turns : (entries : List TapeEntry) (cut wrap limit : ℕ) (c : CpuValue) (s t u : BusValue) (e f : CpuValue) → limit ≡ min wrap (cut - 6)
+    → AtCut entries cut wrap c s t e → TurnsRun entries limit [] e t u f → AtCut entries cut wrap c s u f
+cut-turns entries cut wrap limit c s t u e f least at rest =
+    let clock = at.run.clock in
+    let clock_then = rest.on.run.clock in
+    let few = at.few in
+    let made : (rest.on.run.count ≡ 0) ⊎ (t.wires.clock + rest.on.run.count ≤ cut) = elim rest.on.near [
+      | inl none ↦ inl (omega arith)
+      | inr near ↦ inr (let before = near.before in let within = near.within in omega arith)
+    ] in
+    let more : RunsOn entries (is_cut cut wrap) e t u f = record {
+      count = rest.on.run.count;
+      reached = by-made rest.on.run.count made rest.on.run.reached;
+      clock = rest.on.run.clock;
+      written = rest.on.run.written;
+      paid = rest.on.run.paid;
+      goes = rest.on.run.goes;
+    } in
+    let run = runs-join entries (is_cut cut wrap) c s t u e f at.run more in
+    record {
+      run = run;
+      few = elim made [ inl none ↦ omega arith | inr within ↦ omega arith ];
+      range = rest.on.range;
+      inside = λ some. none-some f.mid rest.on.boundary some;
+    }
+  where
+    by-made : (n : ℕ) → (n ≡ 0) ⊎ (t.wires.clock + n ≤ cut) → Reached entries (is_over limit) n (over_bus e t) (over_bus f u)
+        → Reached entries (is_cut cut wrap) n (over_bus e t) (over_bus f u)
+    by-made zero made r = r
+    by-made (suc n) (inl none) r = cc
+    by-made (suc n) (inr within) r = over-cut entries cut wrap limit (suc n) (over_bus e t) (over_bus f u) (omega arith) r within
+
+    none-some : (mid : Option MidValue) → mid ≡ None → IsSome mid → (u.wires.clock ≡ s.wires.clock) ⊎ (cut ≤ u.wires.clock)
+    none-some None e some = cc
+    none-some (Some m) e some = cc

@@ -17,12 +17,12 @@ use Rattle.catchup_engine.specs.declared.trace.Access.{Access}
 use Rattle.catchup_engine.specs.Bus.{BusStep, BusValue, in_clock}
 use Rattle.catchup_engine.specs.Lockstep.{Board, access_in, due_access, made_by, sequence_due, step}
 use Rattle.catchup_engine.specs.Run.{boundary_steps, is_over, stepped}
-use Rattle.catchup_engine.specs.Runs.{over_bus, BoundaryRun, IsInRange}
+use Rattle.catchup_engine.specs.Runs.{over_bus, BoundaryRun, IsInRange, RunsOn}
 use Rattle.catchup_engine.specs.Trace.{Makes, TraceValue, access_at, count_of, accesses_in, accesses_of, byte_of, first_byte, made_of, no_trace, opcode_by, sequence_at, seven_of, step_trace, trace_of}
 use Rattle.catchup_engine.specs.Turn.{TurnedBus}
 use Rattle.catchup_engine.specs.Wires.{ticked}
 use Rattle.catchup_engine.proofs.Runs.{stepped-is, steps_until-is, through-reached}
-use Rattle.catchup_engine.proofs.RunsOn.{AtBoundary, RunsOn, boundary-ends, boundary-starts, goes_on, middle-open, running-inside, starts}
+use Rattle.catchup_engine.proofs.RunsOn.{AtBoundary, boundary-ends, boundary-starts, goes_on, middle-open, running-inside, starts}
 use Rattle.catchup_engine.proofs.Steps.{in_clock-level}
 use Rattle.catchup_engine.proofs.Turns.{Begins, HasEffects, due-clock, fetch-turn, given-some, in_clock-begun, reset-begun, reset-turn, resets-one, resume-turn}
 

@@ -550,15 +550,14 @@ opcode-first entries c s m v x boundary level due is did =
     }
 
 -- is a turn
-pub opcode-turn : (tape : TapeValue) (c : CpuValue) (clocks : ℕ) (s t : BusValue) (e : CpuValue) → clocks ≡ 7 → ReadsOpcode c s
+pub opcode-turn : (tape : TapeValue) (c : CpuValue) (s t : BusValue) (e : CpuValue) → ReadsOpcode c s
     → s.begun ≡ false → Fits tape s → Runs (BusStep tape.entries) (registers_of c) Opcode s t e → e.mid ≡ None
-    → TurnedBus tape.entries clocks c s t e
-opcode-turn tape c clocks s t e whole reads level fits runs boundary =
+    → TurnedBus tape.entries 7 c s t e
+opcode-turn tape c s t e reads level fits runs boundary =
     let entries = tape.entries in
     let due : Opcode ≡ sequence_due c (ticked entries s.wires) =
     sym (ap (sequence_due c) (ticked-quiet tape s fits reads.quiet) ∙ reads.due) in
     let a = runs-advance entries (registers_of c) Opcode s t e runs boundary in
     let p = part entries (registers_of c) Opcode [] 7 a.0 s t e (omega arith) (next-first (registers_of c) Opcode) a.1 in
     let first = opcode-first entries c s p.then_s p.value p.access reads.boundary level due p.is p.did in
-    subst (λ n. TurnedBus entries n c s t e) (sym whole)
-    (turn-bus entries c (registers_of c) Opcode (p.value ∷ []) 0 6 (a.0 - 1) s p.then_s t e first (none-inside c.mid reads.boundary) refl (omega arith) p.rest)
+    turn-bus entries c (registers_of c) Opcode (p.value ∷ []) 0 6 (a.0 - 1) s p.then_s t e first (none-inside c.mid reads.boundary) refl (omega arith) p.rest

@@ -1,13 +1,13 @@
 -- A run of the processor over the bus.
-use Rattle.std.specs.Prelude.{◌≡◌, ℕ, ◌+◌, ◌-◌, ◌≤◌, ◌<◌, ◌||◌, List, true, None, IsSome}
+use Rattle.std.specs.Prelude.{◌≡◌, ℕ, ◌+◌, ◌-◌, ◌≤◌, ◌<◌, ◌⊎◌, ◌||◌, Bool, List, length, false, true, None, IsSome, zero, suc}
 use Rattle.board_base.specs.declared.board.TheConstants.{CLOCK_LIMIT}
 use Rattle.board_base.specs.Cpu.{CpuValue}
 use Rattle.tape_ports.specs.declared.entry.TapeEntry.{TapeEntry}
-use Rattle.catchup_engine.specs.Lockstep.{Board}
+use Rattle.catchup_engine.specs.Lockstep.{Board, step}
 use Rattle.catchup_engine.specs.Run.{is_over, is_cut, to_boundary, to_cut, boundary_steps, cut_steps}
 use Rattle.catchup_engine.specs.Breaks.{is_at_any, BreakRun}
 use Rattle.catchup_engine.specs.Budget.{budget}
-use Rattle.catchup_engine.specs.Bus.{BusValue}
+use Rattle.catchup_engine.specs.Bus.{BusValue, room_of}
 use Rattle.catchup_engine.specs.Turn.{Goes}
 
 -- the board that a processor and a bus stand for
@@ -18,6 +18,43 @@ over_bus c s = record { cpu = c; wires = s.wires }
 pub record IsInRange (c : CpuValue) (s : BusValue) : Type 0 where
   pub clock : s.wires.clock ≤ CLOCK_LIMIT + 16
   pub middle : IsSome c.mid → s.wires.clock ≤ CLOCK_LIMIT
+
+-- n steps lead to the board last, none of them from a board that is as asked
+abbrev pub Reached : List TapeEntry → (Board → Bool) → ℕ → Board → Board → Type 0
+Reached entries asked zero b last = last ≡ b
+Reached entries asked (suc n) b last = (asked b ≡ false) × Reached entries asked n (step entries b) last
+
+-- from the processor c and the bus s some steps have led to e and t, none of them from a board that is as asked
+pub record RunsOn (entries : List TapeEntry) (asked : Board → Bool) (c : CpuValue) (s t : BusValue) (e : CpuValue) : Type 0 where
+  pub count : ℕ
+  pub reached : Reached entries asked count (over_bus c s) (over_bus e t)
+  pub clock : t.wires.clock ≡ s.wires.clock + count
+  pub written : length t.wires.written ≤ length s.wires.written + count
+  pub paid : t.calls ≤ s.calls + budget entries count (over_bus c s)
+  pub goes : Goes s t
+
+-- there is room for the clocks up to a limit, and those of a turn that begins before it
+abbrev pub HasRoomTo : ℕ → BusValue → Type 0
+HasRoomTo limit s = (limit - s.wires.clock) + 8 ≤ room_of s
+
+-- turns begin before a limit, and end within six clocks after it
+pub record IsNear (limit : ℕ) (s t : BusValue) : Type 0 where
+  pub before : s.wires.clock < limit
+  pub within : t.wires.clock ≤ limit + 6
+
+-- From c and s whole turns led to e and t, none of them from a board at which a run to this limit is over. A run to a break that
+-- had come to c goes on to e.
+pub record TurnsOn (entries : List TapeEntry) (limit : ℕ) (addresses : List ℕ) (c : CpuValue) (s t : BusValue) (e : CpuValue) : Type 0 where
+  pub run : RunsOn entries (is_over limit) c s t e
+  pub near : (t.wires.clock ≡ s.wires.clock) ⊎ IsNear limit s t
+  pub turns : (b : Board) → BreakRun entries limit addresses b (over_bus c s) → BreakRun entries limit addresses b (over_bus e t)
+  pub boundary : e.mid ≡ None
+  pub range : IsInRange e t
+
+-- and have come to where such a run is over, or to one of these addresses
+pub record TurnsRun (entries : List TapeEntry) (limit : ℕ) (addresses : List ℕ) (c : CpuValue) (s t : BusValue) (e : CpuValue) : Type 0 where
+  pub on : TurnsOn entries limit addresses c s t e
+  pub ends : is_over limit (over_bus e t) || is_at_any addresses (over_bus e t) ≡ true
 
 -- from the processor c and the bus s a run to a boundary led to e and t
 pub record BoundaryRun (entries : List TapeEntry) (limit : ℕ) (c : CpuValue) (s t : BusValue) (e : CpuValue) : Type 0 where

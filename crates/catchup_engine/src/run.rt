@@ -3,7 +3,7 @@ ghost use Rattle.std.specs.Prelude.{◌≡◌, ◌+◌, ◌≤◌, ◌<◌, ◌�
 ghost use Rattle.catchup_engine.specs.Breaks.{is_at_any};
 ghost use Rattle.catchup_engine.specs.Bus.{Fits};
 ghost use Rattle.catchup_engine.specs.Run.{is_over, is_cut};
-ghost use Rattle.catchup_engine.specs.Runs.{over_bus, BoundaryRun, BreakRunBus, CutRun, IsInRange};
+ghost use Rattle.catchup_engine.specs.Runs.{over_bus, BoundaryRun, BreakRunBus, CutRun, HasRoomTo, IsInRange, TurnsRun};
 
 use crate::bus::{BoardBus, TRAIL_ROOM, WHOLE};
 use crate::turn::{turn, turn_slowly};
@@ -40,6 +40,47 @@ fn is_stopped<V: VectorUnit, P: SoundUnit, C: CellUnit, D: DividerUnit>(
     state.jam.is_some() || cut <= bus.clock() || state.mid.is_none() && wrap <= bus.clock()
 }
 
+/// Whether a run to a boundary is over, or has come to one of these addresses.
+fn is_at_break<V: VectorUnit, P: SoundUnit, C: CellUnit, D: DividerUnit>(
+    cpu: &Cpu,
+    bus: &BoardBus<V, P, C, D>,
+    limit: u64,
+    addresses: &[u16],
+) -> bool
+    ensures { result ≡ (is_over limit (over_bus cpu.now bus.now) || is_at_any addresses.now (over_bus cpu.now bus.now)) }
+{
+    let pc = cpu.state().pc;
+    is_done(cpu, bus, limit) || !addresses.is_empty() && addresses.contains(&pc)
+}
+
+/// Does whole sequences up to the limit, or to the first of these addresses.
+///
+/// Every run makes most of its clocks here. With one loop for all of them LLVM puts the processor
+/// into it, and keeps its registers out of memory.
+#[inline(never)]
+fn run_turns<V: VectorUnit, P: SoundUnit, C: CellUnit, D: DividerUnit>(
+    mut cpu: Cpu,
+    bus: &mut BoardBus<V, P, C, D>,
+    tape: &Tape,
+    limit: u64,
+    addresses: &[u16],
+) -> Cpu
+    requires limit { limit ≤ CLOCK_LIMIT }
+    requires boundary { cpu.mid ≡ None }
+    requires range { IsInRange cpu bus.old }
+    requires level { bus.old.begun ≡ false }
+    requires room { HasRoomTo limit bus.old }
+    requires fits { Fits tape.now bus.old }
+    ensures runs { TurnsRun tape.now.entries limit addresses.now cpu bus.old bus.new result }
+    ensures fits { Fits tape.now bus.new }
+{
+    let _clock = bus.clock();
+    while !is_at_break(&cpu, bus, limit, addresses) {
+        cpu = turn(cpu, bus, tape);
+    }
+    cpu
+}
+
 /// Does the rest of the sequence under way, if there is one, and then whole sequences up to the
 /// limit.
 pub(crate) fn run_until<V: VectorUnit, P: SoundUnit, C: CellUnit, D: DividerUnit>(
@@ -61,22 +102,7 @@ pub(crate) fn run_until<V: VectorUnit, P: SoundUnit, C: CellUnit, D: DividerUnit
     if cpu.state().mid.is_some() {
         cpu = turn_slowly(cpu, bus, tape, WHOLE);
     }
-    while !is_done(&cpu, bus, limit) {
-        cpu = turn(cpu, bus, tape, WHOLE);
-    }
-    cpu
-}
-
-/// Whether a run to a boundary is over, or has come to one of these addresses.
-fn is_at_break<V: VectorUnit, P: SoundUnit, C: CellUnit, D: DividerUnit>(
-    cpu: &Cpu,
-    bus: &BoardBus<V, P, C, D>,
-    limit: u64,
-    addresses: &[u16],
-) -> bool
-    ensures { result ≡ (is_over limit (over_bus cpu.now bus.now) || is_at_any addresses.now (over_bus cpu.now bus.now)) }
-{
-    is_done(cpu, bus, limit) || addresses.contains(&cpu.state().pc)
+    run_turns(cpu, bus, tape, limit, &[])
 }
 
 /// Does a turn, unless the processor is jammed, and then others up to the limit or to the first of
@@ -102,10 +128,7 @@ pub(crate) fn run_to_break<V: VectorUnit, P: SoundUnit, C: CellUnit, D: DividerU
     if cpu.state().jam.is_none() {
         cpu = turn_slowly(cpu, bus, tape, WHOLE);
     }
-    while !is_at_break(&cpu, bus, limit, addresses) {
-        cpu = turn(cpu, bus, tape, WHOLE);
-    }
-    cpu
+    run_turns(cpu, bus, tape, limit, addresses)
 }
 
 /// The clocks of a turn that isn't to go past a clock.
@@ -137,10 +160,14 @@ pub(crate) fn run_to_cut<V: VectorUnit, P: SoundUnit, C: CellUnit, D: DividerUni
     requires fits { Fits tape.now bus.old }
     ensures runs { CutRun tape.now.entries cut wrap cpu bus.old bus.new result }
 {
-    let _clock = bus.clock();
+    // A turn that begins before this clock ends at the cut at the latest.
+    let near = wrap.min(cut.saturating_sub(6));
     while !is_stopped(&cpu, bus, cut, wrap) {
         let clocks = clocks_to(bus.clock(), cut);
-        cpu = turn(cpu, bus, tape, clocks);
+        cpu = turn_slowly(cpu, bus, tape, clocks);
+        if cpu.state().mid.is_none() {
+            cpu = run_turns(cpu, bus, tape, near, &[]);
+        }
     }
     cpu
 }

@@ -196,8 +196,7 @@ fn reads_opcode<V: VectorUnit, P: SoundUnit, C: CellUnit, D: DividerUnit>(
         && (Flags::from_byte(state.p).interrupt || !bus.next_line())
 }
 
-/// Does the rest of the sequence under way, or the sequence that a fetch begins, or as many of its
-/// clocks as are given.
+/// Does the rest of the sequence under way, or the sequence that a fetch begins.
 ///
 /// Most turns are whole instructions in whose clocks nothing comes of itself.
 #[inline(always)]
@@ -205,20 +204,17 @@ pub(crate) fn turn<V: VectorUnit, P: SoundUnit, C: CellUnit, D: DividerUnit>(
     mut cpu: Cpu,
     bus: &mut BoardBus<V, P, C, D>,
     tape: &Tape,
-    clocks: u8,
 ) -> Cpu
     requires running { cpu.jam ≡ None }
     requires level { bus.old.begun ≡ false }
     requires fits { Fits tape.now bus.old }
-    requires some { 1 ≤ clocks }
-    requires few { clocks ≤ WHOLE }
-    requires room { clocks + 2 ≤ room_of bus.old }
-    ensures turned { TurnedBus tape.now.entries clocks cpu bus.old bus.new result }
+    requires room { WHOLE + 2 ≤ room_of bus.old }
+    ensures turned { TurnedBus tape.now.entries WHOLE cpu bus.old bus.new result }
     ensures fits { Fits tape.now bus.new }
 {
-    if clocks == WHOLE && reads_opcode(&cpu, bus) {
+    if reads_opcode(&cpu, bus) {
         perform_quietly(&mut cpu, bus, tape);
         return cpu;
     }
-    turn_slowly(cpu, bus, tape, clocks)
+    turn_slowly(cpu, bus, tape, WHOLE)
 }

@@ -1,7 +1,8 @@
-use Rattle.std.proofs.Common.{◌≡◌, false, arith, sym, ◌∙◌}
+use Rattle.std.proofs.Common.{◌≡◌, false, min, arith, ap, sym, ◌∙◌}
 use Rattle.catchup_engine.specs.Run.{is_cut}
 use Rattle.catchup_engine.specs.Runs.{over_bus}
-use Rattle.catchup_engine.proofs.RunsOn.{cut-starts, cut-goes_on, cut-ends, cut-room}
+use Rattle.catchup_engine.proofs.RunsOn.{AtCut, cut-starts, cut-goes_on, cut-turns, cut-ends}
+use Rattle.catchup_engine.proofs.run.run_to_cut.Given
 use Rattle.catchup_engine.proofs.run.run_to_cut.Goals as goal
 
 pub loop-bus-init : goal.loop-bus-init
@@ -10,25 +11,35 @@ loop-bus-init g c = record {
   fits = c.requires.fits;
 }
 
-pub loop-bus-preserved : goal.loop-bus-preserved
-loop-bus-preserved g c =
+-- a turn that isn't to go past the cut
+turned : (g : Given.Over) (c : goal.Else-is_none g)
+    → AtCut c.args.tape.now.entries c.args.cut c.args.wrap c.args.cpu c.args.bus.now c.turn_slowly-cpu.new.bus c.turn_slowly-cpu.result
+turned g c =
     let open_yet : is_cut c.args.cut c.args.wrap (over_bus c.loop-bus.cpu c.loop-bus.bus) ≡ false = sym c.is_stopped.ensures ∙ c.loop-bus-test.true in
     let here = c.clock.ensures.value in
     let within = c.clocks_to-clocks.ensures.within in
+    cut-goes_on c.args.tape.now.entries c.args.cut c.args.wrap c.clocks_to-clocks.result c.args.cpu c.args.bus.now c.loop-bus.bus c.turn_slowly-cpu.new.bus c.loop-bus.cpu
+    c.turn_slowly-cpu.result c.requires.cut c.loop-bus.invariant.at open_yet (omega arith) (rw here at c.clocks_to-clocks.ensures.all) c.turn_slowly-cpu.ensures.turned
+
+pub loop-bus-preserved-then-is_none : goal.loop-bus-preserved-then-is_none
+loop-bus-preserved-then-is_none g c =
+    let open_yet : is_cut c.args.cut c.args.wrap (over_bus c.loop-bus.cpu c.loop-bus.bus) ≡ false = sym c.is_stopped.ensures ∙ c.loop-bus-test.true in
+    let here = c.clock.ensures.value in
+    let within = c.clocks_to-clocks.ensures.within in
+    let at =
+    cut-goes_on c.args.tape.now.entries c.args.cut c.args.wrap c.clocks_to-clocks.result c.args.cpu c.args.bus.now c.loop-bus.bus c.turn_slowly-cpu.new.bus c.loop-bus.cpu
+    c.turn_slowly-cpu.result c.requires.cut c.loop-bus.invariant.at open_yet (omega arith) (rw here at c.clocks_to-clocks.ensures.all) c.turn_slowly-cpu.ensures.turned in
     record {
       at =
-          cut-goes_on c.args.tape.now.entries c.args.cut c.args.wrap c.clocks_to-clocks.result c.args.cpu c.args.bus.now c.loop-bus.bus c.turn-cpu.new.bus c.loop-bus.cpu c.turn-cpu.result
-          c.requires.cut c.loop-bus.invariant.at open_yet (omega arith) (rw here at c.clocks_to-clocks.ensures.all) c.turn-cpu.ensures.turned;
-      fits = c.turn-cpu.ensures.fits;
+          cut-turns c.args.tape.now.entries c.args.cut c.args.wrap c.min-near.result c.args.cpu c.args.bus.now c.turn_slowly-cpu.new.bus c.run_turns-cpu.new.bus
+          c.turn_slowly-cpu.result c.run_turns-cpu.result (c.min-near.ensures ∙ ap (min c.args.wrap) c.saturating_sub.ensures) at c.run_turns-cpu.ensures.runs;
+      fits = c.run_turns-cpu.ensures.fits;
     }
+
+pub loop-bus-preserved : goal.loop-bus-preserved
+loop-bus-preserved g c = record { at = turned g c; fits = c.turn_slowly-cpu.ensures.fits }
 
 pub returns : goal.returns
 returns g c = record {
   runs = cut-ends c.args.tape.now.entries c.args.cut c.args.wrap c.args.cpu c.args.bus.now c.loop-bus.bus c.loop-bus.cpu c.loop-bus.invariant.at (sym c.is_stopped.ensures ∙ c.loop-bus-test.false);
 }
-
-pub turn-cpu-requires-clause-room : goal.turn-cpu-requires-clause-room
-turn-cpu-requires-clause-room g c =
-    let open_yet : is_cut c.args.cut c.args.wrap (over_bus c.loop-bus.cpu c.loop-bus.bus) ≡ false = sym c.is_stopped.ensures ∙ c.loop-bus-test.true in
-    cut-room c.args.tape.now.entries c.args.cut c.args.wrap c.clocks_to-clocks.result c.args.cpu c.args.bus.now c.loop-bus.bus c.loop-bus.cpu c.loop-bus.invariant.at
-    open_yet c.requires.cut c.requires.window c.requires.written c.requires.until c.clock-clock.ensures.rooms.3 c.clocks_to-clocks.ensures.few

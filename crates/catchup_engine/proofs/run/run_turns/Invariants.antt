@@ -1,11 +1,11 @@
 use Rattle.std.proofs.Common.{◌-◌}
 use Rattle.catchup_engine.specs.Bus.{Fits}
-use Rattle.catchup_engine.proofs.RunsOn.{AtBoundary}
-use Rattle.catchup_engine.proofs.run.run_until.Given as goal
+use Rattle.catchup_engine.specs.Runs.{TurnsOn}
+use Rattle.catchup_engine.proofs.run.run_turns.Given as goal
 
 abbrev pub invariant-loop-cpu : goal.invariant-loop-cpu
 invariant-loop-cpu g l = record {
-  at : AtBoundary l.tape.entries l.limit l.fn.cpu l.fn.bus l.bus l.cpu;
+  on : TurnsOn l.tape.entries l.limit l.addresses l.fn.cpu l.fn.bus l.bus l.cpu;
   fits : Fits l.tape l.bus;
 }
 

@@ -1,0 +1,29 @@
+use Rattle.std.proofs.Common.{◌≡◌, ◌||◌, false, sym, ◌∙◌}
+use Rattle.catchup_engine.specs.Breaks.{is_at_any}
+use Rattle.catchup_engine.specs.Run.{is_over}
+use Rattle.catchup_engine.specs.Runs.{over_bus}
+use Rattle.catchup_engine.proofs.BreaksOn.{turns-start, turns-go_on}
+use Rattle.catchup_engine.proofs.run.run_turns.Goals as goal
+
+pub loop-cpu-init : goal.loop-cpu-init
+loop-cpu-init g c = record {
+  on = turns-start c.args.tape.now.entries c.args.limit c.args.addresses.now c.args.cpu c.args.bus.now c.requires.level c.requires.boundary c.requires.range;
+  fits = c.requires.fits;
+}
+
+pub loop-cpu-preserved : goal.loop-cpu-preserved
+loop-cpu-preserved g c =
+    let open_yet : is_over c.args.limit (over_bus c.loop-cpu.cpu c.loop-cpu.bus) || is_at_any c.args.addresses.now (over_bus c.loop-cpu.cpu c.loop-cpu.bus) ≡ false =
+    sym c.is_at_break.ensures ∙ c.loop-cpu-test.true in
+    record {
+      on =
+          turns-go_on c.args.tape.now.entries c.args.limit c.args.addresses.now c.args.cpu c.args.bus.now c.loop-cpu.bus c.turn-cpu.new.bus c.loop-cpu.cpu
+          c.turn-cpu.result c.requires.limit c.loop-cpu.invariant.on open_yet c.turn-cpu.ensures.turned;
+      fits = c.turn-cpu.ensures.fits;
+    }
+
+pub returns : goal.returns
+returns g c = record {
+  runs = record { on = c.loop-cpu.invariant.on; ends = sym c.is_at_break.ensures ∙ c.loop-cpu-test.false };
+  fits = c.loop-cpu.invariant.fits;
+}
