@@ -37,16 +37,19 @@ impl Model for Mid {
 /// `p` holds N V - - D I Z C, with bits 4 and 5 clear. `jam` is the undocumented opcode that
 /// stopped the processor. While `mid` is there, the registers are those at the start of the
 /// sequence; for a reset `s` is lowered by 3 already and I is set.
+///
+/// The registers don't stand in a row: four in a row LLVM would keep in one vector register, and take
+/// them out of it in each instruction.
 #[derive(Clone, Copy, Debug, PartialEq, Eq)]
 pub struct CpuState {
     pub pc: u16,
     pub a: u8,
     pub x: u8,
+    pub mid: Option<Mid>,
     pub y: u8,
+    pub jam: Option<u8>,
     pub s: u8,
     pub p: u8,
-    pub jam: Option<u8>,
-    pub mid: Option<Mid>,
 }
 
 impl Model for CpuState {
