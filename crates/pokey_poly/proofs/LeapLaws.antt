@@ -1,147 +1,175 @@
--- Many shifts at once: the register is a window on the bits that leave it from a value on.
-use Rattle.std.proofs.Common.{◌≡◌, ℕ, ◌+◌, ◌*◌, ◌-◌, ◌/◌, ◌%◌, ◌^◌, ◌<◌, ◌≤◌, ◌⊎◌, inl, inr, zero, suc, bit_and, bit_or, bit_xor, arith, add-one, pow_pos, sym, ap, ◌∙◌}
-use Rattle.std.proofs.Math.Nat.{div-div-eq-div-mul, mod-eq_of_lt, mul-add-div_right, mul_assoc}
-use Rattle.std.proofs.Math.Pow.{shl_lt, shl_exact}
+-- Many shifts at once: a register is a window on the bits that leave it from a value on.
+use Rattle.std.proofs.Common.{◌≡◌, ℕ, ◌+◌, ◌*◌, ◌-◌, ◌/◌, ◌%◌, ◌^◌, ◌<◌, ◌≤◌, ◌⊎◌, inl, inr, zero, suc, bit_and, arith, add-one, pow_pos, sym, ap, ◌∙◌}
 use Rattle.std.proofs.lemmas.Bool.{cases_lt}
-use Rattle.std.proofs.lemmas.Nat.{and_mask, div-add-mod', or_lt, pow-add, pow_below, shr_below, shr_le}
-use Rattle.std.proofs.lemmas.Nat.Bits.{bit_at_xor, bit_at_cat_low, bit_at_cat_high, same_from_bits_below}
+use Rattle.std.proofs.lemmas.Nat.{and_mask, pow_below}
+use Rattle.std.proofs.lemmas.Nat.Bits.{same_from_bits_below}
 use Rattle.std.specs.Int.{bit_at}
-use Rattle.std.specs.Int.Bits.{or_shifted_r}
 use Rattle.board_base.specs.Ticks.{times}
 use Rattle.board_base.proofs.TickLaws.{times-add, times-more, times-zero}
-use Rattle.pokey_poly.specs.Shift.{moved}
+use Rattle.pokey_poly.specs.declared.poly.Poly.{Poly}
+use Rattle.pokey_poly.specs.declared.poly.Poly.TheVariants.{Four, Five, Nine, Seventeen}
+use Rattle.pokey_poly.specs.Shift.{leaving, moved, shifted, width_of, IsAhead}
 use Rattle.pokey_poly.proofs.BitLaws.{moved-below, moved-top}
 use Rattle.pokey_poly.proofs.Moves.{incoming-sum, moved-lt}
+use Rattle.pokey_poly.proofs.WordLaws.{further, lowest}
 
--- a bit of a number that has moved down
-further : (n k j : ℕ) → bit_at (n / 2 ^ k) j ≡ bit_at n (k + j)
-further n k j =
-    ap (λ (m : ℕ). m % 2) (div-div-eq-div-mul n (2 ^ k) (2 ^ j) ∙ ap (λ (p : ℕ). n / p) (sym (pow-add 2 k j)))
+module _ (top tap r : ℕ) (small : r < 2 ^ (top + 1)) where
+  -- the register after some shifts
+  abbrev after : ℕ → ℕ
+  after k = times (moved (top + 1) tap) k r
 
--- the lowest bits of a number
-lowest : (n width j : ℕ) → j < width → bit_at (n % 2 ^ width) j ≡ bit_at n j
-lowest n width j h =
-    sym (bit_at_cat_low (n / 2 ^ width) width (n % 2 ^ width) j h) ∙ ap (λ (m : ℕ). bit_at m j) (div-add-mod' n (2 ^ width))
+  -- the bit that leaves it then
+  abbrev out : ℕ → ℕ
+  out j = bit_at (after j) 0
 
-module _ (top tap : ℕ) where
-  -- the register after any number of shifts keeps its width
-  pub times-lt : (k r : ℕ) → r < 2 ^ (top + 1) → times (moved (top + 1) tap) k r < 2 ^ (top + 1)
-  times-lt zero r h = rw (times-zero (moved (top + 1) tap) r) h
-  times-lt (suc k) r h =
-      rw (← add-one k, times-more (moved (top + 1) tap) k r)
-      (moved-lt top tap (times (moved (top + 1) tap) k r) (times-lt k r h))
+  -- it keeps its width
+  pub after-lt : (k : ℕ) → after k < 2 ^ (top + 1)
+  after-lt zero = rw (times-zero (moved (top + 1) tap) r) small
+  after-lt (suc k) = rw (← add-one k, times-more (moved (top + 1) tap) k r) (moved-lt top tap (after k) (after-lt k))
 
-  -- a number whose lowest bits are a register, and each later one is the sum that comes in
-  module _ (r e n : ℕ) (small : r < 2 ^ (top + 1))
-      (start : (j : ℕ) → j < top + 1 → bit_at e j ≡ bit_at r j)
-      (next : (m : ℕ) → m < n → bit_at e (m + (top + 1)) ≡ (bit_at e (m + tap) + bit_at e m) % 2) where
-    -- where the register's bits are its bits from k on, they are those from k + 1 on one shift later
-    window-next : (k j : ℕ) → k < n → tap ≤ top → ((i : ℕ) → i < top + 1 → bit_at (times (moved (top + 1) tap) k r) i ≡ bit_at e (k + i))
-        → (j < top) ⊎ (top ≤ j) → j < top + 1 → bit_at (moved (top + 1) tap (times (moved (top + 1) tap) k r)) j ≡ bit_at e (suc k + j)
-    window-next k j within inside before (inl lower) below =
-        let place : k + (j + 1) ≡ suc k + j = omega arith in
-        moved-below top tap (times (moved (top + 1) tap) k r) j (times-lt k r small) lower
-        ∙ before (j + 1) (omega arith)
-        ∙ ap (bit_at e) place
-    window-next k j within inside before (inr highest) below =
-        let here : j ≡ top = omega arith in
-        let place : k + (top + 1) ≡ suc k + j = omega arith in
-        let first : k + 0 ≡ k = omega arith in
-        ap (bit_at (moved (top + 1) tap (times (moved (top + 1) tap) k r))) here
-        ∙ moved-top top tap (times (moved (top + 1) tap) k r) (times-lt k r small)
-        ∙ incoming-sum tap (times (moved (top + 1) tap) k r)
-        ∙ ap (λ (d : ℕ). (d + bit_at (times (moved (top + 1) tap) k r) 0) % 2) (before tap (omega arith))
-        ∙ ap (λ (d : ℕ). (bit_at e (k + tap) + d) % 2) (before 0 (omega arith) ∙ ap (bit_at e) first)
-        ∙ sym (next k within)
-        ∙ ap (bit_at e) place
+  -- each of its bits leaves it as many shifts later as it stands high
+  pub leaves : (j k : ℕ) → j < top + 1 → bit_at (after k) j ≡ out (k + j)
+  leaves zero k below =
+      let first : k ≡ k + 0 = omega arith in
+      ap out first
+  leaves (suc j) k below =
+      let place : k + 1 + j ≡ k + suc j = omega arith in
+      ap (bit_at (after k)) (sym (add-one j))
+      ∙ sym (moved-below top tap (after k) j (after-lt k) (omega arith))
+      ∙ ap (λ (s : ℕ). bit_at s j) (sym (times-more (moved (top + 1) tap) k r))
+      ∙ leaves j (k + 1) (omega arith)
+      ∙ ap out place
 
-    -- so they are after each number of shifts
-    window-bit : (k j : ℕ) → k ≤ n → tap ≤ top → j < top + 1 → bit_at (times (moved (top + 1) tap) k r) j ≡ bit_at e (k + j)
-    window-bit zero j within inside below =
-        let place : j ≡ 0 + j = omega arith in
-        ap (λ (s : ℕ). bit_at s j) (times-zero (moved (top + 1) tap) r) ∙ sym (start j below) ∙ ap (bit_at e) place
-    window-bit (suc k) j within inside below =
-        ap (λ (m : ℕ). bit_at (times (moved (top + 1) tap) m r) j) (sym (add-one k))
-        ∙ ap (λ (s : ℕ). bit_at s j) (times-more (moved (top + 1) tap) k r)
-        ∙ window-next k j (omega arith) inside (λ i lower. window-bit k i (omega arith) inside lower) (cases_lt j top) below
+  -- so its bits are those that leave it first
+  pub starts : (j : ℕ) → j < top + 1 → bit_at r j ≡ out j
+  starts j below =
+      let first : 0 + j ≡ j = omega arith in
+      ap (λ (s : ℕ). bit_at s j) (sym (times-zero (moved (top + 1) tap) r)) ∙ leaves j 0 below ∙ ap out first
 
-    -- the register is a window on it
-    pub window : (k : ℕ) → k ≤ n → tap ≤ top → e / 2 ^ k % 2 ^ (top + 1) ≡ times (moved (top + 1) tap) k r
-    window k within inside =
-        same_from_bits_below (top + 1) (e / 2 ^ k % 2 ^ (top + 1)) (times (moved (top + 1) tap) k r) (omega (arith, pow_pos (top + 1))) (times-lt k r small)
-        (λ j below. lowest (e / 2 ^ k) (top + 1) j below ∙ further e k j ∙ sym (window-bit k j within inside below))
+  -- and a bit that leaves is the sum of two that left before
+  pub sums : tap ≤ top → (m : ℕ) → out (m + (top + 1)) ≡ (out (m + tap) + out m) % 2
+  sums inside m =
+      let place : m + 1 + top ≡ m + (top + 1) = omega arith in
+      sym (leaves top (m + 1) (omega arith) ∙ ap out place)
+      ∙ ap (λ (s : ℕ). bit_at s top) (times-more (moved (top + 1) tap) m r)
+      ∙ moved-top top tap (after m) (after-lt m)
+      ∙ incoming-sum tap (after m)
+      ∙ ap (λ (d : ℕ). (d + out m) % 2) (leaves tap m (omega arith))
 
--- a block of shifts, in which no bit that comes in comes of one that has come in
-module _ (top tap r k : ℕ) (room : tap + k ≤ top + 1) (small : r < 2 ^ (top + 1)) where
-  -- the bits that come in
-  abbrev coming : ℕ
-  coming = bit_xor r (r / 2 ^ tap) % 2 ^ k
+  -- so it is a window on a word of them
+  pub window : (word known k : ℕ) → ((j : ℕ) → j < known → bit_at word j ≡ out j) → k + (top + 1) ≤ known
+      → word / 2 ^ k % 2 ^ (top + 1) ≡ after k
+  window word known k ahead within =
+      same_from_bits_below (top + 1) (word / 2 ^ k % 2 ^ (top + 1)) (after k) (omega (arith, pow_pos (top + 1))) (after-lt k)
+      (λ j below. lowest (word / 2 ^ k) (top + 1) j below ∙ further word k j ∙ ahead (k + j) (omega arith) ∙ sym (leaves j k below))
 
-  -- those that leave: the register's, and then these
-  abbrev ahead : ℕ
-  ahead = coming * 2 ^ (top + 1) + r
+  -- a word that begins with the register, and whose later bits are such sums, is one of them
+  module _ (word n : ℕ) (inside : tap ≤ top) (start : (j : ℕ) → j < top + 1 → bit_at word j ≡ bit_at r j)
+      (next : (m : ℕ) → m < n → bit_at word (m + (top + 1)) ≡ (bit_at word (m + tap) + bit_at word m) % 2) where
+    grown : (bound j : ℕ) → j < bound → j < n + (top + 1) → (j < top + 1) ⊎ (top + 1 ≤ j) → bit_at word j ≡ out j
+    grown zero j under known _ = elim under [ ]
+    grown (suc bound) j under known (inl lower) =
+        start j lower ∙ starts j lower
+    grown (suc bound) j under known (inr higher) =
+        let m : ℕ = j - (top + 1) in
+        let place : m + (top + 1) ≡ j = omega arith in
+        let former : bit_at word m ≡ out m = grown bound m (omega arith) (omega arith) (cases_lt m (top + 1)) in
+        let latter : bit_at word (m + tap) ≡ out (m + tap) = grown bound (m + tap) (omega arith) (omega arith) (cases_lt (m + tap) (top + 1)) in
+        ap (bit_at word) (sym place)
+        ∙ next m (omega arith)
+        ∙ ap (λ (d : ℕ). (d + bit_at word m) % 2) latter
+        ∙ ap (λ (d : ℕ). (out (m + tap) + d) % 2) former
+        ∙ sym (sums inside m)
+        ∙ ap out place
 
-  -- it begins with the register
-  ahead-start : (j : ℕ) → j < top + 1 → bit_at ahead j ≡ bit_at r j
-  ahead-start j below = bit_at_cat_low coming (top + 1) r j below
+    pub grows : (j : ℕ) → j < n + (top + 1) → bit_at word j ≡ out j
+    grows j known = grown (suc j) j (omega arith) known (cases_lt j (top + 1))
 
-  -- and each later bit is the sum that comes in, of two bits of the register
-  ahead-next : (m : ℕ) → m < k → bit_at ahead (m + (top + 1)) ≡ (bit_at ahead (m + tap) + bit_at ahead m) % 2
-  ahead-next m within =
-      let place : m + (top + 1) - (top + 1) ≡ m = omega arith in
-      let other : tap + m ≡ m + tap = omega arith in
-      let sum : bit_at ahead (m + (top + 1)) ≡ (bit_at r m + bit_at (r / 2 ^ tap) m) % 2
-      = bit_at_cat_high coming (top + 1) r (m + (top + 1)) small (omega arith)
-      ∙ ap (bit_at coming) place
-      ∙ lowest (bit_xor r (r / 2 ^ tap)) k m within
-      ∙ bit_at_xor r (r / 2 ^ tap) m in
-      let tapped : bit_at (r / 2 ^ tap) m ≡ bit_at r (m + tap) = further r tap m ∙ ap (bit_at r) other in
-      omega (arith, sum, tapped, ahead-start m (omega arith), ahead-start (m + tap) (omega arith))
+-- sums of two bits so far back are also sums of two bits twice as far back
+pub doubled : (out : ℕ → ℕ) (place tap : ℕ) → ((m : ℕ) → out (m + place) ≡ (out (m + tap) + out m) % 2)
+    → (m : ℕ) → out (m + (place + place)) ≡ (out (m + (tap + tap)) + out m) % 2
+doubled out place tap sum m =
+    let far : m + (place + place) ≡ m + place + place = omega arith in
+    let crossed : m + place + tap ≡ m + tap + place = omega arith in
+    let near : m + tap + tap ≡ m + (tap + tap) = omega arith in
+    let first : out (m + (place + place)) ≡ (out (m + tap + place) + out (m + place)) % 2
+    = ap out far ∙ sum (m + place) ∙ ap (λ (k : ℕ). (out k + out (m + place)) % 2) crossed in
+    let second : out (m + tap + place) ≡ (out (m + (tap + tap)) + out (m + tap)) % 2
+    = sum (m + tap) ∙ ap (λ (k : ℕ). (out k + out (m + tap)) % 2) near in
+    omega (arith, first, second, sum m)
 
-  -- joined to what stays of the register
-  joined : bit_or (r / 2 ^ k) (coming * 2 ^ (top + 1 - k)) ≡ ahead / 2 ^ k
-  joined =
-      let split : top + 1 ≡ (top + 1 - k) + k = omega arith in
-      let places : 2 ^ (top + 1) ≡ 2 ^ (top + 1 - k) * 2 ^ k = ap (λ (n : ℕ). 2 ^ n) split ∙ pow-add 2 (top + 1 - k) k in
-      let few : r < 2 ^ (top + 1 - k + k) = rw (← split) small in
-      let moved_up : coming * 2 ^ (top + 1) ≡ coming * 2 ^ (top + 1 - k) * 2 ^ k
-      = ap (λ (p : ℕ). coming * p) places ∙ sym (mul_assoc coming (2 ^ (top + 1 - k)) (2 ^ k)) in
-      or_shifted_r coming (top + 1 - k) (r / 2 ^ k) (shr_below r (top + 1 - k) k few)
-      ∙ sym (ap (λ (n : ℕ). (n + r) / 2 ^ k) moved_up ∙ mul-add-div_right (pow_pos k) (coming * 2 ^ (top + 1 - k)) r)
+-- a word of bits that leave, made longer by such sums
+module _ (poly : Poly) (r place tap known more word new : ℕ) (inside : tap ≤ place) (enough : place ≤ known) (some : more + tap ≤ known + place) (few : more ≤ 64)
+    (sum : (m : ℕ) → leaving poly r (m + place) ≡ (leaving poly r (m + tap) + leaving poly r m) % 2) (ahead : IsAhead poly r known word)
+    (low : (j : ℕ) → j < place → bit_at new j ≡ bit_at word j)
+    (high : (j : ℕ) → j + place < 64 → bit_at new (j + place) ≡ (bit_at word j + bit_at word (j + tap)) % 2) where
+  longer-bit : (j : ℕ) → j < more → (j < place) ⊎ (place ≤ j) → bit_at new j ≡ leaving poly r j
+  longer-bit j below (inl lower) = low j lower ∙ ahead.bit j (omega arith)
+  longer-bit j below (inr higher) =
+      let m : ℕ = j - place in
+      let here : m + place ≡ j = omega arith in
+      let tapped : bit_at word (m + tap) ≡ leaving poly r (m + tap) = ahead.bit (m + tap) (omega arith) in
+      let direct : bit_at word m ≡ leaving poly r m = ahead.bit m (omega arith) in
+      let made : bit_at new (m + place) ≡ (bit_at word m + bit_at word (m + tap)) % 2 = high m (omega arith) in
+      let whole : bit_at new (m + place) ≡ leaving poly r (m + place) = omega (arith, tapped, direct, made, sum m) in
+      ap (bit_at new) (sym here) ∙ whole ∙ ap (leaving poly r) here
 
-  -- there are k of them at most
-  coming-lt : coming < 2 ^ k
-  coming-lt = omega (arith, pow_pos k)
+  pub longer : IsAhead poly r more new
+  longer = record { bit = λ j below. longer-bit j below (cases_lt j place) }
 
-  -- which keeps the width
-  joined-lt : bit_or (r / 2 ^ k) (coming * 2 ^ (top + 1 - k)) < 2 ^ (top + 1)
-  joined-lt =
-      let split : k + (top + 1 - k) ≡ top + 1 = omega arith in
-      let whole : 2 ^ (k + (top + 1 - k)) ≡ 2 ^ (top + 1) = ap (λ (n : ℕ). 2 ^ n) split in
-      let up : coming * 2 ^ (top + 1 - k) < 2 ^ (k + (top + 1 - k)) = shl_lt {a = coming} k (top + 1 - k) coming-lt in
-      or_lt (top + 1) (r / 2 ^ k) (coming * 2 ^ (top + 1 - k)) (omega (arith, shr_le r k)) (omega arith)
+-- the two long registers
+pub nine-sums : (r : ℕ) → r < 2 ^ 9 → (m : ℕ) → leaving Nine r (m + 9) ≡ (leaving Nine r (m + 4) + leaving Nine r m) % 2
+unfolding shifted
+nine-sums r small = sums 8 4 r small (omega arith)
 
-  -- and is the register after k shifts
-  joined-times : tap ≤ top → bit_or (r / 2 ^ k) (coming * 2 ^ (top + 1 - k)) ≡ times (moved (top + 1) tap) k r
-  joined-times inside =
-      let within : ahead / 2 ^ k < 2 ^ (top + 1) = rw (← joined) joined-lt in
-      joined ∙ sym (mod-eq_of_lt within) ∙ window top tap r ahead k small ahead-start ahead-next k (omega arith) inside
+pub nine-start : (r : ℕ) → r < 2 ^ 9 → IsAhead Nine r 9 r
+unfolding shifted
+nine-start r small = record { bit = λ j below. starts 8 4 r small j below }
 
--- a block, as the code computes it
-pub block-code : (top tap r k : ℕ) → tap + k ≤ top + 1 → tap ≤ top → top < 31 → r < 2 ^ (top + 1)
-    → bit_or (r / 2 ^ k) (bit_and (bit_xor r (r / 2 ^ tap)) (1 * 2 ^ k % 2 ^ 32 - 1) * 2 ^ (top + 1 - k) % 2 ^ 32) ≡ times (moved (top + 1) tap) k r
-block-code top tap r k room inside few small =
-    let mask : 1 * 2 ^ k % 2 ^ 32 ≡ 2 ^ k = omega (arith, pow_below k 32 (omega arith)) in
-    let put : bit_xor r (r / 2 ^ tap) % 2 ^ k * 2 ^ (top + 1 - k) % 2 ^ 32 ≡ bit_xor r (r / 2 ^ tap) % 2 ^ k * 2 ^ (top + 1 - k)
-    = shl_exact k (top + 1 - k) 32 (coming-lt top tap r k room small) (omega arith) in
-    rw (mask, and_mask (bit_xor r (r / 2 ^ tap)) k, put) (joined-times top tap r k room small inside)
+pub seventeen-sums : (r : ℕ) → r < 2 ^ 17 → (m : ℕ) → leaving Seventeen r (m + 17) ≡ (leaving Seventeen r (m + 5) + leaving Seventeen r m) % 2
+unfolding shifted
+seventeen-sums r small = sums 16 5 r small (omega arith)
 
--- a block less is left to do
-pub block-done : (tick : ℕ → ℕ) (left k now start : ℕ) → k ≤ left → times tick left now ≡ start → times tick (left - k) (times tick k now) ≡ start
-block-done tick left k now start within e =
+pub seventeen-start : (r : ℕ) → r < 2 ^ 17 → IsAhead Seventeen r 17 r
+unfolding shifted
+seventeen-start r small = record { bit = λ j below. starts 16 5 r small j below }
+
+-- of each register
+pub poly-window : (poly : Poly) (r word known k : ℕ) → r < 2 ^ width_of poly → IsAhead poly r known word → k + width_of poly ≤ known
+    → word / 2 ^ k % 2 ^ width_of poly ≡ times (shifted poly) k r
+unfolding shifted
+poly-window Four r word known k small ahead within = window 3 1 r small word known k ahead.bit within
+poly-window Five r word known k small ahead within = window 4 2 r small word known k ahead.bit within
+poly-window Nine r word known k small ahead within = window 8 4 r small word known k ahead.bit within
+poly-window Seventeen r word known k small ahead within = window 16 5 r small word known k ahead.bit within
+
+pub poly-after-lt : (poly : Poly) (k r : ℕ) → r < 2 ^ width_of poly → times (shifted poly) k r < 2 ^ width_of poly
+unfolding shifted
+poly-after-lt Four k r small = after-lt 3 1 r small k
+poly-after-lt Five k r small = after-lt 4 2 r small k
+poly-after-lt Nine k r small = after-lt 8 4 r small k
+poly-after-lt Seventeen k r small = after-lt 16 5 r small k
+
+width-few : (poly : Poly) → width_of poly < 64
+width-few Four = omega arith
+width-few Five = omega arith
+width-few Nine = omega arith
+width-few Seventeen = omega arith
+
+-- a move, as the code computes it
+pub move-code : (poly : Poly) (r word n : ℕ) → r < 2 ^ width_of poly → n ≤ 47 → IsAhead poly r (47 + width_of poly) word
+    → bit_and (word / 2 ^ n) (1 * 2 ^ width_of poly % 2 ^ 64 - 1) ≡ times (shifted poly) n r
+move-code poly r word n small few ahead =
+    let mask : 1 * 2 ^ width_of poly % 2 ^ 64 ≡ 2 ^ width_of poly = omega (arith, pow_below (width_of poly) 64 (width-few poly)) in
+    rw (mask, and_mask (word / 2 ^ n) (width_of poly))
+    (poly-window poly r word (47 + width_of poly) n small ahead (omega arith))
+
+pub ruleset windows = (move-code, poly-after-lt)
+
+-- a move less is left to make
+pub move-done : (tick : ℕ → ℕ) (left k now start : ℕ) → k ≤ left → times tick left now ≡ start → times tick (left - k) (times tick k now) ≡ start
+move-done tick left k now start within e =
     let split : k + (left - k) ≡ left = omega arith in
     sym (times-add tick k (left - k) now) ∙ ap (λ (n : ℕ). times tick n now) split ∙ e
 
-pub ruleset leaps = (block-code, times-lt)
-
-pub ruleset blocks = block-done
+pub ruleset moves = move-done

@@ -1,4 +1,5 @@
 pub mod BitLaws
 pub mod LeapLaws
 pub mod Moves
-pub mod WindowLaws
+pub mod TableLaws
+pub mod WordLaws

@@ -1,7 +1,8 @@
-ghost use Rattle.std.specs.Prelude.{◌≡◌, ℕ, ◌+◌, ◌-◌, ◌^◌, ◌<◌, ◌≤◌};
+ghost use Rattle.std.specs.Prelude.{◌≡◌, ℕ, ◌+◌, ◌-◌, ◌%◌, ◌^◌, ◌<◌, ◌≤◌};
+ghost use Rattle.std.specs.Int.{bit_at};
 ghost use Rattle.bit_words.specs.Bits.{is_bit};
 ghost use Rattle.board_base.specs.Ticks.{times};
-ghost use Rattle.pokey_poly.specs.Shift.{incoming, moved, shifted, tap_of, width_of};
+ghost use Rattle.pokey_poly.specs.Shift.{incoming, moved, shifted, tap_of, width_of, IsAhead};
 
 /// A polynomial register, by its number of bits (POKEY C012294 data sheet).
 #[derive(Clone, Copy, Debug, PartialEq, Eq)]
@@ -12,48 +13,63 @@ pub enum Poly {
     Seventeen,
 }
 
-/// The next 18 bits that leave the 4-bit register from each value on, the lowest first: one period of
-/// 15 bits, and the first 3 again.
-const FOUR_ON: [u32; 16] = [
-    0x00000, 0x0F591, 0x11EB2, 0x1EB23, 0x23D64, 0x2C8F5, 0x323D6, 0x3D647, 0x07AC8, 0x08F59,
-    0x1647A, 0x191EB, 0x247AC, 0x2B23D, 0x3591E, 0x3AC8F,
+/// How many shifts one move makes at most: with the bits of the longest register, as many as a word has.
+const REACH: u64 = 47;
+
+/// The next 64 bits that leave the 4-bit register from each value on, the lowest first.
+const FOUR_ON: [u64; 16] = [
+    0x0000_0000_0000_0000,
+    0x1EB2_3D64_7AC8_F591,
+    0x23D6_47AC_8F59_1EB2,
+    0x3D64_7AC8_F591_EB23,
+    0x47AC_8F59_1EB2_3D64,
+    0x591E_B23D_647A_C8F5,
+    0x647A_C8F5_91EB_23D6,
+    0x7AC8_F591_EB23_D647,
+    0x8F59_1EB2_3D64_7AC8,
+    0x91EB_23D6_47AC_8F59,
+    0xAC8F_591E_B23D_647A,
+    0xB23D_647A_C8F5_91EB,
+    0xC8F5_91EB_23D6_47AC,
+    0xD647_AC8F_591E_B23D,
+    0xEB23_D647_AC8F_591E,
+    0xF591_EB23_D647_AC8F,
 ];
 
-/// The next 35 bits that leave the 5-bit register from each value on, the lowest first: one period of
-/// 31 bits, and the first 4 again.
+/// The next 64 bits that leave the 5-bit register from each value on, the lowest first.
 const FIVE_ON: [u64; 32] = [
-    0x0_0000_0000,
-    0x0_AEC7_CD21,
-    0x1_5D8F_9A42,
-    0x1_F348_5763,
-    0x2_15D8_F9A4,
-    0x2_BB1F_3485,
-    0x3_4857_63E6,
-    0x3_E690_AEC7,
-    0x4_2BB1_F348,
-    0x4_8576_3E69,
-    0x5_763E_690A,
-    0x5_D8F9_A42B,
-    0x6_3E69_0AEC,
-    0x6_90AE_C7CD,
-    0x7_63E6_90AE,
-    0x7_CD21_5D8F,
-    0x0_5763_E690,
-    0x0_F9A4_2BB1,
-    0x1_0AEC_7CD2,
-    0x1_A42B_B1F3,
-    0x2_42BB_1F34,
-    0x2_EC7C_D215,
-    0x3_1F34_8576,
-    0x3_B1F3_4857,
-    0x4_7CD2_15D8,
-    0x4_D215_D8F9,
-    0x5_215D_8F9A,
-    0x5_8F9A_42BB,
-    0x6_690A_EC7C,
-    0x6_C7CD_215D,
-    0x7_3485_763E,
-    0x7_9A42_BB1F,
+    0x0000_0000_0000_0000,
+    0x5763_E690_AEC7_CD21,
+    0xAEC7_CD21_5D8F_9A42,
+    0xF9A4_2BB1_F348_5763,
+    0x0AEC_7CD2_15D8_F9A4,
+    0x5D8F_9A42_BB1F_3485,
+    0xA42B_B1F3_4857_63E6,
+    0xF348_5763_E690_AEC7,
+    0x15D8_F9A4_2BB1_F348,
+    0x42BB_1F34_8576_3E69,
+    0xBB1F_3485_763E_690A,
+    0xEC7C_D215_D8F9_A42B,
+    0x1F34_8576_3E69_0AEC,
+    0x4857_63E6_90AE_C7CD,
+    0xB1F3_4857_63E6_90AE,
+    0xE690_AEC7_CD21_5D8F,
+    0x2BB1_F348_5763_E690,
+    0x7CD2_15D8_F9A4_2BB1,
+    0x8576_3E69_0AEC_7CD2,
+    0xD215_D8F9_A42B_B1F3,
+    0x215D_8F9A_42BB_1F34,
+    0x763E_690A_EC7C_D215,
+    0x8F9A_42BB_1F34_8576,
+    0xD8F9_A42B_B1F3_4857,
+    0x3E69_0AEC_7CD2_15D8,
+    0x690A_EC7C_D215_D8F9,
+    0x90AE_C7CD_215D_8F9A,
+    0xC7CD_215D_8F9A_42BB,
+    0x3485_763E_690A_EC7C,
+    0x63E6_90AE_C7CD_215D,
+    0x9A42_BB1F_3485_763E,
+    0xCD21_5D8F_9A42_BB1F,
 ];
 
 impl Poly {
@@ -75,23 +91,107 @@ impl Poly {
         }
     }
 
-    /// The register after `n` shifts. The bits that leave the two short registers stand in tables, one
-    /// period from each value on, and the register is a window on them. The two long registers move
-    /// by blocks of as many shifts as need no bit that has come in within the block.
-    #[inline]
-    #[tactic(auto, unfolding(crate::specs::Shift::shifted))]
+    /// The register after `n` shifts, up to 47 of them in one move.
+    #[inline(always)]
+    #[tactic(auto, using(crate::proofs::LeapLaws::moves))]
     pub fn leap(self, r: u32, n: u64) -> u32
         requires fits { r < 2 ^ width_of self }
         ensures value { result ≡ times (shifted self) n r }
         ensures fits { result < 2 ^ width_of self }
     {
+        let mut now = r;
+        let mut left = n;
+        while left > REACH {
+            now = self.after(now, REACH);
+            left -= REACH;
+        }
+        self.after(now, left)
+    }
+
+    /// The register after a move: as it is a window on the bits that leave it, the word of these bits
+    /// moves down.
+    #[inline(always)]
+    #[tactic(auto, using(crate::proofs::LeapLaws::windows))]
+    fn after(self, r: u32, n: u64) -> u32
+        requires fits { r < 2 ^ width_of self }
+        requires reach { n ≤ REACH }
+        ensures value { result ≡ times (shifted self) n r }
+        ensures fits { result < 2 ^ width_of self }
+    {
+        let low = (1 << self.width()) - 1;
+        ((self.ahead(r) >> n) & low) as u32
+    }
+
+    /// How many bits the register has.
+    #[inline(always)]
+    fn width(self) -> u32
+        ensures { result ≡ width_of self }
+    {
         match self {
-            Poly::Four => four_after(r, n),
-            Poly::Five => five_after(r, n),
-            Poly::Nine => moved_on(r, 4, 8, n),
-            Poly::Seventeen => moved_on(r, 5, 16, n),
+            Poly::Four => 4,
+            Poly::Five => 5,
+            Poly::Nine => 9,
+            Poly::Seventeen => 17,
         }
     }
+
+    /// The bits that leave the register from a value on, the lowest first.
+    #[inline(always)]
+    #[tactic(auto, using(crate::proofs::TableLaws::tables))]
+    fn ahead(self, r: u32) -> u64
+        requires fits { r < 2 ^ width_of self }
+        ensures ahead { IsAhead self r (REACH + width_of self) result }
+    {
+        match self {
+            Poly::Four => FOUR_ON[r as usize],
+            Poly::Five => FIVE_ON[r as usize],
+            Poly::Nine => nine_on(r),
+            Poly::Seventeen => seventeen_on(r),
+        }
+    }
+}
+
+/// The next 59 bits that leave the 9-bit register from a value on, the lowest first.
+#[inline(always)]
+fn nine_on(r: u32) -> u64
+    requires fits { r < 2 ^ 9 }
+    ensures ahead { IsAhead Poly.Nine r 59 result }
+{
+    let mut ahead = u64::from(r);
+    ahead = lengthened(ahead, 9, 4);
+    ahead = lengthened(ahead, 9, 4);
+    ahead = lengthened(ahead, 18, 8);
+    ahead = lengthened(ahead, 18, 8);
+    lengthened(ahead, 36, 16)
+}
+
+/// The next 64 bits that leave the 17-bit register from a value on, the lowest first.
+#[inline(always)]
+fn seventeen_on(r: u32) -> u64
+    requires fits { r < 2 ^ 17 }
+    ensures ahead { IsAhead Poly.Seventeen r 64 result }
+{
+    let mut ahead = u64::from(r);
+    ahead = lengthened(ahead, 17, 5);
+    ahead = lengthened(ahead, 17, 5);
+    lengthened(ahead, 34, 10)
+}
+
+/// A word whose bits below a place stay, and each from there on becomes the exclusive or of the bit
+/// that stands so many places lower and of another, `tap` places above that.
+///
+/// Where each bit that leaves a register is the sum of two that left it before, it is also the sum of
+/// two twice as far back; so a word grows by more, the more of these bits it has.
+#[inline(always)]
+#[tactic(auto, using(crate::proofs::WordLaws::words))]
+fn lengthened(word: u64, place: u32, tap: u32) -> u64
+    requires tap { tap ≤ place }
+    requires place { place < 64 }
+    ensures low { (j : ℕ) → j < place → bit_at result j ≡ bit_at word j }
+    ensures high { (j : ℕ) → j + place < 64 → bit_at result (j + place) ≡ (bit_at word j + bit_at word (j + tap)) % 2 }
+{
+    let coming = word ^ (word >> tap);
+    word & ((1 << place) - 1) | (coming << place)
 }
 
 /// A register whose top bit has the place `top` after one shift, where bit `tap` goes with bit 0
@@ -109,62 +209,4 @@ fn moved_down(r: u32, tap: u32, top: u32) -> u32
 {
     let bit = ((r >> tap) ^ r) & 1;
     (r >> 1) | (bit << top)
-}
-
-/// The 4-bit register after `n` shifts.
-#[inline(always)]
-#[tactic(auto, using(crate::proofs::WindowLaws::four_windows))]
-fn four_after(r: u32, n: u64) -> u32
-    requires fits { r < 2 ^ 4 }
-    ensures value { result ≡ times (moved 4 1) n r }
-    ensures fits { result < 2 ^ 4 }
-{
-    (FOUR_ON[r as usize] >> (n % 15)) & 0xF
-}
-
-/// The 5-bit register after `n` shifts.
-#[inline(always)]
-#[tactic(auto, using(crate::proofs::WindowLaws::five_windows))]
-fn five_after(r: u32, n: u64) -> u32
-    requires fits { r < 2 ^ 5 }
-    ensures value { result ≡ times (moved 5 2) n r }
-    ensures fits { result < 2 ^ 5 }
-{
-    ((FIVE_ON[r as usize] >> (n % 31)) & 0x1F) as u32
-}
-
-/// A register after `k` shifts, so few that each bit that comes in is the sum of two that stand in
-/// the register from the start.
-#[inline(always)]
-#[tactic(auto, using(crate::proofs::LeapLaws::leaps))]
-fn moved_by(r: u32, tap: u32, top: u32, k: u32) -> u32
-    requires tap { tap ≤ top }
-    requires room { tap + k ≤ top + 1 }
-    requires top { top < 31 }
-    requires fits { r < 2 ^ (top + 1) }
-    ensures value { result ≡ times (moved (top + 1) tap) k r }
-    ensures fits { result < 2 ^ (top + 1) }
-{
-    let coming = (r ^ (r >> tap)) & ((1 << k) - 1);
-    (r >> k) | (coming << (top + 1 - k))
-}
-
-/// A register after any number of shifts, by blocks as long as `moved_by` takes them.
-#[inline(always)]
-#[tactic(auto, using(crate::proofs::LeapLaws::blocks))]
-fn moved_on(r: u32, tap: u32, top: u32, n: u64) -> u32
-    requires tap { tap ≤ top }
-    requires top { top < 31 }
-    requires fits { r < 2 ^ (top + 1) }
-    ensures value { result ≡ times (moved (top + 1) tap) n r }
-    ensures fits { result < 2 ^ (top + 1) }
-{
-    let reach = top + 1 - tap;
-    let mut now = r;
-    let mut left = n;
-    while left >= u64::from(reach) {
-        now = moved_by(now, tap, top, reach);
-        left -= u64::from(reach);
-    }
-    moved_by(now, tap, top, left as u32)
 }
