@@ -12,7 +12,7 @@ use Rattle.pokey_chip.specs.declared.channel.Channel.{Channel}
 use Rattle.pokey_chip.specs.declared.pace.Pace.{Pace}
 use Rattle.pokey_chip.specs.declared.pace.Pace.TheVariants.{Never, ChipClock, By28, By114}
 use Rattle.pokey_chip.specs.declared.voice.Voice.{Voice}
-use Rattle.pokey_chip.specs.Moves.{due_at, IsPassed, IsTimed, IsVoice}
+use Rattle.pokey_chip.specs.Moves.{due_at, step_of, IsPassed, IsTimed, IsVoice}
 use Rattle.pokey_chip.specs.Paces.{IsPace, paced}
 use Rattle.pokey_chip.specs.Pulses.{HasNoUnderflow, has_pulse, pulses_of}
 use Rattle.pokey_chip.specs.Tick.{base_pulses, left_of, pokey_tick, underflows}
@@ -55,7 +55,20 @@ due-few v at timed small e =
     let h : due_at v.pace v.pulse ≤ at = omega (arith, timed.due) in
     omega (arith, late v.pace v.pulse at timed.prescaler timed.some small h, paced-few v.pace at)
 
-pub ruleset passes = due-few
+-- a step later it is due with the last pulse of its next period
+next-due : (pace : Pace) (pulse period : ℕ) → IsPace pace → 1 ≤ pulse → due_at pace pulse ≤ 2 ^ 49
+    → due_at pace pulse + step_of pace period ≡ due_at pace (pulse + period)
+next-due Never pulse period is some small = absurd (omega arith)
+next-due ChipClock pulse period is some small = refl
+next-due (By28 count) pulse period is some small = omega (arith, is)
+next-due (By114 count) pulse period is some small = omega (arith, is)
+
+pub due-next : (v : Voice) (at : ℕ) → IsTimed v → at ≤ 2 ^ 49 → v.due ≡ at → at + v.step ≡ due_at v.pace (v.pulse + v.period)
+due-next v at timed small e =
+    let h : due_at v.pace v.pulse ≤ 2 ^ 49 = omega (arith, timed.due) in
+    omega (arith, timed.due, timed.step, next-due v.pace v.pulse v.period timed.prescaler timed.some h)
+
+pub ruleset passes = (due-few, due-next)
 
 -- a channel at the start of a move
 pub begun : (c : Channel) (p : PokeyValue) (n : ℕ) → left_of c p ≡ n → left_of c (times pokey_tick 0 p) + pulses_of c 0 p ≡ n

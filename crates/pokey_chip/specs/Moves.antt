@@ -20,6 +20,13 @@ due_at ChipClock pulse = pulse
 due_at (By28 count) pulse = pulse * 28 - count
 due_at (By114 count) pulse = pulse * 114 - count
 
+-- the clocks from one underflow to the next; none where none comes
+abbrev pub step_of : Pace → ℕ → ℕ
+step_of Never period = 0
+step_of ChipClock period = period
+step_of (By28 count) period = period * 28
+step_of (By114 count) period = period * 114
+
 -- a channel's next underflow comes with a pulse to come, and in the clock of that pulse
 pub record IsTimed (v : Voice) : Type 0 where
   pub prescaler : IsPace v.pace
@@ -27,6 +34,7 @@ pub record IsTimed (v : Voice) : Type 0 where
   pub few : v.pulse ≤ 2 ^ 49 + 65542
   pub low : 1 ≤ v.period
   pub high : v.period ≤ 65542
+  pub step : v.step ≡ step_of v.pace v.period
   pub due : v.due ≡ due_at v.pace v.pulse
 
 -- the same channel after the clock `at`, in which it underflows where it is due

@@ -1,17 +1,18 @@
 ghost use Rattle.std.specs.Prelude.{◌≡◌, ◌+◌, ◌^◌, ◌≤◌, All, [], ◌∷◌, min};
-ghost use Rattle.pokey_chip.specs.Moves.{due_at, IsLeft, IsPassed, IsTimed, IsVoice, left_of_voice};
+ghost use Rattle.pokey_chip.specs.Moves.{due_at, step_of, IsLeft, IsPassed, IsTimed, IsVoice, left_of_voice};
 ghost use Rattle.pokey_chip.specs.Paces.{IsPace};
 
 use crate::channel::Channel;
 use crate::pace::Pace;
 use board_base::PokeyState;
 
-/// A channel in a move: what gives it its pulses, its period, the pulse with which it underflows
-/// next and the clock of that pulse, both counted from the start of the move.
+/// A channel in a move: what gives it its pulses, its period in pulses and in clocks, the pulse with
+/// which it underflows next and the clock of that pulse, both counted from the start of the move.
 #[derive(Clone, Copy)]
 pub struct Voice {
     pub pace: Pace,
     pub period: u32,
+    pub step: u64,
     pub pulse: u64,
     pub due: u64,
 }
@@ -32,6 +33,20 @@ fn clock_of(pace: Pace, pulse: u64) -> u64
     }
 }
 
+/// The clocks in which so many pulses come, after one of them; none where none does.
+#[inline(always)]
+fn clocks_between(pace: Pace, pulses: u32) -> u64
+    ensures { result ≡ step_of pace pulses }
+{
+    let pulses = u64::from(pulses);
+    match pace {
+        Pace::Never => 0,
+        Pace::ChipClock => pulses,
+        Pace::By28 { .. } => pulses * 28,
+        Pace::By114 { .. } => pulses * 114,
+    }
+}
+
 impl Voice {
     /// A channel at the start of a move.
     #[inline(always)]
@@ -40,10 +55,12 @@ impl Voice {
         ensures { IsVoice channel 0 state.now result }
     {
         let pace = Pace::of(state, channel);
+        let period = channel.period(&state.audf, state.audctl);
         let pulse = u64::from(state.left[channel.index()]);
         Voice {
             pace,
-            period: channel.period(&state.audf, state.audctl),
+            period,
+            step: clocks_between(pace, period),
             pulse,
             due: clock_of(pace, pulse),
         }
@@ -60,10 +77,9 @@ impl Voice {
         if self.due != at {
             return self;
         }
-        let pulse = self.pulse + u64::from(self.period);
         Voice {
-            pulse,
-            due: clock_of(self.pace, pulse),
+            pulse: self.pulse + u64::from(self.period),
+            due: self.due + self.step,
             ..self
         }
     }
