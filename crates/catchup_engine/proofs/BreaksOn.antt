@@ -132,6 +132,26 @@ turns-go_on entries limit addresses c s t u e f last on open_yet turned =
       range = made.range;
     }
 
+-- other turns after them
+pub turns-join : (entries : List TapeEntry) (limit : ℕ) (addresses : List ℕ) (c : CpuValue) (s t u : BusValue) (e f : CpuValue)
+    → TurnsOn entries limit addresses c s t e → TurnsOn entries limit addresses e t u f → TurnsOn entries limit addresses c s u f
+turns-join entries limit addresses c s t u e f on more =
+    let so_far = on.run.clock in
+    let clock_then = more.run.clock in
+    record {
+      run = runs-join entries (is_over limit) c s t u e f on.run more.run;
+      near = elim more.near [
+        | inl none ↦ elim on.near [
+          | inl still ↦ inl (omega arith)
+          | inr near ↦ inr (let before = near.before in let within = near.within in record { before = omega arith; within = omega arith })
+        ]
+        | inr near ↦ inr (let before = near.before in let within = near.within in record { before = omega arith; within = omega arith })
+      ];
+      turns = λ b run. more.turns b (on.turns b run);
+      boundary = more.boundary;
+      range = more.range;
+    }
+
 -- the end of a run, whose first turn is made and whose others have come to their end
 pub break-ends : (entries : List TapeEntry) (limit : ℕ) (addresses : List ℕ) (c : CpuValue) (s u t : BusValue) (f e : CpuValue)
     → AtTurn entries limit addresses c s u f → TurnsRun entries limit addresses f u t e → BreakRunBus entries limit addresses c s t e

@@ -80,17 +80,23 @@ pub goes_on : (entries : List TapeEntry) (asked : Board → Bool) (clocks : ℕ)
 goes_on entries asked clocks c s t u e f run open_yet turned reached =
     runs-join entries asked c s t u e f run (turn-runs entries asked clocks e f t u open_yet turned reached)
 
--- where a run isn't over, another that comes to its end no sooner isn't either
-pub runs-asked : (entries : List TapeEntry) (asked sooner : Board → Bool) → ((b : Board) → sooner b ≡ false → asked b ≡ false)
-    → (c : CpuValue) (s t : BusValue) (e : CpuValue) → RunsOn entries sooner c s t e → RunsOn entries asked c s t e
-runs-asked entries asked sooner weaker c s t e run = record {
+-- a run whose boards aren't as another asks either is such a run too
+pub runs-as : (entries : List TapeEntry) (asked other : Board → Bool) (c : CpuValue) (s t : BusValue) (e : CpuValue) → (run : RunsOn entries other c s t e)
+    → Reached entries asked run.count (over_bus c s) (over_bus e t) → RunsOn entries asked c s t e
+runs-as entries asked other c s t e run reached = record {
   count = run.count;
-  reached = reached-asked entries asked sooner weaker run.count (over_bus c s) (over_bus e t) run.reached;
+  reached = reached;
   clock = run.clock;
   written = run.written;
   paid = run.paid;
   goes = run.goes;
 }
+
+-- where a run isn't over, another that comes to its end no sooner isn't either
+pub runs-asked : (entries : List TapeEntry) (asked sooner : Board → Bool) → ((b : Board) → sooner b ≡ false → asked b ≡ false)
+    → (c : CpuValue) (s t : BusValue) (e : CpuValue) → RunsOn entries sooner c s t e → RunsOn entries asked c s t e
+runs-asked entries asked sooner weaker c s t e run =
+    runs-as entries asked sooner c s t e run (reached-asked entries asked sooner weaker run.count (over_bus c s) (over_bus e t) run.reached)
 
 -- a run to a boundary that stands at one
 pub record AtBoundary (entries : List TapeEntry) (limit : ℕ) (c : CpuValue) (s t : BusValue) (e : CpuValue) : Type 0 where
@@ -339,14 +345,7 @@ cut-turns entries cut wrap limit c s t u e f least at rest =
       | inl none ↦ inl (omega arith)
       | inr near ↦ inr (let before = near.before in let within = near.within in omega arith)
     ] in
-    let more : RunsOn entries (is_cut cut wrap) e t u f = record {
-      count = rest.on.run.count;
-      reached = by-made rest.on.run.count made rest.on.run.reached;
-      clock = rest.on.run.clock;
-      written = rest.on.run.written;
-      paid = rest.on.run.paid;
-      goes = rest.on.run.goes;
-    } in
+    let more = runs-as entries (is_cut cut wrap) (is_over limit) e t u f rest.on.run (by-made rest.on.run.count made rest.on.run.reached) in
     let run = runs-join entries (is_cut cut wrap) c s t u e f at.run more in
     record {
       run = run;

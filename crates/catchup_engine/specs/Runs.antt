@@ -35,7 +35,7 @@ pub record RunsOn (entries : List TapeEntry) (asked : Board → Bool) (c : CpuVa
 
 -- there is room for the clocks up to a limit, and those of a turn that begins before it
 abbrev pub HasRoomTo : ℕ → BusValue → Type 0
-HasRoomTo limit s = (limit - s.wires.clock) + 8 ≤ room_of s
+HasRoomTo limit s = limit + 8 ≤ s.wires.clock + room_of s
 
 -- turns begin before a limit, and end within six clocks after it
 pub record IsNear (limit : ℕ) (s t : BusValue) : Type 0 where

@@ -3,10 +3,11 @@ ghost use Rattle.std.specs.Prelude.{◌≡◌, ◌+◌, ◌≤◌, ◌<◌, ◌�
 ghost use Rattle.catchup_engine.specs.Breaks.{is_at_any};
 ghost use Rattle.catchup_engine.specs.Bus.{Fits};
 ghost use Rattle.catchup_engine.specs.Run.{is_over, is_cut};
-ghost use Rattle.catchup_engine.specs.Runs.{over_bus, BoundaryRun, BreakRunBus, CutRun, HasRoomTo, IsInRange, TurnsRun};
+ghost use Rattle.catchup_engine.specs.Runs.{over_bus, BoundaryRun, BreakRunBus, CutRun, HasRoomTo, IsInRange, TurnsOn, TurnsRun};
 
 use crate::bus::{BoardBus, TRAIL_ROOM, WHOLE};
-use crate::turn::{turn, turn_slowly};
+use crate::quiet::perform_quietly;
+use crate::turn::{reads_opcode, turn_slowly};
 use avg_device::VectorUnit;
 use board_base::{CLOCK_LIMIT, DIVIDER_PERIOD};
 use cpu_core::Cpu;
@@ -16,6 +17,7 @@ use pokey_chip::SoundUnit;
 use tape_ports::Tape;
 
 /// Whether a run to a boundary is over.
+#[inline(always)]
 fn is_done<V: VectorUnit, P: SoundUnit, C: CellUnit, D: DividerUnit>(
     cpu: &Cpu,
     bus: &BoardBus<V, P, C, D>,
@@ -41,6 +43,7 @@ fn is_stopped<V: VectorUnit, P: SoundUnit, C: CellUnit, D: DividerUnit>(
 }
 
 /// Whether a run to a boundary is over, or has come to one of these addresses.
+#[inline(always)]
 fn is_at_break<V: VectorUnit, P: SoundUnit, C: CellUnit, D: DividerUnit>(
     cpu: &Cpu,
     bus: &BoardBus<V, P, C, D>,
@@ -53,10 +56,37 @@ fn is_at_break<V: VectorUnit, P: SoundUnit, C: CellUnit, D: DividerUnit>(
     is_done(cpu, bus, limit) || !addresses.is_empty() && addresses.contains(&pc)
 }
 
+/// Does instructions in whose clocks nothing comes of itself, up to the limit or to the first of
+/// these addresses.
+///
+/// Every run makes most of its clocks here. As nothing that this loop calls takes the processor, LLVM
+/// keeps its registers out of memory.
+#[inline(always)]
+fn run_quietly<V: VectorUnit, P: SoundUnit, C: CellUnit, D: DividerUnit>(
+    mut cpu: Cpu,
+    bus: &mut BoardBus<V, P, C, D>,
+    tape: &Tape,
+    limit: u64,
+    addresses: &[u16],
+) -> Cpu
+    requires limit { limit ≤ CLOCK_LIMIT }
+    requires boundary { cpu.mid ≡ None }
+    requires range { IsInRange cpu bus.old }
+    requires level { bus.old.begun ≡ false }
+    requires room { HasRoomTo limit bus.old }
+    requires fits { Fits tape.now bus.old }
+    ensures on { TurnsOn tape.now.entries limit addresses.now cpu bus.old bus.new result }
+    ensures fits { Fits tape.now bus.new }
+{
+    while !is_at_break(&cpu, bus, limit, addresses) && reads_opcode(&cpu, bus) {
+        perform_quietly(&mut cpu, bus, tape);
+    }
+    cpu
+}
+
 /// Does whole sequences up to the limit, or to the first of these addresses.
 ///
-/// Every run makes most of its clocks here. With one loop for all of them LLVM puts the processor
-/// into it, and keeps its registers out of memory.
+/// All runs share this one loop, since LLVM puts the processor into it only where it is called once.
 #[inline(never)]
 fn run_turns<V: VectorUnit, P: SoundUnit, C: CellUnit, D: DividerUnit>(
     mut cpu: Cpu,
@@ -76,7 +106,8 @@ fn run_turns<V: VectorUnit, P: SoundUnit, C: CellUnit, D: DividerUnit>(
 {
     let _clock = bus.clock();
     while !is_at_break(&cpu, bus, limit, addresses) {
-        cpu = turn(cpu, bus, tape);
+        cpu = turn_slowly(cpu, bus, tape, WHOLE);
+        cpu = run_quietly(cpu, bus, tape, limit, addresses);
     }
     cpu
 }

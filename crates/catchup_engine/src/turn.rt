@@ -7,7 +7,6 @@ ghost use Rattle.catchup_engine.specs.Lockstep.{sequence_due};
 ghost use Rattle.catchup_engine.specs.Turn.{ReadsOpcode, Resets, TurnedBus};
 
 use crate::bus::{BoardBus, WHOLE};
-use crate::quiet::perform_quietly;
 use avg_device::VectorUnit;
 use board_base::{Pending, Sequence};
 use cpu_alu::Flags;
@@ -181,7 +180,7 @@ pub(crate) fn turn_slowly<V: VectorUnit, P: SoundUnit, C: CellUnit, D: DividerUn
 /// Whether the next fetch reads an opcode and nothing comes of itself in its sequence's clocks, told
 /// before them.
 #[inline(always)]
-fn reads_opcode<V: VectorUnit, P: SoundUnit, C: CellUnit, D: DividerUnit>(
+pub(crate) fn reads_opcode<V: VectorUnit, P: SoundUnit, C: CellUnit, D: DividerUnit>(
     cpu: &Cpu,
     bus: &BoardBus<V, P, C, D>,
 ) -> bool
@@ -194,27 +193,4 @@ fn reads_opcode<V: VectorUnit, P: SoundUnit, C: CellUnit, D: DividerUnit>(
         && bus.is_quiet()
         && bus.next_pending() == Pending::Nothing
         && (Flags::from_byte(state.p).interrupt || !bus.next_line())
-}
-
-/// Does the rest of the sequence under way, or the sequence that a fetch begins.
-///
-/// Most turns are whole instructions in whose clocks nothing comes of itself.
-#[inline(always)]
-pub(crate) fn turn<V: VectorUnit, P: SoundUnit, C: CellUnit, D: DividerUnit>(
-    mut cpu: Cpu,
-    bus: &mut BoardBus<V, P, C, D>,
-    tape: &Tape,
-) -> Cpu
-    requires running { cpu.jam ≡ None }
-    requires level { bus.old.begun ≡ false }
-    requires fits { Fits tape.now bus.old }
-    requires room { WHOLE + 2 ≤ room_of bus.old }
-    ensures turned { TurnedBus tape.now.entries WHOLE cpu bus.old bus.new result }
-    ensures fits { Fits tape.now bus.new }
-{
-    if reads_opcode(&cpu, bus) {
-        perform_quietly(&mut cpu, bus, tape);
-        return cpu;
-    }
-    turn_slowly(cpu, bus, tape, WHOLE)
 }

@@ -2,7 +2,7 @@ use Rattle.std.proofs.Common.{◌≡◌, ◌||◌, false, sym, ◌∙◌}
 use Rattle.catchup_engine.specs.Breaks.{is_at_any}
 use Rattle.catchup_engine.specs.Run.{is_over}
 use Rattle.catchup_engine.specs.Runs.{over_bus}
-use Rattle.catchup_engine.proofs.BreaksOn.{turns-start, turns-go_on}
+use Rattle.catchup_engine.proofs.BreaksOn.{turns-start, turns-go_on, turns-join}
 use Rattle.catchup_engine.proofs.run.run_turns.Goals as goal
 
 pub loop-cpu-init : goal.loop-cpu-init
@@ -17,9 +17,12 @@ loop-cpu-preserved g c =
     sym c.is_at_break.ensures ∙ c.loop-cpu-test.true in
     record {
       on =
-          turns-go_on c.args.tape.now.entries c.args.limit c.args.addresses.now c.args.cpu c.args.bus.now c.loop-cpu.bus c.turn-cpu.new.bus c.loop-cpu.cpu
-          c.turn-cpu.result c.requires.limit c.loop-cpu.invariant.on open_yet c.turn-cpu.ensures.turned;
-      fits = c.turn-cpu.ensures.fits;
+          turns-join c.args.tape.now.entries c.args.limit c.args.addresses.now c.args.cpu c.args.bus.now c.turn_slowly-cpu.new.bus c.run_quietly-cpu.new.bus
+          c.turn_slowly-cpu.result c.run_quietly-cpu.result
+          (turns-go_on c.args.tape.now.entries c.args.limit c.args.addresses.now c.args.cpu c.args.bus.now c.loop-cpu.bus c.turn_slowly-cpu.new.bus c.loop-cpu.cpu
+          c.turn_slowly-cpu.result c.requires.limit c.loop-cpu.invariant.on open_yet c.turn_slowly-cpu.ensures.turned)
+          c.run_quietly-cpu.ensures.on;
+      fits = c.run_quietly-cpu.ensures.fits;
     }
 
 pub returns : goal.returns
