@@ -194,50 +194,23 @@ const BAD_SCRIPTS: [(&str, &str); 4] = [
     ("regs\r\n", "line 1: command"),
 ];
 
+/// Debugs the board of `LATCH_ROM` by a script.
+fn try_latch(alloc: Global, line: &str, tape: &str, script: &[u8]) -> Result<Trial, Fail> {
+    try_script(alloc, line, &LATCH_ROM, tape, script, &[], STEADY)
+}
+
 #[test]
 fn a_script_of_no_form_is_refused(rt: HostRuntime) -> Result<(), Fail> {
     for (script, cause) in BAD_SCRIPTS {
-        let trial = try_script(
-            rt.alloc(),
-            "debug i t c",
-            &LATCH_ROM,
-            "20 END",
-            script.as_bytes(),
-            &[],
-            STEADY,
-        )?;
+        let trial = try_latch(rt.alloc(), "debug i t c", "20 END", script.as_bytes())?;
         check_bad(&rt, &trial, "c", cause)?;
     }
     let long = vec![in rt.alloc(); b'\n'; 65_537]?;
-    let trial = try_script(
-        rt.alloc(),
-        "debug i t c",
-        &LATCH_ROM,
-        "20 END",
-        &long,
-        &[],
-        STEADY,
-    )?;
+    let trial = try_latch(rt.alloc(), "debug i t c", "20 END", &long)?;
     check_bad(&rt, &trial, "c", "too long")?;
-    let trial = try_script(
-        rt.alloc(),
-        "debug i t c",
-        &LATCH_ROM,
-        "20",
-        b"rags",
-        &[],
-        STEADY,
-    )?;
+    let trial = try_latch(rt.alloc(), "debug i t c", "20", b"rags")?;
     check_bad(&rt, &trial, "t", "line 1: form")?;
-    let trial = try_script(
-        rt.alloc(),
-        "debug i t x",
-        &LATCH_ROM,
-        "20 END",
-        b"",
-        &[],
-        STEADY,
-    )?;
+    let trial = try_latch(rt.alloc(), "debug i t x", "20 END", b"")?;
     check_refused(&rt, "debug i t x", &trial, 5, "gravitar: x: absent\n");
     Ok(())
 }
