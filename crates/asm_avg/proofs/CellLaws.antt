@@ -4,12 +4,12 @@ use Rattle.std.specs.List.{All}
 use Rattle.std.proofs.lemmas.List.{length-map}
 use Rattle.std.proofs.lemmas.List.Elements.{All-cons, All-head, All-nil, All-tail}
 use Rattle.asm_core.specs.declared.cell.Field.{Field}
-use Rattle.asm_core.specs.Cells.{IsCell, IsPlace}
+use Rattle.asm_core.specs.Cells.{IsCell, IsFieldPlace}
 use Rattle.asm_core.specs.Forms.{AreCells}
 use Rattle.asm_avg.specs.declared.mnemonic.Mnemonic.{Mnemonic}
 use Rattle.asm_avg.specs.declared.mnemonic.Mnemonic.TheVariants.{Vctr, Svec, Stat, Scal, Cntr, Halt, Jsrl, Rtsl, Jmpl}
 use Rattle.asm_avg.specs.Language.{cell_of}
-use Rattle.asm_avg.specs.Statements.{places_of, size_of}
+use Rattle.asm_avg.specs.Statements.{places_of, mnemonic_size}
 
 one : {X : Type 0} (P : X → Type 0) (x : X) → P x → All P (x ∷ [])
 one P x p = All-cons P x [] p (All-nil P)
@@ -21,16 +21,16 @@ three : {X : Type 0} (P : X → Type 0) (x y z : X) → P x → P y → P z → 
 three P x y z p q r = All-cons P x (y ∷ z ∷ []) p (two P y z q r)
 
 -- each place lies in 32 bits
-places-fit : (mnemonic : Mnemonic) → All IsPlace (places_of mnemonic)
-places-fit Vctr = three IsPlace _ _ _ (lit≤ tt) (lit≤ tt) (lit≤ tt)
-places-fit Svec = three IsPlace _ _ _ (lit≤ tt) (lit≤ tt) (lit≤ tt)
-places-fit Stat = two IsPlace _ _ (lit≤ tt) (lit≤ tt)
-places-fit Scal = two IsPlace _ _ (lit≤ tt) (lit≤ tt)
-places-fit Cntr = All-nil IsPlace
-places-fit Halt = All-nil IsPlace
-places-fit Jsrl = one IsPlace _ (lit≤ tt)
-places-fit Rtsl = All-nil IsPlace
-places-fit Jmpl = one IsPlace _ (lit≤ tt)
+places-fit : (mnemonic : Mnemonic) → All IsFieldPlace (places_of mnemonic)
+places-fit Vctr = three IsFieldPlace _ _ _ (lit≤ tt) (lit≤ tt) (lit≤ tt)
+places-fit Svec = three IsFieldPlace _ _ _ (lit≤ tt) (lit≤ tt) (lit≤ tt)
+places-fit Stat = two IsFieldPlace _ _ (lit≤ tt) (lit≤ tt)
+places-fit Scal = two IsFieldPlace _ _ (lit≤ tt) (lit≤ tt)
+places-fit Cntr = All-nil IsFieldPlace
+places-fit Halt = All-nil IsFieldPlace
+places-fit Jsrl = one IsFieldPlace _ (lit≤ tt)
+places-fit Rtsl = All-nil IsFieldPlace
+places-fit Jmpl = one IsFieldPlace _ (lit≤ tt)
 
 places-few : (mnemonic : Mnemonic) → length (places_of mnemonic) ≤ 3
 places-few Vctr = lit≤ tt
@@ -43,7 +43,7 @@ places-few Jsrl = lit≤ tt
 places-few Rtsl = lit≤ tt
 places-few Jmpl = lit≤ tt
 
-size-some : (mnemonic : Mnemonic) → 1 ≤ size_of mnemonic
+size-some : (mnemonic : Mnemonic) → 1 ≤ mnemonic_size mnemonic
 size-some Vctr = lit≤ tt
 size-some Svec = lit≤ tt
 size-some Stat = lit≤ tt
@@ -54,7 +54,7 @@ size-some Jsrl = lit≤ tt
 size-some Rtsl = lit≤ tt
 size-some Jmpl = lit≤ tt
 
-size-few : (mnemonic : Mnemonic) → size_of mnemonic ≤ 4
+size-few : (mnemonic : Mnemonic) → mnemonic_size mnemonic ≤ 4
 size-few Vctr = lit≤ tt
 size-few Svec = lit≤ tt
 size-few Stat = lit≤ tt
@@ -75,11 +75,11 @@ All-unmap P f (x ∷ xs) each =
 pub are_cells : (mnemonic : Mnemonic) (fields : List Field) → map (λ field. field.place) fields ≡ places_of mnemonic → AreCells (cell_of mnemonic fields ∷ [])
 are_cells mnemonic fields same =
     let count : length fields ≡ length (places_of mnemonic) = sym (length-map fields (λ field. field.place)) ∙ ap (λ places. length places) same in
-    let fit : All IsPlace (map (λ field. field.place) fields) = subst (λ places. All IsPlace places) (sym same) (places-fit mnemonic) in
+    let fit : All IsFieldPlace (map (λ field. field.place) fields) = subst (λ places. All IsFieldPlace places) (sym same) (places-fit mnemonic) in
     let cell : IsCell (cell_of mnemonic fields) = record {
       some = size-some mnemonic;
       few = size-few mnemonic;
       fields = rw count (places-few mnemonic);
-      places = All-unmap IsPlace (λ field. field.place) fields fit;
+      places = All-unmap IsFieldPlace (λ field. field.place) fields fit;
     } in
     record { some = lit≤ tt; each = one IsCell (cell_of mnemonic fields) cell }

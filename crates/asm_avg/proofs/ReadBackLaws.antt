@@ -4,7 +4,8 @@ use Rattle.std.proofs.lemmas.Bool.Decides.{nat_tests}
 use Rattle.std.proofs.lemmas.Int.{ints}
 use Rattle.avg_decode.specs.declared.word.VgWord.{VgWord}
 use Rattle.avg_decode.specs.declared.word.VgWord.TheVariants as vg
-use Rattle.avg_decode.specs.Bits.{field, residue, signed}
+use Rattle.bit_words.specs.Residues.{residue}
+use Rattle.avg_decode.specs.Bits.{field, signed}
 use Rattle.avg_decode.specs.Word.{IsInRange, IsLong, second_of, spelling_of, word_of}
 use Rattle.avg_decode.proofs.Spellings.{word_of-spelling}
 use Rattle.asm_core.specs.declared.cell.Place.{Place}
@@ -12,7 +13,7 @@ use Rattle.asm_core.specs.Cells.{held, low_bytes, takes}
 use Rattle.asm_avg.specs.declared.mnemonic.Mnemonic.{Mnemonic}
 use Rattle.asm_avg.specs.declared.mnemonic.Mnemonic.TheVariants.{Vctr, Svec, Stat, Scal, Cntr, Halt, Jsrl, Rtsl, Jmpl}
 use Rattle.asm_avg.specs.ReadBack.{IsReadBack, IsSpelling, said_by, word_at}
-use Rattle.asm_avg.specs.Statements.{base_of, long_distance, number, origin_of, places_of, short_distance, size_of, target}
+use Rattle.asm_avg.specs.Statements.{base_of, long_distance, number, origin_of, places_of, short_distance, mnemonic_size, target}
 use Rattle.asm_avg.proofs.Taken.{first_word, from_zero, held_number, held_target, long_below, long_range, number_range, one_word, second_word, short_below, short_range, target_range}
 use Rattle.asm_avg.proofs.Values.{added, both, taken}
 
@@ -29,7 +30,7 @@ one_read mnemonic values word n says fits below is =
 
 -- the bytes of a statement with these values
 abbrev pub bytes_with : Mnemonic → List ℤ → List ℕ
-bytes_with mnemonic vs = low_bytes (size_of mnemonic) (base_of mnemonic + added (origin_of mnemonic) (places_of mnemonic) vs)
+bytes_with mnemonic vs = low_bytes (mnemonic_size mnemonic) (base_of mnemonic + added (origin_of mnemonic) (places_of mnemonic) vs)
 
 -- as many values as places
 none_taken : (origin : ℕ) (vs : List ℤ) → taken origin [] vs ≡ true → vs ≡ []

@@ -11,7 +11,7 @@ use Rattle.asm_avg.specs.declared.mnemonic.Mnemonic.{Mnemonic}
 use Rattle.asm_avg.specs.Language.{cell_of, statement_of}
 use Rattle.asm_avg.specs.Operands.{fields_of, operands_of}
 use Rattle.asm_avg.specs.ReadBack.{FitsWords, IsReadBack, Said, said_by, values_of}
-use Rattle.asm_avg.specs.Statements.{base_of, origin_of, places_of, size_of}
+use Rattle.asm_avg.specs.Statements.{base_of, origin_of, places_of, mnemonic_size}
 use Rattle.asm_avg.proofs.Accepted.{accepted}
 use Rattle.asm_avg.proofs.ReadBackLaws.{read_back}
 use Rattle.asm_avg.proofs.Values.{added, both, option_cases, taken, valued}
@@ -39,7 +39,7 @@ pub record Worth (names : NameValues) (mnemonic : Mnemonic) (rest : List Word) (
   pub values : List ℤ
   pub values_are : values_of names rest ≡ map (λ v. Some v) values
   pub fine : all_fine names cells ≡ taken (origin_of mnemonic) (places_of mnemonic) values
-  pub bytes : cells_bytes names cells ≡ low_bytes (size_of mnemonic) (base_of mnemonic + added (origin_of mnemonic) (places_of mnemonic) values)
+  pub bytes : cells_bytes names cells ≡ low_bytes (mnemonic_size mnemonic) (base_of mnemonic + added (origin_of mnemonic) (places_of mnemonic) values)
 
 worth_of : (names : NameValues) (mnemonic : Mnemonic) (rest : List Word) (cells : List Cell) → statement_of mnemonic rest ≡ form.Gives cells → all_known names cells ≡ true
     → Worth names mnemonic rest cells
@@ -52,7 +52,7 @@ worth_of names mnemonic rest cells gives known =
       values = v.values;
       values_are = v.items_are;
       fine = ap (λ cs. all_fine names cs) f.cells_are ∙ (all_of_one (list_all (λ field. is_fine names field) f.fields) ∙ v.fine);
-      bytes = ap (λ cs. cells_bytes names cs) f.cells_are ∙ (append-nil (cell_bytes names (cell_of mnemonic f.fields)) ∙ ap (λ n. low_bytes (size_of mnemonic) (base_of mnemonic + n)) v.number);
+      bytes = ap (λ cs. cells_bytes names cs) f.cells_are ∙ (append-nil (cell_bytes names (cell_of mnemonic f.fields)) ∙ ap (λ n. low_bytes (mnemonic_size mnemonic) (base_of mnemonic + n)) v.number);
     }
 
 pub statement_back : (names : NameValues) (mnemonic : Mnemonic) (rest : List Word) (cells : List Cell)

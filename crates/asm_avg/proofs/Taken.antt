@@ -3,7 +3,7 @@ use Rattle.std.proofs.Common.{◌≡◌, ℕ, ◌+◌, ◌-◌, ◌*◌, ◌/◌
 use Rattle.std.proofs.lemmas.Bool.Decides.{nat_tests}
 use Rattle.std.proofs.lemmas.Grind.{common_steps}
 use Rattle.std.proofs.lemmas.Int.{ints}
-use Rattle.avg_decode.specs.Bits.{residue}
+use Rattle.bit_words.specs.Residues.{residue}
 use Rattle.avg_decode.specs.Word.{IsLong, IsShort}
 use Rattle.asm_core.specs.Cells.{held, takes}
 use Rattle.asm_avg.specs.Statements.{long_distance, number, short_distance, target}

@@ -9,11 +9,11 @@ use Rattle.asm_core.specs.declared.word.Word.{Word}
 use Rattle.asm_core.specs.Lines.{Language}
 use Rattle.asm_avg.specs.declared.mnemonic.Mnemonic.{Mnemonic}
 use Rattle.asm_avg.specs.Operands.{fields_of, operands_of}
-use Rattle.asm_avg.specs.Statements.{base_of, mnemonic_of, origin_of, places_of, size_of}
+use Rattle.asm_avg.specs.Statements.{base_of, mnemonic_of, origin_of, places_of, mnemonic_size}
 
 -- the one cell of a statement that has these fields
 abbrev pub cell_of : Mnemonic → List Field → Cell
-cell_of mnemonic fields = record { size = size_of mnemonic; base = base_of mnemonic; fields = fields }
+cell_of mnemonic fields = record { size = mnemonic_size mnemonic; base = base_of mnemonic; fields = fields }
 
 -- the form of a statement that begins with a word of the generator's
 abbrev pub statement_of : Mnemonic → List Word → Form

@@ -1,7 +1,7 @@
 -- The sources of the vector generator. This project's own profile.
 use Rattle.std.specs.Prelude.{ℕ, true, List, Result}
 use Rattle.asm_text.specs.declared.fault.AsmFault.{AsmFault}
-use Rattle.asm_text.specs.declared.listing.ListingLine.{ListingLine}
+use Rattle.asm_core.specs.declared.listing.ListingLine.{ListingLine}
 use Rattle.asm_core.specs.declared.dialect.Rom.{Rom}
 use Rattle.asm_core.specs.Images.{assembled}
 use Rattle.asm_avg.specs.Language.{language}

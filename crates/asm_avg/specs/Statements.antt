@@ -78,13 +78,13 @@ base_of Rtsl = 0xC000
 base_of Jmpl = 0xE000
 
 -- how many bytes a statement has: a long vector has two words
-abbrev pub size_of : Mnemonic → ℕ
-size_of Vctr = 4
-size_of Svec = 2
-size_of Stat = 2
-size_of Scal = 2
-size_of Cntr = 2
-size_of Halt = 2
-size_of Jsrl = 2
-size_of Rtsl = 2
-size_of Jmpl = 2
+abbrev pub mnemonic_size : Mnemonic → ℕ
+mnemonic_size Vctr = 4
+mnemonic_size Svec = 2
+mnemonic_size Stat = 2
+mnemonic_size Scal = 2
+mnemonic_size Cntr = 2
+mnemonic_size Halt = 2
+mnemonic_size Jsrl = 2
+mnemonic_size Rtsl = 2
+mnemonic_size Jmpl = 2

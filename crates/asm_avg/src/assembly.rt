@@ -2,8 +2,8 @@ ghost use Rattle.asm_text.specs.Answers.{Answers};
 ghost use Rattle.asm_avg.specs.Sources.{source_assembled};
 
 use crate::Avg;
-use asm_core::Rom;
-use asm_text::{AsmFault, Listing};
+use asm_core::{Listing, Rom};
+use asm_text::AsmFault;
 use rom_image::Image;
 use std::alloc::Global;
 

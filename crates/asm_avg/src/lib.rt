@@ -8,6 +8,7 @@ mod layout;
 mod mnemonic;
 mod operands;
 
+pub use asm_core::{Listing, ListingLine};
 pub use assembly::{VECTOR_ROM, assemble};
 pub use avg::Avg;
 pub use mnemonic::Mnemonic;

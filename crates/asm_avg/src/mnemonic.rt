@@ -1,5 +1,5 @@
 ghost use Rattle.std.specs.Prelude.{◌≡◌};
-ghost use Rattle.asm_avg.specs.Statements.{base_of, mnemonic_of, origin_of, places_of, size_of, text_of};
+ghost use Rattle.asm_avg.specs.Statements.{base_of, mnemonic_of, origin_of, places_of, mnemonic_size, text_of};
 
 use crate::layout::{
     BINARY_SCALE, COLOUR, INTENSITY, LINEAR_SCALE, LONG_X, LONG_Y, LONG_Z, SHORT_X, SHORT_Y,
@@ -73,7 +73,7 @@ impl Mnemonic {
 
     /// How many bytes a statement has.
     pub(crate) fn size(self) -> u8
-        ensures { result ≡ size_of self }
+        ensures { result ≡ mnemonic_size self }
     {
         match self {
             Mnemonic::Vctr => 4,

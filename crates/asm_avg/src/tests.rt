@@ -1,5 +1,6 @@
 use crate::assemble;
-use asm_text::{AsmCause, AsmFault, ListingLine};
+use asm_core::ListingLine;
+use asm_text::{AsmCause, AsmFault};
 use rom_image::Image;
 use std::test::Fail;
 

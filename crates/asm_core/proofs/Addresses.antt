@@ -6,7 +6,7 @@ use Rattle.std.proofs.lemmas.List.Elements.{All-head, All-push, All-tail}
 use Rattle.std.proofs.lemmas.List.Sums.{sum_by-cons}
 use Rattle.asm_text.specs.declared.fault.AsmCause.TheVariants.{OutOfRange, OutsideRom, Overlap, TwiceNamed}
 use Rattle.asm_text.specs.declared.fault.AsmFault.{AsmFault}
-use Rattle.asm_text.specs.Lines.{lines_of}
+use Rattle.asm_text.specs.Lines.{lines_with_ends}
 use Rattle.asm_core.specs.declared.cell.Cell.{Cell}
 use Rattle.asm_core.specs.declared.dialect.Rom.{Rom}
 use Rattle.asm_core.specs.declared.line.Body.{Body}
@@ -16,7 +16,7 @@ use Rattle.asm_core.specs.declared.placed.Placed.{Placed}
 use Rattle.asm_core.specs.Cells.{all_fine, is_in_range, size_of}
 use Rattle.asm_core.specs.Expressions.{NameValues, value_of}
 use Rattle.asm_core.specs.Images.{at_the_start}
-use Rattle.asm_core.specs.Laws.{HasNoOrigin, IsAddressBehind, IsInPlace, ReadLine, body_size, lines_read, origin_of, origin_value, sizes_of}
+use Rattle.asm_core.specs.Laws.{HasNoOrigin, IsAddressBehind, IsInPlace, ReadLine, body_size, lines_read, line_origin, origin_value, sizes_of}
 use Rattle.asm_core.specs.Lines.{Language}
 use Rattle.asm_core.specs.Rounds.{Known, body_looked_at, first_round, found_before, is_in_rom, is_named, line_read, looked_at, meets, ranged, room_for, text_looked_at, then_on, unless, with_label, with_name}
 use Rattle.asm_core.proofs.Apart.{fine, ok-same, then-ok, unless-ok}
@@ -27,7 +27,7 @@ moved_by None next = next
 moved_by (Some value) next = value
 
 abbrev moved : ℕ → ReadLine → ℕ
-moved at read = moved_by (origin_of read) (at + body_size read.line.body)
+moved at read = moved_by (line_origin read) (at + body_size read.line.body)
 
 -- the address behind lines, line by line
 abbrev address_behind : ℕ → List ReadLine → ℕ
@@ -217,10 +217,10 @@ lines-behind language rom number known next texts is =
     rw ((round-behind language rom number known next texts is).1) (is-behind known.at (lines_read language rom number known texts))
 
 pub source-placed : (language : Language) (rom : Rom) (text : List ℕ) (known : Known)
-    → first_round language rom 1 at_the_start (lines_of text) ≡ Ok known → All (IsInPlace (lines_read language rom 1 at_the_start (lines_of text))) known.placed
+    → first_round language rom 1 at_the_start (lines_with_ends text) ≡ Ok known → All (IsInPlace (lines_read language rom 1 at_the_start (lines_with_ends text))) known.placed
 source-placed language rom text known is =
-    let lines = lines_read language rom 1 at_the_start (lines_of text) in
-    round-placed language rom 1 at_the_start known (lines_of text) is (IsInPlace lines) (λ k d within. absurd (omega arith))
+    let lines = lines_read language rom 1 at_the_start (lines_with_ends text) in
+    round-placed language rom 1 at_the_start known (lines_with_ends text) is (IsInPlace lines) (λ k d within. absurd (omega arith))
     (λ placed among. record {
       before = among.before;
       line = among.line;

@@ -5,7 +5,7 @@ use Rattle.asm_text.specs.declared.fault.AsmFault.{AsmFault}
 use Rattle.asm_text.specs.declared.fault.AsmFault.TheVariants.{Line, OutOfMemory, TooLong}
 use Rattle.asm_core.specs.declared.dialect.Rom.{Rom}
 use Rattle.std.proofs.lemmas.Bool.{le-ltb}
-use Rattle.asm_text.specs.Lines.{lines_of}
+use Rattle.asm_text.specs.Lines.{lines_with_ends}
 use Rattle.asm_text.specs.declared.scan.TheConstants.{TEXT_LIMIT}
 use Rattle.asm_core.specs.Images.{assembled, at_the_start, given_by, written_and_listed}
 use Rattle.asm_core.specs.Lines.{Language}
@@ -40,18 +40,18 @@ looked-none language rom number known = refl
 
 -- a source that isn't too long, whose lines were looked at
 pub assembled-lines : (language : Language) (rom : Rom) (text image : List ℕ) (known : Known) → length text ≤ TEXT_LIMIT
-    → first_round language rom 1 at_the_start (lines_of text) ≡ Ok known → assembled language rom text image ≡ written_and_listed known.names image known.placed
+    → first_round language rom 1 at_the_start (lines_with_ends text) ≡ Ok known → assembled language rom text image ≡ written_and_listed known.names image known.placed
 unfolding given_by
 assembled-lines language rom text image known short looked = rw (le-ltb TEXT_LIMIT (length text) short, looked) refl
 
 -- a source that isn't too long, of which a line was refused
 pub assembled-refused : (language : Language) (rom : Rom) (text image : List ℕ) (fault : AsmFault) → length text ≤ TEXT_LIMIT
-    → first_round language rom 1 at_the_start (lines_of text) ≡ Err fault → assembled language rom text image ≡ Err fault
+    → first_round language rom 1 at_the_start (lines_with_ends text) ≡ Err fault → assembled language rom text image ≡ Err fault
 unfolding given_by
 assembled-refused language rom text image fault short refused = rw (le-ltb TEXT_LIMIT (length text) short, refused) refl
 
 pub assembled-fault : (language : Language) (rom : Rom) (text image : List ℕ) (fault : AsmFault) → length text ≤ TEXT_LIMIT
-    → Faults fault (first_round language rom 1 at_the_start (lines_of text)) → Faults fault (assembled language rom text image)
+    → Faults fault (first_round language rom 1 at_the_start (lines_with_ends text)) → Faults fault (assembled language rom text image)
 assembled-fault language rom text image OutOfMemory short refused = tt
 assembled-fault language rom text image TooLong short refused = assembled-refused language rom text image TooLong short refused
 assembled-fault language rom text image (Line line cause) short refused = assembled-refused language rom text image (Line line cause) short refused

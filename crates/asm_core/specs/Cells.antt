@@ -1,16 +1,12 @@
 -- Cells: what a statement puts into bytes. This project's own profile.
-use Rattle.std.specs.Prelude.{ℕ, ◌==◌, ◌+◌, ◌*◌, ◌/◌, ◌%◌, ◌^◌, ◌≤◌, zero, suc, Bool, true, not, ◌&&◌, ◌||◌, List, [], ◌∷◌, length, sum_by, All, unwrap_or, is_some, if◌then◌else◌, ℤ, pos, ◌-ℤ◌, int_le, unsigned_abs}
-use Rattle.std.specs.Int.{int_rem_euclid}
+use Rattle.std.specs.Prelude.{ℕ, ◌==◌, ◌+◌, ◌*◌, ◌/◌, ◌%◌, ◌^◌, ◌≤◌, zero, suc, Bool, true, not, ◌&&◌, ◌||◌, List, [], ◌∷◌, length, sum_by, All, unwrap_or, is_some, if◌then◌else◌, ℤ, pos, ◌-ℤ◌, int_le}
 use Rattle.std.specs.List.{flat_map, list_all}
 use Rattle.std.specs.Option.{option_map_or}
+use Rattle.bit_words.specs.Residues.{residue}
 use Rattle.asm_core.specs.declared.cell.Place.{Place}
 use Rattle.asm_core.specs.declared.cell.Field.{Field}
 use Rattle.asm_core.specs.declared.cell.Cell.{Cell}
 use Rattle.asm_core.specs.Expressions.{NameValues, value_of}
-
--- the remainder by a number, from 0 up
-abbrev pub residue : ℕ → ℤ → ℕ
-residue modulus z = unsigned_abs (int_rem_euclid z (pos modulus))
 
 -- a value is in a range, and even where that is asked
 abbrev pub is_in_range : ℤ → ℤ → Bool → ℤ → Bool
@@ -74,12 +70,12 @@ abbrev pub size_of : List Cell → ℕ
 size_of cells = sum_by (λ cell. cell.size) cells
 
 -- a place lies in a cell's 32 bits
-abbrev pub IsPlace : Place → Type 0
-IsPlace place = place.bits + place.shift ≤ 32
+abbrev pub IsFieldPlace : Place → Type 0
+IsFieldPlace place = place.bits + place.shift ≤ 32
 
 -- a cell has one to four bytes, three fields at most, and each of them lies in it
 pub record IsCell (cell : Cell) : Type 0 where
   pub some : 1 ≤ cell.size
   pub few : cell.size ≤ 4
   pub fields : length cell.fields ≤ 3
-  pub places : All (λ field. IsPlace field.place) cell.fields
+  pub places : All (λ field. IsFieldPlace field.place) cell.fields

@@ -2,9 +2,9 @@
 use Rattle.std.specs.Prelude.{ℕ, ◌+◌, List, [], ◌∷◌, length, map, Option, Some, None, slice_set, Result, Ok, Err, nat_lt, if◌then◌else◌}
 use Rattle.asm_text.specs.declared.fault.AsmFault.{AsmFault}
 use Rattle.asm_text.specs.declared.fault.AsmFault.TheVariants as fault
-use Rattle.asm_text.specs.declared.listing.ListingLine.{ListingLine}
+use Rattle.asm_core.specs.declared.listing.ListingLine.{ListingLine}
 use Rattle.asm_text.specs.declared.scan.TheConstants.{TEXT_LIMIT}
-use Rattle.asm_text.specs.Lines.{lines_of}
+use Rattle.asm_text.specs.Lines.{lines_with_ends}
 use Rattle.rom_image.specs.Addresses.{offset_of}
 use Rattle.asm_core.specs.declared.dialect.Rom.{Rom}
 use Rattle.asm_core.specs.declared.placed.Placed.{Placed}
@@ -47,7 +47,7 @@ at_the_start = record { names = []; at = 0; placed = [] }
 -- the image and the listing, or the one fault, of a source that isn't too long
 unfoldable pub given_by : Language → Rom → List ℕ → List ℕ → Result (List ℕ × List ListingLine) AsmFault
 given_by language rom text image =
-    then_on (λ known. written_and_listed known.names image known.placed) (first_round language rom 1 at_the_start (lines_of text))
+    then_on (λ known. written_and_listed known.names image known.placed) (first_round language rom 1 at_the_start (lines_with_ends text))
 
 -- the image and the listing, or the one fault, of a source
 abbrev pub assembled : Language → Rom → List ℕ → List ℕ → Result (List ℕ × List ListingLine) AsmFault

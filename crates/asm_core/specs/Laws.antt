@@ -61,12 +61,12 @@ origin_value names (body.Origin e) = option_map nat_abs (value_of names e)
 origin_value names (body.Gives cells) = None
 
 -- the value of a line's `.org`
-abbrev pub origin_of : ReadLine → Option ℕ
-origin_of read = origin_value read.names read.line.body
+abbrev pub line_origin : ReadLine → Option ℕ
+line_origin read = origin_value read.names read.line.body
 
 -- a line has no `.org`
 abbrev pub HasNoOrigin : ReadLine → Type 0
-HasNoOrigin read = origin_of read ≡ None
+HasNoOrigin read = line_origin read ≡ None
 
 -- how many bytes a statement gives
 abbrev pub body_size : Body → ℕ
@@ -81,7 +81,7 @@ sizes_of lines = sum_by (λ read. body_size read.line.body) lines
 
 -- the address behind lines that begin at the address `first`: the value of their last `.org` and the sizes of the lines behind it, or `first` and the sizes of all
 pub record IsAddressBehind (first : ℕ) (lines : List ReadLine) (addr : ℕ) : Type 0 where
-  pub last : (before between : List ReadLine) → (org : ReadLine) → (value : ℕ) → lines ≡ before ++ org ∷ between → origin_of org ≡ Some value → All HasNoOrigin between
+  pub last : (before between : List ReadLine) → (org : ReadLine) → (value : ℕ) → lines ≡ before ++ org ∷ between → line_origin org ≡ Some value → All HasNoOrigin between
       → addr ≡ value + sizes_of between
   pub none : All HasNoOrigin lines → addr ≡ first + sizes_of lines
 

@@ -1,7 +1,7 @@
 ghost use Rattle.std.specs.Prelude.{◌≡◌, ◌+◌, ◌^◌, ◌<◌, ◌≤◌, IfErr, IfOk, OnOk, length};
 ghost use Rattle.std.specs.List.{All};
 ghost use Rattle.asm_text.specs.Answers.{Answers};
-ghost use Rattle.asm_text.specs.Lines.{lines_of};
+ghost use Rattle.asm_text.specs.Lines.{lines_with_ends};
 ghost use Rattle.asm_text.specs.declared.fault.AsmFault.TheVariants.{OutOfMemory};
 ghost use Rattle.asm_text.specs.declared.scan.TheConstants.{TEXT_LIMIT};
 ghost use Rattle.asm_text.specs.Spans.{EndsBy};
@@ -15,8 +15,8 @@ use crate::first_round::{FirstRound, at_line, look_at};
 use crate::line::read_line;
 use crate::second_round::write_lines;
 use crate::word::read_words;
-use crate::{Dialect, Line, Names, Rom, Row, Word};
-use asm_text::{AsmCause, AsmFault, Listing, TEXT_LIMIT, Token, push_line};
+use crate::{Dialect, Line, Listing, Names, Rom, Row, Word};
+use asm_text::{AsmCause, AsmFault, TEXT_LIMIT, Token, push_line};
 use rom_image::Image;
 use std::alloc::Global;
 
@@ -114,7 +114,7 @@ fn look_at_lines<'a, D: Dialect>(
 ) -> Result<FirstRound<'a>, AsmFault>
     requires text { length text.now ≤ TEXT_LIMIT }
     requires rom { IsRom rom }
-    ensures known { Answers known_of result (first_round D.language rom 1 at_the_start (lines_of text.now)) }
+    ensures known { Answers known_of result (first_round D.language rom 1 at_the_start (lines_with_ends text.now)) }
     ensures round { IfOk result (λ round. IsRound rom round) }
 {
     let mut round = match start(alloc, rom) {
@@ -128,7 +128,7 @@ fn look_at_lines<'a, D: Dialect>(
     let mut rest = text;
     let mut number = 1;
     'lines: while !rest.is_empty() {
-        let (line, after) = asm_text::read_line(rest);
+        let (line, after) = asm_text::split_line(rest);
         if let Err(fault) = look_at_text(
             alloc,
             dialect,

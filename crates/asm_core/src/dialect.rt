@@ -18,6 +18,7 @@ pub enum Form<'a> {
     NotReserved,
     /// The first word is the language's own, and what stands behind it is wrong.
     NoSuchForm,
+    /// The statement gives the bytes of these cells.
     Gives(Row<Cell<'a>>),
 }
 

@@ -8,7 +8,9 @@ use std::alloc::Global;
 /// A number, or a name.
 #[derive(Drop)]
 pub enum Operand<'a> {
+    /// A number.
     Number(u16),
+    /// The value of a name.
     Name(Name<'a>),
 }
 
@@ -22,6 +24,7 @@ pub struct Term<'a> {
 /// Which part of a sum an expression is.
 #[derive(Clone, Copy, Debug, PartialEq, Eq, Drop)]
 pub enum Part {
+    /// The sum as it is.
     Whole,
     /// The low byte of the sum modulo 65,536.
     Low,

@@ -1,5 +1,5 @@
 ghost use Rattle.std.specs.Prelude.{◌≡◌, ◌≤◌, IfOk, IfSome, OnOk, ok_or};
-ghost use Rattle.asm_core.specs.Cells.{IsCell, IsPlace};
+ghost use Rattle.asm_core.specs.Cells.{IsCell, IsFieldPlace};
 ghost use Rattle.asm_core.specs.Forms.{AreCells, IsBody};
 ghost use Rattle.asm_core.specs.Lines.{body_of, body_of_form, cells_of, equals_of, label_of, line_of, named_body_of, value_cell};
 ghost use Rattle.asm_core.specs.Words.{items_of};
@@ -14,6 +14,7 @@ use std::alloc::Global;
 /// What a statement does.
 #[derive(Drop)]
 pub enum Body<'a> {
+    /// Has no effect: the line is empty or a label alone.
     Nothing,
     /// Gives a name a value.
     Equals(Name<'a>, Expression<'a>),
@@ -39,7 +40,7 @@ pub fn value_cell<'a>(
 ) -> Result<Cell<'a>, OutOfMemory>
     requires some { 1 ≤ size }
     requires few { size ≤ 4 }
-    requires place { IsPlace place }
+    requires place { IsFieldPlace place }
     ensures value { IfOk result (λ cell. cell ≡ value_cell place size expression.entry) }
     ensures cell { IfOk result IsCell }
 {
@@ -65,7 +66,7 @@ pub fn read_list<'a>(
 ) -> Result<Option<Row<Cell<'a>>>, OutOfMemory>
     requires some { 1 ≤ size }
     requires few { size ≤ 4 }
-    requires place { IsPlace place }
+    requires place { IsFieldPlace place }
     ensures list { IfOk result (λ read. read ≡ cells_of place size (items_of words.now)) }
     ensures cells { IfOk result (λ read. IfSome read AreCells) }
 {

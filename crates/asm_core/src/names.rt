@@ -19,7 +19,7 @@ impl<'a> Model for Names<'a> {
 }
 
 impl<'a> Names<'a> {
-    ghost use Rattle.std.specs.Prelude.{◌≡◌, [], None, OnOk};
+    ghost use Rattle.std.specs.Prelude.{◌≡◌, [], None, OnErr, OnOk};
     ghost use Rattle.asm_core.specs.Expressions.{value_of_name};
     ghost use Rattle.asm_core.specs.Rounds.{with_name};
 
@@ -39,10 +39,11 @@ impl<'a> Names<'a> {
         self.values.get(name).copied()
     }
 
-    /// Gives a name its value.
+    /// Gives a name its value. After a refusal the names are as before.
     pub fn define(&mut self, name: &'a [u8], value: i32) -> Result<(), OutOfMemory>
         requires { value_of_name self.old name.now ≡ None }
-        ensures { OnOk result (self.new ≡ with_name self.old name.now value) }
+        ensures ok { OnOk result (self.new ≡ with_name self.old name.now value) }
+        ensures err { OnErr result (self.new ≡ self.old) }
     {
         self.values.insert(name, value)?;
         Ok(())

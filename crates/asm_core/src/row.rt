@@ -17,7 +17,7 @@ impl<T> Model for Row<T> {
 }
 
 impl<T: Drop> Row<T> {
-    ghost use Rattle.std.specs.Prelude.{◌≡◌, [], ◌∷◌, ◌++◌, OnOk};
+    ghost use Rattle.std.specs.Prelude.{◌≡◌, [], ◌∷◌, ◌++◌, OnErr, OnOk};
 
     /// A list without an item, which takes no memory yet.
     pub fn new(alloc: Global) -> Row<T>
@@ -28,9 +28,10 @@ impl<T: Drop> Row<T> {
         }
     }
 
-    /// Appends an item.
+    /// Appends an item. After a refusal the list is as before.
     pub fn push(&mut self, item: T) -> Result<(), OutOfMemory>
-        ensures { OnOk result (self.new ≡ self.old ++ item ∷ []) }
+        ensures ok { OnOk result (self.new ≡ self.old ++ item ∷ []) }
+        ensures err { OnErr result (self.new ≡ self.old) }
     {
         match self.items.push(item) {
             Ok(()) => Ok(()),

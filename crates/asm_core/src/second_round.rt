@@ -1,15 +1,16 @@
 ghost use Rattle.std.specs.Prelude.{◌≡◌, ℕ, ◌+◌, ◌*◌, ◌^◌, ◌≤◌, ◌<◌, Ok, IsSome, length, map, unsigned_abs};
 ghost use Rattle.std.specs.List.{All};
 ghost use Rattle.rom_image.specs.Addresses.{offset_of};
+ghost use Rattle.bit_words.specs.Residues.{residue};
 ghost use Rattle.asm_text.specs.Answers.{Answers};
-ghost use Rattle.asm_core.specs.Cells.{IsCell, IsPlace, cell_number, cells_bytes, field_number, held, low_bytes, residue, size_of, unit_of};
+ghost use Rattle.asm_core.specs.Cells.{IsCell, IsFieldPlace, cell_number, cells_bytes, field_number, held, low_bytes, size_of, unit_of};
 ghost use Rattle.asm_core.specs.FirstRound.{IsPlaced, IsRom};
 ghost use Rattle.asm_core.specs.Images.{line_written, listed, with_bytes, written_and_listed};
 
 use crate::cell::{all_fine, all_known, size_of};
 use crate::first_round::at_line;
-use crate::{Cell, Field, Names, Place, Placed, Rom, value};
-use asm_text::{AsmCause, AsmFault, Listing, ListingLine};
+use crate::{Cell, Field, Listing, ListingLine, Names, Place, Placed, Rom, value};
+use asm_text::{AsmCause, AsmFault};
 use rom_image::Image;
 use std::alloc::Global;
 
@@ -43,7 +44,7 @@ fn bit(place: u8) -> u64
 
 /// The number that holds a value in a place.
 fn held(place: &Place, value: i128) -> u64
-    requires { IsPlace place.now }
+    requires { IsFieldPlace place.now }
     ensures number { result ≡ held place.now value }
     ensures small { result ≤ 2 ^ 32 }
 {
@@ -54,7 +55,7 @@ fn held(place: &Place, value: i128) -> u64
 
 /// What a field adds to its cell.
 fn field_number(names: &Names, field: &Field) -> u64
-    requires { IsPlace field.now.place }
+    requires { IsFieldPlace field.now.place }
     ensures number { result ≡ field_number names.now field.now }
     ensures small { result ≤ 2 ^ 32 }
 {

@@ -1,4 +1,4 @@
-use crate::{Dialect, Form, Names, Rom, Word, assemble};
+use crate::{Dialect, Form, Listing, ListingLine, Names, Rom, Word, assemble};
 use asm_text::{AsmCause, AsmFault};
 use board_base::OutOfMemory;
 use rom_image::Image;
@@ -85,5 +85,26 @@ fn bad_lines_are_told(rt: HostRuntime) -> Result<(), Fail> {
         let fault = assemble(rt.alloc(), &NoWords, source, ROM, &mut image).err();
         assert_eq!(rt; fault, Some(AsmFault::Line { line, cause }));
     }
+    Ok(())
+}
+
+#[test]
+fn a_listing_has_its_lines_in_order(rt: HostRuntime) -> Result<(), Fail> {
+    let lines = [
+        ListingLine {
+            addr: 0x9000,
+            count: 2,
+            line: 2,
+        },
+        ListingLine {
+            addr: 0x9002,
+            count: 3,
+            line: 3,
+        },
+    ];
+    let mut listing = Listing::new(rt.alloc());
+    listing.push(lines[0])?;
+    listing.push(lines[1])?;
+    assert_eq!(rt; listing.lines(), lines.as_slice());
     Ok(())
 }

@@ -11,7 +11,9 @@ use board_base::OutOfMemory;
 /// A token with what it says. A name is with the dot that may stand before it.
 #[derive(Drop)]
 pub enum Word<'a> {
+    /// A name.
     Name(Name<'a>),
+    /// The value of a number.
     Number(u16),
     /// One of the punctuation marks.
     Mark(u8),
@@ -54,7 +56,8 @@ fn read_word<'a>(kind: Kind, bytes: &'a [u8]) -> Word<'a>
     }
 }
 
-/// Puts the words of a line that has these tokens in the place of others.
+/// Puts the words of a line that has these tokens in the place of others. After a refusal `words` is
+/// only to be dropped.
 pub(crate) fn read_words<'a>(
     words: &mut Vec<Word<'a>>,
     line: &'a [u8],

@@ -9,7 +9,8 @@ use Rattle.asm_core.specs.declared.cell.Cell.{Cell}
 use Rattle.asm_core.specs.declared.cell.Place.{Place}
 use Rattle.asm_core.specs.declared.dialect.Form.TheVariants as form
 use Rattle.asm_core.specs.declared.expression.Expression.{Expression}
-use Rattle.asm_core.specs.Cells.{all_known, cell_bytes, cells_bytes, cell_number, low_bytes, residue}
+use Rattle.bit_words.specs.Residues.{residue}
+use Rattle.asm_core.specs.Cells.{all_known, cell_bytes, cells_bytes, cell_number, low_bytes}
 use Rattle.asm_core.specs.Expressions.{NameValues, expression_of, value_of}
 use Rattle.cpu_table.specs.declared.instruction.Op.{Op}
 use Rattle.cpu_table.specs.declared.instruction.Mode.{Mode}

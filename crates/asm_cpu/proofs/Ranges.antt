@@ -3,7 +3,8 @@ use Rattle.std.proofs.Common.{◌≡◌, ℕ, ◌+◌, ◌-◌, ◌%◌, ◌<◌
 use Rattle.std.proofs.lemmas.Bool.{false≢true}
 use Rattle.std.proofs.lemmas.Bool.Decides.{nat_tests}
 use Rattle.std.proofs.lemmas.Int.{ints}
-use Rattle.asm_core.specs.Cells.{residue, takes}
+use Rattle.bit_words.specs.Residues.{residue}
+use Rattle.asm_core.specs.Cells.{takes}
 use Rattle.cpu_table.specs.declared.instruction.Mode.{Mode}
 use Rattle.cpu_table.specs.declared.instruction.Mode.TheVariants.{Implied, Accumulator, Immediate, ZeroPage, ZeroPageX, ZeroPageY, Absolute, AbsoluteX, AbsoluteY, Indirect, IndirectX, IndirectY, Relative}
 use Rattle.cpu_table.specs.Decoding.{length_of}

@@ -1,6 +1,7 @@
 -- What the bytes of an instruction say (MCS6500 Programming Manual).
 use Rattle.std.specs.Prelude.{◌≡◌, ℕ, ◌-◌, ◌^◌, ◌<◌, Bool, List, length, Some, All, nat_lt, if◌then◌else◌, ℤ, pos, ◌-ℤ◌}
-use Rattle.asm_core.specs.Cells.{residue, takes}
+use Rattle.bit_words.specs.Residues.{residue}
+use Rattle.asm_core.specs.Cells.{takes}
 use Rattle.cpu_table.specs.declared.instruction.Op.{Op}
 use Rattle.cpu_table.specs.declared.instruction.Mode.{Mode}
 use Rattle.cpu_table.specs.Decoding.{decoded, length_of}

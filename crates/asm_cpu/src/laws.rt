@@ -1,6 +1,6 @@
 //! Laws on instructions that no call needs when it runs. Each is the contract of a function that
 //! does nothing.
-ghost use Rattle.std.specs.Prelude.{◌≡◌, ◌≤◌, ◌+◌, ◌+ℤ◌, ℕ, ℤ, List, Some, pos, true};
+ghost use Rattle.std.specs.Prelude.{◌≡◌, ◌≤◌, ◌+◌, ◌+ℤ◌, ℕ, ℤ, List, Some, false, pos, true};
 ghost use Rattle.asm_core.specs.declared.cell.Cell.{Cell};
 ghost use Rattle.asm_core.specs.declared.dialect.Form.TheVariants.{Gives};
 ghost use Rattle.asm_core.specs.declared.expression.Expression.{Expression};
@@ -15,6 +15,13 @@ ghost use Rattle.asm_cpu.specs.Encodings.{AloneEncodes, HasOneEncoding, is_taken
 ghost use Rattle.asm_cpu.specs.Mnemonics.{name_of, op_of};
 ghost use Rattle.asm_cpu.specs.Modes.{place_of};
 ghost use Rattle.asm_cpu.specs.Statements.{bare_form, instruction_of, mode_form};
+
+use crate::source::PROGRAM_ROM;
+
+/// The addresses whose bytes a source may give, those of the program ROM: 9000 to FFFF.
+pub fn source_addresses()
+    ensures { PROGRAM_ROM ≡ record { low = 0x9000; high = 0x10000; even = false } }
+{}
 
 /// An operation's name is a word that names it.
 pub fn operations_by_their_names()

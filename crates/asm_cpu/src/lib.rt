@@ -8,6 +8,7 @@ mod operand;
 mod source;
 mod statement;
 
+pub use asm_core::{Listing, ListingLine};
 pub use mnemonics::mnemonic;
 pub use source::{PROGRAM_ROM, assemble};
 

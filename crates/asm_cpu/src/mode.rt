@@ -1,13 +1,13 @@
 ghost use Rattle.std.specs.Prelude.{◌≡◌, ◌≤◌};
-ghost use Rattle.asm_core.specs.Cells.{IsPlace};
+ghost use Rattle.asm_core.specs.Cells.{IsFieldPlace};
 ghost use Rattle.asm_cpu.specs.Modes.{by_length, has_mode, is_short, mode_of, origin_of, place_of};
 
 use crate::operand::Shape;
 use asm_core::{Expression, Names, Place, value};
 use cpu_table::{Mode, Op, encode};
 
-/// A byte behind the opcode, signed or not.
-const BYTE: Place = Place {
+/// An immediate byte behind the opcode, signed or not.
+const IMMEDIATE: Place = Place {
     low: -128,
     high: 255,
     even: false,
@@ -92,10 +92,10 @@ pub(crate) fn choose_mode(names: &Names, op: Op, shape: Shape, expression: &Expr
 /// The place of the operand in a mode that has one.
 pub(crate) fn place(mode: Mode) -> Place
     ensures value { result ≡ place_of mode }
-    ensures inside { IsPlace result }
+    ensures inside { IsFieldPlace result }
 {
     match mode {
-        Mode::Immediate => BYTE,
+        Mode::Immediate => IMMEDIATE,
         Mode::Relative => BRANCH,
         Mode::Absolute | Mode::AbsoluteX | Mode::AbsoluteY | Mode::Indirect => ADDRESS,
         _ => ZERO_PAGE,

@@ -4,8 +4,8 @@ ghost use Rattle.asm_core.specs.Images.{assembled};
 ghost use Rattle.asm_cpu.specs.Statements.{cpu_statement};
 
 use crate::statement::Cpu;
-use asm_core::Rom;
-use asm_text::{AsmFault, Listing};
+use asm_core::{Listing, Rom};
+use asm_text::AsmFault;
 use rom_image::Image;
 use std::alloc::Global;
 

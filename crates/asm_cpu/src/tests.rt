@@ -1,8 +1,9 @@
 use crate::{assemble, mnemonic};
+use asm_core::ListingLine;
 use asm_text::AsmCause::{
     self, BadNumber, BadToken, NoSuchForm, OutOfRange, OutsideRom, Overlap, TwiceNamed, UnknownName,
 };
-use asm_text::{AsmFault, ListingLine};
+use asm_text::AsmFault;
 use cpu_table::Op;
 use rom_image::Image;
 use std::test::Fail;

@@ -2,7 +2,7 @@
 use Rattle.std.proofs.Common.{◌≡◌, ℕ, ◌+◌, List, [], ◌∷◌, ◌++◌, ◌∙◌, ap, sym, unwrap_or, append-nil, append_assoc, arith}
 use Rattle.std.proofs.lemmas.Grind.{flat_map-append}
 use Rattle.std.proofs.lemmas.List.FromFn.{map-range_with_len_more}
-use Rattle.log_text.specs.Lines.{hex_byte}
+use Rattle.text_line.specs.Words.{hex_byte}
 use Rattle.rom_image.specs.Addresses.{byte_of}
 use Rattle.asm_listing.specs.ListingText.{bytes_from, bytes_text}
 

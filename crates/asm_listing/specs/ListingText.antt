@@ -1,8 +1,8 @@
 -- The text of a listing. This project's own profile.
 use Rattle.std.specs.Prelude.{ℕ, ◌+◌, List, [], ◌∷◌, ◌++◌, map, decimal, unwrap_or}
 use Rattle.std.specs.List.{flat_map, range_with_len}
-use Rattle.asm_text.specs.declared.listing.ListingLine.{ListingLine}
-use Rattle.log_text.specs.Lines.{hex_byte, hex_word}
+use Rattle.asm_core.specs.declared.listing.ListingLine.{ListingLine}
+use Rattle.text_line.specs.Words.{hex_byte, hex_word}
 use Rattle.rom_image.specs.Addresses.{byte_of}
 
 -- so many bytes of an image, from an address on

@@ -1,10 +1,10 @@
 ghost use Rattle.std.specs.Prelude.{◌≡◌, ◌+◌, [], ◌∷◌, ◌++◌, OnOk, decimal, unwrap_or};
-ghost use Rattle.log_text.specs.Lines.{hex_byte, hex_word};
+ghost use Rattle.text_line.specs.Words.{hex_byte, hex_word};
 ghost use Rattle.rom_image.specs.Addresses.{byte_of};
 ghost use Rattle.asm_listing.specs.ListingText.{bytes_from, bytes_text, line_text, listing_text};
 
 use crate::Text;
-use asm_text::{Listing, ListingLine};
+use asm_core::{Listing, ListingLine};
 use board_base::OutOfMemory;
 use rom_image::Image;
 
@@ -58,7 +58,8 @@ fn push_line(text: &mut Text, image: &Image, line: &ListingLine) -> Result<(), O
 }
 
 /// Puts a listing behind a text: for each line that gives bytes its address in four hexadecimal
-/// digits, its number in the source, and the bytes that the image has there.
+/// digits, its number in the source, and the bytes that the image has there. After a refusal the text
+/// is only to be dropped.
 pub fn push_listing(text: &mut Text, listing: &Listing, image: &Image) -> Result<(), OutOfMemory>
     ensures { OnOk result (text.new ≡ text.old ++ listing_text image.now listing.now) }
 {

@@ -1,5 +1,5 @@
 use crate::{Text, push_listing};
-use asm_text::{Listing, ListingLine};
+use asm_core::{Listing, ListingLine};
 use rom_image::Image;
 use std::test::Fail;
 

@@ -19,7 +19,7 @@ impl Model for Text {
 impl Text {
     ghost use Rattle.std.specs.Prelude.{◌≡◌, ◌<◌, [], ◌∷◌, ◌++◌, OnOk, decimal, true};
     ghost use Rattle.std.specs.Fmt.{digit_glyph};
-    ghost use Rattle.log_text.specs.Lines.{hex_byte, hex_word};
+    ghost use Rattle.text_line.specs.Words.{hex_byte, hex_word};
 
     /// A text without a byte, which takes no memory yet.
     pub fn new(alloc: Global) -> Text

@@ -12,7 +12,7 @@ use Rattle.asm_text.specs.declared.fault.AsmCause.{AsmCause}
 use Rattle.asm_text.specs.declared.fault.AsmFault.{AsmFault}
 use Rattle.asm_text.specs.declared.token.Kind.{Kind}
 use Rattle.asm_text.specs.declared.token.Token.{Token}
-use Rattle.asm_text.specs.Lines.{code_of, line_feeds, lines_of}
+use Rattle.asm_text.specs.Lines.{code_of, line_feeds, lines_with_ends}
 use Rattle.asm_text.specs.Pieces.{is_one_of, is_word_byte, joins, kind_of, pieces_of}
 use Rattle.asm_text.specs.Spans.{EndsWord, IsInComment, IsSliceOf, IsTokenOf}
 use Rattle.asm_text.specs.Tokens.{joined, line_tokens, piece_tokens, told, tokens_from}
@@ -230,6 +230,6 @@ lines_apart text line place (bytes ∷ lines) tokens here inside are begins give
     given
 
 -- each token of a text is whole, and lies in no comment
-pub text_apart : (text : List ℕ) (tokens : List Token) → Ok tokens ≡ tokens_from 1 0 (lines_of text) → All (IsTokenOf text) tokens
+pub text_apart : (text : List ℕ) (tokens : List Token) → Ok tokens ≡ tokens_from 1 0 (lines_with_ends text) → All (IsTokenOf text) tokens
 text_apart text tokens given =
-    lines_apart text 1 0 (lines_of text) tokens (sym (concat-lines text)) (omega arith) (lines_are text) (λ more. λ start low. absurd (omega arith)) given
+    lines_apart text 1 0 (lines_with_ends text) tokens (sym (concat-lines text)) (omega arith) (lines_are text) (λ more. λ start low. absurd (omega arith)) given

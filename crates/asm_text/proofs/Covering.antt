@@ -12,7 +12,7 @@ use Rattle.asm_text.specs.declared.fault.AsmFault.{AsmFault}
 use Rattle.asm_text.specs.declared.token.Kind.{Kind}
 use Rattle.asm_text.specs.declared.token.Kind.TheVariants.{Name, Number, Punctuation}
 use Rattle.asm_text.specs.declared.token.Token.{Token}
-use Rattle.asm_text.specs.Lines.{code_of, line_feeds, lines_of}
+use Rattle.asm_text.specs.Lines.{code_of, line_feeds, lines_with_ends}
 use Rattle.asm_text.specs.Numbers.{number_of}
 use Rattle.asm_text.specs.Pieces.{is_blank, is_dotted_name, is_mark, is_name, is_number_start, is_one_of, kind_of, pieces_of}
 use Rattle.asm_text.specs.Spans.{IsAccounted}
@@ -169,7 +169,7 @@ lines_read text line place k (bytes ∷ lines) tokens here are given low high =
     given
 
 -- nothing of a text is left out
-pub text_accounted : (text : List ℕ) (tokens : List Token) → Ok tokens ≡ tokens_from 1 0 (lines_of text) → (k : ℕ) → k < length text → IsAccounted text tokens k
+pub text_accounted : (text : List ℕ) (tokens : List Token) → Ok tokens ≡ tokens_from 1 0 (lines_with_ends text) → (k : ℕ) → k < length text → IsAccounted text tokens k
 text_accounted text tokens given k inside =
-    let whole : concat (lines_of text) ≡ text = concat-lines text in
-    lines_read text 1 0 k (lines_of text) tokens (sym whole) (lines_are text) given (omega arith) (omega (arith, ap length whole))
+    let whole : concat (lines_with_ends text) ≡ text = concat-lines text in
+    lines_read text 1 0 k (lines_with_ends text) tokens (sym whole) (lines_are text) given (omega arith) (omega (arith, ap length whole))

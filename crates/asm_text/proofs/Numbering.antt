@@ -9,7 +9,7 @@ use Rattle.asm_text.specs.declared.fault.AsmCause.{AsmCause}
 use Rattle.asm_text.specs.declared.fault.AsmFault.{AsmFault}
 use Rattle.asm_text.specs.declared.token.Kind.{Kind}
 use Rattle.asm_text.specs.declared.token.Token.{Token}
-use Rattle.asm_text.specs.Lines.{code_of, line_feeds, lines_of}
+use Rattle.asm_text.specs.Lines.{code_of, line_feeds, lines_with_ends}
 use Rattle.asm_text.specs.Pieces.{kind_of, pieces_of}
 use Rattle.asm_text.specs.Spans.{IsNumbered, StandIn}
 use Rattle.asm_text.specs.Tokens.{joined, line_tokens, piece_tokens, told, tokens_from}
@@ -46,14 +46,14 @@ unfolding AreLines
 AreLines-onto byte [] other are = (IsLine-one byte, (λ more. absurd (omega arith)), tt)
 AreLines-onto byte (bytes ∷ lines) other are = (IsLine-cons byte bytes other are.0, (λ more. feeds-other byte bytes other ∙ are.1 more), are.2)
 
-pub lines_are : (text : List ℕ) → AreLines (lines_of text)
-unfolding AreLines lines_of
+pub lines_are : (text : List ℕ) → AreLines (lines_with_ends text)
+unfolding AreLines lines_with_ends
 lines_are [] = tt
 lines_are (byte ∷ text) = elim (bool_cases (eqb byte 10)) [
   | inl feed ↦
       let one : line_feeds (byte ∷ []) ≡ 1 = rw feed refl in
       rw feed (IsLine-one byte, (λ more. one), lines_are text)
-  | inr other ↦ rw other (AreLines-onto byte (lines_of text) other (lines_are text))
+  | inr other ↦ rw other (AreLines-onto byte (lines_with_ends text) other (lines_are text))
 ]
 
 -- no LF stands between a line's place and a later place in it
@@ -140,5 +140,5 @@ numbered_lines text line place (bytes ∷ lines) tokens here inside are number g
     given
 
 -- the tokens of a text are numbered by its lines
-pub text_numbered : (text : List ℕ) (tokens : List Token) → Ok tokens ≡ tokens_from 1 0 (lines_of text) → All (IsNumbered text) tokens
-text_numbered text tokens given = numbered_lines text 1 0 (lines_of text) tokens (sym (concat-lines text)) (omega arith) (lines_are text) (λ more. refl) given
+pub text_numbered : (text : List ℕ) (tokens : List Token) → Ok tokens ≡ tokens_from 1 0 (lines_with_ends text) → All (IsNumbered text) tokens
+text_numbered text tokens given = numbered_lines text 1 0 (lines_with_ends text) tokens (sym (concat-lines text)) (omega arith) (lines_are text) (λ more. refl) given

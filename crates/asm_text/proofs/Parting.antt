@@ -3,7 +3,7 @@ use Rattle.std.proofs.Common.{◌≡◌, ℕ, ◌+◌, ◌-◌, ◌<◌, ◌≤�
 use Rattle.std.specs.List.{before_first, position, position_or_len}
 use Rattle.std.proofs.lemmas.Bool.{cases_lt, cond_both, ltb-false, ltb-true}
 use Rattle.std.proofs.lemmas.List.{take_all}
-use Rattle.asm_text.specs.Lines.{lines_of}
+use Rattle.asm_text.specs.Lines.{lines_with_ends}
 use Rattle.asm_text.specs.Pieces.{joins, pieces_of}
 
 -- a test passes or fails
@@ -34,52 +34,52 @@ before_first_none p xs none = sym (take_all (position_or_len p xs) xs (position_
 
 pub ruleset comments = (before_first_some, before_first_none)
 
-lines_of-place : (text : List ℕ) (n : ℕ) → n ≡ position_or_len (λ byte. eqb byte 10) text → n < length text
-    → lines_of text ≡ take (n + 1) text ∷ lines_of (drop (n + 1) text)
-unfolding lines_of
-lines_of-place [] n here inside = absurd (omega arith)
-lines_of-place (byte ∷ text) n here inside = elim (bool_cases (eqb byte 10)) [
+lines_with_ends-place : (text : List ℕ) (n : ℕ) → n ≡ position_or_len (λ byte. eqb byte 10) text → n < length text
+    → lines_with_ends text ≡ take (n + 1) text ∷ lines_with_ends (drop (n + 1) text)
+unfolding lines_with_ends
+lines_with_ends-place [] n here inside = absurd (omega arith)
+lines_with_ends-place (byte ∷ text) n here inside = elim (bool_cases (eqb byte 10)) [
   | inl feed ↦
       let none : n ≡ 0 = rw feed at here in
       rw (feed, none) refl
   | inr other ↦
       let more : n ≡ 1 + position_or_len (λ c. eqb c 10) text = rw other at here in
       let within : position_or_len (λ c. eqb c 10) text < length text = omega arith in
-      let rest = lines_of-place text (position_or_len (λ c. eqb c 10) text) refl within in
+      let rest = lines_with_ends-place text (position_or_len (λ c. eqb c 10) text) refl within in
       let next : n + 1 ≡ Prim.Native.Nat.suc (position_or_len (λ c. eqb c 10) text + 1) = omega arith in
       rw (other, next, rest) refl
 ]
 
-lines_of-whole : (text : List ℕ) → 0 < length text → length text ≤ position_or_len (λ byte. eqb byte 10) text → lines_of text ≡ text ∷ []
-unfolding lines_of
-lines_of-whole [] some none = absurd (omega arith)
-lines_of-whole (byte ∷ []) some none = elim (bool_cases (eqb byte 10)) [
+lines_with_ends-whole : (text : List ℕ) → 0 < length text → length text ≤ position_or_len (λ byte. eqb byte 10) text → lines_with_ends text ≡ text ∷ []
+unfolding lines_with_ends
+lines_with_ends-whole [] some none = absurd (omega arith)
+lines_with_ends-whole (byte ∷ []) some none = elim (bool_cases (eqb byte 10)) [
   | inl feed ↦ let low : 1 ≤ 0 = rw feed at none in absurd (omega arith)
   | inr other ↦ rw other refl
 ]
-lines_of-whole (byte ∷ next ∷ text) some none = elim (bool_cases (eqb byte 10)) [
+lines_with_ends-whole (byte ∷ next ∷ text) some none = elim (bool_cases (eqb byte 10)) [
   | inl feed ↦ let low : length (byte ∷ next ∷ text) ≤ 0 = rw feed at none in absurd (omega arith)
   | inr other ↦
       let high : length (byte ∷ next ∷ text) ≤ 1 + position_or_len (λ c. eqb c 10) (next ∷ text) = rw other at none in
-      let rest = lines_of-whole (next ∷ text) (omega arith) (omega arith) in
+      let rest = lines_with_ends-whole (next ∷ text) (omega arith) (omega arith) in
       rw (other, rest) refl
 ]
 
 -- the first line ends with the first LF
-pub lines_of-first : (text : List ℕ) (n : ℕ) → Some n ≡ position (λ byte. eqb byte 10) text
-    → lines_of text ≡ take (n + 1) text ∷ lines_of (drop (n + 1) text)
-lines_of-first text n found = let here = position_some (λ byte. eqb byte 10) text n found in lines_of-place text n here.0 here.1
+pub lines_with_ends-first : (text : List ℕ) (n : ℕ) → Some n ≡ position (λ byte. eqb byte 10) text
+    → lines_with_ends text ≡ take (n + 1) text ∷ lines_with_ends (drop (n + 1) text)
+lines_with_ends-first text n found = let here = position_some (λ byte. eqb byte 10) text n found in lines_with_ends-place text n here.0 here.1
 
 -- a text with no LF is one line
-pub lines_of-last : (text : List ℕ) → 0 < length text → None ≡ position (λ byte. eqb byte 10) text → lines_of text ≡ text ∷ []
-lines_of-last text some none = lines_of-whole text some (position_none (λ byte. eqb byte 10) text none)
+pub lines_with_ends-last : (text : List ℕ) → 0 < length text → None ≡ position (λ byte. eqb byte 10) text → lines_with_ends text ≡ text ∷ []
+lines_with_ends-last text some none = lines_with_ends-whole text some (position_none (λ byte. eqb byte 10) text none)
 
 -- there are no lines in no text
-pub lines_of-nil : lines_of [] ≡ []
-unfolding lines_of
-lines_of-nil = refl
+pub lines_with_ends-nil : lines_with_ends [] ≡ []
+unfolding lines_with_ends
+lines_with_ends-nil = refl
 
-pub ruleset lines = (lines_of-first, lines_of-last, lines_of-nil)
+pub ruleset lines = (lines_with_ends-first, lines_with_ends-last, lines_with_ends-nil)
 
 -- the first n bytes are of one piece
 pub record IsJoined (code : List ℕ) (n : ℕ) : Type 0 where

@@ -8,7 +8,7 @@ use Rattle.asm_text.specs.declared.fault.AsmFault.{AsmFault}
 use Rattle.asm_text.specs.declared.fault.AsmFault.TheVariants.{TooLong, Line, OutOfMemory}
 use Rattle.asm_text.specs.declared.token.Kind.{Kind}
 use Rattle.asm_text.specs.declared.token.Token.{Token}
-use Rattle.asm_text.specs.Lines.{lines_of}
+use Rattle.asm_text.specs.Lines.{lines_with_ends}
 use Rattle.asm_text.specs.Pieces.{kind_of, pieces_of}
 use Rattle.asm_text.specs.Tokens.{joined, line_tokens, onto, piece_tokens, tokens_from, tokens_of}
 
@@ -47,27 +47,27 @@ joined-fault before (Ok first) rest fault said = absurd (cc)
 joined-fault before (Err other) rest fault said = said
 
 -- a line at the front of a text
-module _ (before : List Token) (line place : ℕ) (text first after : List ℕ) (parted : lines_of text ≡ first ∷ lines_of after) where
+module _ (before : List Token) (line place : ℕ) (text first after : List ℕ) (parted : lines_with_ends text ≡ first ∷ lines_with_ends after) where
   pub line_passed : (more : List Token) → onto before (line_tokens line place first) ≡ Ok more
-      → onto before (tokens_from line place (lines_of text)) ≡ onto more (tokens_from (line + 1) (place + length first) (lines_of after))
+      → onto before (tokens_from line place (lines_with_ends text)) ≡ onto more (tokens_from (line + 1) (place + length first) (lines_with_ends after))
   unfolding tokens_from
-  line_passed more said = rw parted (joined-onto before (line_tokens line place first) (tokens_from (line + 1) (place + length first) (lines_of after)) more said)
+  line_passed more said = rw parted (joined-onto before (line_tokens line place first) (tokens_from (line + 1) (place + length first) (lines_with_ends after)) more said)
 
-  pub bad_line : (fault : AsmFault) → Faults fault (onto before (line_tokens line place first)) → Faults fault (onto before (tokens_from line place (lines_of text)))
+  pub bad_line : (fault : AsmFault) → Faults fault (onto before (line_tokens line place first)) → Faults fault (onto before (tokens_from line place (lines_with_ends text)))
   unfolding tokens_from
   bad_line OutOfMemory said = tt
-  bad_line TooLong said = rw parted (joined-fault before (line_tokens line place first) (tokens_from (line + 1) (place + length first) (lines_of after)) TooLong said)
-  bad_line (Line number cause) said = rw parted (joined-fault before (line_tokens line place first) (tokens_from (line + 1) (place + length first) (lines_of after)) (Line number cause) said)
+  bad_line TooLong said = rw parted (joined-fault before (line_tokens line place first) (tokens_from (line + 1) (place + length first) (lines_with_ends after)) TooLong said)
+  bad_line (Line number cause) said = rw parted (joined-fault before (line_tokens line place first) (tokens_from (line + 1) (place + length first) (lines_with_ends after)) (Line number cause) said)
 
 -- the tokens so far are all, where nothing is left
-pub all_read : (text rest : List ℕ) (tokens : List Token) (line place : ℕ) → onto tokens (tokens_from line place (lines_of rest)) ≡ tokens_from 1 0 (lines_of text)
-    → length rest ≡ 0 → tokens_from 1 0 (lines_of text) ≡ Ok tokens
-unfolding tokens_from lines_of
+pub all_read : (text rest : List ℕ) (tokens : List Token) (line place : ℕ) → onto tokens (tokens_from line place (lines_with_ends rest)) ≡ tokens_from 1 0 (lines_with_ends text)
+    → length rest ≡ 0 → tokens_from 1 0 (lines_with_ends text) ≡ Ok tokens
+unfolding tokens_from lines_with_ends
 all_read text rest tokens line place so_far none =
     let empty : rest ≡ [] = nil_from_length rest none in
-    let step : onto tokens (tokens_from line place (lines_of rest)) ≡ Ok tokens = rw empty (ap (λ xs. Ok xs) (append-nil tokens)) in
+    let step : onto tokens (tokens_from line place (lines_with_ends rest)) ≡ Ok tokens = rw empty (ap (λ xs. Ok xs) (append-nil tokens)) in
     sym so_far ∙ step
 
 -- a text that isn't too long
-pub tokens_of-short : (text : List ℕ) → length text ≤ 1048576 → tokens_of text ≡ tokens_from 1 0 (lines_of text)
+pub tokens_of-short : (text : List ℕ) → length text ≤ 1048576 → tokens_of text ≡ tokens_from 1 0 (lines_with_ends text)
 tokens_of-short text short = rw (le-ltb 1048576 (length text) short) refl

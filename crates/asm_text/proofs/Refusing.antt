@@ -11,7 +11,7 @@ use Rattle.asm_text.specs.declared.fault.AsmFault.{AsmFault}
 use Rattle.asm_text.specs.declared.fault.AsmFault.TheVariants.{TooLong, Line, OutOfMemory}
 use Rattle.asm_text.specs.declared.token.Kind.{Kind}
 use Rattle.asm_text.specs.declared.token.Token.{Token}
-use Rattle.asm_text.specs.Lines.{code_of, line_feeds, lines_of}
+use Rattle.asm_text.specs.Lines.{code_of, line_feeds, lines_with_ends}
 use Rattle.asm_text.specs.Pieces.{joins, kind_of, pieces_of}
 use Rattle.asm_text.specs.Spans.{EndsWord, IsAccounted, IsInComment, IsTokenOf, StandIn, Refused}
 use Rattle.asm_text.specs.Tokens.{joined, line_tokens, piece_tokens, told, tokens_from}
@@ -198,12 +198,12 @@ lines_bad text line place (bytes ∷ lines) l cause here inside are begins numbe
     given
 
 -- where a text is refused for a line, a piece of that line is bad, and all before it is accounted for
-pub text_refused : (text : List ℕ) (fault : AsmFault) → Faults fault (tokens_from 1 0 (lines_of text)) → Refused text fault
+pub text_refused : (text : List ℕ) (fault : AsmFault) → Faults fault (tokens_from 1 0 (lines_with_ends text)) → Refused text fault
 text_refused text TooLong said = tt
 text_refused text OutOfMemory said = tt
 text_refused text (Line line cause) said =
     let bad : IsBadFrom text 0 line cause =
-    lines_bad text 1 0 (lines_of text) line cause (sym (concat-lines text)) (omega arith) (lines_are text) (λ more. λ start low. absurd (omega arith)) (λ more. refl) (sym said) in
+    lines_bad text 1 0 (lines_with_ends text) line cause (sym (concat-lines text)) (omega arith) (lines_are text) (λ more. λ start low. absurd (omega arith)) (λ more. refl) (sym said) in
     record {
       place = bad.place;
       end = bad.end;

@@ -9,7 +9,7 @@ use Rattle.asm_text.specs.declared.fault.AsmCause.{AsmCause}
 use Rattle.asm_text.specs.declared.fault.AsmFault.{AsmFault}
 use Rattle.asm_text.specs.declared.token.Kind.{Kind}
 use Rattle.asm_text.specs.declared.token.Token.{Token}
-use Rattle.asm_text.specs.Lines.{code_of, lines_of}
+use Rattle.asm_text.specs.Lines.{code_of, lines_with_ends}
 use Rattle.asm_text.specs.Pieces.{joins, kind_of, pieces_of}
 use Rattle.asm_text.specs.Spans.{EndsBy, IsSliceOf, StandIn}
 use Rattle.asm_text.specs.Tokens.{joined, line_tokens, piece_tokens, told, tokens_from}
@@ -30,14 +30,14 @@ concat-pieces (byte ∷ next ∷ code) =
     (λ _. ap (λ bytes. byte ∷ bytes) rest)
 
 -- the lines of a text together are the text
-pub concat-lines : (text : List ℕ) → concat (lines_of text) ≡ text
-unfolding lines_of
+pub concat-lines : (text : List ℕ) → concat (lines_with_ends text) ≡ text
+unfolding lines_with_ends
 concat-lines [] = refl
 concat-lines (byte ∷ text) =
-    let rest : concat (lines_of text) ≡ text = concat-lines text in
-    cond_both (eqb byte 10) ((byte ∷ []) ∷ lines_of text) (onto_first byte (lines_of text)) (λ parts. concat parts ≡ byte ∷ text)
+    let rest : concat (lines_with_ends text) ≡ text = concat-lines text in
+    cond_both (eqb byte 10) ((byte ∷ []) ∷ lines_with_ends text) (onto_first byte (lines_with_ends text)) (λ parts. concat parts ≡ byte ∷ text)
     (λ _. ap (λ bytes. byte ∷ bytes) rest)
-    (λ _. concat-onto_first byte (lines_of text) ∙ ap (λ bytes. byte ∷ bytes) rest)
+    (λ _. concat-onto_first byte (lines_with_ends text) ∙ ap (λ bytes. byte ∷ bytes) rest)
 
 StandIn-from : (text : List ℕ) (low from to : ℕ) (tokens : List Token) → low ≤ from → StandIn text from to tokens → StandIn text low to tokens
 StandIn-from text low from to [] below stand = omega arith
@@ -149,12 +149,12 @@ lines_spans text line place (bytes ∷ lines) tokens here inside given =
     given
 
 -- the tokens of a text stand in it
-pub text_spans : (text : List ℕ) (tokens : List Token) → Ok tokens ≡ tokens_from 1 0 (lines_of text) → StandIn text 0 (length text) tokens
+pub text_spans : (text : List ℕ) (tokens : List Token) → Ok tokens ≡ tokens_from 1 0 (lines_with_ends text) → StandIn text 0 (length text) tokens
 text_spans text tokens given =
-    let whole : concat (lines_of text) ≡ text = concat-lines text in
-    let end : 0 + length (concat (lines_of text)) ≡ length text = omega (arith, ap length whole) in
+    let whole : concat (lines_with_ends text) ≡ text = concat-lines text in
+    let end : 0 + length (concat (lines_with_ends text)) ≡ length text = omega (arith, ap length whole) in
     let P : ℕ → Type 0 = λ to. StandIn text 0 to tokens in
-    subst P end (lines_spans text 1 0 (lines_of text) tokens (sym whole) (omega arith) given)
+    subst P end (lines_spans text 1 0 (lines_with_ends text) tokens (sym whole) (omega arith) given)
 
 -- what ends early ends by a later place too
 pub EndsBy-up : (place later : ℕ) (tokens : List Token) → place ≤ later → All (EndsBy place) tokens → All (EndsBy later) tokens

@@ -3,9 +3,9 @@ use Rattle.std.specs.Prelude.{ℕ, ◌==◌, List, [], ◌∷◌, count_by, if�
 use Rattle.std.specs.List.{before_first, onto_first}
 
 -- the lines of a text, each with the LF that ends it, which may be missing after the last
-unfoldable pub lines_of : List ℕ → List (List ℕ)
-lines_of [] = []
-lines_of (byte ∷ text) = if byte == 10 then (byte ∷ []) ∷ lines_of text else onto_first byte (lines_of text)
+unfoldable pub lines_with_ends : List ℕ → List (List ℕ)
+lines_with_ends [] = []
+lines_with_ends (byte ∷ text) = if byte == 10 then (byte ∷ []) ∷ lines_with_ends text else onto_first byte (lines_with_ends text)
 
 -- what stands on a line before its comment, which begins at the first `;`
 abbrev pub code_of : List ℕ → List ℕ

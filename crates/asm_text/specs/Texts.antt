@@ -6,18 +6,18 @@ use Rattle.asm_text.specs.declared.fault.AsmFault.{AsmFault}
 use Rattle.asm_text.specs.declared.fault.AsmFault.TheVariants.{TooLong, Line, OutOfMemory}
 
 -- what is wrong with a line
-abbrev pub cause_text : AsmCause → List ℕ
-cause_text BadToken = codes "bad token"
-cause_text BadNumber = codes "bad number"
-cause_text NoSuchForm = codes "no such form"
-cause_text TwiceNamed = codes "twice named"
-cause_text UnknownName = codes "unknown name"
-cause_text OutOfRange = codes "out of range"
-cause_text OutsideRom = codes "outside rom"
-cause_text Overlap = codes "overlap"
+abbrev pub source_cause_text : AsmCause → List ℕ
+source_cause_text BadToken = codes "bad token"
+source_cause_text BadNumber = codes "bad number"
+source_cause_text NoSuchForm = codes "no such form"
+source_cause_text TwiceNamed = codes "twice named"
+source_cause_text UnknownName = codes "unknown name"
+source_cause_text OutOfRange = codes "out of range"
+source_cause_text OutsideRom = codes "outside rom"
+source_cause_text Overlap = codes "overlap"
 
 -- why a source is refused
-abbrev pub fault_text : AsmFault → List ℕ
-fault_text TooLong = codes "too long"
-fault_text (Line line cause) = codes "line " ++ decimal line ++ codes ": " ++ cause_text cause
-fault_text OutOfMemory = codes "no memory"
+abbrev pub source_fault_text : AsmFault → List ℕ
+source_fault_text TooLong = codes "too long"
+source_fault_text (Line line cause) = codes "line " ++ decimal line ++ codes ": " ++ source_cause_text cause
+source_fault_text OutOfMemory = codes "no memory"

@@ -6,7 +6,7 @@ use Rattle.asm_text.specs.declared.fault.AsmFault.TheVariants.{TooLong, Line}
 use Rattle.asm_text.specs.declared.scan.TheConstants.{TEXT_LIMIT}
 use Rattle.asm_text.specs.declared.token.Kind.{Kind}
 use Rattle.asm_text.specs.declared.token.Token.{Token}
-use Rattle.asm_text.specs.Lines.{code_of, lines_of}
+use Rattle.asm_text.specs.Lines.{code_of, lines_with_ends}
 use Rattle.asm_text.specs.Pieces.{kind_of, pieces_of}
 
 -- these before the others, or the fault of the others
@@ -42,4 +42,4 @@ tokens_from line place (bytes ∷ lines) = joined (line_tokens line place bytes)
 
 -- the tokens of a source, or its one fault: it may be too long; lines count from 1
 abbrev pub tokens_of : List ℕ → Result (List Token) AsmFault
-tokens_of text = if nat_lt TEXT_LIMIT (length text) then Err TooLong else tokens_from 1 0 (lines_of text)
+tokens_of text = if nat_lt TEXT_LIMIT (length text) then Err TooLong else tokens_from 1 0 (lines_with_ends text)

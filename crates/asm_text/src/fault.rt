@@ -1,11 +1,11 @@
 ghost use Rattle.std.specs.Prelude.{Some};
-ghost use Rattle.asm_text.specs.Texts.{cause_text, fault_text};
+ghost use Rattle.asm_text.specs.Texts.{source_cause_text, source_fault_text};
 
-use std::error::Error;
 use std::fmt;
+use thiserror::Error;
 
 /// What is wrong with a line of a source.
-#[derive(Clone, Copy, Debug, PartialEq, Eq)]
+#[derive(Clone, Copy, Debug, PartialEq, Eq, Error)]
 pub enum AsmCause {
     /// A piece that is no token at all: a stray byte, or a name past its greatest length.
     BadToken,
@@ -26,17 +26,18 @@ pub enum AsmCause {
 }
 
 /// Why a source is refused.
-#[derive(Clone, Copy, Debug, PartialEq, Eq)]
+#[derive(Clone, Copy, Debug, PartialEq, Eq, Error)]
 pub enum AsmFault {
     /// More than `TEXT_LIMIT` bytes, which comes before all else.
     TooLong,
     /// The first bad line, counted from 1, and what is wrong with it.
     Line { line: u32, cause: AsmCause },
+    /// No memory for the tokens, or for what is kept of the lines.
     OutOfMemory,
 }
 
 impl fmt::Display for AsmCause {
-    ghost output = { λ cause. Some (cause_text cause) };
+    ghost output = { λ cause. Some (source_cause_text cause) };
 
     fn fmt<W: fmt::Write>(&self, f: &mut fmt::Formatter<W>) -> fmt::Result {
         f.write_str(match self {
@@ -52,10 +53,8 @@ impl fmt::Display for AsmCause {
     }
 }
 
-impl Error for AsmCause {}
-
 impl fmt::Display for AsmFault {
-    ghost output = { λ fault. Some (fault_text fault) };
+    ghost output = { λ fault. Some (source_fault_text fault) };
 
     fn fmt<W: fmt::Write>(&self, f: &mut fmt::Formatter<W>) -> fmt::Result {
         match self {
@@ -65,5 +64,3 @@ impl fmt::Display for AsmFault {
         }
     }
 }
-
-impl Error for AsmFault {}

@@ -2,16 +2,16 @@
 #![tactic(auto)]
 
 pub mod fault;
+pub mod laws;
 mod line;
-pub mod listing;
 pub mod numeral;
 mod piece;
 pub mod scan;
 pub mod token;
 
 pub use fault::{AsmCause, AsmFault};
-pub use line::read_line;
-pub use listing::{Listing, ListingLine};
+pub use laws::source_limits;
+pub use line::split_line;
 pub use numeral::number;
 pub use piece::is_register;
 pub use scan::{TEXT_LIMIT, push_line, tokens};

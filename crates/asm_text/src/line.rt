@@ -1,6 +1,6 @@
 ghost use Rattle.std.specs.Prelude.{◌≡◌, ◌==◌, ◌<◌, ◌≤◌, ◌∷◌, ◌++◌, length};
 ghost use Rattle.std.specs.List.{position};
-ghost use Rattle.asm_text.specs.Lines.{code_of, lines_of};
+ghost use Rattle.asm_text.specs.Lines.{code_of, lines_with_ends};
 
 /// The place of the first such byte.
 fn find(bytes: &[u8], wanted: u8) -> Option<usize>
@@ -11,9 +11,9 @@ fn find(bytes: &[u8], wanted: u8) -> Option<usize>
 
 /// The first line of a text with the LF that ends it, and what stands after it.
 #[tactic(auto, using(crate::proofs::Parting::lines))]
-pub fn read_line(text: &[u8]) -> (&[u8], &[u8])
+pub fn split_line(text: &[u8]) -> (&[u8], &[u8])
     requires { 0 < length text.now }
-    ensures lines { lines_of text.now ≡ result.0.now ∷ lines_of result.1.now }
+    ensures lines { lines_with_ends text.now ≡ result.0.now ∷ lines_with_ends result.1.now }
     ensures whole { text.now ≡ result.0.now ++ result.1.now }
     ensures some { 0 < length result.0.now }
 {

@@ -4,7 +4,7 @@ ghost use Rattle.asm_text.specs.Spans.{EndsBy, IsAccounted, IsNumbered, IsTokenO
 ghost use Rattle.asm_text.specs.Tokens.{line_tokens, onto, tokens_of};
 
 use crate::fault::AsmFault;
-use crate::line::{code_of, read_line};
+use crate::line::{code_of, split_line};
 use crate::piece::{read_kind, split_piece};
 use crate::token::Token;
 use std::alloc::Global;
@@ -77,7 +77,7 @@ pub fn tokens(alloc: Global, text: &[u8]) -> Result<Vec<Token>, AsmFault>
     let mut rest = text;
     let mut line = 1;
     'lines: while !rest.is_empty() {
-        let (first, after) = read_line(rest);
+        let (first, after) = split_line(rest);
         push_line(&mut tokens, first, line, text.len() - rest.len())?;
         rest = after;
         line += 1;

@@ -1,7 +1,4 @@
-use crate::{
-    AsmCause, AsmFault, Kind, Listing, ListingLine, Token, is_register, number, push_line,
-    read_line, tokens,
-};
+use crate::{AsmCause, AsmFault, Kind, Token, is_register, number, push_line, split_line, tokens};
 use std::test::Fail;
 
 /// A source of four lines: a comment with a byte that begins no token, an empty line, CR before LF,
@@ -142,7 +139,7 @@ fn a_register_is_one_letter_of_either_case(rt: HostRuntime) {
 
 #[test]
 fn the_tokens_of_a_line_come_after_those_that_are_there(rt: HostRuntime) -> Result<(), Fail> {
-    let (first, after) = read_line(b"a=1 ; one\n  b");
+    let (first, after) = split_line(b"a=1 ; one\n  b");
     let mut found = Vec::new(rt.alloc());
     push_line(&mut found, first, 1, 0)?;
     push_line(&mut found, after, 2, first.len())?;
@@ -167,26 +164,5 @@ fn a_source_of_a_mebibyte_is_read_and_a_longer_one_is_not(rt: HostRuntime) -> Re
     assert_eq!(rt; (found[0].end, found[0].line), (1_048_576, 1_048_576));
     text.push(b'@')?;
     assert_eq!(rt; tokens(rt.alloc(), &text).err(), Some(AsmFault::TooLong));
-    Ok(())
-}
-
-#[test]
-fn a_listing_has_its_lines_in_order(rt: HostRuntime) -> Result<(), Fail> {
-    let lines = [
-        ListingLine {
-            addr: 0x9000,
-            count: 2,
-            line: 2,
-        },
-        ListingLine {
-            addr: 0x9002,
-            count: 3,
-            line: 3,
-        },
-    ];
-    let mut listing = Listing::new(rt.alloc());
-    listing.push(lines[0])?;
-    listing.push(lines[1])?;
-    assert_eq!(rt; listing.lines(), lines.as_slice());
     Ok(())
 }

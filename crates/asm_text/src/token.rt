@@ -3,8 +3,11 @@
 /// A word with a `.` before it is a `Name` too, as are the words `a`, `x` and `y`.
 #[derive(Clone, Copy, Debug, PartialEq, Eq)]
 pub enum Kind {
+    /// A word, with the `.` that may stand before it.
     Name,
+    /// A number in one of the three bases.
     Number,
+    /// One of the ten marks.
     Punctuation,
 }
 

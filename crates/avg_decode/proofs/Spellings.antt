@@ -4,7 +4,8 @@ use Rattle.std.proofs.lemmas.Bool.Decides.{nat_tests}
 use Rattle.std.proofs.lemmas.Int.{ints}
 use Rattle.avg_decode.specs.declared.word.VgWord.{VgWord}
 use Rattle.avg_decode.specs.declared.word.VgWord.TheVariants.{Vctr, Halt, Svec, Stat, Scal, Cntr, Jsrl, Rtsl, Jmpl}
-use Rattle.avg_decode.specs.Bits.{field, residue, signed}
+use Rattle.bit_words.specs.Residues.{residue}
+use Rattle.avg_decode.specs.Bits.{field, signed}
 use Rattle.avg_decode.specs.Word.{IsInRange, IsLong, IsShort, short_distance, spelling_of, word_of}
 
 -- a field holds a signed number that fits it

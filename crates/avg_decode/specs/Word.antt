@@ -2,7 +2,8 @@
 use Rattle.std.specs.Prelude.{◌≡◌, ℕ, ◌+◌, ◌*◌, ◌/◌, ◌^◌, ⊤, ◌<◌, ◌==◌, if◌then◌else◌, List, [], ◌∷◌, slice_index_or, ℤ, pos, neg_ℤ, ◌+ℤ◌, ◌≤ℤ◌}
 use Rattle.avg_decode.specs.declared.word.VgWord.{VgWord}
 use Rattle.avg_decode.specs.declared.word.VgWord.TheVariants.{Vctr, Halt, Svec, Stat, Scal, Cntr, Jsrl, Rtsl, Jmpl}
-use Rattle.avg_decode.specs.Bits.{field, residue, signed}
+use Rattle.bit_words.specs.Residues.{residue}
+use Rattle.avg_decode.specs.Bits.{field, signed}
 
 -- a short vector has half its distances in five bits each
 abbrev pub short_distance : ℕ → ℤ

@@ -1,5 +1,6 @@
 ghost use Rattle.std.specs.Prelude.{◌≡◌, ◌*◌, ◌^◌, ◌<◌, ◌≤◌, pos, neg_ℤ, ◌≤ℤ◌, ◌<ℤ◌};
-ghost use Rattle.avg_decode.specs.Bits.{field, residue, signed};
+ghost use Rattle.bit_words.specs.Residues.{residue};
+ghost use Rattle.avg_decode.specs.Bits.{field, signed};
 
 /// The number in `width` bits of a word, of which bit `low` is the lowest.
 pub(crate) fn field_of(w: u16, low: u32, width: u32) -> u16

@@ -1,5 +1,5 @@
 ghost use Rattle.std.specs.Prelude.{◌≡◌, ◌/◌, ◌^◌, ◌<◌};
-ghost use Rattle.avg_decode.specs.Bits.{residue};
+ghost use Rattle.bit_words.specs.Residues.{residue};
 ghost use Rattle.avg_decode.specs.Word.{IsInRange, IsLong, IsShort, second_of, setting_of, short_distance, spelling_of, word_of};
 
 use crate::VgWord;

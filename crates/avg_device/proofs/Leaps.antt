@@ -10,7 +10,7 @@ use Rattle.board_base.proofs.ExtendedLaws.{Extended-none}
 use Rattle.board_base.proofs.TickLaws.{made-rest, ticks-rest}
 use Rattle.board_base.specs.Ticks.{made, ticks}
 use Rattle.board_base.specs.Vg.{VgValue}
-use Rattle.avg_device.specs.declared.phase.TheConstants.{LOW_BYTE, HIGH_BYTE, SECOND_LOW, SECOND_HIGH, EXECUTE, DRAW}
+use Rattle.board_base.specs.declared.phase.TheConstants.{LOW_BYTE, HIGH_BYTE, SECOND_LOW, SECOND_HIGH, EXECUTE, DRAW}
 use Rattle.avg_device.specs.Leap.{drawn_for, long_done, memory_word, short_done, strokes_for}
 use Rattle.avg_device.specs.Tick.{drawn, ended, executed, high_byte, high_read, low_byte, low_read, next_word, obeyed, phase_after, phase_done, second_high_read, second_low_read, stroke_at, strokes_at, vg_gives, vg_tick, word_at}
 

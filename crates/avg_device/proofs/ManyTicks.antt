@@ -10,7 +10,7 @@ use Rattle.board_base.specs.declared.record.Record.TheVariants.{Stroke}
 use Rattle.board_base.specs.Records.{MadeBetween}
 use Rattle.board_base.specs.Ticks.{made}
 use Rattle.board_base.specs.Vg.{VgValue}
-use Rattle.avg_device.specs.declared.phase.TheConstants.{DRAW}
+use Rattle.board_base.specs.declared.phase.TheConstants.{DRAW}
 use Rattle.avg_device.specs.Tick.{beam_x, beam_y, stroke_at, strokes_at, vg_gives, vg_tick}
 
 -- a trail that stays

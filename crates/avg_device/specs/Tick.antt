@@ -8,7 +8,7 @@ use Rattle.avg_draw.specs.Beam.{clocks_of, delta_of, held}
 use Rattle.board_base.specs.declared.record.Record.{Record}
 use Rattle.board_base.specs.declared.record.Record.TheVariants.{Stroke}
 use Rattle.board_base.specs.Vg.{VgValue}
-use Rattle.avg_device.specs.declared.phase.TheConstants.{LOW_BYTE, HIGH_BYTE, SECOND_LOW, SECOND_HIGH, EXECUTE, DRAW}
+use Rattle.board_base.specs.declared.phase.TheConstants.{LOW_BYTE, HIGH_BYTE, SECOND_LOW, SECOND_HIGH, EXECUTE, DRAW}
 
 -- the low and the high byte of the word at a word address
 abbrev pub low_byte : List ℕ → ℕ → ℕ

@@ -1,8 +1,8 @@
 ghost use Rattle.std.specs.Prelude.{◌≡◌, replicate, pos};
 ghost use Rattle.avg_device.specs.Tick.{vg_go, vg_reset};
 
-use crate::phase::LOW_BYTE;
 use board_base::VgState;
+use board_base::phase::LOW_BYTE;
 
 /// Forgets the word and the vector under way.
 fn abandon(state: &mut VgState)

@@ -3,8 +3,8 @@ ghost use Rattle.board_base.specs.Ranges.{IsWithin};
 ghost use Rattle.board_base.specs.Trail.{Extended};
 ghost use Rattle.avg_device.specs.Tick.{beam_x, beam_y, drawn, ended, stroke_at, strokes_at};
 
-use crate::phase::{DRAW, LOW_BYTE};
 use avg_draw::move_beam;
+use board_base::phase::{DRAW, LOW_BYTE};
 use board_base::{Record, Trail, VgState};
 
 /// The beam after the vector under way.

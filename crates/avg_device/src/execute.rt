@@ -2,10 +2,10 @@ ghost use Rattle.std.specs.Prelude.{◌≡◌, ◌<◌, ◌+◌, ◌%◌, slice_
 ghost use Rattle.avg_decode.specs.Word.{IsInRange, IsLong};
 ghost use Rattle.avg_device.specs.Tick.{begun, executed, obeyed, pen_of};
 
-use crate::phase::{DRAW, EXECUTE, LOW_BYTE};
 use avg_decode::{VgWord, second, word_kind};
 use avg_draw::{delta, draw_clocks};
 use board_base::VgState;
+use board_base::phase::{DRAW, EXECUTE, LOW_BYTE};
 
 /// How bright a vector is drawn, from the number in its word.
 fn pen(z: u8, intensity: u8) -> u8
@@ -47,7 +47,7 @@ fn call(state: &mut VgState, to: u16)
 }
 
 /// Goes on at the address that was kept last.
-fn come_back(state: &mut VgState)
+fn rtsl(state: &mut VgState)
     ensures { state.new ≡ record state.old { sp = (state.old.sp + 3) % 4; pc = slice_index state.old.stack ((state.old.sp + 3) % 4) } }
 {
     state.sp = (state.sp + 3) % 4;
@@ -80,7 +80,7 @@ pub(crate) fn obey(state: &mut VgState, word: VgWord, second: (i16, u8))
             state.y = 0;
         }
         VgWord::Jsrl { to } => call(state, to),
-        VgWord::Rtsl => come_back(state),
+        VgWord::Rtsl => rtsl(state),
         VgWord::Jmpl { to } => state.pc = to,
     }
 }

@@ -1,4 +1,4 @@
-ghost use Rattle.std.specs.Prelude.{◌≡◌, ◌≤◌, ◌+◌, ◌^◌};
+ghost use Rattle.std.specs.Prelude.{◌≡◌, ◌≤◌, ◌+◌};
 ghost use Rattle.board_base.specs.Ticks.{made, ticks};
 ghost use Rattle.board_base.specs.Trail.{Extended};
 ghost use Rattle.board_base.specs.Vg.{vg_at_power_on};
@@ -7,7 +7,7 @@ ghost use Rattle.avg_device.specs.Tick.{vg_gives, vg_tick};
 use crate::control::{go, reset};
 use crate::leap::leap;
 use crate::unit::VectorUnit;
-use board_base::{CallCount, Clocked, Trail, VectorMemory, VgState};
+use board_base::{CLOCK_END, CallCount, Clocked, Trail, VectorMemory, VgState};
 use std::marker::Model;
 
 /// A vector generator that moves by whole words, whole draws and whole halts. It gives the same
@@ -51,7 +51,7 @@ impl Clocked for FastVg {
 #[tactic(auto, using(crate::proofs::ManyTicks::start))]
 fn leap_each(state: &mut VgState, memory: &VectorMemory, from: u64, n: u64, trail: &mut Trail)
     requires room { n ≤ trail.old.spare }
-    requires clocks { from + n ≤ 2 ^ 49 }
+    requires clocks { from + n ≤ CLOCK_END }
     ensures state { state.new ≡ ticks (vg_tick memory.now) from n state.old }
     ensures records { Extended trail.old trail.new (made (vg_tick memory.now) vg_gives from n state.old) }
 {

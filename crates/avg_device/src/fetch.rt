@@ -1,7 +1,7 @@
 ghost use Rattle.std.specs.Prelude.{◌≡◌, ◌<◌};
 ghost use Rattle.avg_device.specs.Tick.{high_read, low_read, next_word, second_high_read, second_low_read};
 
-use crate::phase::{EXECUTE, HIGH_BYTE, LOW_BYTE, SECOND_HIGH, SECOND_LOW};
+use board_base::phase::{EXECUTE, HIGH_BYTE, LOW_BYTE, SECOND_HIGH, SECOND_LOW};
 use board_base::{VectorMemory, VgState};
 
 /// The number of words.

@@ -1,4 +1,4 @@
-ghost use Rattle.std.specs.Prelude.{◌≡◌, ◌≤◌, ◌<◌, ◌+◌, ◌/◌, ◌^◌, min, false};
+ghost use Rattle.std.specs.Prelude.{◌≡◌, ◌≤◌, ◌<◌, ◌+◌, ◌/◌, min, false};
 ghost use Rattle.board_base.specs.Ticks.{made, ticks};
 ghost use Rattle.board_base.specs.Trail.{Extended};
 ghost use Rattle.avg_device.specs.Leap.{drawn_for, long_done, memory_word, short_done, strokes_for};
@@ -7,10 +7,10 @@ ghost use Rattle.avg_device.specs.Tick.{high_byte, next_word, vg_gives, vg_tick}
 use crate::draw::end;
 use crate::execute::obey;
 use crate::fetch::following;
-use crate::phase::{DRAW, LOW_BYTE};
 use crate::tick::tick;
 use avg_decode::{second, word_kind};
-use board_base::{Trail, VectorMemory, VgState};
+use board_base::phase::{DRAW, LOW_BYTE};
+use board_base::{CLOCK_END, Trail, VectorMemory, VgState};
 
 /// A word below this one is that of a long vector, which has a second word.
 const LONG_BELOW: u16 = 0x2000;
@@ -92,7 +92,7 @@ fn draw_on(state: &mut VgState, clock: u64, most: u64, trail: &mut Trail) -> u64
     requires phase { state.old.phase ≡ DRAW }
     requires some { 1 ≤ most }
     requires room { most ≤ trail.old.spare }
-    requires clocks { clock + most ≤ 2 ^ 49 }
+    requires clocks { clock + most ≤ CLOCK_END }
     ensures clocks { result ≡ min state.old.left most }
     ensures some { 1 ≤ result }
     ensures state { state.new ≡ drawn_for result state.old }
@@ -119,7 +119,7 @@ pub(crate) fn leap(
 ) -> u64
     requires some { 1 ≤ most }
     requires room { most ≤ trail.old.spare }
-    requires clocks { clock + most ≤ 2 ^ 49 }
+    requires clocks { clock + most ≤ CLOCK_END }
     ensures some { 1 ≤ result }
     ensures within { result ≤ most }
     ensures state { state.new ≡ ticks (vg_tick memory.now) clock result state.old }

@@ -8,7 +8,6 @@ mod execute;
 mod fast;
 mod fetch;
 mod leap;
-pub mod phase;
 mod plain;
 mod tick;
 mod unit;

@@ -1,7 +1,7 @@
-ghost use Rattle.std.specs.Prelude.{◌+◌, ◌≤◌, ◌^◌};
+ghost use Rattle.std.specs.Prelude.{◌+◌, ◌≤◌};
 
 use crate::{FastVg, PlainVg, VectorUnit};
-use board_base::{Clocked, Record, Trail, VectorMemory, VgState};
+use board_base::{CLOCK_END, Clocked, Record, Trail, VectorMemory, VgState};
 use std::alloc::Global;
 use std::process::Abort;
 use std::test::Fail;
@@ -49,7 +49,7 @@ fn draws<V: VectorUnit>(
     strokes: &[Record],
 ) -> Result<(), Fail>
     requires few { n ≤ 9000 }
-    requires clocks { from + n ≤ 2 ^ 49 }
+    requires clocks { from + n ≤ CLOCK_END }
 {
     let mut trail = Trail::new(rt.alloc(), 9000)?;
     unit.advance(memory, from, n, &mut trail);

@@ -5,7 +5,7 @@ ghost use Rattle.avg_device.specs.Tick.{vg_gives, vg_tick};
 use crate::draw::draw;
 use crate::execute::execute;
 use crate::fetch::{read_high, read_low, read_second_high, read_second_low};
-use crate::phase::{EXECUTE, HIGH_BYTE, LOW_BYTE, SECOND_HIGH, SECOND_LOW};
+use board_base::phase::{EXECUTE, HIGH_BYTE, LOW_BYTE, SECOND_HIGH, SECOND_LOW};
 use board_base::{Trail, VectorMemory, VgState};
 
 /// Does one clock.

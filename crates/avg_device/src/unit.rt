@@ -1,4 +1,4 @@
-ghost use Rattle.std.specs.Prelude.{◌≡◌, ℕ, ◌+◌, ◌^◌, ◌≤◌, List, length};
+ghost use Rattle.std.specs.Prelude.{◌≡◌, ℕ, ◌+◌, ◌≤◌, List, length};
 ghost use Rattle.board_base.specs.Counts.{Counted};
 ghost use Rattle.board_base.specs.Records.{MadeBetween};
 ghost use Rattle.board_base.specs.Ticks.{made, ticks};
@@ -6,7 +6,7 @@ ghost use Rattle.board_base.specs.Trail.{Extended};
 ghost use Rattle.board_base.specs.Vg.{VgValue};
 ghost use Rattle.avg_device.specs.Tick.{vg_gives, vg_go, vg_reset, vg_tick};
 
-use board_base::{Clocked, Part, Trail, VectorMemory, VgState};
+use board_base::{CLOCK_END, Clocked, Part, Trail, VectorMemory, VgState};
 
 /// A vector generator. This project's own profile.
 pub trait VectorUnit: Clocked {
@@ -23,7 +23,7 @@ pub trait VectorUnit: Clocked {
     /// Does the `n` clocks from `from` on, over a memory that stays, and appends their strokes.
     fn advance(&mut self, memory: &VectorMemory, from: u64, n: u64, trail: &mut Trail)
         requires room { n ≤ trail.old.spare }
-        requires clocks { from + n ≤ 2 ^ 49 }
+        requires clocks { from + n ≤ CLOCK_END }
         ensures state { device self.new ≡ ticks (vg_tick memory.now) from n (device self.old) }
         ensures records { Extended trail.old trail.new (made (vg_tick memory.now) vg_gives from n (device self.old)) }
         ensures counted { Counted (Self.calls self.old) (Self.calls self.new) };

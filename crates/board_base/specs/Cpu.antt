@@ -1,5 +1,5 @@
 -- The processor's registers and its place in a sequence, as plain records.
-use Rattle.std.specs.Prelude.{◌≡◌, ◌≤◌, ◌/◌, ◌%◌, ℕ, List, length, Option, None}
+use Rattle.std.specs.Prelude.{◌≡◌, ◌≤◌, ◌/◌, ◌%◌, ℕ, List, length, Option, None, Some}
 use Rattle.board_base.specs.declared.cpu.Sequence.{Sequence}
 
 -- how far a sequence has come: the clocks done, and six bytes of which the first are those of its accesses
@@ -23,6 +23,11 @@ pub record CpuValue : Type 0 where
   pub p : ℕ
   pub jam : Option ℕ
   pub mid : Option MidValue
+
+-- the clocks that are done of a sequence under way
+abbrev pub count_of : Option MidValue → ℕ
+count_of None = 0
+count_of (Some mid) = mid.count
 
 -- bits 4 and 5 of the flags are clear
 pub record IsCpu (c : CpuValue) : Type 0 where

@@ -1,8 +1,8 @@
 -- The interrupt divider and the watchdog, as a plain record. This project's own profile.
 use Rattle.std.specs.Prelude.{ℕ, ◌<◌, Bool, false}
-use Rattle.board_base.specs.declared.divider.TheConstants.{DIVIDER_PERIOD}
+use Rattle.board_base.specs.declared.divider.TheConstants.{DIVIDER_PERIOD, WATCHDOG_WRAPS}
 use Rattle.board_base.specs.declared.divider.Pending.{Pending}
-use Rattle.board_base.specs.declared.divider.Pending.TheVariants.{Power}
+use Rattle.board_base.specs.declared.divider.Pending.TheVariants.{Nothing, Power, Watchdog}
 
 -- the clocks since the last wrap, the interrupt latch, the wraps since the watchdog was cleared, and the pending reset
 pub record DividerValue : Type 0 where
@@ -11,10 +11,16 @@ pub record DividerValue : Type 0 where
   pub dog : ℕ
   pub pending : Pending
 
--- a wrap comes each time a whole period is done, and the watchdog counts to 8
+-- a wrap comes each time a whole period is done, and the watchdog counts wraps up to a reset
 pub record IsDivider (d : DividerValue) : Type 0 where
   pub phase : d.phase < DIVIDER_PERIOD
-  pub dog : d.dog < 8
+  pub dog : d.dog < WATCHDOG_WRAPS
+
+-- the number of a pending reset: none, that of power-on, one by the watchdog
+abbrev pub reset_number : Pending → ℕ
+reset_number Nothing = 0
+reset_number Power = 1
+reset_number Watchdog = 2
 
 -- at power-on a power reset is pending
 abbrev pub divider_at_power_on : DividerValue

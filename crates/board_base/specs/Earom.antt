@@ -1,5 +1,6 @@
 -- The EAROM, as a plain record. Its behaviour is this project's own profile, after the ER2055 data sheet.
 use Rattle.std.specs.Prelude.{◌≡◌, ℕ, ◌<◌, ◌≤◌, List, length, replicate}
+use Rattle.board_base.specs.declared.earom.TheConstants.{CELLS, HOLD_CLOCKS}
 
 -- the address and data latches, the control bits, the clocks held so far, the output latch and the cells
 pub record EaromValue : Type 0 where
@@ -10,14 +11,14 @@ pub record EaromValue : Type 0 where
   pub out : ℕ
   pub cells : List ℕ
 
--- 64 cells, four control bits, and a hold that stops at 1,512 clocks
+-- the cells, four control bits, and a hold that stops when it is complete
 pub record IsEarom (e : EaromValue) : Type 0 where
-  pub addr : e.addr < 64
+  pub addr : e.addr < CELLS
   pub control : e.control < 16
-  pub hold : e.hold ≤ 1512
-  pub cells : length e.cells ≡ 64
+  pub hold : e.hold ≤ HOLD_CLOCKS
+  pub cells : length e.cells ≡ CELLS
 
 -- a fresh EAROM is erased: all its cells are FF
 abbrev pub earom_at_power_on : EaromValue
 earom_at_power_on =
-    record { addr = 0; value = 0; control = 0; hold = 0; out = 255; cells = replicate 64 255 }
+    record { addr = 0; value = 0; control = 0; hold = 0; out = 255; cells = replicate CELLS 255 }

@@ -8,6 +8,7 @@ pub mod Pokey
 pub mod PokeyFields
 pub mod Ranges
 pub mod Records
+pub mod Sooner
 pub mod Ticks
 pub mod Trail
 pub mod Vg

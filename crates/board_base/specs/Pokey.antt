@@ -1,5 +1,6 @@
 -- A POKEY, as a plain record (POKEY C012294 data sheet; what is this project's own profile is told where it is defined).
 use Rattle.std.specs.Prelude.{◌≡◌, ℕ, ◌<◌, ◌≤◌, List, length, replicate, All}
+use Rattle.board_base.specs.declared.pokey.TheConstants.{LONGEST_PERIOD, POT_LIMIT, PRESCALER_BASE, PRESCALER_LINE}
 
 -- the registers written, the interrupt status, the four polynomial registers, the two prescalers, and of each channel
 -- the pulses left, the tone bit and the level; the high-pass bits, the pot count and the pot targets
@@ -23,8 +24,8 @@ pub record PokeyValue : Type 0 where
   pub targets : List ℕ
   pub last : List ℕ
 
--- four channels, three requests, registers of 4, 5, 9 and 17 bits, prescalers by 28 and 114, a longest period of
--- 65,542 pulses, levels of four bits, eight pots that count to 228
+-- four channels, three requests, registers of 4, 5, 9 and 17 bits, two prescalers, a longest period, levels of four bits,
+-- eight pots that count to one limit
 pub record IsPokey (p : PokeyValue) : Type 0 where
   pub audf : length p.audf ≡ 4
   pub audc : length p.audc ≡ 4
@@ -34,13 +35,13 @@ pub record IsPokey (p : PokeyValue) : Type 0 where
   pub poly5 : p.poly5 < 32
   pub poly9 : p.poly9 < 512
   pub poly17 : p.poly17 < 131072
-  pub pre28 : p.pre28 < 28
-  pub pre114 : p.pre114 < 114
+  pub pre28 : p.pre28 < PRESCALER_BASE
+  pub pre114 : p.pre114 < PRESCALER_LINE
   pub left : length p.left ≡ 4
-  pub pulses : All (λ left. (1 ≤ left) × (left ≤ 65542)) p.left
+  pub pulses : All (λ left. (1 ≤ left) × (left ≤ LONGEST_PERIOD)) p.left
   pub tone : p.tone < 16
   pub pass : p.pass < 4
-  pub pot : p.pot ≤ 228
+  pub pot : p.pot ≤ POT_LIMIT
   pub targets : length p.targets ≡ 8
   pub last : length p.last ≡ 4
   pub levels : All (λ level. level < 16) p.last

@@ -1,5 +1,6 @@
 -- The vector generator, as a plain record. Its phases and scales are this project's own profile.
 use Rattle.std.specs.Prelude.{◌≡◌, ◌≢◌, ℕ, ◌<◌, ◌≤◌, ◌^◌, ℤ, pos, Bool, true, List, length, replicate, All}
+use Rattle.board_base.specs.declared.phase.TheConstants.{DRAW}
 use Rattle.board_base.specs.Ranges.{IsWithin}
 
 -- whether it is halted, the phase of its next tick, where it reads, its return stack, what it draws with, the word
@@ -24,7 +25,7 @@ pub record VgValue : Type 0 where
 
 -- 8,192 words, a stack of four, and a vector of 1 to 8,192 clocks in the drawing phase alone
 pub record IsVg (v : VgValue) : Type 0 where
-  pub phase : v.phase < 6
+  pub phase : v.phase ≤ DRAW
   pub pc : v.pc < 8192
   pub sp : v.sp < 4
   pub colour : v.colour < 8
@@ -38,9 +39,9 @@ pub record IsVg (v : VgValue) : Type 0 where
   pub y : IsWithin (2 ^ 30) v.y
   pub dx : IsWithin (2 ^ 27) v.dx
   pub dy : IsWithin (2 ^ 27) v.dy
-  pub drawing : v.phase ≡ 5 → 1 ≤ v.left
+  pub drawing : v.phase ≡ DRAW → 1 ≤ v.left
   pub longest : v.left ≤ 8192
-  pub resting : v.phase ≢ 5 → v.left ≡ 0
+  pub resting : v.phase ≢ DRAW → v.left ≡ 0
 
 -- halted, all else 0
 abbrev pub vg_at_power_on : VgValue

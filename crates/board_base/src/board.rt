@@ -12,6 +12,9 @@ pub const RAM_LEN: usize = 2048;
 /// The greatest clock of a tape and of a word of the command line, 2^48.
 pub const CLOCK_LIMIT: u64 = 281_474_976_710_656;
 
+/// The clock past which no device is moved, 2^49.
+pub const CLOCK_END: u64 = 562_949_953_421_312;
+
 /// The whole board between two clocks.
 ///
 /// `clock` is the number of clocks done, at most `CLOCK_LIMIT` + 16, and at most `CLOCK_LIMIT` inside

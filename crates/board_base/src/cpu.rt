@@ -4,8 +4,11 @@ use std::marker::Model;
 /// interrupt or a reset (MCS6500 Hardware Manual, "Interrupt and Reset").
 #[derive(Clone, Copy, Debug, PartialEq, Eq)]
 pub enum Sequence {
+    /// An instruction.
     Opcode,
+    /// The interrupt sequence.
     Interrupt,
+    /// The reset sequence.
     Reset,
 }
 

@@ -3,17 +3,24 @@ use std::marker::Model;
 /// The clocks from a wrap of the divider to the next.
 pub const DIVIDER_PERIOD: u16 = 6144;
 
+/// The wraps since the watchdog was cleared that ask for a reset.
+pub const WATCHDOG_WRAPS: u8 = 8;
+
 /// The reset that the next opcode fetch takes.
 #[derive(Clone, Copy, Debug, PartialEq, Eq)]
 pub enum Pending {
+    /// None.
     Nothing,
+    /// That of power-on.
     Power,
+    /// One that the watchdog asked for.
     Watchdog,
 }
 
 /// The interrupt divider and the watchdog. This project's own profile.
 ///
-/// `phase` counts the clocks since the last wrap, so it is below `DIVIDER_PERIOD`; `dog` the wraps up to 7 since the watchdog was cleared.
+/// `phase` counts the clocks since the last wrap, so it is below `DIVIDER_PERIOD`; `dog` the
+/// wraps since the watchdog was cleared, fewer than `WATCHDOG_WRAPS`.
 #[derive(Clone, Copy, Debug, PartialEq, Eq)]
 pub struct DividerState {
     pub phase: u16,

@@ -1,10 +1,16 @@
 use std::marker::Model;
 
+/// The cells of an EAROM, a byte each.
+pub const CELLS: usize = 64;
+
+/// The clocks for which an erase or a write is held until it is done.
+pub const HOLD_CLOCKS: u16 = 1512;
+
 /// The EAROM: its latches, and its 64 cells of a byte (ER2055 data sheet; the modes are this
 /// project's own profile).
 ///
 /// `control` has the four lines clock, not-C1, C2 and select in bits 0 to 3; `hold` counts the
-/// clocks for which an erase or a write has been held, at most 1,512.
+/// clocks for which an erase or a write has been held, at most `HOLD_CLOCKS`.
 #[derive(Clone, Copy, Debug, PartialEq, Eq)]
 pub struct EaromState {
     pub addr: u8,
@@ -12,7 +18,7 @@ pub struct EaromState {
     pub control: u8,
     pub hold: u16,
     pub out: u8,
-    pub cells: [u8; 64],
+    pub cells: [u8; CELLS],
 }
 
 impl Model for EaromState {
@@ -41,7 +47,7 @@ impl EaromState {
             control: 0,
             hold: 0,
             out: 0xFF,
-            cells: [0xFF; 64],
+            cells: [0xFF; CELLS],
         }
     }
 }

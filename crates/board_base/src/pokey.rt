@@ -1,10 +1,22 @@
 use std::marker::Model;
 
+/// The clocks from a pulse of the prescaler of the base clock to the next (C012294 data sheet, 64 kHz).
+pub const PRESCALER_BASE: u8 = 28;
+
+/// The clocks from a pulse of the slow prescaler to the next (C012294 data sheet, 15 kHz).
+pub const PRESCALER_LINE: u8 = 114;
+
+/// The count at which a pot scan stands still (C012294 data sheet, POT0 to POT7).
+pub const POT_LIMIT: u8 = 228;
+
+/// The pulses of the longest period: that of two joined channels on the chip clock.
+pub const LONGEST_PERIOD: u32 = 65_542;
+
 /// A POKEY (POKEY C012294 data sheet; joined channels, pots and the order within a tick are this
 /// project's own profile).
 ///
 /// `audf`, `audc`, `left` and `last` have channels 1 to 4 in this order; `left` counts pulses to
-/// the next underflow, 1 to 65,542. Bit i - 1 of `tone` is channel i's; `pass` has the high-pass
+/// the next underflow, 1 to `LONGEST_PERIOD`. Bit i - 1 of `tone` is channel i's; `pass` has the high-pass
 /// bits of channels 1 and 2. `irqst` has a 0 where a request stands.
 #[derive(Clone, Copy, Debug, PartialEq, Eq)]
 pub struct PokeyState {

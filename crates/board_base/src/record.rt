@@ -4,6 +4,7 @@
 /// 1 to 15; `Levels` has the four levels 0 to 15 of a POKEY; `clock` is the clock in which it came.
 #[derive(Clone, Copy, Debug, PartialEq, Eq)]
 pub enum Record {
+    /// A vector was drawn.
     Stroke {
         clock: u64,
         x0: i32,
@@ -13,6 +14,7 @@ pub enum Record {
         colour: u8,
         intensity: u8,
     },
+    /// The levels of a POKEY changed.
     Levels {
         clock: u64,
         l1: u8,
@@ -20,10 +22,12 @@ pub enum Record {
         l3: u8,
         l4: u8,
     },
+    /// The output latch was written.
     Latch {
         clock: u64,
         value: u8,
     },
+    /// A watchdog reset was taken.
     WatchdogReset {
         clock: u64,
     },

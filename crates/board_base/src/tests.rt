@@ -1,6 +1,6 @@
 use crate::{
     BoardState, CallCount, CpuState, DividerState, EaromState, OutOfMemory, Pending, Record, Trail,
-    VectorMemory, VgState,
+    VectorMemory, VgState, sooner,
 };
 
 const LATCH: Record = Record::Latch {
@@ -90,4 +90,10 @@ fn the_board_begins_with_a_power_reset_pending(rt: HostRuntime) {
         ),
         (true, true)
     );
+}
+
+#[test]
+fn a_time_that_never_comes_is_no_sooner(rt: HostRuntime) {
+    assert_eq!(rt; sooner(None, Some(7)), Some(7));
+    assert_eq!(rt; sooner(Some(9), Some(7)), Some(7));
 }

@@ -113,10 +113,6 @@ pub readable-last : (seen : Seen) (address i : ℕ) → 3 ≤ i → readable see
 unfolding readable
 readable-last seen address i all = let e : 3 - i ≡ 0 = omega arith in ap (readable seen (further address i)) e
 
--- the first of them
-pub readable-first : (seen : Seen) (address : ℕ) → address < 65536 → readable seen address 3 ≡ readable seen (further address 0) 3
-readable-first seen address inside = let e : address ≡ further address 0 = omega arith in ap (λ a. readable seen a 3) e
-
 -- one more is left than after it
 pub one-less : (i count : ℕ) → i < count → count - i ≡ suc (count - (i + 1))
 one-less i count inside = omega arith

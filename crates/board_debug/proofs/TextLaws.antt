@@ -4,7 +4,7 @@ use Rattle.std.specs.List.{concat, flat_map, join_with_byte}
 use Rattle.std.proofs.Math.Seq.{split_at, take-length, take-suc}
 use Rattle.std.proofs.lemmas.List.Concat.{flat_map-append}
 use Rattle.std.proofs.lemmas.List.Folds.{concat-append}
-use Rattle.log_text.specs.Lines.{hex_byte, line}
+use Rattle.text_line.specs.Words.{hex_byte, line}
 use Rattle.outside_io.specs.Known.{grown}
 use Rattle.outside_io.proofs.KnownLaws.{grown-nothing, grown-twice}
 use Rattle.outside_io.proofs.TakesLaws.{took_first, took_then}

@@ -375,12 +375,3 @@ pub go-turn : (tape : TapeValue) (stops : StopsValue) (end : ℕ) (b c : Board) 
 go-turn tape stops end b c last found is =
     let none : look_before tape.end b ≡ None = rw (← last) (sym found) in
     rw (is, last) (turns-on tape.entries (look_before tape.end) (look_after tape.end stops) tape.end (before-opens tape.end) b none)
-
--- a run that isn't over at a jam has gone on
-pub gone-on : (limit : ℕ) (b c : Board) (stop : Stop) → stop ≡ cause_of limit c → (stop ≡ Window → b.wires.clock < c.wires.clock)
-    → b.wires.clock < limit → c.cpu.jam ≡ None → b.wires.clock < c.wires.clock
-gone-on limit b c stop is window before running = by_clock (nat_le limit c.wires.clock) refl
-  where
-    by_clock : (late : Bool) → nat_le limit c.wires.clock ≡ late → b.wires.clock < c.wires.clock
-    by_clock true e = let far = leb-true limit c.wires.clock e in omega arith
-    by_clock false e = window (is ∙ rw (running, e) refl)

@@ -6,15 +6,13 @@ use Rattle.std.specs.Int.{from_bool}
 use Rattle.std.specs.List.{concat}
 use Rattle.board_base.specs.declared.cpu.Sequence.{Sequence}
 use Rattle.board_base.specs.declared.cpu.Sequence.TheVariants.{Opcode, Interrupt, Reset}
-use Rattle.board_base.specs.declared.divider.Pending.{Pending}
-use Rattle.board_base.specs.declared.divider.Pending.TheVariants.{Nothing, Power, Watchdog}
 use Rattle.board_base.specs.Board.{BoardValue}
 use Rattle.board_base.specs.Cpu.{CpuValue, MidValue}
-use Rattle.board_base.specs.Divider.{DividerValue}
+use Rattle.board_base.specs.Divider.{DividerValue, reset_number}
 use Rattle.board_base.specs.Earom.{EaromValue}
 use Rattle.board_base.specs.Pokey.{PokeyValue}
 use Rattle.board_base.specs.Vg.{VgValue}
-use Rattle.log_text.specs.Lines.{hex_byte, hex_word, line}
+use Rattle.text_line.specs.Words.{hex_byte, hex_word, line}
 use Rattle.pokey_chip.specs.Registers.{register_read}
 
 -- clock N
@@ -52,12 +50,6 @@ mid_lines (Some m) = mid_text m ∷ []
 unfoldable pub ports_text : BoardValue → List ℕ
 ports_text b =
     line (codes "board" ∷ codes "out" ∷ hex_byte b.out ∷ codes "in0" ∷ hex_byte b.in0 ∷ codes "in3" ∷ hex_byte b.in3 ∷ codes "in4" ∷ hex_byte b.in4 ∷ [])
-
--- no reset, one at power-on, one by the watchdog
-abbrev pub reset_number : Pending → ℕ
-reset_number Nothing = 0
-reset_number Power = 1
-reset_number Watchdog = 2
 
 -- div phase N irq B dog N reset N
 unfoldable pub divider_text : DividerValue → List ℕ

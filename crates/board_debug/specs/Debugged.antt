@@ -7,8 +7,8 @@ use Rattle.catchup_engine.specs.EngineValue.{EngineValue}
 use Rattle.debug_script.specs.declared.command.Command.{Command}
 use Rattle.debug_script.specs.Script.{script_of}
 use Rattle.debug_script.specs.Stops.{no_stops}
-use Rattle.board_debug.specs.declared.script.DebugFault.{DebugFault}
-use Rattle.board_debug.specs.declared.script.DebugFault.TheVariants.{BadCommand, SinkFault, OutOfMemory}
+use Rattle.board_debug.specs.declared.fault.DebugFault.{DebugFault}
+use Rattle.board_debug.specs.declared.fault.DebugFault.TheVariants.{BadCommand, SinkFault, OutOfMemory}
 use Rattle.board_debug.specs.Ready.{IsReady}
 use Rattle.board_debug.specs.Session.{session_board, session_text}
 

@@ -3,3 +3,4 @@ pub mod Debugged
 pub mod Looks
 pub mod Ready
 pub mod Session
+pub mod Texts

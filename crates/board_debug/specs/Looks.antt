@@ -1,7 +1,7 @@
 -- What a debugger looks at, and how it tells what it found. This project's own profile.
 use Rattle.std.specs.Prelude.{◌≡◌, ℕ, ◌==◌, Bool, not, ◌&&◌, List, [], ◌∷◌, ◌++◌, find, map, codes, decimal, nat_le, unwrap_or, Option, Some, None, if◌then◌else◌}
 use Rattle.std.specs.Option.{option_map}
-use Rattle.log_text.specs.Lines.{line, hex_byte, hex_word}
+use Rattle.text_line.specs.Words.{line, hex_byte, hex_word}
 use Rattle.catchup_engine.specs.Lockstep.{Board}
 use Rattle.catchup_engine.specs.Memory.{memory_byte}
 use Rattle.debug_script.specs.Stops.{StopsValue}

@@ -1,10 +1,11 @@
 ghost use Rattle.std.specs.Prelude.{◌≡◌, ◌≤◌, length};
-ghost use Rattle.board_debug.specs.BoardText.{beam_text, divider_text, earom_text, pokey_text, ports_text, reset_number, vg_text};
+ghost use Rattle.board_base.specs.Divider.{reset_number};
+ghost use Rattle.board_debug.specs.BoardText.{beam_text, divider_text, earom_text, pokey_text, ports_text, vg_text};
 ghost use Rattle.pokey_chip.specs.Registers.{register_read};
 
 use board_base::{BoardState, DividerState, EaromState, Pending, PokeyState, VgState};
-use log_text::Line;
 use pokey_chip::{PlainPokey, SoundUnit};
+use text_line::Line;
 
 /// The register of a POKEY that gives a byte of its long polynomial register (POKEY C012294 data
 /// sheet).

@@ -3,6 +3,7 @@
 
 mod board_text;
 mod device_lines;
+pub mod fault;
 pub mod found;
 mod listings;
 mod looks;
@@ -14,8 +15,9 @@ mod turns;
 mod write_lines;
 
 pub use board_text::write_board;
+pub use fault::DebugFault;
 pub use found::Found;
-pub use script::{DebugFault, run_script};
+pub use script::run_script;
 
 #[cfg(test)]
 mod tests;

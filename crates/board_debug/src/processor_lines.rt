@@ -2,7 +2,7 @@ ghost use Rattle.std.specs.Prelude.{◌≡◌, ◌≤◌, length};
 ghost use Rattle.board_debug.specs.BoardText.{clock_text, cpu_text, jam_text, mid_text, sequence_name};
 
 use board_base::{BoardState, CpuState, Mid, Sequence};
-use log_text::Line;
+use text_line::Line;
 
 /// The line of the clock.
 pub(crate) fn clock_line(state: &BoardState) -> Line

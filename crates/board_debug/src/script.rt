@@ -3,6 +3,7 @@ ghost use Rattle.catchup_engine.specs.EngineValue.{HasNoRecords};
 ghost use Rattle.debug_script.specs.declared.script.TheConstants.{SCRIPT_LIMIT};
 ghost use Rattle.board_debug.specs.Debugged.{Debugs};
 
+use crate::fault::DebugFault;
 use crate::session::{run_commands, state_of};
 use avg_device::VectorUnit;
 use catchup_engine::Engine;
@@ -13,17 +14,6 @@ use outside_io::Sink;
 use pokey_chip::SoundUnit;
 use std::alloc::Global;
 use tape_ports::Tape;
-
-/// Why a script wasn't run to its end.
-#[derive(Clone, Copy, Debug, PartialEq, Eq)]
-pub enum DebugFault {
-    /// The first line of no form, counted from 1. Nothing was run or written.
-    BadCommand(u32),
-    /// A write failed. A first part of the text was taken.
-    SinkFault,
-    /// Nothing was run or written.
-    OutOfMemory,
-}
 
 /// Runs a script over an engine and its tape, and writes what its commands print.
 ///

@@ -8,11 +8,11 @@ use avg_device::VectorUnit;
 use catchup_engine::Engine;
 use earom_cells::CellUnit;
 use irq_watchdog::DividerUnit;
-use log_text::Line;
 use outside_io::{Sink, SinkFault};
 use pokey_chip::SoundUnit;
+use text_line::Line;
 
-/// The line of a stop, with pc and the clock.
+/// The line of a stop: what was found, and the clock.
 #[tactic(auto, using(std::proofs::Common::append_assoc), unfolding(crate::specs::Looks::stop_text))]
 fn stop_line<V: VectorUnit, P: SoundUnit, C: CellUnit, D: DividerUnit>(
     engine: &Engine<V, P, C, D>,

@@ -2,8 +2,8 @@ ghost use Rattle.std.specs.List.{concat};
 ghost use Rattle.outside_io.specs.Causes.{HasCause};
 ghost use Rattle.outside_io.specs.Sink.{Takes};
 
-use log_text::Line;
 use outside_io::{Sink, SinkFault};
+use text_line::Line;
 
 /// Writes lines, one after another.
 pub(crate) fn write_lines<O: Sink>(lines: &[Line], out: &mut O) -> Result<(), SinkFault>

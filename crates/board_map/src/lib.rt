@@ -2,9 +2,11 @@
 #![tactic(auto)]
 
 pub mod address;
+pub mod laws;
 pub mod map;
 
 pub use address::region;
+pub use laws::region_edges;
 pub use map::Region;
 
 #[cfg(test)]

@@ -5,21 +5,38 @@
 /// and written as the output latch.
 #[derive(Clone, Copy, Debug, PartialEq, Eq)]
 pub enum Region {
+    /// The RAM.
     Ram(u16),
+    /// The RAM of the vector memory.
     VectorRam(u16),
+    /// Its ROM.
     VectorRom(u16),
+    /// POKEY 1.
     Sound1(u8),
+    /// POKEY 2.
     Sound2(u8),
+    /// The EAROM's output latch.
     EaromOut,
+    /// Input port 0, the halted bit and the 3 kHz bit.
     In0,
+    /// Input port 3.
     In3,
+    /// Input port 4, and the output latch.
     In4,
+    /// Starts the generator.
     Go,
+    /// Halts the generator.
     VgReset,
+    /// Lets go of the interrupt.
     Acknowledge,
+    /// The EAROM's control bits.
     EaromControl,
+    /// The EAROM's address and data latches.
     EaromLatch(u8),
+    /// Clears the watchdog.
     Watchdog,
+    /// The program ROM.
     ProgramRom(u16),
+    /// No part of the board.
     Nothing,
 }

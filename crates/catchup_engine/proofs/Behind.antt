@@ -20,8 +20,8 @@ use Rattle.tape_ports.specs.Due.{due_at}
 use Rattle.avg_device.specs.Tick.{vg_gives}
 use Rattle.pokey_chip.specs.Tick.{pokey_gives}
 use Rattle.catchup_engine.specs.Wires.{Wires, port_set, applied, devices_ticked, ticked, line_of, byte_in, byte_read, put_in, byte_put, reset_by, reset_begun}
-use Rattle.catchup_engine.specs.Lockstep.{Board, accessed, accessed_by, sequence_due, begun, at_fetch, moved, step, made_by, due_access, access_in}
-use Rattle.catchup_engine.specs.Run.{stepped, steps_until, is_over, is_at, is_cut, boundary_steps, clock_steps, cut_steps, to_boundary, run, to_cut}
+use Rattle.catchup_engine.specs.Lockstep.{Board, accessed, accessed_by, sequence_due, begun, at_fetch, after_access, step, made_by, due_access, access_in}
+use Rattle.catchup_engine.specs.Run.{stepped, steps_until, is_over, is_at, is_cut, boundary_steps, clock_steps, cut_steps, to_boundary, to_clock, to_cut}
 use Rattle.catchup_engine.specs.Budget.{counted, begins_reset, resets_begun, ticks_price, price, budget}
 use Rattle.catchup_engine.specs.EngineValue.{cleared}
 use Rattle.catchup_engine.specs.Order.{Recorded, behind, records_of}
@@ -117,15 +117,15 @@ at_fetch-front c l w =
     ∙ ap (begun q) (accessed-front (start_of q c) q [] l w)
     ∙ begun-behind q l (accessed (start_of q c) q [] w)
 
-moved-front : (mid : Option MidValue) (c : CpuValue) (l : Recorded) (w : Wires) → moved mid c (front l w) ≡ behind l (moved mid c w)
-moved-front None c l w = at_fetch-front c l w
-moved-front (Some mid) c l w = accessed-front (registers_of c) mid.sequence (given_by mid) l w
+after_access-front : (mid : Option MidValue) (c : CpuValue) (l : Recorded) (w : Wires) → after_access mid c (front l w) ≡ behind l (after_access mid c w)
+after_access-front None c l w = at_fetch-front c l w
+after_access-front (Some mid) c l w = accessed-front (registers_of c) mid.sequence (given_by mid) l w
 
 -- a step adds to the records made before
 pub step-behind : (entries : List TapeEntry) (l : Recorded) (b : Board) → step entries (behind l b) ≡ behind l (step entries b)
 unfolding step
 step-behind entries l b =
-    rw (ticked-front entries l b.wires, moved-front b.cpu.mid b.cpu l (ticked entries b.wires)) refl
+    rw (ticked-front entries l b.wires, after_access-front b.cpu.mid b.cpu l (ticked entries b.wires)) refl
 
 -- and so do n steps
 pub stepped-behind : (entries : List TapeEntry) (n : ℕ) (l : Recorded) (b : Board) → stepped entries n (behind l b) ≡ behind l (stepped entries n b)
@@ -152,9 +152,9 @@ behind-by entries asked same most l b =
     ∙ stepped-behind entries (steps_until entries asked most b) l b
 
 -- a run adds to the records made before
-pub run-behind : (entries : List TapeEntry) (cut : ℕ) (l : Recorded) (b : Board) → run entries cut (behind l b) ≡ behind l (run entries cut b)
-unfolding run
-run-behind entries cut l b = behind-by entries (is_at cut) (λ _ _. refl) (cut - b.wires.clock) l b
+pub to_clock-behind : (entries : List TapeEntry) (cut : ℕ) (l : Recorded) (b : Board) → to_clock entries cut (behind l b) ≡ behind l (to_clock entries cut b)
+unfolding to_clock
+to_clock-behind entries cut l b = behind-by entries (is_at cut) (λ _ _. refl) (cut - b.wires.clock) l b
 
 -- the same for a run to a boundary
 pub to_boundary-behind : (entries : List TapeEntry) (limit : ℕ) (l : Recorded) (b : Board)
@@ -234,4 +234,4 @@ pub behind-cleared : (b : Board) → behind (records_of b) (cleared b) ≡ b
 behind-cleared b =
     rw (append-nil b.wires.strokes, append-nil b.wires.levels1, append-nil b.wires.levels2, append-nil b.wires.written) refl
 
-pub ruleset behinds = (run-behind, to_boundary-behind, to_cut-behind, access_in-behind, budget-behind, behind-cleared)
+pub ruleset behinds = (to_clock-behind, to_boundary-behind, to_cut-behind, access_in-behind, budget-behind, behind-cleared)

@@ -9,7 +9,7 @@ use Rattle.catchup_engine.specs.Bus.{BusValue}
 use Rattle.catchup_engine.specs.Lockstep.{Board, step}
 use Rattle.catchup_engine.specs.Run.{is_over}
 use Rattle.catchup_engine.specs.Breaks.{is_at_any, BreakRun}
-use Rattle.catchup_engine.specs.Runs.{over_bus, Reached, RunsOn, TurnsOn, TurnsRun, BoundaryRun, BreakRunBus, IsInRange}
+use Rattle.catchup_engine.specs.Runs.{over_bus, StepsTo, RunsOn, TurnsOn, TurnsRun, BoundaryRun, BreakRunBus, IsInRange}
 use Rattle.catchup_engine.specs.Turn.{Through, TurnedBus}
 use Rattle.catchup_engine.proofs.RunsOn.{starts, goes_on, runs-asked, runs-join, AtBoundary, boundary-starts, boundary-resumes, boundary-goes_on, boundary-ends, open-before, none-is, some-of}
 use Rattle.catchup_engine.proofs.Runs.{through-reached}
@@ -34,14 +34,14 @@ turn-ends entries c s u f at turned =
 -- a turn over the bus is one of the board
 turn-run : (entries : List TapeEntry) (c : CpuValue) (s u : BusValue) (f : CpuValue) → s.begun ≡ false → c.jam ≡ None → s.wires.clock < 2 ^ 48
     → IfSome c.mid (λ _. IsMiddle c) → IsInRange c s → TurnedBus entries 7 c s u f → BoundaryRun entries (s.wires.clock + 1) c s u f
-turn-run entries c s u f level running early place range turned = by_mid (is_some c.mid) refl
+turn-run entries c s u f between running early place range turned = by_mid (is_some c.mid) refl
   where
     by_mid : (some : Bool) → is_some c.mid ≡ some → BoundaryRun entries (s.wires.clock + 1) c s u f
     by_mid true e =
-        turn-ends entries c s u f (boundary-resumes entries (s.wires.clock + 1) c s u f level (some-of c.mid e) place range turned) turned
+        turn-ends entries c s u f (boundary-resumes entries (s.wires.clock + 1) c s u f between (some-of c.mid e) place range turned) turned
     by_mid false e =
         turn-ends entries c s u f (boundary-goes_on entries (s.wires.clock + 1) c s s u c f (omega arith)
-        (boundary-starts entries (s.wires.clock + 1) c s level (none-is c.mid e) range)
+        (boundary-starts entries (s.wires.clock + 1) c s between (none-is c.mid e) range)
         (open-at c.jam (is_none c.mid) (s.wires.clock + 1) s.wires.clock running (omega arith)) turned)
         turned
 
@@ -49,7 +49,7 @@ turn-run entries c s u f level running early place range turned = by_mid (is_som
 abbrev pub never : Board → Bool
 never b = false
 
-through-on : (entries : List TapeEntry) (n : ℕ) (b last : Board) → Through entries n b last → Reached entries never n b last
+through-on : (entries : List TapeEntry) (n : ℕ) (b last : Board) → Through entries n b last → StepsTo entries never n b last
 through-on entries zero b last e = e
 through-on entries (suc n) b last t = (refl, through-on entries n (step entries b) last t.1)
 
@@ -72,8 +72,8 @@ jammed-at c (Some m) jammed e place = let running = place.0 in let none : is_som
 -- a jammed board takes its turn at once
 pub break-jammed : (entries : List TapeEntry) (limit : ℕ) (addresses : List ℕ) (c : CpuValue) (s : BusValue) → s.begun ≡ false → is_some c.jam ≡ true
     → IfSome c.mid (λ _. IsMiddle c) → IsInRange c s → AtTurn entries limit addresses c s s c
-break-jammed entries limit addresses c s level jammed place range = record {
-  run = starts entries never c s level;
+break-jammed entries limit addresses c s between jammed place range = record {
+  run = starts entries never c s between;
   turns = break-one entries limit addresses (over_bus c s) (over_bus c s) (sym (turn-jammed entries (over_bus c s) jammed));
   boundary = jammed-at c c.mid jammed refl place;
   range = range;
@@ -84,12 +84,12 @@ break-jammed entries limit addresses c s level jammed place range = record {
 pub break-begins : (entries : List TapeEntry) (limit : ℕ) (addresses : List ℕ) (c : CpuValue) (s u : BusValue) (f : CpuValue) → s.begun ≡ false
     → is_some c.jam ≡ false → s.wires.clock < 2 ^ 48 → IfSome c.mid (λ _. IsMiddle c) → IsInRange c s → TurnedBus entries 7 c s u f
     → AtTurn entries limit addresses c s u f
-break-begins entries limit addresses c s u f level running early place range turned =
-    let made = turn-run entries c s u f level (jam-none c.jam running) early place range turned in
+break-begins entries limit addresses c s u f between running early place range turned =
+    let made = turn-run entries c s u f between (jam-none c.jam running) early place range turned in
     let clock = turned.turned.clock in
     record {
       run =
-          goes_on entries never 7 c s s u c f (starts entries never c s level) refl turned
+          goes_on entries never 7 c s s u c f (starts entries never c s between) refl turned
           (through-on entries turned.turned.count (step entries (over_bus c s)) (over_bus f u) turned.turned.through);
       turns = break-one entries limit addresses (over_bus c s) (over_bus f u) made.board;
       boundary = made.boundary;
@@ -100,8 +100,8 @@ break-begins entries limit addresses c s u f level running early place range tur
 -- no turn is made yet
 pub turns-start : (entries : List TapeEntry) (limit : ℕ) (addresses : List ℕ) (c : CpuValue) (s : BusValue) → s.begun ≡ false → c.mid ≡ None
     → IsInRange c s → TurnsOn entries limit addresses c s s c
-turns-start entries limit addresses c s level boundary range = record {
-  run = starts entries (is_over limit) c s level;
+turns-start entries limit addresses c s between boundary range = record {
+  run = starts entries (is_over limit) c s between;
   near = inl refl;
   turns = λ b run. run;
   boundary = boundary;
@@ -117,7 +117,7 @@ turns-go_on entries limit addresses c s t u e f last on open_yet turned =
     let before = open-before limit (over_bus e t) on.boundary both.0 in
     let early = before.clock in
     let boundary = on.boundary in
-    let made = turn-run entries e t u f on.run.goes.level before.running (omega arith) (rw boundary tt) on.range turned in
+    let made = turn-run entries e t u f on.run.goes.between before.running (omega arith) (rw boundary tt) on.range turned in
     let most = turned.at_most in
     let so_far = on.run.clock in
     record {

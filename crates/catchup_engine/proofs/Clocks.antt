@@ -20,7 +20,7 @@ use Rattle.tape_ports.specs.declared.entry.Port.TheVariants as port
 use Rattle.tape_ports.specs.declared.entry.TapeEntry.{TapeEntry}
 use Rattle.tape_ports.specs.Due.{due_at}
 use Rattle.catchup_engine.specs.Wires.{Wires, port_set, applied, devices_ticked, ticked, put_in, byte_put, reset_by, reset_begun}
-use Rattle.catchup_engine.specs.Lockstep.{Board, accessed, accessed_by, sequence_due, begun, at_fetch, moved, step}
+use Rattle.catchup_engine.specs.Lockstep.{Board, accessed, accessed_by, sequence_due, begun, at_fetch, after_access, step}
 use Rattle.catchup_engine.specs.Run.{stepped}
 use Rattle.catchup_engine.specs.Turn.{Through}
 
@@ -90,18 +90,18 @@ begun-clock Reset b = reset_by-clock b.wires.divider.pending b.wires
 begun-clock Opcode b = refl
 begun-clock Interrupt b = refl
 
-moved-clock : (mid : Option MidValue) (c : CpuValue) (w : Wires) → (moved mid c w).wires.clock ≡ w.clock
+after_access-clock : (mid : Option MidValue) (c : CpuValue) (w : Wires) → (after_access mid c w).wires.clock ≡ w.clock
 unfolding at_fetch
-moved-clock None c w =
+after_access-clock None c w =
     begun-clock (sequence_due c w) (accessed (start_of (sequence_due c w) c) (sequence_due c w) [] w)
     ∙ accessed-clock (start_of (sequence_due c w) c) (sequence_due c w) [] w
-moved-clock (Some mid) c w = accessed-clock (registers_of c) mid.sequence (given_by mid) w
+after_access-clock (Some mid) c w = accessed-clock (registers_of c) mid.sequence (given_by mid) w
 
 -- a step is a clock
 pub step-clock : (entries : List TapeEntry) (b : Board) → (step entries b).wires.clock ≡ b.wires.clock + 1
 unfolding step
 step-clock entries b =
-    ap (λ n. n + 1) (moved-clock b.cpu.mid b.cpu (ticked entries b.wires) ∙ ticked-clock entries b.wires)
+    ap (λ n. n + 1) (after_access-clock b.cpu.mid b.cpu (ticked entries b.wires) ∙ ticked-clock entries b.wires)
 
 -- n steps are n clocks
 pub stepped-clock : (entries : List TapeEntry) (n : ℕ) (b : Board) → (stepped entries n b).wires.clock ≡ b.wires.clock + n
@@ -150,16 +150,16 @@ first-written Opcode r w = omega arith
 first-written Interrupt r w = omega arith
 first-written Reset r w = reset_by-written w.divider.pending w
 
-moved-written : (mid : Option MidValue) (c : CpuValue) (w : Wires) → length (moved mid c w).wires.written ≤ length w.written + 1
+after_access-written : (mid : Option MidValue) (c : CpuValue) (w : Wires) → length (after_access mid c w).wires.written ≤ length w.written + 1
 unfolding at_fetch
-moved-written None c w = first-written (sequence_due c w) (start_of (sequence_due c w) c) w
-moved-written (Some mid) c w = accessed-written (registers_of c) mid.sequence (given_by mid) w
+after_access-written None c w = first-written (sequence_due c w) (start_of (sequence_due c w) c) w
+after_access-written (Some mid) c w = accessed-written (registers_of c) mid.sequence (given_by mid) w
 
 -- a step makes one record at most
 pub step-written : (entries : List TapeEntry) (b : Board) → length (step entries b).wires.written ≤ length b.wires.written + 1
 unfolding step
 step-written entries b =
-    let more = moved-written b.cpu.mid b.cpu (ticked entries b.wires) in
+    let more = after_access-written b.cpu.mid b.cpu (ticked entries b.wires) in
     let same = ap (λ (records : List Record). length records) (ticked-written entries b.wires) in
     omega arith
 

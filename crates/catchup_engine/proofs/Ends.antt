@@ -6,9 +6,9 @@ use Rattle.board_base.specs.Cpu.{MidValue}
 use Rattle.cpu_core.specs.Places.{given_by}
 use Rattle.tape_ports.specs.declared.entry.TapeEntry.{TapeEntry}
 use Rattle.catchup_engine.specs.Lockstep.{Board, step}
-use Rattle.catchup_engine.specs.Run.{stepped, steps_until, is_over, is_at, is_cut, boundary_steps, clock_steps, cut_steps, to_boundary, run, to_cut, IsPlaced}
+use Rattle.catchup_engine.specs.Run.{stepped, steps_until, is_over, is_at, is_cut, boundary_steps, clock_steps, cut_steps, to_boundary, to_clock, to_cut, IsPlaced}
 use Rattle.catchup_engine.proofs.Clocks.{step-clock, stepped-clock}
-use Rattle.catchup_engine.proofs.Places.{StandsAt, next_count, step-at, step-placed, run-placed, to_boundary-placed}
+use Rattle.catchup_engine.proofs.Places.{StandsAt, next_count, step-at, step-placed, to_clock-placed, to_boundary-placed}
 use Rattle.catchup_engine.proofs.Runs.{steps-none, steps-few, steps-ended, steps-split, stepped-add}
 
 -- the tests of the three runs, over a jam, whether the board stands at a boundary, and its clock
@@ -77,9 +77,9 @@ within-first n (Some m) placed few = ((omega arith), (omega arith))
 
 module _ (entries : List TapeEntry) where
   -- after the clocks up to its end a run to a clock is over, whatever the board
-  pub run-ended : (cut : ℕ) (b : Board) → is_at cut (run entries cut b) ≡ true
-  unfolding run
-  run-ended cut b =
+  pub to_clock-ended : (cut : ℕ) (b : Board) → is_at cut (to_clock entries cut b) ≡ true
+  unfolding to_clock
+  to_clock-ended cut b =
       let last = stepped entries (clock_steps entries cut b) b in
       let all = stepped-clock entries (clock_steps entries cut b) b in
       elim (steps-ended entries (is_at cut) (cut - b.wires.clock) b) [
@@ -141,58 +141,50 @@ module _ (entries : List TapeEntry) where
   pub boundary_steps-few : (limit : ℕ) (b : Board) → boundary_steps entries limit b ≤ (limit - b.wires.clock) + 6
   boundary_steps-few limit b = steps-few entries (is_over limit) ((limit - b.wires.clock) + 6) b
 
-  -- and so does a run to a clock, which are those up to its end at most
-  pub run-clock : (cut : ℕ) (b : Board) → (run entries cut b).wires.clock ≡ b.wires.clock + clock_steps entries cut b
-  unfolding run
-  run-clock cut b = stepped-clock entries (clock_steps entries cut b) b
-
+  -- a run to a clock has those up to its end at most
   pub clock_steps-few : (cut : ℕ) (b : Board) → clock_steps entries cut b ≤ cut - b.wires.clock
   clock_steps-few cut b = steps-few entries (is_at cut) (cut - b.wires.clock) b
-
-  pub to_cut-clock : (cut wrap : ℕ) (b : Board) → (to_cut entries cut wrap b).wires.clock ≡ b.wires.clock + cut_steps entries cut wrap b
-  unfolding to_cut
-  to_cut-clock cut wrap b = stepped-clock entries (cut_steps entries cut wrap b) b
 
   pub cut_steps-few : (cut wrap : ℕ) (b : Board) → cut_steps entries cut wrap b ≤ cut - b.wires.clock
   cut_steps-few cut wrap b = steps-few entries (is_cut cut wrap) (cut - b.wires.clock) b
 
   -- a run to y takes as many steps as one to x and then one to y
-  pub run-split-steps : (x y : ℕ) (b : Board) → x ≤ y
-      → clock_steps entries y b ≡ clock_steps entries x b + clock_steps entries y (run entries x b)
-  unfolding run
-  run-split-steps x y b h =
+  pub to_clock-split-steps : (x y : ℕ) (b : Board) → x ≤ y
+      → clock_steps entries y b ≡ clock_steps entries x b + clock_steps entries y (to_clock entries x b)
+  unfolding to_clock
+  to_clock-split-steps x y b h =
       let n = clock_steps entries x b in
       let few = clock_steps-few x b in
       let all = stepped-clock entries n b in
       let rest = clock_steps-few y (stepped entries n b) in
       steps-split entries (is_at y) (is_at x) (λ c e. at-later c.cpu.jam x y c.wires.clock h e) n (x - b.wires.clock)
-      (y - (stepped entries n b).wires.clock) (y - b.wires.clock) b refl (run-ended y (stepped entries n b)) (omega arith)
+      (y - (stepped entries n b).wires.clock) (y - b.wires.clock) b refl (to_clock-ended y (stepped entries n b)) (omega arith)
 
   -- and leads to the same board
-  pub run-split : (x y : ℕ) (b : Board) → x ≤ y → run entries y b ≡ run entries y (run entries x b)
-  unfolding run
-  run-split x y b h =
-      ap (λ k. stepped entries k b) (run-split-steps x y b h)
-      ∙ stepped-add entries (clock_steps entries x b) (clock_steps entries y (run entries x b)) b
+  pub to_clock-split : (x y : ℕ) (b : Board) → x ≤ y → to_clock entries y b ≡ to_clock entries y (to_clock entries x b)
+  unfolding to_clock
+  to_clock-split x y b h =
+      ap (λ k. stepped entries k b) (to_clock-split-steps x y b h)
+      ∙ stepped-add entries (clock_steps entries x b) (clock_steps entries y (to_clock entries x b)) b
 
   -- the same for a run to a boundary after one to a clock
-  pub boundary-run-steps : (x y : ℕ) (b : Board) → x ≤ y → IsPlaced b
-      → boundary_steps entries y b ≡ clock_steps entries x b + boundary_steps entries y (run entries x b)
-  unfolding run to_boundary
-  boundary-run-steps x y b h placed =
+  pub boundary-clock-steps : (x y : ℕ) (b : Board) → x ≤ y → IsPlaced b
+      → boundary_steps entries y b ≡ clock_steps entries x b + boundary_steps entries y (to_clock entries x b)
+  unfolding to_clock to_boundary
+  boundary-clock-steps x y b h placed =
       let n = clock_steps entries x b in
       let few = clock_steps-few x b in
       let all = stepped-clock entries n b in
       let rest = boundary_steps-few y (stepped entries n b) in
       steps-split entries (is_over y) (is_at x) (λ c e. at-over c.cpu.jam (is_none c.cpu.mid) x y c.wires.clock h e) n (x - b.wires.clock)
       ((y - (stepped entries n b).wires.clock) + 6) ((y - b.wires.clock) + 6) b refl
-      (to_boundary-over y (stepped entries n b) (run-placed entries x b placed)) (omega arith)
+      (to_boundary-over y (stepped entries n b) (to_clock-placed entries x b placed)) (omega arith)
 
-  pub boundary-run : (x y : ℕ) (b : Board) → x ≤ y → IsPlaced b → to_boundary entries y b ≡ to_boundary entries y (run entries x b)
-  unfolding run to_boundary
-  boundary-run x y b h placed =
-      ap (λ k. stepped entries k b) (boundary-run-steps x y b h placed)
-      ∙ stepped-add entries (clock_steps entries x b) (boundary_steps entries y (run entries x b)) b
+  pub boundary-clock : (x y : ℕ) (b : Board) → x ≤ y → IsPlaced b → to_boundary entries y b ≡ to_boundary entries y (to_clock entries x b)
+  unfolding to_clock to_boundary
+  boundary-clock x y b h placed =
+      ap (λ k. stepped entries k b) (boundary-clock-steps x y b h placed)
+      ∙ stepped-add entries (clock_steps entries x b) (boundary_steps entries y (to_clock entries x b)) b
 
   -- for a run to a boundary after another
   pub boundary-split-steps : (x y : ℕ) (b : Board) → x ≤ y → IsPlaced b
@@ -219,23 +211,23 @@ module _ (entries : List TapeEntry) where
       ∙ stepped-add entries (boundary_steps entries x b) (boundary_steps entries y (to_boundary entries x b)) b
 
   -- and for a run to a clock after one that may have ended with a window
-  pub run-cut-steps : (cut wrap : ℕ) (b : Board)
+  pub to_clock-cut-steps : (cut wrap : ℕ) (b : Board)
       → clock_steps entries cut b ≡ cut_steps entries cut wrap b + clock_steps entries cut (to_cut entries cut wrap b)
-  unfolding run to_cut
-  run-cut-steps cut wrap b =
+  unfolding to_clock to_cut
+  to_clock-cut-steps cut wrap b =
       let n = cut_steps entries cut wrap b in
       let few = cut_steps-few cut wrap b in
       let all = stepped-clock entries n b in
       let rest = clock_steps-few cut (stepped entries n b) in
       steps-split entries (is_at cut) (is_cut cut wrap) (λ c e. cut-at c.cpu.jam (is_none c.cpu.mid) cut wrap c.wires.clock e) n (cut - b.wires.clock)
-      (cut - (stepped entries n b).wires.clock) (cut - b.wires.clock) b refl (run-ended cut (stepped entries n b)) (omega arith)
+      (cut - (stepped entries n b).wires.clock) (cut - b.wires.clock) b refl (to_clock-ended cut (stepped entries n b)) (omega arith)
 
-  pub run-cut : (cut wrap : ℕ) (b : Board) → run entries cut b ≡ run entries cut (to_cut entries cut wrap b)
-  unfolding run to_cut
-  run-cut cut wrap b =
-      ap (λ k. stepped entries k b) (run-cut-steps cut wrap b)
+  pub to_clock-cut : (cut wrap : ℕ) (b : Board) → to_clock entries cut b ≡ to_clock entries cut (to_cut entries cut wrap b)
+  unfolding to_clock to_cut
+  to_clock-cut cut wrap b =
+      ap (λ k. stepped entries k b) (to_clock-cut-steps cut wrap b)
       ∙ stepped-add entries (cut_steps entries cut wrap b) (clock_steps entries cut (to_cut entries cut wrap b)) b
 
-pub ruleset splits = (run-ended, to_cut-ended, to_boundary-over, run-split, boundary-run, boundary-split, run-cut)
+pub ruleset splits = (to_clock-ended, to_cut-ended, to_boundary-over, to_clock-split, boundary-clock, boundary-split, to_clock-cut)
 
-pub ruleset split_steps = (run-split-steps, boundary-run-steps, boundary-split-steps, run-cut-steps)
+pub ruleset split_steps = (to_clock-split-steps, boundary-clock-steps, boundary-split-steps, to_clock-cut-steps)

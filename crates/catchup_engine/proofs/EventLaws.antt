@@ -1,11 +1,11 @@
 -- A clock with its entries and its ticks, step by step.
-use Rattle.std.proofs.Common.{◌≡◌, ℕ, ◌+◌, ◌-◌, ◌*◌, ◌≤◌, true, false, List, length, refl, ap, ◌∙◌, arith}
+use Rattle.std.proofs.Common.{◌≡◌, ℕ, ◌+◌, List, refl, ap, ◌∙◌}
 use Rattle.tape_ports.specs.declared.entry.TapeEntry.{TapeEntry}
 use Rattle.tape_ports.specs.Due.{due_at}
 use Rattle.tape_ports.specs.Tape.{TapeValue}
-use Rattle.catchup_engine.specs.Budget.{wraps, ticks_price}
+use Rattle.catchup_engine.specs.Budget.{wraps}
 use Rattle.catchup_engine.specs.Wires.{Wires, applied, devices_ticked, ticked}
-use Rattle.catchup_engine.specs.Bus.{BusValue, IsPlace, at_clock, done_clock, in_clock}
+use Rattle.catchup_engine.specs.Bus.{BusValue, IsTapePlace, done_clock}
 use Rattle.catchup_engine.proofs.Clocks.{ticked-clock, ticked-written}
 use Rattle.catchup_engine.proofs.TapeLaws.{applied-clock, applied-divider}
 
@@ -17,19 +17,6 @@ ticked-is entries w v e = ap devices_ticked e
 -- entries leave the divider, and so its wrap
 pub wraps-applied : (entries : List TapeEntry) (w : Wires) → wraps (applied entries w) ≡ wraps w
 wraps-applied entries w = rw (applied-divider entries w) refl
-
-pub price-of : (entries : List TapeEntry) (w : Wires) (calls after : ℕ) → after ≤ calls + 5 * length (due_at w.clock entries) + 5 * wraps w
-    → after ≤ calls + ticks_price entries w
-unfolding ticks_price
-price-of entries w calls after h = omega arith
-
-in_clock-true : (entries : List TapeEntry) (w : Wires) → in_clock entries true w ≡ at_clock (w.clock - 1) w
-unfolding in_clock
-in_clock-true entries w = refl
-
-in_clock-false : (entries : List TapeEntry) (w : Wires) → in_clock entries false w ≡ ticked entries w
-unfolding in_clock
-in_clock-false entries w = refl
 
 devices_ticked-clock : (w : Wires) → (devices_ticked w).clock ≡ w.clock
 unfolding devices_ticked
@@ -44,7 +31,7 @@ ticks-clock b a t clock here ticks =
 
 -- the place of the next clock, after the entries and the ticks
 pub place-after : (tape : TapeValue) (s a t : BusValue) → a.wires ≡ applied (due_at s.wires.clock tape.entries) s.wires
-    → t.wires ≡ done_clock (devices_ticked a.wires) → t.next ≡ a.next → IsPlace tape (s.wires.clock + 1) a.next → IsPlace tape t.wires.clock t.next
+    → t.wires ≡ done_clock (devices_ticked a.wires) → t.next ≡ a.next → IsTapePlace tape (s.wires.clock + 1) a.next → IsTapePlace tape t.wires.clock t.next
 place-after tape s a t applies ticks next place =
     let here : a.wires.clock ≡ s.wires.clock = ap (λ (w : Wires). w.clock) applies ∙ applied-clock (due_at s.wires.clock tape.entries) s.wires in
     let clock : t.wires.clock ≡ s.wires.clock + 1 = ticks-clock s a t s.wires.clock here ticks in

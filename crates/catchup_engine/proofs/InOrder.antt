@@ -25,8 +25,8 @@ use Rattle.cpu_core.specs.Places.{given_by}
 use Rattle.tape_ports.specs.declared.entry.TapeEntry.{TapeEntry}
 use Rattle.tape_ports.specs.Due.{due_at}
 use Rattle.catchup_engine.specs.Wires.{Wires, applied, devices_ticked, ticked, put_in, byte_put, reset_by, reset_begun}
-use Rattle.catchup_engine.specs.Lockstep.{Board, accessed, accessed_by, sequence_due, begun, at_fetch, moved, step}
-use Rattle.catchup_engine.specs.Run.{stepped, run, to_boundary, to_cut, clock_steps, boundary_steps, cut_steps}
+use Rattle.catchup_engine.specs.Lockstep.{Board, accessed, accessed_by, sequence_due, begun, at_fetch, after_access, step}
+use Rattle.catchup_engine.specs.Run.{stepped, to_clock, to_boundary, to_cut, clock_steps, boundary_steps, cut_steps}
 use Rattle.catchup_engine.specs.Order.{records_of, AreMadeBetween, AddsOneClock}
 use Rattle.catchup_engine.proofs.Clocks.{applied-keeps, step-clock}
 
@@ -100,10 +100,10 @@ first-adds Opcode r w = adds-none w w refl refl refl refl refl
 first-adds Interrupt r w = adds-none w w refl refl refl refl refl
 first-adds Reset r w = reset_by-adds w.divider.pending w
 
-moved-adds : (mid : Option MidValue) (c : CpuValue) (w : Wires) → AddsOne w (moved mid c w).wires
+after_access-adds : (mid : Option MidValue) (c : CpuValue) (w : Wires) → AddsOne w (after_access mid c w).wires
 unfolding at_fetch
-moved-adds None c w = first-adds (sequence_due c w) (start_of (sequence_due c w) c) w
-moved-adds (Some mid) c w = accessed-adds (registers_of c) mid.sequence (given_by mid) w
+after_access-adds None c w = first-adds (sequence_due c w) (start_of (sequence_due c w) c) w
+after_access-adds (Some mid) c w = accessed-adds (registers_of c) mid.sequence (given_by mid) w
 
 -- what a step adds
 pub adds-one : (entries : List TapeEntry) (b : Board) → AddsOneClock entries b
@@ -111,7 +111,7 @@ unfolding step ticked devices_ticked
 adds-one entries b =
     let w = applied (due_at b.wires.clock entries) b.wires in
     let same = applied-keeps (due_at b.wires.clock entries) b.wires in
-    let one = moved-adds b.cpu.mid b.cpu (devices_ticked w) in
+    let one = after_access-adds b.cpu.mid b.cpu (devices_ticked w) in
     record {
       added = record {
         strokes = vg_gives b.wires.clock w.vg;
@@ -154,10 +154,10 @@ stepped-made entries from zero b m = m
 stepped-made entries from (suc n) b m = stepped-made entries from n (step entries b) (step-made entries from b m)
 
 -- and so do the three runs
-pub run-made : (entries : List TapeEntry) (from cut : ℕ) (b : Board) → AreMadeBetween from (records_of b) b.wires.clock
-    → AreMadeBetween from (records_of (run entries cut b)) (run entries cut b).wires.clock
-unfolding run
-run-made entries from cut b m = stepped-made entries from (clock_steps entries cut b) b m
+pub to_clock-made : (entries : List TapeEntry) (from cut : ℕ) (b : Board) → AreMadeBetween from (records_of b) b.wires.clock
+    → AreMadeBetween from (records_of (to_clock entries cut b)) (to_clock entries cut b).wires.clock
+unfolding to_clock
+to_clock-made entries from cut b m = stepped-made entries from (clock_steps entries cut b) b m
 
 pub to_boundary-made : (entries : List TapeEntry) (from limit : ℕ) (b : Board) → AreMadeBetween from (records_of b) b.wires.clock
     → AreMadeBetween from (records_of (to_boundary entries limit b)) (to_boundary entries limit b).wires.clock

@@ -25,3 +25,8 @@ pub mod Windows
 pub mod Traces
 pub mod QuietLaws
 pub mod Wraps
+pub mod BoardRange
+pub mod DividerRange
+pub mod EaromRange
+pub mod GeneratorRange
+pub mod PokeyRange

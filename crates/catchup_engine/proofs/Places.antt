@@ -13,8 +13,8 @@ use Rattle.cpu_core.proofs.EndLemmas.{end-closes}
 use Rattle.cpu_core.proofs.PlaceLemmas.{given_paused}
 use Rattle.tape_ports.specs.declared.entry.TapeEntry.{TapeEntry}
 use Rattle.catchup_engine.specs.Wires.{Wires, ticked}
-use Rattle.catchup_engine.specs.Lockstep.{Board, accessed, accessed_by, sequence_due, begun, at_fetch, moved, step}
-use Rattle.catchup_engine.specs.Run.{stepped, run, to_boundary, to_cut, clock_steps, boundary_steps, cut_steps, IsPlaced}
+use Rattle.catchup_engine.specs.Lockstep.{Board, accessed, accessed_by, sequence_due, begun, at_fetch, after_access, step}
+use Rattle.catchup_engine.specs.Run.{stepped, to_clock, to_boundary, to_cut, clock_steps, boundary_steps, cut_steps, IsPlaced}
 
 -- inside a sequence so many of its accesses are made, of which there are six at most
 abbrev pub StandsAt : ℕ → Option MidValue → Type 0
@@ -56,17 +56,17 @@ abbrev pub next_count : Option MidValue → ℕ
 next_count None = 1
 next_count (Some m) = length (given_by m) + 1
 
-moved-at : (mid : Option MidValue) (c : CpuValue) (w : Wires) → StandsAt (next_count mid) (moved mid c w).cpu.mid
+after_access-at : (mid : Option MidValue) (c : CpuValue) (w : Wires) → StandsAt (next_count mid) (after_access mid c w).cpu.mid
 unfolding at_fetch
-moved-at None c w =
+after_access-at None c w =
     let q = sequence_due c w in
     subst (λ (k : CpuValue). StandsAt 1 k.mid) (sym (begun-cpu q (accessed (start_of q c) q [] w))) (accessed-at (start_of q c) q [] w)
-moved-at (Some m) c w = accessed-at (registers_of c) m.sequence (given_by m) w
+after_access-at (Some m) c w = accessed-at (registers_of c) m.sequence (given_by m) w
 
 -- a step makes one access more
 pub step-at : (entries : List TapeEntry) (b : Board) → StandsAt (next_count b.cpu.mid) (step entries b).cpu.mid
 unfolding step
-step-at entries b = moved-at b.cpu.mid b.cpu (ticked entries b.wires)
+step-at entries b = after_access-at b.cpu.mid b.cpu (ticked entries b.wires)
 
 placed-at : (before after : Option MidValue) → StandsAt (next_count before) after → IfSome after (λ m. 1 ≤ length (given_by m))
 placed-at before None at = tt
@@ -84,9 +84,9 @@ stepped-placed entries zero b placed = placed
 stepped-placed entries (suc n) b placed = stepped-placed entries n (step entries b) (step-placed entries b)
 
 -- and so do the three runs
-pub run-placed : (entries : List TapeEntry) (cut : ℕ) (b : Board) → IsPlaced b → IsPlaced (run entries cut b)
-unfolding run
-run-placed entries cut b placed = stepped-placed entries (clock_steps entries cut b) b placed
+pub to_clock-placed : (entries : List TapeEntry) (cut : ℕ) (b : Board) → IsPlaced b → IsPlaced (to_clock entries cut b)
+unfolding to_clock
+to_clock-placed entries cut b placed = stepped-placed entries (clock_steps entries cut b) b placed
 
 pub to_boundary-placed : (entries : List TapeEntry) (limit : ℕ) (b : Board) → IsPlaced b → IsPlaced (to_boundary entries limit b)
 unfolding to_boundary
@@ -96,4 +96,4 @@ pub to_cut-placed : (entries : List TapeEntry) (cut wrap : ℕ) (b : Board) → 
 unfolding to_cut
 to_cut-placed entries cut wrap b placed = stepped-placed entries (cut_steps entries cut wrap b) b placed
 
-pub ruleset places = (step-placed, run-placed, to_boundary-placed, to_cut-placed)
+pub ruleset places = (step-placed, to_clock-placed, to_boundary-placed, to_cut-placed)

@@ -17,8 +17,11 @@ use Rattle.cpu_core.specs.Registers.{RegistersValue}
 use Rattle.cpu_core.specs.Sequences.{Moves, Runs}
 use Rattle.tape_ports.specs.declared.entry.TapeEntry.{TapeEntry}
 use Rattle.tape_ports.specs.Tape.{TapeValue}
+use Rattle.board_map.specs.Map.{region_of}
+use Rattle.catchup_engine.specs.declared.bus.TheConstants.{WHOLE}
+use Rattle.catchup_engine.specs.declared.quiet.TheConstants.{PROGRAM_START}
 use Rattle.catchup_engine.specs.Budget.{reaches_device}
-use Rattle.catchup_engine.specs.Lags.{lags}
+use Rattle.catchup_engine.specs.Lags.{DeviceLags, all_lag, lagging_at, lags}
 use Rattle.catchup_engine.specs.Bus.{BusStep, BusValue, Does, Fits, Stays, at_clock, begin_price, done_clock, in_clock, room_of}
 use Rattle.catchup_engine.specs.Quiet.{IsCounted, later, passed, quiet_room}
 use Rattle.catchup_engine.specs.Wires.{Wires, byte_put, byte_read, devices_ticked}
@@ -62,9 +65,13 @@ lags-all done clock n h some = grind (arith, nat_tests)
 later-some : (n : ℕ) → (suc n == 0) ≡ false
 later-some n = grind (arith, nat_tests)
 
+-- the lags of five devices that were moved up to these clocks
+abbrev lags_at : ℕ → ℕ → ℕ → ℕ → ℕ → ℕ → DeviceLags
+lags_at a b c d e clock =
+    record { vector = lags a clock; sound1 = lags b clock; sound2 = lags c clock; cells = lags d clock; divider = lags e clock }
+
 pub lagging-later : (a b c d e clock n : ℕ) → a ≤ clock → b ≤ clock → c ≤ clock → d ≤ clock → e ≤ clock
-    → lags a (clock + n) + lags b (clock + n) + lags c (clock + n) + lags d (clock + n) + lags e (clock + n)
-    ≡ (if n == 0 then lags a clock + lags b clock + lags c clock + lags d clock + lags e clock else 5)
+    → lags_at a b c d e (clock + n) ≡ (if n == 0 then lags_at a b c d e clock else all_lag)
 lagging-later a b c d e clock zero ha hb hc hd he = rw add-zero refl
 lagging-later a b c d e clock (suc n) ha hb hc hd he =
     rw (lags-all a clock (suc n) ha (omega arith), lags-all b clock (suc n) hb (omega arith), lags-all c clock (suc n) hc (omega arith), lags-all d clock (suc n) hd (omega arith), lags-all e clock (suc n) he (omega arith), later-some n) refl
@@ -110,7 +117,7 @@ passed-clock n s = refl
 pub in-quiet : (tape : TapeValue) (n : ℕ) (s : BusValue) → IsCounted tape n s → s.wires.clock + n < s.event_at
     → in_clock tape.entries (passed n s).begun (passed n s).wires ≡ devices_ticked (later n s.wires)
 unfolding passed in_clock
-in-quiet tape n s c h = rw c.level (ticked-quiet tape (passed n s) c.fits (rw (passed-clock n s) h))
+in-quiet tape n s c h = rw c.between (ticked-quiet tape (passed n s) c.fits (rw (passed-clock n s) h))
 
 -- and the clock is done after it
 pub quiet-entered : (tape : TapeValue) (n : ℕ) (s : BusValue) → IsCounted tape n s → s.wires.clock + n < s.event_at
@@ -123,7 +130,7 @@ pub counted-more : (tape : TapeValue) (n : ℕ) (s : BusValue) → IsCounted tap
 unfolding passed later
 counted-more tape n s c room = record {
   fits = fits-quiet tape (passed n s) (passed (n + 1) s) c.fits (omega arith) (omega arith) refl refl;
-  level = c.level;
+  between = c.between;
   quiet = omega arith;
   last = omega arith;
   until = omega arith;
@@ -132,8 +139,8 @@ counted-more tape n s c room = record {
 stays-quiet : (entries : List TapeEntry) (x : Access) (n : ℕ) (s : BusValue) (t : BusValue) → s.begun ≡ false → t.begun ≡ s.begun → t.rooms ≡ s.rooms
     → t.until ≡ s.until → t.calls ≡ s.calls → Stays entries x (passed n s) (passed (n + 1) t)
 unfolding passed
-stays-quiet entries x n s t level begun rooms until calls = record {
-  begun = begun ∙ level;
+stays-quiet entries x n s t between begun rooms until calls = record {
+  begun = begun ∙ between;
   rooms = rooms;
   until = omega arith;
   calls = omega arith;
@@ -147,16 +154,18 @@ unfolding byte_read later devices_ticked
 ram-read tape n a v s c h near is = (
   is ∙ sym (ap (byte_read a) (in-quiet tape n s c h) ∙ rw (region-ram a near) refl),
   quiet-entered tape n s c h,
-  stays-quiet tape.entries (read_of a v) n s s c.level refl refl refl refl,
+  stays-quiet tape.entries (read_of a v) n s s c.between refl refl refl refl,
+  rw (region-ram a near) refl,
 )
 
-program-read : (tape : TapeValue) (n a v : ℕ) (s : BusValue) → IsCounted tape n s → s.wires.clock + n < s.event_at → 36864 ≤ a → a < 65536
-    → v ≡ slice_index s.wires.program (a - 36864) → BusStep tape.entries (read_of a v) (passed n s) (passed (n + 1) s)
+program-read : (tape : TapeValue) (n a v : ℕ) (s : BusValue) → IsCounted tape n s → s.wires.clock + n < s.event_at → PROGRAM_START ≤ a → a < 65536
+    → v ≡ slice_index s.wires.program (a - PROGRAM_START) → BusStep tape.entries (read_of a v) (passed n s) (passed (n + 1) s)
 unfolding byte_read later devices_ticked
 program-read tape n a v s c h near last is = (
   is ∙ sym (ap (byte_read a) (in-quiet tape n s c h) ∙ rw (region-program a near last) refl),
   quiet-entered tape n s c h,
-  stays-quiet tape.entries (read_of a v) n s s c.level refl refl refl refl,
+  stays-quiet tape.entries (read_of a v) n s s c.between refl refl refl refl,
+  rw (region-program a near last) refl,
 )
 
 -- a write to the RAM, which no device sees
@@ -180,7 +189,7 @@ ram-written tape n a v s t c h near is = (
       ∙ ap (λ (w : Wires). let r : Wires = record w { ram = slice_set s.wires.ram a v } in r) (later-more n s.wires)
       ∙ put-ram n a v s.wires near
       ∙ ap (λ (w : Wires). done_clock (byte_put a v w)) (sym (in-quiet tape n s c h)),
-  stays-quiet tape.entries (write_of a v) n s t c.level (ap (λ (b : BusValue). b.begun) is) (ap (λ (b : BusValue). b.rooms) is)
+  stays-quiet tape.entries (write_of a v) n s t c.between (ap (λ (b : BusValue). b.begun) is) (ap (λ (b : BusValue). b.rooms) is)
       (ap (λ (b : BusValue). b.until) is) (ap (λ (b : BusValue). b.calls) is),
 )
 
@@ -190,7 +199,7 @@ counted-ram : (tape : TapeValue) (n a v : ℕ) (s t : BusValue) → IsCounted ta
 unfolding passed later
 counted-ram tape n a v s t c is = rw is (record {
   fits = record { valid = c.fits.valid; place = c.fits.place; quiet = c.fits.quiet };
-  level = c.level;
+  between = c.between;
   quiet = c.quiet;
   last = c.last;
   until = c.until;
@@ -221,8 +230,8 @@ ram-reads tape n a v s c room near is =
       room = room-near n s s refl refl refl refl refl;
     }
 
-pub program-reads : (tape : TapeValue) (n a v : ℕ) (s : BusValue) → IsCounted tape n s → 1 ≤ quiet_room n s → 36864 ≤ a → a < 65536
-    → v ≡ slice_index s.wires.program (a - 36864) → IsStep tape (read_of a v) n s (n + 1) s
+pub program-reads : (tape : TapeValue) (n a v : ℕ) (s : BusValue) → IsCounted tape n s → 1 ≤ quiet_room n s → PROGRAM_START ≤ a → a < 65536
+    → v ≡ slice_index s.wires.program (a - PROGRAM_START) → IsStep tape (read_of a v) n s (n + 1) s
 program-reads tape n a v s c room near last is =
     let more = counted-more tape n s c room in
     let quiet = more.quiet in
@@ -272,14 +281,14 @@ reaches n x s m t w told does clock = record {
 
 stays-told : (entries : List TapeEntry) (n : ℕ) (x : Access) (s m t : BusValue) → s.begun ≡ false → Reaches n x s m t → Stays entries x (passed n s) t
 unfolding passed
-stays-told entries n x s m t level r =
+stays-told entries n x s m t between r =
     let calls : m.calls ≡ s.calls = ap (λ (b : BusValue). b.calls) r.told in
     let until : m.until ≡ s.until = ap (λ (b : BusValue). b.until) r.told in
     let first = r.until in
     let cost = r.calls in
     let rise = r.more in
     record {
-      begun = r.begun ∙ ap (λ (b : BusValue). b.begun) r.told ∙ level;
+      begun = r.begun ∙ ap (λ (b : BusValue). b.begun) r.told ∙ between;
       rooms = r.rooms ∙ ap (λ (b : BusValue). b.rooms) r.told;
       until = omega arith;
       calls = omega arith;
@@ -312,7 +321,7 @@ counted-told tape n x s m t c room r =
         place = rw (clock, next) more.fits.place;
         quiet = rw (event, next) c.fits.quiet;
       });
-      level = r.begun ∙ ap (λ (b : BusValue). b.begun) r.told ∙ c.level;
+      between = r.begun ∙ ap (λ (b : BusValue). b.begun) r.told ∙ c.between;
       quiet = omega arith;
       last = omega arith;
       until = omega arith;
@@ -347,8 +356,8 @@ told-begun n s m told = let clock : m.wires.clock ≡ s.wires.clock + (n + 1) = 
 
 pub device-reads : (tape : TapeValue) (n k a v : ℕ) (s m t : BusValue) → IsCounted tape n s → 1 ≤ quiet_room n s → m ≡ passed (n + 1) s → k ≡ 0
     → Does m t m.wires (2 * from_bool (reaches_device (read_of a v))) → v ≡ byte_read a (at_clock (m.wires.clock - 1) m.wires)
-    → IsStep tape (read_of a v) n s k t
-device-reads tape n k a v s m t c room told none does is =
+    → lagging_at (region_of a) t.lagging ≡ 0 → IsStep tape (read_of a v) n s k t
+device-reads tape n k a v s m t c room told none does is current =
     let more = counted-more tape n s c room in
     let quiet = more.quiet in
     let r = reaches n (read_of a v) s m t m.wires told does refl in
@@ -360,7 +369,8 @@ device-reads tape n k a v s m t c room told none does is =
       step = (
         is ∙ ap (λ (k : Wires). byte_read a (at_clock (k.clock - 1) k)) entered ∙ ap (byte_read a) (clock-back w),
         ap (λ (b : BusValue). b.wires) (passed-zero t) ∙ same ∙ entered,
-        rw (passed-zero t) (stays-told tape.entries n (read_of a v) s m t c.level r),
+        rw (passed-zero t) (stays-told tape.entries n (read_of a v) s m t c.between r),
+        rw (passed-zero t) current,
       );
       fits = counted-told tape n (read_of a v) s m t c room r;
       room = room-told n (read_of a v) s m t r (omega arith);
@@ -376,7 +386,7 @@ device-writes tape n k a v s m t c room told none does few =
     rw none (record {
       step =
           rw (passed-zero t) (write-step tape.entries a v (passed n s) m t (told-entered tape n s m c (omega arith) told)
-          (ap (λ (b : BusValue). b.wires) does.value) (stays-told tape.entries n (write_of a v) s m t c.level r));
+          (ap (λ (b : BusValue). b.wires) does.value) (stays-told tape.entries n (write_of a v) s m t c.between r));
       fits = counted-told tape n (write_of a v) s m t c room r;
       room = room-told n (write_of a v) s m t r few;
     })
@@ -408,14 +418,14 @@ passed-one s = later-more 0 s.wires ∙ ap (λ (w : Wires). done_clock (devices_
 entered-wires : (tape : TapeValue) (s : BusValue) → Fits tape s → s.wires.clock < s.event_at → s.begun ≡ false
     → (passed 1 s).wires ≡ done_clock (in_clock tape.entries s.begun s.wires)
 unfolding in_clock passed
-entered-wires tape s f h level = rw level (passed-one s ∙ ap done_clock (sym (ticked-quiet tape s f h)))
+entered-wires tape s f h between = rw between (passed-one s ∙ ap done_clock (sym (ticked-quiet tape s f h)))
 
 entered-value : (tape : TapeValue) (s : BusValue) → Fits tape s → s.wires.clock < s.event_at → s.begun ≡ false
     → passed 1 s ≡ record s { wires = done_clock (in_clock tape.entries s.begun s.wires); begun = false; lagging = (passed 1 s).lagging }
 unfolding passed
-entered-value tape s f h level =
-    ap (λ (w : Wires). let r : BusValue = record s { wires = w; lagging = (passed 1 s).lagging } in r) (entered-wires tape s f h level)
-    ∙ ap (λ b. let r : BusValue = record s { wires = done_clock (in_clock tape.entries s.begun s.wires); begun = b; lagging = (passed 1 s).lagging } in r) level
+entered-value tape s f h between =
+    ap (λ (w : Wires). let r : BusValue = record s { wires = w; lagging = (passed 1 s).lagging } in r) (entered-wires tape s f h between)
+    ∙ ap (λ b. let r : BusValue = record s { wires = done_clock (in_clock tape.entries s.begun s.wires); begun = b; lagging = (passed 1 s).lagging } in r) between
 
 -- the clock of an access in which nothing comes, on a bus that doesn't count
 pub record IsEntered (tape : TapeValue) (s t : BusValue) : Type 0 where
@@ -428,12 +438,12 @@ pub record IsEntered (tape : TapeValue) (s t : BusValue) : Type 0 where
 
 pub entered-quiet : (tape : TapeValue) (s t : BusValue) → Fits tape s → s.wires.clock < s.event_at → s.begun ≡ false → t ≡ passed 1 s → IsEntered tape s t
 unfolding passed later
-entered-quiet tape s t f h level told =
+entered-quiet tape s t f h between told =
     let clock : t.wires.clock ≡ s.wires.clock + 1 = ap (λ (b : BusValue). b.wires.clock) told in
     let until : t.until ≡ s.until = ap (λ (b : BusValue). b.until) told in
     let calls : t.calls ≡ s.calls = ap (λ (b : BusValue). b.calls) told in
     record {
-      value = rw told (entered-value tape s f h level);
+      value = rw told (entered-value tape s f h between);
       fits = fits-quiet tape s t f h clock (ap (λ (b : BusValue). b.next) told) (ap (λ (b : BusValue). b.event_at) told);
       until = omega arith;
       calls = omega arith;
@@ -442,12 +452,12 @@ entered-quiet tape s t f h level told =
     }
 
 -- before the first of them
-pub counted-start : (tape : TapeValue) (n : ℕ) (s : BusValue) → n ≡ 0 → Fits tape s → s.begun ≡ false → s.wires.clock + 7 ≤ s.event_at → 7 ≤ room_of s
+pub counted-start : (tape : TapeValue) (n : ℕ) (s : BusValue) → n ≡ 0 → Fits tape s → s.begun ≡ false → s.wires.clock + WHOLE ≤ s.event_at → WHOLE ≤ room_of s
     → IsCounted tape n s
-counted-start tape n s none fits level quiet room =
-    rw none (record { fits = rw (passed-zero s) fits; level = level; quiet = omega arith; last = omega arith; until = omega arith })
+counted-start tape n s none fits between quiet room =
+    rw none (record { fits = rw (passed-zero s) fits; between = between; quiet = omega arith; last = omega arith; until = omega arith })
 
-pub room-start : (n : ℕ) (s : BusValue) → n ≡ 0 → s.wires.clock + 7 ≤ s.event_at → 7 ≤ room_of s → 7 ≤ quiet_room n s
+pub room-start : (n : ℕ) (s : BusValue) → n ≡ 0 → s.wires.clock + WHOLE ≤ s.event_at → WHOLE ≤ room_of s → WHOLE ≤ quiet_room n s
 room-start n s none quiet room = rw (none, passed-zero s) (omega arith)
 
 -- the accesses of a whole sequence, with the clocks that are told at its end

@@ -2,8 +2,8 @@
 use Rattle.std.proofs.Common.{◌≡◌, ℕ, ◌+◌, ◌-◌, ◌≤◌, Bool, true, false, List, zero, suc, refl, sym, ap, ◌∙◌, arith, rules, zero-add, inl, inr, ◌⊎◌, if◌then◌else◌}
 use Rattle.tape_ports.specs.declared.entry.TapeEntry.{TapeEntry}
 use Rattle.catchup_engine.specs.Lockstep.{Board, step}
-use Rattle.catchup_engine.specs.Run.{stepped, steps_until, is_over, is_at, is_cut, to_boundary, run, to_cut}
-use Rattle.catchup_engine.specs.Runs.{Reached}
+use Rattle.catchup_engine.specs.Run.{stepped, steps_until, is_over, is_cut, to_boundary, to_cut}
+use Rattle.catchup_engine.specs.Runs.{StepsTo}
 use Rattle.catchup_engine.specs.Turn.{IsInside, Through}
 
 stepped-none : (entries : List TapeEntry) (b : Board) → stepped entries 0 b ≡ b
@@ -12,21 +12,21 @@ stepped-none entries b = refl
 
 -- some steps to a board and others from it
 pub reached-append : (entries : List TapeEntry) (asked : Board → Bool) (n m : ℕ) (a b c : Board)
-    → Reached entries asked n a b → Reached entries asked m b c → Reached entries asked (n + m) a c
+    → StepsTo entries asked n a b → StepsTo entries asked m b c → StepsTo entries asked (n + m) a c
 reached-append entries asked zero m a b c first rest = rw (zero-add m, ← first) rest
 reached-append entries asked (suc n) m a b c first rest =
     let e : suc n + m ≡ suc (n + m) = omega arith in
     rw e (first.0, reached-append entries asked n m (step entries a) b c first.1 rest)
 
 -- the steps lead to the board that they are counted to
-pub stepped-is : (entries : List TapeEntry) (asked : Board → Bool) (n : ℕ) (b last : Board) → Reached entries asked n b last
+pub stepped-is : (entries : List TapeEntry) (asked : Board → Bool) (n : ℕ) (b last : Board) → StepsTo entries asked n b last
     → stepped entries n b ≡ last
 unfolding stepped
 stepped-is entries asked zero b last r = sym r
 stepped-is entries asked (suc n) b last r = stepped-is entries asked n (step entries b) last r.1
 
 -- the board asked for is reached by the least number of steps
-pub steps_until-is : (entries : List TapeEntry) (asked : Board → Bool) (n most : ℕ) (b last : Board) → Reached entries asked n b last
+pub steps_until-is : (entries : List TapeEntry) (asked : Board → Bool) (n most : ℕ) (b last : Board) → StepsTo entries asked n b last
     → asked last ≡ true → n ≤ most → steps_until entries asked most b ≡ n
 unfolding steps_until
 steps_until-is entries asked zero zero b last r over few = refl
@@ -35,25 +35,19 @@ steps_until-is entries asked (suc n) zero b last r over few = absurd (omega arit
 steps_until-is entries asked (suc n) (suc most) b last r over few =
     rw r.0 (ap suc (steps_until-is entries asked n most (step entries b) last r.1 over (omega arith)))
 
-by-steps : (entries : List TapeEntry) (asked : Board → Bool) (n most : ℕ) (b last : Board) → Reached entries asked n b last
+by-steps : (entries : List TapeEntry) (asked : Board → Bool) (n most : ℕ) (b last : Board) → StepsTo entries asked n b last
     → asked last ≡ true → n ≤ most → stepped entries (steps_until entries asked most b) b ≡ last
 by-steps entries asked n most b last r over few =
     ap (λ k. stepped entries k b) (steps_until-is entries asked n most b last r over few) ∙ stepped-is entries asked n b last r
 
 -- the board at which a run is over is the one that its definition gives
-pub to_boundary-is : (entries : List TapeEntry) (limit n : ℕ) (b last : Board) → Reached entries (is_over limit) n b last
+pub to_boundary-is : (entries : List TapeEntry) (limit n : ℕ) (b last : Board) → StepsTo entries (is_over limit) n b last
     → is_over limit last ≡ true → n ≤ (limit - b.wires.clock) + 6 → to_boundary entries limit b ≡ last
 unfolding to_boundary
 to_boundary-is entries limit n b last r over few = by-steps entries (is_over limit) n ((limit - b.wires.clock) + 6) b last r over few
 
--- the same for a run to a clock
-pub run-is : (entries : List TapeEntry) (cut n : ℕ) (b last : Board) → Reached entries (is_at cut) n b last
-    → is_at cut last ≡ true → n ≤ cut - b.wires.clock → run entries cut b ≡ last
-unfolding run
-run-is entries cut n b last r over few = by-steps entries (is_at cut) n (cut - b.wires.clock) b last r over few
-
--- and for one to a clock or a window's end
-pub to_cut-is : (entries : List TapeEntry) (cut wrap n : ℕ) (b last : Board) → Reached entries (is_cut cut wrap) n b last
+-- the same for a run to a clock or a window's end
+pub to_cut-is : (entries : List TapeEntry) (cut wrap n : ℕ) (b last : Board) → StepsTo entries (is_cut cut wrap) n b last
     → is_cut cut wrap last ≡ true → n ≤ cut - b.wires.clock → to_cut entries cut wrap b ≡ last
 unfolding to_cut
 to_cut-is entries cut wrap n b last r over few = by-steps entries (is_cut cut wrap) n (cut - b.wires.clock) b last r over few
@@ -64,20 +58,20 @@ not-over limit b inside = grind (arith, rules)
 
 -- so that they lead on towards its end
 pub through-reached : (entries : List TapeEntry) (limit n : ℕ) (b last : Board) → Through entries n b last
-    → Reached entries (is_over limit) n b last
+    → StepsTo entries (is_over limit) n b last
 through-reached entries limit zero b last e = e
 through-reached entries limit (suc n) b last t = (not-over limit b t.0, through-reached entries limit n (step entries b) last t.1)
 
 reached-by : (entries : List TapeEntry) (asked : Board → Bool) (n : ℕ) (b : Board) (t : Bool) → asked b ≡ t
-    → Reached entries asked n (step entries b) (stepped entries n (step entries b))
-    → Reached entries asked (if t then 0 else suc n) b (stepped entries (if t then 0 else suc n) b)
+    → StepsTo entries asked n (step entries b) (stepped entries n (step entries b))
+    → StepsTo entries asked (if t then 0 else suc n) b (stepped entries (if t then 0 else suc n) b)
 unfolding stepped
 reached-by entries asked n b true e rest = refl
 reached-by entries asked n b false e rest = (e, rest)
 
 -- no board before the least number of steps is as asked
 pub steps-reached : (entries : List TapeEntry) (asked : Board → Bool) (most : ℕ) (b : Board)
-    → Reached entries asked (steps_until entries asked most b) b (stepped entries (steps_until entries asked most b) b)
+    → StepsTo entries asked (steps_until entries asked most b) b (stepped entries (steps_until entries asked most b) b)
 unfolding steps_until
 steps-reached entries asked zero b = stepped-none entries b
 steps-reached entries asked (suc most) b =
@@ -118,7 +112,7 @@ stepped-add entries (suc n) m b = let e : suc n + m ≡ suc (n + m) = omega arit
 
 -- no step was made from a board at which another run had come to its end, where it comes to it no sooner
 pub reached-asked : (entries : List TapeEntry) (asked sooner : Board → Bool) → ((c : Board) → sooner c ≡ false → asked c ≡ false)
-    → (n : ℕ) (b last : Board) → Reached entries sooner n b last → Reached entries asked n b last
+    → (n : ℕ) (b last : Board) → StepsTo entries sooner n b last → StepsTo entries asked n b last
 reached-asked entries asked sooner weaker zero b last r = r
 reached-asked entries asked sooner weaker (suc n) b last r =
     (weaker b r.0, reached-asked entries asked sooner weaker n (step entries b) last r.1)
@@ -132,7 +126,7 @@ pub steps-split : (entries : List TapeEntry) (asked sooner : Board → Bool) →
 steps-split entries asked sooner weaker n m k most b e over few =
     let middle = stepped entries n b in
     let rest = steps_until entries asked k middle in
-    let first : Reached entries sooner n b middle = rw e (steps-reached entries sooner m b) in
+    let first : StepsTo entries sooner n b middle = rw e (steps-reached entries sooner m b) in
     steps_until-is entries asked (n + rest) most b (stepped entries rest middle)
     (reached-append entries asked n rest b middle (stepped entries rest middle) (reached-asked entries asked sooner weaker n b middle first)
     (steps-reached entries asked k middle))

@@ -9,7 +9,7 @@ use Rattle.catchup_engine.specs.Bus.{BusValue}
 use Rattle.catchup_engine.specs.Lockstep.{Board, step}
 use Rattle.catchup_engine.specs.Breaks.{is_at_any}
 use Rattle.catchup_engine.specs.Run.{stepped, is_over, is_cut, boundary_steps, cut_steps}
-use Rattle.catchup_engine.specs.Runs.{over_bus, Reached, RunsOn, TurnsRun, BoundaryRun, CutRun, IsInRange}
+use Rattle.catchup_engine.specs.Runs.{over_bus, StepsTo, RunsOn, TurnsRun, BoundaryRun, CutRun, IsInRange}
 use Rattle.catchup_engine.specs.Turn.{IsInside, Through, TurnedBus}
 use Rattle.catchup_engine.proofs.Budgets.{budget-add}
 use Rattle.catchup_engine.proofs.Clocks.{step-clock, through-clock}
@@ -21,13 +21,13 @@ no-budget entries b = refl
 
 -- no step is made yet
 abbrev pub starts : (entries : List TapeEntry) (asked : Board → Bool) (c : CpuValue) (s : BusValue) → s.begun ≡ false → RunsOn entries asked c s s c
-starts entries asked c s level = record {
+starts entries asked c s between = record {
   count = 0;
   reached = refl;
   clock = sym (add-zero s.wires.clock);
   written = omega arith;
   paid = omega arith;
-  goes = record { more = omega arith; rooms = refl; until = omega arith; level = level };
+  goes = record { more = omega arith; rooms = refl; until = omega arith; between = between };
 }
 
 -- a run goes on by another
@@ -55,13 +55,13 @@ runs-join entries asked c s t u e f run more =
       clock = omega arith;
       written = omega arith;
       paid = omega arith;
-      goes = record { more = omega arith; rooms = more.goes.rooms ∙ run.goes.rooms; until = omega arith; level = more.goes.level };
+      goes = record { more = omega arith; rooms = more.goes.rooms ∙ run.goes.rooms; until = omega arith; between = more.goes.between };
     }
 
 -- one turn is a run
 abbrev pub turn-runs : (entries : List TapeEntry) (asked : Board → Bool) (clocks : ℕ) (e f : CpuValue) (t u : BusValue)
     → asked (over_bus e t) ≡ false → (turned : TurnedBus entries clocks e t u f)
-    → Reached entries asked turned.turned.count (step entries (over_bus e t)) (over_bus f u)
+    → StepsTo entries asked turned.turned.count (step entries (over_bus e t)) (over_bus f u)
     → RunsOn entries asked e t u f
 turn-runs entries asked clocks e f t u open_yet turned reached = record {
   count = suc turned.turned.count;
@@ -75,14 +75,14 @@ turn-runs entries asked clocks e f t u open_yet turned reached = record {
 -- a turn more
 pub goes_on : (entries : List TapeEntry) (asked : Board → Bool) (clocks : ℕ) (c : CpuValue) (s t u : BusValue) (e f : CpuValue)
     → (run : RunsOn entries asked c s t e) → asked (over_bus e t) ≡ false → (turned : TurnedBus entries clocks e t u f)
-    → Reached entries asked turned.turned.count (step entries (over_bus e t)) (over_bus f u)
+    → StepsTo entries asked turned.turned.count (step entries (over_bus e t)) (over_bus f u)
     → RunsOn entries asked c s u f
 goes_on entries asked clocks c s t u e f run open_yet turned reached =
     runs-join entries asked c s t u e f run (turn-runs entries asked clocks e f t u open_yet turned reached)
 
 -- a run whose boards aren't as another asks either is such a run too
 pub runs-as : (entries : List TapeEntry) (asked other : Board → Bool) (c : CpuValue) (s t : BusValue) (e : CpuValue) → (run : RunsOn entries other c s t e)
-    → Reached entries asked run.count (over_bus c s) (over_bus e t) → RunsOn entries asked c s t e
+    → StepsTo entries asked run.count (over_bus c s) (over_bus e t) → RunsOn entries asked c s t e
 runs-as entries asked other c s t e run reached = record {
   count = run.count;
   reached = reached;
@@ -107,8 +107,8 @@ pub record AtBoundary (entries : List TapeEntry) (limit : ℕ) (c : CpuValue) (s
 
 pub boundary-starts : (entries : List TapeEntry) (limit : ℕ) (c : CpuValue) (s : BusValue) → s.begun ≡ false → c.mid ≡ None → IsInRange c s
     → AtBoundary entries limit c s s c
-boundary-starts entries limit c s level boundary range = record {
-  run = starts entries (is_over limit) c s level;
+boundary-starts entries limit c s between boundary range = record {
+  run = starts entries (is_over limit) c s between;
   few = omega arith;
   boundary = boundary;
   range = range;
@@ -160,7 +160,7 @@ open-before limit b boundary open_yet = before b.cpu.jam b.cpu.mid refl boundary
 -- a run from inside a sequence has ended it first
 pub boundary-resumes : (entries : List TapeEntry) (limit : ℕ) (c : CpuValue) (s u : BusValue) (f : CpuValue) → s.begun ≡ false → IsSome c.mid
     → IfSome c.mid (λ _. IsMiddle c) → IsInRange c s → TurnedBus entries 7 c s u f → AtBoundary entries limit c s u f
-boundary-resumes entries limit c s u f level inside place range turned =
+boundary-resumes entries limit c s u f between inside place range turned =
     let running = running-inside c inside place in
     let open_yet = middle-open limit (over_bus c s) inside running in
     let ends = turn-ends entries c f s u turned in
@@ -253,8 +253,8 @@ pub record AtCut (entries : List TapeEntry) (cut wrap : ℕ) (c : CpuValue) (s t
   pub inside : IsSome e.mid → (t.wires.clock ≡ s.wires.clock) ⊎ (cut ≤ t.wires.clock)
 
 pub cut-starts : (entries : List TapeEntry) (cut wrap : ℕ) (c : CpuValue) (s : BusValue) → s.begun ≡ false → IsInRange c s → AtCut entries cut wrap c s s c
-cut-starts entries cut wrap c s level range = record {
-  run = starts entries (is_cut cut wrap) c s level;
+cut-starts entries cut wrap c s between range = record {
+  run = starts entries (is_cut cut wrap) c s between;
   few = omega arith;
   range = range;
   inside = λ some. inl refl;
@@ -271,7 +271,7 @@ inside-open cut wrap b inside before = by_parts b.cpu.jam b.cpu.mid inside.runni
 
 -- steps through the inside of a sequence, which end at the cut at the latest
 through-cut : (entries : List TapeEntry) (cut wrap n : ℕ) (b last : Board) → Through entries n b last → last.wires.clock ≤ cut
-    → Reached entries (is_cut cut wrap) n b last
+    → StepsTo entries (is_cut cut wrap) n b last
 through-cut entries cut wrap zero b last e within = e
 through-cut entries cut wrap (suc n) b last t within =
     let clock = through-clock entries (suc n) b last t in
@@ -316,8 +316,8 @@ cut-ends entries cut wrap c s t e at over =
     }
 
 -- steps that lead to a boundary by turns from before a limit are none from a board at which a run to a later cut is over
-over-cut : (entries : List TapeEntry) (cut wrap limit n : ℕ) (b last : Board) → limit ≤ wrap → Reached entries (is_over limit) n b last
-    → b.wires.clock + n ≤ cut → Reached entries (is_cut cut wrap) n b last
+over-cut : (entries : List TapeEntry) (cut wrap limit n : ℕ) (b last : Board) → limit ≤ wrap → StepsTo entries (is_over limit) n b last
+    → b.wires.clock + n ≤ cut → StepsTo entries (is_cut cut wrap) n b last
 over-cut entries cut wrap limit zero b last sooner r within = r
 over-cut entries cut wrap limit (suc n) b last sooner r within =
     let clock = step-clock entries b in
@@ -354,8 +354,8 @@ cut-turns entries cut wrap limit c s t u e f least at rest =
       inside = λ some. none-some f.mid rest.on.boundary some;
     }
   where
-    by-made : (n : ℕ) → (n ≡ 0) ⊎ (t.wires.clock + n ≤ cut) → Reached entries (is_over limit) n (over_bus e t) (over_bus f u)
-        → Reached entries (is_cut cut wrap) n (over_bus e t) (over_bus f u)
+    by-made : (n : ℕ) → (n ≡ 0) ⊎ (t.wires.clock + n ≤ cut) → StepsTo entries (is_over limit) n (over_bus e t) (over_bus f u)
+        → StepsTo entries (is_cut cut wrap) n (over_bus e t) (over_bus f u)
     by-made zero made r = r
     by-made (suc n) (inl none) r = cc
     by-made (suc n) (inr within) r = over-cut entries cut wrap limit (suc n) (over_bus e t) (over_bus f u) (omega arith) r within

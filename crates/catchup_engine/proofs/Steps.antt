@@ -68,18 +68,18 @@ step-paused entries r q bytes w = rw (given_paused bytes) refl
 inside-paused : (r : RegistersValue) (q : Sequence) (bytes : List ℕ) (w : Wires) → IsInside (record { cpu = paused r q bytes; wires = w })
 inside-paused r q bytes w = record { running = refl; middle = search rules }
 
-pub in_clock-level : (entries : List TapeEntry) (s : BusValue) → s.begun ≡ false → in_clock entries s.begun s.wires ≡ ticked entries s.wires
+pub in_clock-between : (entries : List TapeEntry) (s : BusValue) → s.begun ≡ false → in_clock entries s.begun s.wires ≡ ticked entries s.wires
 unfolding in_clock
-in_clock-level entries s level = rw level refl
+in_clock-between entries s between = rw between refl
 
 -- where an access is due, a step makes it
 step-access : (entries : List TapeEntry) (r : RegistersValue) (q : Sequence) (bytes : List ℕ) (v : ℕ) (x : Access) (s t : BusValue)
     → IsAccess (next_of r q bytes) v x → BusStep entries x s t → s.begun ≡ false
     → step entries (board_after r q bytes s.wires) ≡ board_after r q (bytes ++ v ∷ []) t.wires
-step-access entries r q bytes v x s t is b level =
+step-access entries r q bytes v x s t is b between =
     ap (λ (c : CpuValue). step entries (record { cpu = c; wires = s.wires })) (paused-is (next_of r q bytes) r q bytes v x is)
     ∙ step-paused entries r q bytes s.wires
-    ∙ ap (λ (w : Wires). clocked (accessed r q bytes w)) (sym (in_clock-level entries s level))
+    ∙ ap (λ (w : Wires). clocked (accessed r q bytes w)) (sym (in_clock-between entries s between))
     ∙ accessed-is entries r q bytes v x s t is b
 
 inside-access : (r : RegistersValue) (q : Sequence) (bytes : List ℕ) (v : ℕ) (x : Access) (w : Wires)
@@ -98,15 +98,15 @@ price-paused entries r q bytes v x w is =
     rw (given_paused bytes) (omega arith)
 
 begin-level : (entries : List TapeEntry) (s : BusValue) → s.begun ≡ false → begin_price entries s.begun s.wires ≡ ticks_price entries s.wires
-begin-level entries s level = rw level refl
+begin-level entries s between = rw between refl
 
 paid-access : (entries : List TapeEntry) (r : RegistersValue) (q : Sequence) (bytes : List ℕ) (v : ℕ) (x : Access) (s t : BusValue)
     → IsAccess (next_of r q bytes) v x → BusStep entries x s t → s.begun ≡ false
     → t.calls ≤ s.calls + price entries (board_after r q bytes s.wires)
-paid-access entries r q bytes v x s t is b level =
+paid-access entries r q bytes v x s t is b between =
     let stays = stays-of entries x s t b in
     let cost = stays.calls in
-    let none = begin-level entries s level in
+    let none = begin-level entries s between in
     let here : price entries (board_after r q bytes s.wires) ≡ 2 * from_bool (reaches_device x) + ticks_price entries s.wires =
     ap (λ (c : CpuValue). price entries (record { cpu = c; wires = s.wires })) (paused-is (next_of r q bytes) r q bytes v x is)
     ∙ price-paused entries r q bytes v x s.wires is in
@@ -119,7 +119,7 @@ pub record Went (entries : List TapeEntry) (n : ℕ) (b last : Board) (s t : Bus
   pub more : s.calls ≤ t.calls
   pub rooms : t.rooms ≡ s.rooms
   pub until : s.until ≤ t.until
-  pub level : t.begun ≡ false
+  pub between : t.begun ≡ false
 
 budget-more : (entries : List TapeEntry) (n : ℕ) (b : Board) → budget entries (suc n) b ≡ price entries b + budget entries n (step entries b)
 unfolding counted
@@ -129,20 +129,20 @@ budget-more entries n b = refl
 pub moves-went : (entries : List TapeEntry) (r : RegistersValue) (q : Sequence) (bytes more : List ℕ) (s t : BusValue)
     → Moves (BusStep entries) r q bytes more s t → s.begun ≡ false
     → Went entries (length more) (board_after r q bytes s.wires) (board_after r q (bytes ++ more) t.wires) s t
-moves-went entries r q bytes [] s t m level = record {
+moves-went entries r q bytes [] s t m between = record {
   through = rw (append-nil bytes, m) refl;
   paid = (let e = ap (λ (b : BusValue). b.calls) m in omega arith);
   more = (let e = ap (λ (b : BusValue). b.calls) m in omega arith);
   rooms = ap (λ (b : BusValue). b.rooms) m;
   until = (let e = ap (λ (b : BusValue). b.until) m in omega arith);
-  level = ap (λ (b : BusValue). b.begun) m ∙ level;
+  between = ap (λ (b : BusValue). b.begun) m ∙ between;
 }
-moves-went entries r q bytes (v ∷ more) s t (x, m, is, b, rest) level =
+moves-went entries r q bytes (v ∷ more) s t (x, m, is, b, rest) between =
     let stays = stays-of entries x s m b in
     let e : (bytes ++ v ∷ []) ++ more ≡ bytes ++ v ∷ more = append_assoc bytes (v ∷ []) more in
     let later = moves-went entries r q (bytes ++ v ∷ []) more m t rest stays.begun in
-    let here = step-access entries r q bytes v x s m is b level in
-    let first = paid-access entries r q bytes v x s m is b level in
+    let here = step-access entries r q bytes v x s m is b between in
+    let first = paid-access entries r q bytes v x s m is b between in
     let then_paid : t.calls ≤ m.calls + budget entries (length more) (step entries (board_after r q bytes s.wires)) = rw here later.paid in
     let whole = budget-more entries (length more) (board_after r q bytes s.wires) in
     let more_first = stays.more in
@@ -155,7 +155,7 @@ moves-went entries r q bytes (v ∷ more) s t (x, m, is, b, rest) level =
       more = omega arith;
       rooms = later.rooms ∙ stays.rooms;
       until = omega arith;
-      level = later.level;
+      between = later.between;
     }
 
 -- a sequence has seven bytes at most

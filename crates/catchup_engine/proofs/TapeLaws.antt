@@ -1,5 +1,5 @@
 -- Which entries of a tape a clock has, by the place up to which they are past.
-use Rattle.std.proofs.Common.{◌≡◌, ℕ, ◌+◌, ◌-◌, ◌*◌, ◌<◌, ◌≤◌, true, false, cond, ltb, List, [], ◌∷◌, length, get_or, take, drop, Option, Some, None, IfSome, zero, suc, refl, sym, ap, ◌∙◌, arith}
+use Rattle.std.proofs.Common.{◌≡◌, ℕ, ◌+◌, ◌-◌, ◌*◌, ◌<◌, ◌≤◌, true, false, cond, ltb, List, [], ◌∷◌, length, get_or, take, drop, Option, Some, None, zero, suc, refl, sym, ap, ◌∙◌, arith}
 use Rattle.std.specs.List.{All, slice_range}
 use Rattle.std.proofs.lemmas.Bool.{lt-ltb, le-ltb}
 use Rattle.std.proofs.lemmas.List.{length-take-le, length-drop, get_or-drop, get_or_default}
@@ -14,8 +14,9 @@ use Rattle.tape_ports.specs.declared.entry.TapeEntry.{TapeEntry}
 use Rattle.tape_ports.specs.Due.{due_at}
 use Rattle.tape_ports.specs.Ports.{IsPort}
 use Rattle.tape_ports.specs.Tape.{TapeValue, IsTape, count_before}
+use Rattle.catchup_engine.specs.Events.{next_event_of}
 use Rattle.catchup_engine.specs.Wires.{Wires, applied, devices_ticked, port_set, ticked}
-use Rattle.catchup_engine.specs.Bus.{BusValue, ComesNext, Does, Fits, IsPlace}
+use Rattle.catchup_engine.specs.Bus.{BusValue, ComesNext, Does, Fits, IsTapePlace}
 
 -- where the entries before a place are before a clock and the others aren't, that place is their number
 count-at : (t n : ℕ) (es : List TapeEntry) → n ≤ length es → All (λ e. e.clock < t) (take n es) → All (λ e. t ≤ e.clock) (drop n es)
@@ -32,7 +33,7 @@ count-at t n es within before from =
     )
 
 -- the entries due at the bus's clock stand between the place of this clock and that of the next
-pub due-between : (tape : TapeValue) (clock next after : ℕ) → IsTape tape → IsPlace tape clock next → IsPlace tape (clock + 1) after
+pub due-between : (tape : TapeValue) (clock next after : ℕ) → IsTape tape → IsTapePlace tape clock next → IsTapePlace tape (clock + 1) after
     → due_at clock tape.entries ≡ slice_range tape.entries next after
 due-between tape clock next after valid here then =
     due_at-rising clock tape.entries valid.rising
@@ -44,7 +45,7 @@ slice_none : (n : ℕ) (es : List TapeEntry) → slice_range es n n ≡ []
 slice_none n es = let e : n - n ≡ 0 = omega arith in rw e refl
 
 -- before the next event the place stays
-pub place-stays : (tape : TapeValue) (s : BusValue) → Fits tape s → s.wires.clock < s.event_at → IsPlace tape (s.wires.clock + 1) s.next
+pub place-stays : (tape : TapeValue) (s : BusValue) → Fits tape s → s.wires.clock < s.event_at → IsTapePlace tape (s.wires.clock + 1) s.next
 place-stays tape s f h = record {
   within = f.place.within;
   before = λ k d inside. (let a = f.place.before k d inside in omega arith);
@@ -57,7 +58,7 @@ none-due tape s f h =
     due-between tape s.wires.clock s.next s.next f.valid f.place (place-stays tape s f h) ∙ slice_none s.next tape.entries
 
 -- the place of the next clock isn't before that of this one
-pub place-rises : (tape : TapeValue) (clock next after : ℕ) → IsPlace tape clock next → IsPlace tape (clock + 1) after → next ≤ after
+pub place-rises : (tape : TapeValue) (clock next after : ℕ) → IsTapePlace tape clock next → IsTapePlace tape (clock + 1) after → next ≤ after
 place-rises tape clock next after here then = by_order next after tape.entries here.before then.from here.within
   where
     by_order : (n m : ℕ) (es : List TapeEntry) → All (λ (e : TapeEntry). e.clock < clock) (take n es)
@@ -118,7 +119,7 @@ pub record Due (tape : TapeValue) (clock next after : ℕ) : Type 0 where
   pub due : slice_range tape.entries next after ≡ due_at clock tape.entries
   pub ports : All (λ (e : TapeEntry). IsPort e.port) (slice_range tape.entries next after)
 
-pub due-entries : (tape : TapeValue) (clock next after : ℕ) → IsTape tape → IsPlace tape clock next → IsPlace tape (clock + 1) after
+pub due-entries : (tape : TapeValue) (clock next after : ℕ) → IsTape tape → IsTapePlace tape clock next → IsTapePlace tape (clock + 1) after
     → Due tape clock next after
 due-entries tape clock next after valid here then = record {
   order = place-rises tape clock next after here then;
@@ -199,10 +200,17 @@ fits-quiet tape s t f h clock next event = record {
   quiet = rw (event, next) f.quiet;
 }
 
--- what isn't later than the next entry isn't later than any
-pub comes-next : (tape : TapeValue) (next at : ℕ) (entry : Option ℕ) → ComesNext tape next entry → IfSome entry (λ e. at ≤ e)
-    → All (λ (e : TapeEntry). at ≤ e.clock) (drop next tape.entries)
-comes-next tape next at None none before = λ k d inside. absurd (let e = ap (λ (es : List TapeEntry). length es) none in omega arith)
-comes-next tape next at (Some first) later before = λ k d inside. let h = later k d inside in omega arith
+-- the sooner of a wrap and the next entry isn't later than the wrap
+pub sooner-wrap : (wrap : ℕ) (entry : Option ℕ) → next_event_of wrap entry ≤ wrap
+unfolding next_event_of
+sooner-wrap wrap None = omega arith
+sooner-wrap wrap (Some e) = omega arith
 
-pub ruleset comes = comes-next
+-- nor than any entry
+pub sooner-entries : (tape : TapeValue) (next wrap at : ℕ) (entry : Option ℕ) → at ≡ next_event_of wrap entry → ComesNext tape next entry
+    → All (λ (e : TapeEntry). at ≤ e.clock) (drop next tape.entries)
+unfolding next_event_of
+sooner-entries tape next wrap at None is none = λ k d inside. absurd (let e = ap (λ (es : List TapeEntry). length es) none in omega arith)
+sooner-entries tape next wrap at (Some first) is later = λ k d inside. let h = later k d inside in omega arith
+
+pub ruleset comes = (sooner-wrap, sooner-entries)

@@ -3,7 +3,7 @@ use Rattle.std.proofs.Common.{◌≡◌, ◌≢◌, ℕ, ◌+◌, ◌-◌, ◌^�
 use Rattle.std.proofs.lemmas.Bool.{lt-leb, le-leb}
 use Rattle.board_base.specs.declared.cpu.Sequence.{Sequence}
 use Rattle.board_base.specs.declared.cpu.Sequence.TheVariants.{Reset}
-use Rattle.board_base.specs.Cpu.{CpuValue, MidValue}
+use Rattle.board_base.specs.Cpu.{CpuValue, MidValue, count_of}
 use Rattle.cpu_core.specs.declared.replay.Next.{Next}
 use Rattle.cpu_core.specs.declared.replay.Next.TheVariants.{Read, Write, End}
 use Rattle.cpu_core.specs.Course as course
@@ -18,19 +18,19 @@ use Rattle.catchup_engine.specs.Bus.{BusStep, BusValue, in_clock}
 use Rattle.catchup_engine.specs.Lockstep.{Board, access_in, due_access, made_by, sequence_due, step}
 use Rattle.catchup_engine.specs.Run.{boundary_steps, is_over, stepped}
 use Rattle.catchup_engine.specs.Runs.{over_bus, BoundaryRun, IsInRange, RunsOn}
-use Rattle.catchup_engine.specs.Trace.{Makes, TraceValue, access_at, count_of, accesses_in, accesses_of, byte_of, first_byte, made_of, no_trace, opcode_by, sequence_at, seven_of, step_trace, trace_of}
+use Rattle.catchup_engine.specs.Trace.{Makes, TraceValue, access_at, accesses_in, accesses_of, byte_of, first_byte, made_of, no_trace, opcode_by, sequence_at, seven_of, step_trace, trace_of}
 use Rattle.catchup_engine.specs.Turn.{TurnedBus}
 use Rattle.catchup_engine.specs.Wires.{ticked}
 use Rattle.catchup_engine.proofs.Runs.{stepped-is, steps_until-is, through-reached}
 use Rattle.catchup_engine.proofs.RunsOn.{AtBoundary, boundary-ends, boundary-starts, goes_on, middle-open, running-inside, starts}
-use Rattle.catchup_engine.proofs.Steps.{in_clock-level}
+use Rattle.catchup_engine.proofs.Steps.{in_clock-between}
 use Rattle.catchup_engine.proofs.Turns.{Begins, HasEffects, due-clock, fetch-turn, given-some, in_clock-begun, reset-begun, reset-turn, resets-one, resume-turn}
 
 -- a step of a bus with a trace is one of the bus that it holds, whose name stays
 pub record IsTold {S : Type 0} (entries : List TapeEntry) (bus : S → BusValue) (name : S → ℕ) (made : S → Access) (x : course.Access) (s t : S) : Type 0 where
   pub same : name t ≡ name s
   pub did : BusStep entries x (bus s) (bus t)
-  pub told : made t ≡ access_at ((bus t).wires.clock - 1) x
+  pub traced : made t ≡ access_at ((bus t).wires.clock - 1) x
 
 -- an advance by one clock makes the access that is due
 pub record MadeOne {S : Type 0} (entries : List TapeEntry) (bus : S → BusValue) (name : S → ℕ) (made : S → Access) (r : RegistersValue) (q : Sequence) (given : List ℕ) (s t : S) (e : CpuValue) : Type 0 where
@@ -42,7 +42,7 @@ pub made-one : {S : Type 0} {T : course.Access → S → S → Type 0} (r : Regi
     → (entries : List TapeEntry) (bus : S → BusValue) (name : S → ℕ) (made : S → Access)
     → ((x : course.Access) (a b : S) → T x a b → IsTold entries bus name made x a b)
     → MadeOne entries bus name made r q given s t e
-made-one {S = S} {T = T} r q given n s t e a due entries bus name made told = by_more a.more a.moves a.count a.full a.stands a.complete
+made-one {S = S} {T = T} r q given n s t e a due entries bus name made traced = by_more a.more a.moves a.count a.full a.stands a.complete
   where
     by_more : (more : List ℕ) → Moves T r q given more s t → length more ≡ n
         → ((IsEnd (next_of r q (given ++ more)) → ⊥) → n ≡ 1) → e ≡ standing r q (given ++ more)
@@ -52,10 +52,10 @@ made-one {S = S} {T = T} r q given n s t e a due entries bus name made told = by
         let one : n ≡ 1 = full (rw (append-nil given) due) in
         absurd (omega arith)
     by_more (v ∷ []) (x, m, is, did, same) count full stands complete =
-        let h : IsTold entries bus name made x s t = subst (λ (k : S). IsTold entries bus name made x s k) (sym same) (told x s m did) in
+        let h : IsTold entries bus name made x s t = subst (λ (k : S). IsTold entries bus name made x s k) (sym same) (traced x s m did) in
         record {
           same = h.same;
-          makes = record { value = v; access = x; is = is; did = h.did; stands = stands; complete = complete; told = h.told };
+          makes = record { value = v; access = x; is = is; did = h.did; stands = stands; complete = complete; traced = h.traced };
         }
     by_more (v ∷ (u ∷ more)) moves count full stands complete = let few = a.few in absurd (omega arith)
 
@@ -65,7 +65,7 @@ pub made-next : {S : Type 0} {T : course.Access → S → S → Type 0} (c : Cpu
     → (entries : List TapeEntry) (bus : S → BusValue) (name : S → ℕ) (made : S → Access)
     → ((x : course.Access) (a b : S) → T x a b → IsTold entries bus name made x a b)
     → (name t ≡ name s) × IfSome c.mid (λ m. Makes entries (registers_of c) m.sequence (given_by m) (bus s) (bus t) e (made t))
-made-next {S = S} {T = T} c n s t e advances some middle entries bus name made told = by_mid c.mid refl some advances middle
+made-next {S = S} {T = T} c n s t e advances some middle entries bus name made traced = by_mid c.mid refl some advances middle
   where
     by_mid : (mid : Option MidValue) → c.mid ≡ mid → IsSome mid
         → IfSome mid (λ m. Advances T (registers_of c) m.sequence (given_by m) 1 n s t e) → IfSome mid (λ _. IsMiddle c)
@@ -73,7 +73,7 @@ made-next {S = S} {T = T} c n s t e advances some middle entries bus name made t
     by_mid None is some advances middle = cc
     by_mid (Some m) is some advances middle =
         let place : IsPlace (registers_of c) m = (rw is at middle).1 in
-        let h = made-one (registers_of c) m.sequence (given_by m) n s t e advances (place_due (registers_of c) m place) entries bus name made told in
+        let h = made-one (registers_of c) m.sequence (given_by m) n s t e advances (place_due (registers_of c) m place) entries bus name made traced in
         (h.same, h.makes)
 
 -- the access that was made is the one that the board makes
@@ -88,9 +88,9 @@ made_by-is entries (End e) v x s t is did = absurd is
 access-resumed : (entries : List TapeEntry) (c : CpuValue) (m : MidValue) (v : ℕ) (x : course.Access) (s t : BusValue) → c.mid ≡ Some m → s.begun ≡ false
     → IsAccess (next_of (registers_of c) m.sequence (given_by m)) v x → BusStep entries x s t → access_in entries (over_bus c s) ≡ Some x
 unfolding access_in
-access-resumed entries c m v x s t inside level is did =
+access-resumed entries c m v x s t inside between is did =
     ap (λ (mid : Option MidValue). due_access mid c (ticked entries s.wires)) inside
-    ∙ ap (made_by (next_of (registers_of c) m.sequence (given_by m))) (sym (in_clock-level entries s level))
+    ∙ ap (made_by (next_of (registers_of c) m.sequence (given_by m))) (sym (in_clock-between entries s between))
     ∙ made_by-is entries (next_of (registers_of c) m.sequence (given_by m)) v x s t is did
 
 access-fetched : (entries : List TapeEntry) (c : CpuValue) (q : Sequence) (v : ℕ) (x : course.Access) (s b t : BusValue) → c.mid ≡ None
@@ -105,7 +105,7 @@ access-fetched entries c q v x s b t boundary begins due is did =
     ∙ ap (made_by (next_of (start_of q c) q [])) (sym (in_clock-begun entries s b begins))
     ∙ made_by-is entries (next_of (start_of q c) q []) v x b t is did
 
--- what is told of an access tells it
+-- what is traced of an access tells it
 told-made : (clock : ℕ) (x : course.Access) → made_of (access_at clock x) ≡ x
 told-made clock (read_of a v) = refl
 told-made clock (write_of a v) = refl
@@ -135,29 +135,29 @@ pub record IsTraced (entries : List TapeEntry) (c : CpuValue) (s t : BusValue) (
 
 told-after : (entries : List TapeEntry) (x : course.Access) (s t : BusValue) (made : Access) → made ≡ access_at (t.wires.clock - 1) x
     → 1 ≤ t.wires.clock → made.clock + 1 ≡ t.wires.clock
-told-after entries x s t made told some =
-    let e : made.clock ≡ t.wires.clock - 1 = ap (λ (m : Access). m.clock) told ∙ told-clock (t.wires.clock - 1) x in
+told-after entries x s t made traced some =
+    let e : made.clock ≡ t.wires.clock - 1 = ap (λ (m : Access). m.clock) traced ∙ told-clock (t.wires.clock - 1) x in
     omega arith
 
 turned-some : (entries : List TapeEntry) (c : CpuValue) (s t : BusValue) (e : CpuValue) → TurnedBus entries 1 c s t e → 1 ≤ t.wires.clock
 turned-some entries c s t e turned = let clock = turned.turned.clock in omega arith
 
 some-made : (x : course.Access) (made : Access) (clock : ℕ) → made ≡ access_at clock x → Some x ≡ Some (made_of made)
-some-made x made clock told = ap (λ (y : course.Access). Some y) (sym (ap made_of told ∙ told-made clock x))
+some-made x made clock traced = ap (λ (y : course.Access). Some y) (sym (ap made_of traced ∙ told-made clock x))
 
 -- the next clock of a sequence under way
 pub resumed : (entries : List TapeEntry) (c : CpuValue) (m : MidValue) (s t : BusValue) (e : CpuValue) (made : Access) → c.mid ≡ Some m
     → IfSome c.mid (λ _. IsMiddle c) → length m.bytes ≡ 6 → s.begun ≡ false
     → IfSome c.mid (λ m. Makes entries (registers_of c) m.sequence (given_by m) s t e made) → IsTraced entries c s t e made
-resumed entries c m s t e made inside middle six level makes =
+resumed entries c m s t e made inside middle six between makes =
     let h : Makes entries (registers_of c) m.sequence (given_by m) s t e made = rw inside at makes in
-    let turned = resume-turn entries c m 1 1 s t e inside middle six level (omega arith)
+    let turned = resume-turn entries c m 1 1 s t e inside middle six between (omega arith)
     (subst (λ (mid : Option MidValue). IfSome mid (λ m. Advances (BusStep entries) (registers_of c) m.sequence (given_by m) 1 1 s t e)) (sym inside)
     (advance-one entries (registers_of c) m.sequence (given_by m) s t e made h)) in
     record {
       turned = turned;
-      access = access-resumed entries c m h.value h.access s t inside level h.is h.did ∙ some-made h.access made (t.wires.clock - 1) h.told;
-      clock = told-after entries h.access s t made h.told (turned-some entries c s t e turned);
+      access = access-resumed entries c m h.value h.access s t inside between h.is h.did ∙ some-made h.access made (t.wires.clock - 1) h.traced;
+      clock = told-after entries h.access s t made h.traced (turned-some entries c s t e turned);
     }
 
 -- the first clock of an instruction or an interrupt
@@ -167,8 +167,8 @@ fetched-one entries c q s b t e made boundary begins due other h =
     let turned = fetch-turn entries c q 1 1 s b t e boundary begins due other (omega arith) (advance-one entries (start_of q c) q [] b t e made h) in
     record {
       turned = turned;
-      access = access-fetched entries c q h.value h.access s b t boundary begins due h.is h.did ∙ some-made h.access made (t.wires.clock - 1) h.told;
-      clock = told-after entries h.access s t made h.told (turned-some entries c s t e turned);
+      access = access-fetched entries c q h.value h.access s b t boundary begins due h.is h.did ∙ some-made h.access made (t.wires.clock - 1) h.traced;
+      clock = told-after entries h.access s t made h.traced (turned-some entries c s t e turned);
     }
 
 -- the first clock of a reset
@@ -180,8 +180,8 @@ reset-one entries c s b m t e made boundary begins due h effects same =
     let turned = reset-turn entries c 1 s b t e boundary begins due (omega arith) (resets-one entries c 1 b m t e refl begun effects) in
     record {
       turned = turned;
-      access = access-fetched entries c Reset h.value h.access s b m boundary begins due h.is h.did ∙ some-made h.access made (m.wires.clock - 1) h.told;
-      clock = told-after entries h.access b m made h.told begun.clock ∙ sym same;
+      access = access-fetched entries c Reset h.value h.access s b m boundary begins due h.is h.did ∙ some-made h.access made (m.wires.clock - 1) h.traced;
+      clock = told-after entries h.access b m made h.traced begun.clock ∙ sym same;
     }
 
 -- the count of a place is that of its bytes
@@ -209,7 +209,7 @@ counts-next entries c m s t e made inside middle six makes =
     subst (λ (mid : Option MidValue). IfSome mid (λ m. IfSome e.mid (λ n. n.count ≡ m.count + 1))) (sym inside)
     (subst (λ k. IfSome e.mid (λ n. n.count ≡ k + 1)) given (counts-one entries (registers_of c) m.sequence (given_by m) s t e made h))
 
--- an access is told again as it was
+-- an access is traced again as it was
 told-again : (made : Access) (clock : ℕ) → made.clock ≡ clock → access_at clock (made_of made) ≡ made
 told-again made clock same = by_write made.write refl
   where
@@ -226,7 +226,7 @@ byte-made made = by_write made.write refl
 
 clock-one : (entries : List TapeEntry) (c : CpuValue) (s t : BusValue) (e : CpuValue) (made : Access) → TurnedBus entries 1 c s t e
     → made.clock + 1 ≡ t.wires.clock → made.clock ≡ s.wires.clock
-clock-one entries c s t e made turned told =
+clock-one entries c s t e made turned traced =
     let clock = turned.turned.clock in
     let most = turned.at_most in
     omega arith
@@ -252,16 +252,16 @@ pub trace-fetched : (entries : List TapeEntry) (c : CpuValue) (q : Sequence) (s 
     → TurnedBus entries 1 c s t e → access_in entries (over_bus c s) ≡ Some (made_of made) → made.clock + 1 ≡ t.wires.clock
     → q ≡ sequence_due c (ticked entries s.wires)
     → (let t : TraceValue = record { sequence = q; opcode = opcode_by q made.value; count = 1; accesses = seven_of (made ∷ []) } in t) ≡ trace_of entries 1 (over_bus c s)
-trace-fetched entries c q s t e made boundary turned access told due =
-    trace-one entries (over_bus c s) q made.value made access (clock-one entries c s t e made turned told)
+trace-fetched entries c q s t e made boundary turned access traced due =
+    trace-one entries (over_bus c s) q made.value made access (clock-one entries c s t e made turned traced)
     (due ∙ ap (λ (mid : Option MidValue). sequence_at mid c (ticked entries s.wires)) (sym boundary))
     (sym (byte-made made) ∙ ap byte_of (sym access) ∙ ap (λ (mid : Option MidValue). first_byte mid (access_in entries (over_bus c s))) (sym boundary))
 
 pub trace-resumed : (entries : List TapeEntry) (c : CpuValue) (m : MidValue) (s t : BusValue) (e : CpuValue) (made : Access) → c.mid ≡ Some m
     → TurnedBus entries 1 c s t e → access_in entries (over_bus c s) ≡ Some (made_of made) → made.clock + 1 ≡ t.wires.clock
     → (let t : TraceValue = record { sequence = m.sequence; opcode = opcode_by m.sequence (slice_index m.bytes 0); count = 1; accesses = seven_of (made ∷ []) } in t) ≡ trace_of entries 1 (over_bus c s)
-trace-resumed entries c m s t e made inside turned access told =
-    trace-one entries (over_bus c s) m.sequence (slice_index m.bytes 0) made access (clock-one entries c s t e made turned told)
+trace-resumed entries c m s t e made inside turned access traced =
+    trace-one entries (over_bus c s) m.sequence (slice_index m.bytes 0) made access (clock-one entries c s t e made turned traced)
     (ap (λ (mid : Option MidValue). sequence_at mid c (ticked entries s.wires)) (sym inside))
     (ap (λ (mid : Option MidValue). first_byte mid (access_in entries (over_bus c s))) (sym inside))
 
@@ -339,18 +339,18 @@ one-full entries b (Some x) is some = rw is refl
 pub trace-starts : (entries : List TapeEntry) (c : CpuValue) (s t : BusValue) (e : CpuValue) (trace : TraceValue) → c.jam ≡ None → s.begun ≡ false
     → TurnedBus entries 1 c s t e → trace ≡ trace_of entries 1 (over_bus c s) → IsSome (access_in entries (over_bus c s))
     → IfSome e.mid (λ m. m.count ≡ count_of c.mid + 1) → AtTrace entries c s t e trace
-trace-starts entries c s t e trace running level turned told access counts =
+trace-starts entries c s t e trace running between turned traced access counts =
     let limit = s.wires.clock + 1 in
     let open_yet = open-start (over_bus c s) running in
     let reached = through-reached entries limit turned.turned.count (step entries (over_bus c s)) (over_bus e t) turned.turned.through in
-    let run = goes_on entries (is_over limit) 1 c s s t c e (starts entries (is_over limit) c s level) open_yet turned reached in
+    let run = goes_on entries (is_over limit) 1 c s s t c e (starts entries (is_over limit) c s between) open_yet turned reached in
     let clock = run.clock in
     let clock_turned = turned.turned.clock in
     let most = turned.at_most in
     let one : run.count ≡ 1 = omega arith in
     record {
       run = run;
-      trace_is = told ∙ ap (λ n. trace_of entries n (over_bus c s)) (sym one);
+      trace_is = traced ∙ ap (λ n. trace_of entries n (over_bus c s)) (sym one);
       full = subst (λ n. length (accesses_of entries n (over_bus c s)) ≡ n) (sym one) (one-full entries (over_bus c s) (access_in entries (over_bus c s)) refl access);
       some = omega arith;
       few = omega arith;
@@ -382,7 +382,7 @@ pub trace-goes_on : (entries : List TapeEntry) (c : CpuValue) (s t u : BusValue)
     → access_in entries (over_bus e t) ≡ Some (made_of a) → a.clock + 1 ≡ u.wires.clock
     → IfSome e.mid (λ m. IfSome f.mid (λ n. n.count ≡ m.count + 1))
     → AtTrace entries c s u f (record trace { count = trace.count + 1; accesses = slice_set trace.accesses trace.count a })
-trace-goes_on entries c s t u e f trace a at inside middle turned access told counts =
+trace-goes_on entries c s t u e f trace a at inside middle turned access traced counts =
     let limit = s.wires.clock + 1 in
     let n = at.run.count in
     let few = trace-few entries c s t e trace at inside middle in
@@ -395,7 +395,7 @@ trace-goes_on entries c s t u e f trace a at inside middle turned access told co
     let most = turned.at_most in
     let next : run.count ≡ suc n = omega arith in
     let here : stepped entries n (over_bus c s) ≡ over_bus e t = stepped-is entries (is_over limit) n (over_bus c s) (over_bus e t) at.run.reached in
-    let one = one-access entries (over_bus e t) a access (clock-one entries e t u f a turned told) in
+    let one = one-access entries (over_bus e t) a access (clock-one entries e t u f a turned traced) in
     record {
       run = run;
       trace_is =
@@ -485,10 +485,10 @@ jammed-boundary c jammed middle = by_mid c.mid middle
 -- a board that is jammed does nothing
 pub jammed-run : (entries : List TapeEntry) (c : CpuValue) (s : BusValue) → s.begun ≡ false → is_some c.jam ≡ true
     → IfSome c.mid (λ _. IsMiddle c) → IsInRange c s → BoundaryRun entries (s.wires.clock + 1) c s s c
-jammed-run entries c s level jammed middle range =
+jammed-run entries c s between jammed middle range =
     let limit = s.wires.clock + 1 in
     let over : is_over limit (over_bus c s) ≡ true = rw jammed refl in
-    boundary-ends entries limit c s s c (boundary-starts entries limit c s level (jammed-boundary c jammed middle) range) over
+    boundary-ends entries limit c s s c (boundary-starts entries limit c s between (jammed-boundary c jammed middle) range) over
 
 pub jammed-told : (entries : List TapeEntry) (c : CpuValue) (s : BusValue) → is_some c.jam ≡ true → no_trace ≡ step_trace entries (over_bus c s)
 unfolding step_trace

@@ -12,7 +12,7 @@ use Rattle.cpu_core.specs.Places.{standing, stopped, given_by}
 use Rattle.cpu_core.proofs.EndLemmas.{end-closes}
 use Rattle.tape_ports.specs.declared.entry.TapeEntry.{TapeEntry}
 use Rattle.catchup_engine.specs.Wires.{Wires, ticked}
-use Rattle.catchup_engine.specs.Lockstep.{Board, accessed, accessed_by, sequence_due, at_fetch, moved, step}
+use Rattle.catchup_engine.specs.Lockstep.{Board, accessed, accessed_by, sequence_due, at_fetch, after_access, step}
 use Rattle.catchup_engine.specs.Run.{stepped, steps_until, is_jammed, is_over, boundary_steps, to_boundary, IsPlaced}
 use Rattle.catchup_engine.specs.Order.{Recorded, behind}
 use Rattle.catchup_engine.specs.Breaks.{turn, turned, is_at_any, BreakRun, TurnsTo}
@@ -68,17 +68,17 @@ accessed-inside : (r : RegistersValue) (q : Sequence) (bytes : List ℕ) (w : Wi
 unfolding accessed
 accessed-inside r q bytes w = accessed_by-inside (next_of r q bytes) r q bytes w refl
 
-moved-inside : (mid : Option MidValue) (c : CpuValue) (w : Wires) → RunsInside (moved mid c w).cpu
+after_access-inside : (mid : Option MidValue) (c : CpuValue) (w : Wires) → RunsInside (after_access mid c w).cpu
 unfolding at_fetch
-moved-inside None c w =
+after_access-inside None c w =
     let q = sequence_due c w in
     subst RunsInside (sym (begun-cpu q (accessed (start_of q c) q [] w))) (accessed-inside (start_of q c) q [] w)
-moved-inside (Some m) c w = accessed-inside (registers_of c) m.sequence (given_by m) w
+after_access-inside (Some m) c w = accessed-inside (registers_of c) m.sequence (given_by m) w
 
 -- an undocumented opcode jams the processor at the end of its sequence
 pub step-inside : (entries : List TapeEntry) (b : Board) → RunsInside (step entries b).cpu
 unfolding step
-step-inside entries b = moved-inside b.cpu.mid b.cpu (ticked entries b.wires)
+step-inside entries b = after_access-inside b.cpu.mid b.cpu (ticked entries b.wires)
 
 pub stepped-inside : (entries : List TapeEntry) (n : ℕ) (b : Board) → RunsInside b.cpu → RunsInside (stepped entries n b).cpu
 unfolding stepped
@@ -256,19 +256,5 @@ breaks-append entries limit addresses b c d first open_yet away rest =
       over = all-between (λ e. is_over limit e ≡ false) entries first.count rest.count b c first.board first.over open_yet rest.over;
       at = all-between (λ e. is_at_any addresses e ≡ false) entries first.count rest.count b c first.board first.at away rest.at;
     }
-
--- records made before change nothing of it
-pub is_at_any-behind : (addresses : List ℕ) (l : Recorded) (b : Board) → is_at_any addresses (behind l b) ≡ is_at_any addresses b
-is_at_any-behind addresses l b = refl
-
-pub breaks-behind : (entries : List TapeEntry) (limit : ℕ) (addresses : List ℕ) (l : Recorded) (b c : Board) → BreakRun entries limit addresses b c
-    → BreakRun entries limit addresses (behind l b) (behind l c)
-breaks-behind entries limit addresses l b c run = record {
-  count = run.count;
-  some = run.some;
-  board = ap (behind l) run.board ∙ sym (turned-behind entries run.count l b);
-  over = λ k some few. ap (is_over limit) (turned-behind entries k l b) ∙ run.over k some few;
-  at = λ k some few. ap (is_at_any addresses) (turned-behind entries k l b) ∙ run.at k some few;
-}
 
 pub ruleset turn_laws = (turns-to, turn-later, turn-boundary, turn-jammed, turned-behind, turned-placed)

@@ -22,7 +22,7 @@ use Rattle.tape_ports.specs.Tape.{TapeValue}
 use Rattle.catchup_engine.proofs.TapeLaws.{ticked-quiet}
 use Rattle.catchup_engine.specs.Turn.{Goes, ReadsOpcode, Resets, Through, Turned, TurnedBus}
 use Rattle.catchup_engine.proofs.Clocks.{step-clock, through-clock, step-written, through-written, reset_by-clock}
-use Rattle.catchup_engine.proofs.Steps.{board_after, accessed-is, in_clock-level, moves-length, moves-went, same-access, stays-of, Went}
+use Rattle.catchup_engine.proofs.Steps.{board_after, accessed-is, in_clock-between, moves-length, moves-went, same-access, stays-of, Went}
 
 -- the first clock of a turn: one step of the board, and an access of the bus
 pub record First (entries : List TapeEntry) (b : Board) (r : RegistersValue) (q : Sequence) (bytes : List ℕ) (s m : BusValue) : Type 0 where
@@ -36,7 +36,7 @@ goes-on entries n b last s m t first rest =
     let more_then = rest.more in
     let until_first = first.until in
     let until_then = rest.until in
-    record { more = omega arith; rooms = rest.rooms ∙ first.rooms; until = omega arith; level = rest.level }
+    record { more = omega arith; rooms = rest.rooms ∙ first.rooms; until = omega arith; between = rest.between }
 
 budget-more : (entries : List TapeEntry) (n : ℕ) (b : Board) → budget entries (suc n) b ≡ price entries b + budget entries n (step entries b)
 unfolding counted
@@ -86,7 +86,7 @@ turn-bus : (entries : List TapeEntry) (c : CpuValue) (r : RegistersValue) (q : S
     → length bytes ≤ 7 → Advances (BusStep entries) r q bytes clocks made m t e → TurnedBus entries (clocks + 1) c s t e
 turn-bus entries c r q bytes before clocks made s m t e first inside count few advances =
     let more = advances.more in
-    let went = moves-went entries r q bytes more m t advances.moves first.goes.level in
+    let went = moves-went entries r q bytes more m t advances.moves first.goes.between in
     let seven = moves-length entries r q bytes more m t advances.moves few in
     let turned = turned-by entries (record { cpu = c; wires = s.wires }) r q bytes more before s m t first went (omega arith) in
     let e_is : board_after r q (bytes ++ more) t.wires ≡ record { cpu = e; wires = t.wires } =
@@ -257,7 +257,7 @@ fetch-first entries c q s b m v x boundary begins due other is did =
           ∙ ap (λ (k : Wires). clocked (accessed (start_of q c) q [] k)) (sym clock)
           ∙ accessed-is entries (start_of q c) q [] v x b m is did;
       paid = omega arith;
-      goes = record { more = omega arith; rooms = stays.rooms ∙ begins.rooms; until = omega arith; level = stays.begun };
+      goes = record { more = omega arith; rooms = stays.rooms ∙ begins.rooms; until = omega arith; between = stays.begun };
     }
 
 -- where a resume begins
@@ -282,18 +282,18 @@ price-resume entries c m w v x inside is =
 pub resume-first : (entries : List TapeEntry) (c : CpuValue) (m : MidValue) (s t : BusValue) (v : ℕ) (x : Access) → c.mid ≡ Some m
     → s.begun ≡ false → IsAccess (next_of (registers_of c) m.sequence (given_by m)) v x → BusStep entries x s t
     → First entries (record { cpu = c; wires = s.wires }) (registers_of c) m.sequence (given_by m ++ v ∷ []) s t
-resume-first entries c m s t v x inside level is did =
+resume-first entries c m s t v x inside between is did =
     let stays = stays-of entries x s t did in
     let cost = stays.calls in
-    let here : (if s.begun then 0 else ticks_price entries s.wires) ≡ ticks_price entries s.wires = rw level refl in
+    let here : (if s.begun then 0 else ticks_price entries s.wires) ≡ ticks_price entries s.wires = rw between refl in
     let whole = price-resume entries c m s.wires v x inside is in
     record {
       step =
           step-resume entries c m s.wires inside
-          ∙ ap (λ (w : Wires). clocked (accessed (registers_of c) m.sequence (given_by m) w)) (sym (in_clock-level entries s level))
+          ∙ ap (λ (w : Wires). clocked (accessed (registers_of c) m.sequence (given_by m) w)) (sym (in_clock-between entries s between))
           ∙ accessed-is entries (registers_of c) m.sequence (given_by m) v x s t is did;
       paid = omega arith;
-      goes = record { more = stays.more; rooms = stays.rooms; until = stays.until; level = stays.begun };
+      goes = record { more = stays.more; rooms = stays.rooms; until = stays.until; between = stays.begun };
     }
 
 -- a reset begins with a read, which leaves the wires
@@ -345,7 +345,7 @@ reset-first entries c s b m n v x boundary begins due is did effects few goes =
           ∙ ap (λ t. let d : Board = record { cpu = standing r Reset (v ∷ []); wires = at_clock (t + 1) (reset_begun w) } in d) (reset_begun-clock w)
           ∙ ap (λ (u : Wires). board_after r Reset (v ∷ []) u) (sym wires);
       paid = omega arith;
-      goes = record { more = omega arith; rooms = goes.rooms ∙ stays.rooms ∙ begins.rooms; until = omega arith; level = goes.level };
+      goes = record { more = omega arith; rooms = goes.rooms ∙ stays.rooms ∙ begins.rooms; until = omega arith; between = goes.between };
     }
 
 clocks-back : (entries : List TapeEntry) (clocks : ℕ) (c : CpuValue) (s t : BusValue) (e : CpuValue) → 1 ≤ clocks
@@ -387,7 +387,7 @@ given-some m some short six = length-take-le m.count m.bytes (omega arith)
 pub resume-turn : (entries : List TapeEntry) (c : CpuValue) (m : MidValue) (clocks made : ℕ) (s t : BusValue) (e : CpuValue) → c.mid ≡ Some m
     → IfSome c.mid (λ _. IsMiddle c) → length m.bytes ≡ 6 → s.begun ≡ false → 1 ≤ clocks
     → IfSome c.mid (λ m. Advances (BusStep entries) (registers_of c) m.sequence (given_by m) clocks made s t e) → TurnedBus entries clocks c s t e
-resume-turn entries c m clocks made s t e inside middle six level some advances =
+resume-turn entries c m clocks made s t e inside middle six between some advances =
     let place : IsPlace (registers_of c) m = (rw inside at middle).1 in
     let advanced : Advances (BusStep entries) (registers_of c) m.sequence (given_by m) clocks made s t e = rw inside at advances in
     let some_given = place.begun in
@@ -395,7 +395,7 @@ resume-turn entries c m clocks made s t e inside middle six level some advances 
     let count = given-some m place.begun place.short six in
     let p = part entries (registers_of c) m.sequence (given_by m) clocks made s t e some (place_due (registers_of c) m place) advanced in
     let longer : length (given_by m ++ p.value ∷ []) ≡ length (given_by m) + 1 = length-append (given_by m) (p.value ∷ []) in
-    let first = resume-first entries c m s p.then_s p.value p.access inside level p.is p.did in
+    let first = resume-first entries c m s p.then_s p.value p.access inside between p.is p.did in
     clocks-back entries clocks c s t e some
     (turn-bus entries c (registers_of c) m.sequence (given_by m ++ p.value ∷ []) (length (given_by m)) (clocks - 1) (made - 1) s p.then_s t e first
     (λ _. omega arith) (omega arith) (omega arith) p.rest)
@@ -424,7 +424,7 @@ pub record ResetBegun (entries : List TapeEntry) (c : CpuValue) (s m : BusValue)
   pub moves : Moves (BusStep entries) (start_of Reset c) Reset [] (value ∷ []) s m
   pub stands : k ≡ paused (start_of Reset c) Reset (value ∷ [])
   pub clock : 1 ≤ m.wires.clock
-  pub level : m.begun ≡ false
+  pub between : m.begun ≡ false
 
 clock-some : (entries : List TapeEntry) (x : Access) (s t : BusValue) → BusStep entries x s t → 1 ≤ t.wires.clock
 clock-some entries (read_of a v) s t b = let e = ap (λ (w : Wires). w.clock) b.1 in omega arith
@@ -449,7 +449,7 @@ reset-begun entries c s m k (made, a) = by_more a.more a.moves a.count a.full a.
       moves = (x, n, is, did, same);
       stands = stands ∙ standing-paused (start_of Reset c) v;
       clock = (let e = ap (λ (b : BusValue). b.wires.clock) same in let h = clock-some entries x s n did in omega arith);
-      level = ap (λ (b : BusValue). b.begun) same ∙ (stays-of entries x s n did).begun;
+      between = ap (λ (b : BusValue). b.begun) same ∙ (stays-of entries x s n did).begun;
     }
     by_more (v ∷ (u ∷ more)) moves count full stands = let few = a.few in absurd (omega arith)
 
@@ -460,7 +460,7 @@ pub record HasEffects (m n : BusValue) : Type 0 where
   pub more : m.calls ≤ n.calls
   pub rooms : n.rooms ≡ m.rooms
   pub until : m.until ≤ n.until
-  pub level : n.begun ≡ m.begun
+  pub between : n.begun ≡ m.begun
 
 pub effects-by : (m n : BusValue) → Does m n (at_clock m.wires.clock (reset_begun (at_clock (m.wires.clock - 1) m.wires))) 4 → HasEffects m n
 effects-by m n does = record {
@@ -469,7 +469,7 @@ effects-by m n does = record {
   more = does.more;
   rooms = ap (λ (b : BusValue). b.rooms) does.value;
   until = does.until;
-  level = ap (λ (b : BusValue). b.begun) does.value;
+  between = ap (λ (b : BusValue). b.begun) does.value;
 }
 
 paused-due : (r : RegistersValue) (v : ℕ) → IsEnd (next_of r Reset (v ∷ [])) → ⊥
@@ -488,7 +488,7 @@ resets-one entries c clocks s m n k one b h =
       taken = n;
       effects = h.wires;
       calls = h.calls;
-      goes = record { more = h.more; rooms = h.rooms; until = h.until; level = h.level ∙ b.level };
+      goes = record { more = h.more; rooms = h.rooms; until = h.until; between = h.between ∙ b.between };
       made = 0;
       rest = record {
         more = [];
@@ -524,7 +524,7 @@ resets-more entries c clocks made s m n t k e b h advances = record {
   taken = n;
   effects = h.wires;
   calls = h.calls;
-  goes = record { more = h.more; rooms = h.rooms; until = h.until; level = h.level ∙ b.level };
+  goes = record { more = h.more; rooms = h.rooms; until = h.until; between = h.between ∙ b.between };
   made = made;
   rest = subst (λ (j : CpuValue). IfSome j.mid (λ p. Advances (BusStep entries) (registers_of j) p.sequence (given_by p) (clocks - 1) made n t e)) b.stands advances;
 }
@@ -533,31 +533,31 @@ resets-more entries c clocks made s m n t k e b h advances = record {
 pub opcode-first : (entries : List TapeEntry) (c : CpuValue) (s m : BusValue) (v : ℕ) (x : Access) → c.mid ≡ None → s.begun ≡ false
     → Opcode ≡ sequence_due c (ticked entries s.wires) → IsAccess (next_of (start_of Opcode c) Opcode []) v x → BusStep entries x s m
     → First entries (record { cpu = c; wires = s.wires }) (start_of Opcode c) Opcode (v ∷ []) s m
-opcode-first entries c s m v x boundary level due is did =
+opcode-first entries c s m v x boundary between due is did =
     let w = ticked entries s.wires in
     let stays = stays-of entries x s m did in
     let cost = stays.calls in
-    let here : (if s.begun then 0 else ticks_price entries s.wires) ≡ ticks_price entries s.wires = rw level refl in
+    let here : (if s.begun then 0 else ticks_price entries s.wires) ≡ ticks_price entries s.wires = rw between refl in
     let whole = price-fetch entries c s.wires Opcode v x boundary due is in
     record {
       step =
           step-fetch entries c s.wires boundary
           ∙ ap (λ (p : Sequence). clocked (begun p (accessed (start_of p c) p [] w))) (sym due)
-          ∙ ap (λ (k : Wires). clocked (accessed (start_of Opcode c) Opcode [] k)) (sym (in_clock-level entries s level))
+          ∙ ap (λ (k : Wires). clocked (accessed (start_of Opcode c) Opcode [] k)) (sym (in_clock-between entries s between))
           ∙ accessed-is entries (start_of Opcode c) Opcode [] v x s m is did;
       paid = omega arith;
-      goes = record { more = stays.more; rooms = stays.rooms; until = stays.until; level = stays.begun };
+      goes = record { more = stays.more; rooms = stays.rooms; until = stays.until; between = stays.begun };
     }
 
 -- is a turn
 pub opcode-turn : (tape : TapeValue) (c : CpuValue) (s t : BusValue) (e : CpuValue) → ReadsOpcode c s
     → s.begun ≡ false → Fits tape s → Runs (BusStep tape.entries) (registers_of c) Opcode s t e → e.mid ≡ None
     → TurnedBus tape.entries 7 c s t e
-opcode-turn tape c s t e reads level fits runs boundary =
+opcode-turn tape c s t e reads between fits runs boundary =
     let entries = tape.entries in
     let due : Opcode ≡ sequence_due c (ticked entries s.wires) =
     sym (ap (sequence_due c) (ticked-quiet tape s fits reads.quiet) ∙ reads.due) in
     let a = runs-advance entries (registers_of c) Opcode s t e runs boundary in
     let p = part entries (registers_of c) Opcode [] 7 a.0 s t e (omega arith) (next-first (registers_of c) Opcode) a.1 in
-    let first = opcode-first entries c s p.then_s p.value p.access reads.boundary level due p.is p.did in
+    let first = opcode-first entries c s p.then_s p.value p.access reads.boundary between due p.is p.did in
     turn-bus entries c (registers_of c) Opcode (p.value ∷ []) 0 6 (a.0 - 1) s p.then_s t e first (none-inside c.mid reads.boundary) refl (omega arith) p.rest

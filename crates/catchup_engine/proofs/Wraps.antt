@@ -6,7 +6,7 @@ use Rattle.board_base.specs.declared.cpu.Sequence.{Sequence}
 use Rattle.board_base.specs.declared.cpu.Sequence.TheVariants.{Opcode, Interrupt, Reset}
 use Rattle.board_base.specs.declared.divider.Pending.{Pending}
 use Rattle.board_base.specs.declared.divider.Pending.TheVariants.{Nothing, Power, Watchdog}
-use Rattle.board_base.specs.declared.divider.TheConstants.{DIVIDER_PERIOD}
+use Rattle.board_base.specs.declared.divider.TheConstants.{DIVIDER_PERIOD, WATCHDOG_WRAPS}
 use Rattle.board_base.specs.Cpu.{CpuValue, MidValue}
 use Rattle.board_base.specs.Divider.{DividerValue}
 use Rattle.board_map.specs.declared.map.Region.{Region}
@@ -22,7 +22,7 @@ use Rattle.tape_ports.specs.declared.entry.TapeEntry.{TapeEntry}
 use Rattle.tape_ports.specs.Due.{due_at}
 use Rattle.catchup_engine.specs.Budget.{counted, wraps}
 use Rattle.catchup_engine.specs.Wires.{Wires, ticked, devices_ticked, put_in, byte_put, reset_by, reset_begun}
-use Rattle.catchup_engine.specs.Lockstep.{Board, accessed, accessed_by, sequence_due, begun, at_fetch, moved, step}
+use Rattle.catchup_engine.specs.Lockstep.{Board, accessed, accessed_by, sequence_due, begun, at_fetch, after_access, step}
 use Rattle.catchup_engine.specs.Run.{stepped}
 use Rattle.catchup_engine.proofs.TapeLaws.{applied-divider}
 
@@ -54,12 +54,12 @@ begun-phase Reset b = reset_by-phase b.wires.divider.pending b.wires
 begun-phase Opcode b = refl
 begun-phase Interrupt b = refl
 
-moved-phase : (mid : Option MidValue) (c : CpuValue) (w : Wires) → (moved mid c w).wires.divider.phase ≡ w.divider.phase
+after_access-phase : (mid : Option MidValue) (c : CpuValue) (w : Wires) → (after_access mid c w).wires.divider.phase ≡ w.divider.phase
 unfolding at_fetch
-moved-phase None c w =
+after_access-phase None c w =
     begun-phase (sequence_due c w) (accessed (start_of (sequence_due c w) c) (sequence_due c w) [] w)
     ∙ accessed-phase (start_of (sequence_due c w) c) (sequence_due c w) [] w
-moved-phase (Some mid) c w = accessed-phase (registers_of c) mid.sequence (given_by mid) w
+after_access-phase (Some mid) c w = accessed-phase (registers_of c) mid.sequence (given_by mid) w
 
 ticked-divider : (entries : List TapeEntry) (w : Wires) → (ticked entries w).divider ≡ divider_tick w.divider
 unfolding ticked devices_ticked
@@ -69,11 +69,11 @@ ticked-divider entries w = ap divider_tick (applied-divider (due_at w.clock entr
 step-phase : (entries : List TapeEntry) (b : Board) → (step entries b).wires.divider.phase ≡ (divider_tick b.wires.divider).phase
 unfolding step
 step-phase entries b =
-    moved-phase b.cpu.mid b.cpu (ticked entries b.wires) ∙ ap (λ (d : DividerValue). d.phase) (ticked-divider entries b.wires)
+    after_access-phase b.cpu.mid b.cpu (ticked entries b.wires) ∙ ap (λ (d : DividerValue). d.phase) (ticked-divider entries b.wires)
 
 wrapped-phase : (d : DividerValue) → (wrapped d).phase ≡ 0
 unfolding wrapped
-wrapped-phase d = by_dog (d.dog == 7)
+wrapped-phase d = by_dog (d.dog + 1 == WATCHDOG_WRAPS)
   where
     by_dog : (last : Bool) → (if last then (let r : DividerValue = record d { phase = 0; irq = true; dog = 0; pending = Watchdog } in r) else record d { phase = 0; irq = true; dog = d.dog + 1 }).phase ≡ 0
     by_dog true = refl

@@ -1,22 +1,25 @@
 -- The engine's bus, as the lockstep board sees it.
-use Rattle.std.specs.Prelude.{◌≡◌, ℕ, ◌+◌, ◌-◌, ◌*◌, ◌^◌, ◌<◌, ◌≤◌, List, [], All, take, drop, Option, Some, None, Bool, false, min, length, if◌then◌else◌}
+use Rattle.std.specs.Prelude.{◌≡◌, ℕ, ◌+◌, ◌-◌, ◌*◌, ◌<◌, ◌≤◌, List, [], All, take, drop, Option, Some, None, Bool, false, min, length, if◌then◌else◌}
 use Rattle.std.specs.Int.{from_bool}
+use Rattle.board_base.specs.declared.board.TheConstants.{CLOCK_END}
+use Rattle.board_map.specs.Map.{region_of}
 use Rattle.cpu_core.specs.Course.{Access, read_of, write_of}
 use Rattle.tape_ports.specs.declared.entry.TapeEntry.{TapeEntry}
 use Rattle.tape_ports.specs.Tape.{TapeValue, IsTape}
 use Rattle.catchup_engine.specs.Wires.{Wires, ticked, byte_read, byte_put}
 use Rattle.catchup_engine.specs.Budget.{reaches_device, ticks_price}
 use Rattle.catchup_engine.specs.EngineValue.{Rooms}
+use Rattle.catchup_engine.specs.Lags.{DeviceLags, lagging_at}
 
 -- The wires, and whether the ticks of the next access's clock are in them already: such a clock counts as done. Then the
--- entries of the tape that are past, the clock before which nothing comes of itself, how many devices lag, the clock up to
+-- entries of the tape that are past, the clock before which nothing comes of itself, which devices lag, the clock up to
 -- which the trails of the generator and the POKEYs have room, the rooms of all four, and the device calls.
 pub record BusValue : Type 0 where
   pub wires : Wires
   pub begun : Bool
   pub next : ℕ
   pub event_at : ℕ
-  pub lagging : ℕ
+  pub lagging : DeviceLags
   pub until : ℕ
   pub rooms : Rooms
   pub calls : ℕ
@@ -53,16 +56,18 @@ pub record Stays (entries : List TapeEntry) (x : Access) (s t : BusValue) : Type
   pub calls : t.calls ≤ s.calls + (2 * from_bool (reaches_device x) + begin_price entries s.begun s.wires)
   pub more : s.calls ≤ t.calls
 
--- one access: the byte read is that of the wires in this clock, or the byte written is put into them
+-- one access: the byte read is that of the wires in this clock, and the devices that give it stand at the present; or the
+-- byte written is put into them
 abbrev pub BusStep : List TapeEntry → Access → BusValue → BusValue → Type 0
 BusStep entries (read_of address value) s t =
     (value ≡ byte_read address (in_clock entries s.begun s.wires))
     × (t.wires ≡ done_clock (in_clock entries s.begun s.wires)) × Stays entries (read_of address value) s t
+    × (lagging_at (region_of address) t.lagging ≡ 0)
 BusStep entries (write_of address value) s t =
     (t.wires ≡ done_clock (byte_put address value (in_clock entries s.begun s.wires))) × Stays entries (write_of address value) s t
 
 -- the place of a clock among the entries of a tape: those before it are of earlier clocks, and the others aren't
-pub record IsPlace (tape : TapeValue) (clock next : ℕ) : Type 0 where
+pub record IsTapePlace (tape : TapeValue) (clock next : ℕ) : Type 0 where
   pub within : next ≤ length tape.entries
   pub before : All (λ entry. entry.clock < clock) (take next tape.entries)
   pub from : All (λ entry. clock ≤ entry.clock) (drop next tape.entries)
@@ -75,10 +80,10 @@ ComesNext tape next (Some at) = All (λ entry. at ≤ entry.clock) (drop next ta
 -- a tape fits where the entries past are those of the clocks done, and no later one comes before the next event
 pub record Fits (tape : TapeValue) (s : BusValue) : Type 0 where
   pub valid : IsTape tape
-  pub place : IsPlace tape s.wires.clock s.next
+  pub place : IsTapePlace tape s.wires.clock s.next
   pub quiet : All (λ entry. s.event_at ≤ entry.clock) (drop s.next tape.entries)
 
 -- each access takes a clock, and one record of each part at most
 abbrev pub room_of : BusValue → ℕ
 room_of s =
-    min (min (s.rooms.board - length s.wires.written) (s.until - s.wires.clock)) (2 ^ 49 - s.wires.clock)
+    min (min (s.rooms.board - length s.wires.written) (s.until - s.wires.clock)) (CLOCK_END - s.wires.clock)

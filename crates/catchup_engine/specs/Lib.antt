@@ -13,3 +13,4 @@ pub mod Turn
 pub mod Wires
 pub mod Trace
 pub mod Quiet
+pub mod Ranges

@@ -59,9 +59,9 @@ unfoldable pub at_fetch : CpuValue → Wires → Board
 at_fetch c w = let q = sequence_due c w in begun q (accessed (start_of q c) q [] w)
 
 -- the access of a clock whose ticks are done
-abbrev pub moved : Option MidValue → CpuValue → Wires → Board
-moved None c w = at_fetch c w
-moved (Some mid) c w = accessed (registers_of c) mid.sequence (given_by mid) w
+abbrev pub after_access : Option MidValue → CpuValue → Wires → Board
+after_access None c w = at_fetch c w
+after_access (Some mid) c w = accessed (registers_of c) mid.sequence (given_by mid) w
 
 -- the clock is done
 abbrev pub clocked : Board → Board
@@ -70,7 +70,7 @@ clocked b = record b { wires = record b.wires { clock = b.wires.clock + 1 } }
 -- One clock of a board that isn't jammed: the entries of this clock are applied, the devices tick, and then the processor
 -- makes one access.
 unfoldable pub step : List TapeEntry → Board → Board
-step entries b = clocked (moved b.cpu.mid b.cpu (ticked entries b.wires))
+step entries b = clocked (after_access b.cpu.mid b.cpu (ticked entries b.wires))
 
 -- the access of a next step
 abbrev pub made_by : Next → Wires → Option Access

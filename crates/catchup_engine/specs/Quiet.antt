@@ -1,5 +1,6 @@
 -- Clocks in which nothing comes of itself: the devices tick, and no more.
-use Rattle.std.specs.Prelude.{◌≡◌, ℕ, ◌+◌, ◌-◌, ◌^◌, ◌≤◌, ◌++◌, ◌==◌, false, min, if◌then◌else◌}
+use Rattle.std.specs.Prelude.{◌≡◌, ℕ, ◌+◌, ◌-◌, ◌≤◌, ◌++◌, ◌==◌, false, min, if◌then◌else◌}
+use Rattle.board_base.specs.declared.board.TheConstants.{CLOCK_END}
 use Rattle.board_base.specs.Ticks.{made, ticks, times}
 use Rattle.avg_device.specs.Tick.{vg_gives, vg_tick}
 use Rattle.earom_cells.specs.Tick.{earom_tick}
@@ -7,6 +8,7 @@ use Rattle.irq_watchdog.specs.Tick.{divider_tick}
 use Rattle.pokey_chip.specs.Tick.{levels_made, pokey_tick}
 use Rattle.tape_ports.specs.Tape.{TapeValue}
 use Rattle.catchup_engine.specs.Bus.{BusValue, Fits, room_of}
+use Rattle.catchup_engine.specs.Lags.{all_lag}
 use Rattle.catchup_engine.specs.Wires.{Wires}
 
 -- the wires n such clocks later
@@ -25,14 +27,14 @@ later n w = record w {
 
 -- the bus n such clocks later: each device lags behind them
 unfoldable pub passed : ℕ → BusValue → BusValue
-passed n s = record s { wires = later n s.wires; lagging = if n == 0 then s.lagging else 5 }
+passed n s = record s { wires = later n s.wires; lagging = if n == 0 then s.lagging else all_lag }
 
 -- a bus that has yet to be told of n clocks: with them its tape fits, nothing comes in them, and there is room for them
 pub record IsCounted (tape : TapeValue) (n : ℕ) (s : BusValue) : Type 0 where
   pub fits : Fits tape (passed n s)
-  pub level : s.begun ≡ false
+  pub between : s.begun ≡ false
   pub quiet : s.wires.clock + n ≤ s.event_at
-  pub last : s.wires.clock + n ≤ 2 ^ 49
+  pub last : s.wires.clock + n ≤ CLOCK_END
   pub until : s.wires.clock + n ≤ s.until
 
 -- the accesses for which it has room before something comes

@@ -52,8 +52,8 @@ cut_steps entries cut wrap b = steps_until entries (is_cut cut wrap) (cut - b.wi
 unfoldable pub to_boundary : List TapeEntry → ℕ → Board → Board
 to_boundary entries limit b = stepped entries (boundary_steps entries limit b) b
 
-unfoldable pub run : List TapeEntry → ℕ → Board → Board
-run entries cut b = stepped entries (clock_steps entries cut b) b
+unfoldable pub to_clock : List TapeEntry → ℕ → Board → Board
+to_clock entries cut b = stepped entries (clock_steps entries cut b) b
 
 unfoldable pub to_cut : List TapeEntry → ℕ → ℕ → Board → Board
 to_cut entries cut wrap b = stepped entries (cut_steps entries cut wrap b) b

@@ -20,14 +20,14 @@ pub record IsInRange (c : CpuValue) (s : BusValue) : Type 0 where
   pub middle : IsSome c.mid → s.wires.clock ≤ CLOCK_LIMIT
 
 -- n steps lead to the board last, none of them from a board that is as asked
-abbrev pub Reached : List TapeEntry → (Board → Bool) → ℕ → Board → Board → Type 0
-Reached entries asked zero b last = last ≡ b
-Reached entries asked (suc n) b last = (asked b ≡ false) × Reached entries asked n (step entries b) last
+abbrev pub StepsTo : List TapeEntry → (Board → Bool) → ℕ → Board → Board → Type 0
+StepsTo entries asked zero b last = last ≡ b
+StepsTo entries asked (suc n) b last = (asked b ≡ false) × StepsTo entries asked n (step entries b) last
 
 -- from the processor c and the bus s some steps have led to e and t, none of them from a board that is as asked
 pub record RunsOn (entries : List TapeEntry) (asked : Board → Bool) (c : CpuValue) (s t : BusValue) (e : CpuValue) : Type 0 where
   pub count : ℕ
-  pub reached : Reached entries asked count (over_bus c s) (over_bus e t)
+  pub reached : StepsTo entries asked count (over_bus c s) (over_bus e t)
   pub clock : t.wires.clock ≡ s.wires.clock + count
   pub written : length t.wires.written ≤ length s.wires.written + count
   pub paid : t.calls ≤ s.calls + budget entries count (over_bus c s)

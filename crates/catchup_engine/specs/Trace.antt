@@ -70,11 +70,6 @@ abbrev pub first_byte : Option MidValue → Option course.Access → ℕ
 first_byte None access = byte_of access
 first_byte (Some mid) access = slice_index mid.bytes 0
 
--- the accesses of a sequence before a place in it
-abbrev pub count_of : Option MidValue → ℕ
-count_of None = 0
-count_of (Some mid) = mid.count
-
 -- the opcode of a sequence by its first byte; an interrupt and a reset have none
 abbrev pub opcode_by : Sequence → ℕ → ℕ
 opcode_by Opcode byte = byte
@@ -108,4 +103,4 @@ pub record Makes (entries : List TapeEntry) (r : RegistersValue) (q : Sequence) 
   pub did : BusStep entries access s t
   pub stands : e ≡ standing r q (given ++ value ∷ [])
   pub complete : (e.mid ≡ None) ↔ IsEnd (next_of r q (given ++ value ∷ []))
-  pub told : made ≡ access_at (t.wires.clock - 1) access
+  pub traced : made ≡ access_at (t.wires.clock - 1) access

@@ -5,6 +5,7 @@ use Rattle.board_base.specs.Cpu.{CpuValue}
 use Rattle.cpu_core.specs.Places.{Advances}
 use Rattle.cpu_core.specs.Sequences.{Moves, start_of}
 use Rattle.tape_ports.specs.declared.entry.TapeEntry.{TapeEntry}
+use Rattle.catchup_engine.specs.declared.bus.TheConstants.{WHOLE}
 use Rattle.catchup_engine.specs.Wires.{devices_ticked, reset_begun}
 use Rattle.catchup_engine.specs.Lockstep.{Board, sequence_due, step}
 use Rattle.catchup_engine.specs.Budget.{budget}
@@ -20,12 +21,12 @@ abbrev pub Through : List TapeEntry → ℕ → Board → Board → Type 0
 Through entries zero b last = last ≡ b
 Through entries (suc n) b last = IsInside b × Through entries n (step entries b) last
 
--- One step, and then as many through the inside of the sequence; with the bytes that came before they are seven at most.
+-- One step, and then as many through the inside of the sequence; with the bytes that came before they are no more than a whole sequence has.
 -- Each makes one record on the board's trail at most, and the device calls are within their budget.
 pub record Turned (entries : List TapeEntry) (before : ℕ) (b last : Board) (calls calls_then : ℕ) : Type 0 where
   pub count : ℕ
   pub through : Through entries count (step entries b) last
-  pub few : before + suc count ≤ 7
+  pub few : before + suc count ≤ WHOLE
   pub clock : last.wires.clock ≡ b.wires.clock + suc count
   pub written : length last.wires.written ≤ length b.wires.written + suc count
   pub paid : calls_then ≤ calls + budget entries (suc count) b
@@ -35,7 +36,7 @@ pub record Goes (s t : BusValue) : Type 0 where
   pub more : s.calls ≤ t.calls
   pub rooms : t.rooms ≡ s.rooms
   pub until : s.until ≤ t.until
-  pub level : t.begun ≡ false
+  pub between : t.begun ≡ false
 
 -- a turn of the processor c over the bus s, in so many clocks at most; it stops inside a sequence only where these are done
 pub record TurnedBus (entries : List TapeEntry) (clocks : ℕ) (c : CpuValue) (s t : BusValue) (e : CpuValue) : Type 0 where

@@ -5,9 +5,11 @@ ghost use Rattle.tape_ports.specs.Due.{due_at};
 ghost use Rattle.tape_ports.specs.Ports.{IsPort};
 ghost use Rattle.tape_ports.specs.Tape.{IsTape};
 ghost use Rattle.catchup_engine.specs.Budget.{reaches_device, ticks_price, wraps};
-ghost use Rattle.catchup_engine.specs.Events.{deadlines_of};
+ghost use Rattle.board_map.specs.Map.{region_of};
+ghost use Rattle.catchup_engine.specs.Events.{deadlines_of, next_event_of};
+ghost use Rattle.catchup_engine.specs.Lags.{lagging_at, lagging_of, none_lags};
 ghost use Rattle.catchup_engine.specs.Quiet.{passed};
-ghost use Rattle.catchup_engine.specs.Bus.{BusValue, BusStep, ComesNext, Does, Fits, IsPlace, at_clock, begin_price, done_clock, in_clock, room_of};
+ghost use Rattle.catchup_engine.specs.Bus.{BusValue, BusStep, ComesNext, Does, Fits, IsTapePlace, at_clock, begin_price, done_clock, in_clock, room_of};
 ghost use Rattle.catchup_engine.specs.Memory.{memory_byte};
 ghost use Rattle.avg_device.specs.Tick.{vg_go, vg_reset};
 ghost use Rattle.earom_cells.specs.Tick.{controlled, latched};
@@ -20,8 +22,8 @@ use crate::devices::Devices;
 use crate::lane::{CellLane, DividerLane, SoundLane, VectorLane};
 use avg_device::VectorUnit;
 use board_base::{
-    BoardState, CLOCK_LIMIT, CpuState, DIVIDER_PERIOD, OutOfMemory, Pending, RAM_LEN, Record,
-    Trail, Trails, VECTOR_RAM_LEN, VECTOR_ROM_LEN, VectorMemory,
+    BoardState, CLOCK_END, CLOCK_LIMIT, CpuState, DIVIDER_PERIOD, OutOfMemory, Pending, RAM_LEN,
+    Record, Trail, Trails, VECTOR_RAM_LEN, VECTOR_ROM_LEN, VectorMemory,
 };
 use board_map::{Region, region};
 use cpu_core::Bus;
@@ -38,7 +40,7 @@ use tape_ports::{Port, Tape, TapeEntry};
 /// divider's wrap and six more, and a clock makes one record of each part at most.
 pub const TRAIL_ROOM: usize = 6160;
 
-/// The clocks that end each sequence.
+/// The clocks that end each sequence: none has more.
 pub(crate) const WHOLE: u8 = 7;
 
 /// All of the board but its processor: the devices, each moved up to a clock of its own, and what
@@ -71,6 +73,7 @@ pub(crate) struct BoardBus<V: VectorUnit, P: SoundUnit, C: CellUnit, D: DividerU
 
 impl<V: VectorUnit, P: SoundUnit, C: CellUnit, D: DividerUnit> Model for BoardBus<V, P, C, D> {
     ghost use Rattle.std.specs.Prelude.{◌≡◌, ◌+◌, ◌-◌, ◌≤◌, ◌<◌, ◌^◌, ◌++◌, true, length, min};
+    ghost use Rattle.board_base.specs.declared.board.TheConstants.{CLOCK_END};
     ghost use Rattle.board_base.specs.declared.board.TheConstants.{RAM_LEN};
     ghost use Rattle.board_base.specs.declared.divider.TheConstants.{DIVIDER_PERIOD};
     ghost use Rattle.board_base.specs.Ticks.{made, ticks, times};
@@ -109,13 +112,13 @@ impl<V: VectorUnit, P: SoundUnit, C: CellUnit, D: DividerUnit> Model for BoardBu
       begun = a.begun;
       next = a.next;
       event_at = a.event_at;
-      lagging = lags a.vector.done a.clock + lags a.sound1.done a.clock + lags a.sound2.done a.clock + lags a.cells.done a.clock + lags a.divider.done a.clock;
+      lagging = record { vector = lags a.vector.done a.clock; sound1 = lags a.sound1.done a.clock; sound2 = lags a.sound2.done a.clock; cells = lags a.cells.done a.clock; divider = lags a.divider.done a.clock };
       until = min (a.vector.done + a.vector.trail.spare) (min (a.sound1.done + a.sound1.trail.spare) (a.sound2.done + a.sound2.trail.spare));
       rooms = record { vector = a.vector.trail.room; sound1 = a.sound1.trail.room; sound2 = a.sound2.trail.room; board = a.written.room };
       calls = min (V.calls a.vector.unit + P.calls a.sound1.unit + P.calls a.sound2.unit + C.calls a.cells.unit + D.calls a.divider.unit) (2 ^ 64 - 1);
     } };
 
-    ghost invariant = { λ a. (a.clock ≤ 2 ^ 49) × (a.in0 < 64)
+    ghost invariant = { λ a. (a.clock ≤ CLOCK_END) × (a.in0 < 64)
         × (a.vector.done ≤ a.clock) × (a.sound1.done ≤ a.clock) × (a.sound2.done ≤ a.clock) × (a.cells.done ≤ a.clock) × (a.divider.done ≤ a.clock)
         × ((D.device a.divider.unit).phase + (a.wrap_at - a.divider.done) ≡ DIVIDER_PERIOD) × (a.clock < a.wrap_at) × (a.event_at < a.wrap_at)
         × (a.begun ≡ true → (1 ≤ a.clock) × (a.event_at ≡ 0))
@@ -169,8 +172,8 @@ impl<V: VectorUnit, P: SoundUnit, C: CellUnit, D: DividerUnit> BoardBus<V, P, C,
         wired: bool,
     ) -> Result<BoardBus<V, P, C, D>, OutOfMemory>
         ensures wires { IfOk result (λ bus. bus.wires ≡ wires_of image.now wired state.now) }
-        ensures level { IfOk result (λ bus. bus.begun ≡ false) }
-        ensures settled { IfOk result (λ bus. bus.lagging ≡ 0) }
+        ensures between { IfOk result (λ bus. bus.begun ≡ false) }
+        ensures settled { IfOk result (λ bus. bus.lagging ≡ none_lags) }
         ensures calls { IfOk result (λ bus. bus.calls ≡ min (V.calls devices.vector + P.calls devices.sound1 + P.calls devices.sound2
             + C.calls devices.cells + D.calls devices.divider + 5) (2 ^ 64 - 1)) }
     {
@@ -210,13 +213,13 @@ impl<V: VectorUnit, P: SoundUnit, C: CellUnit, D: DividerUnit> BoardBus<V, P, C,
     /// Takes on another board over the same image.
     #[tactic(auto, using(board_base::proofs::TickLaws::level, crate::proofs::SettledLaws::settled, crate::proofs::SettledLaws::brought, crate::proofs::MemoryLaws::loads))]
     pub fn load(&mut self, state: &BoardState)
-        requires settled { self.old.lagging ≡ 0 }
-        requires level { self.old.begun ≡ false }
+        requires settled { lagging_of self.old.lagging ≡ 0 }
+        requires between { self.old.begun ≡ false }
         requires strokes { self.old.wires.strokes ≡ [] }
         requires levels1 { self.old.wires.levels1 ≡ [] }
         requires levels2 { self.old.wires.levels2 ≡ [] }
         requires written { self.old.wires.written ≡ [] }
-        ensures value { self.new ≡ record self.old { wires = reloaded self.old.wires state.now; event_at = 0; until = self.new.until; calls = self.new.calls } }
+        ensures value { self.new ≡ record self.old { wires = reloaded self.old.wires state.now; event_at = 0; lagging = none_lags; until = self.new.until; calls = self.new.calls } }
         ensures calls { self.new.calls ≡ min (self.old.calls + 5) (2 ^ 64 - 1) }
     {
         let done = state.clock;
@@ -239,7 +242,7 @@ impl<V: VectorUnit, P: SoundUnit, C: CellUnit, D: DividerUnit> BoardBus<V, P, C,
     /// The clocks done.
     pub fn clock(&self) -> u64
         ensures value { result ≡ self.now.wires.clock }
-        ensures last { result ≤ 2 ^ 49 }
+        ensures last { result ≤ CLOCK_END }
         ensures rooms { (TRAIL_ROOM ≤ self.now.rooms.vector) × (TRAIL_ROOM ≤ self.now.rooms.sound1) × (TRAIL_ROOM ≤ self.now.rooms.sound2) × (TRAIL_ROOM ≤ self.now.rooms.board) }
         ensures until { result ≤ self.now.until }
     {
@@ -289,10 +292,12 @@ impl<V: VectorUnit, P: SoundUnit, C: CellUnit, D: DividerUnit> BoardBus<V, P, C,
     }
 
     /// Port IN0, with the generator's halt and the 3 kHz line.
-    #[tactic(auto, using(board_base::proofs::TickLaws::level, crate::proofs::DividerLaws::lines))]
+    #[tactic(auto, using(board_base::proofs::TickLaws::level, crate::proofs::SettledLaws::brought, crate::proofs::DividerLaws::lines))]
     fn read_in0(&mut self) -> u8
         ensures byte { result ≡ in0_byte self.old.wires }
         ensures does { Does self.old self.new self.old.wires 2 }
+        ensures generator { self.new.lagging.vector ≡ 0 }
+        ensures divider { self.new.lagging.divider ≡ 0 }
     {
         self.vector.level(&self.memory, self.clock);
         self.divider.level(self.clock);
@@ -330,11 +335,12 @@ impl<V: VectorUnit, P: SoundUnit, C: CellUnit, D: DividerUnit> BoardBus<V, P, C,
     }
 
     /// A register of POKEY 1, read.
-    #[tactic(auto, using(board_base::proofs::TickLaws::level))]
+    #[tactic(auto, using(board_base::proofs::TickLaws::level, crate::proofs::SettledLaws::brought))]
     fn read_sound1(&mut self, reg: u8) -> u8
         requires { reg < 16 }
         ensures byte { result ≡ register_read reg self.old.wires.sound1 }
         ensures does { Does self.old self.new self.old.wires 2 }
+        ensures current { self.new.lagging.sound1 ≡ 0 }
     {
         self.sound1.level(self.clock);
         self.sound1.unit.read(reg)
@@ -354,11 +360,12 @@ impl<V: VectorUnit, P: SoundUnit, C: CellUnit, D: DividerUnit> BoardBus<V, P, C,
     }
 
     /// A register of POKEY 2, read.
-    #[tactic(auto, using(board_base::proofs::TickLaws::level))]
+    #[tactic(auto, using(board_base::proofs::TickLaws::level, crate::proofs::SettledLaws::brought))]
     fn read_sound2(&mut self, reg: u8) -> u8
         requires { reg < 16 }
         ensures byte { result ≡ register_read reg self.old.wires.sound2 }
         ensures does { Does self.old self.new self.old.wires 2 }
+        ensures current { self.new.lagging.sound2 ≡ 0 }
     {
         self.sound2.level(self.clock);
         self.sound2.unit.read(reg)
@@ -378,10 +385,11 @@ impl<V: VectorUnit, P: SoundUnit, C: CellUnit, D: DividerUnit> BoardBus<V, P, C,
     }
 
     /// The EAROM's output latch.
-    #[tactic(auto, using(board_base::proofs::TickLaws::level))]
+    #[tactic(auto, using(board_base::proofs::TickLaws::level, crate::proofs::SettledLaws::brought))]
     fn read_cell(&mut self) -> u8
         ensures byte { result ≡ self.old.wires.earom.out }
         ensures does { Does self.old self.new self.old.wires 2 }
+        ensures current { self.new.lagging.cells ≡ 0 }
     {
         self.cells.level(self.clock);
         self.cells.unit.output()
@@ -473,6 +481,7 @@ impl<V: VectorUnit, P: SoundUnit, C: CellUnit, D: DividerUnit> BoardBus<V, P, C,
     pub fn byte(&mut self, addr: u16) -> u8
         ensures byte { result ≡ byte_read addr (at_clock (self.old.wires.clock - 1) self.old.wires) }
         ensures does { Does self.old self.new self.old.wires (2 * from_bool (reaches_device (read_of addr result))) }
+        ensures current { lagging_at (region_of addr) self.new.lagging ≡ 0 }
     {
         match region(addr) {
             Region::Ram(k) => self.ram_byte(k),
@@ -592,7 +601,7 @@ impl<V: VectorUnit, P: SoundUnit, C: CellUnit, D: DividerUnit> BoardBus<V, P, C,
     /// Whether a POKEY has a request after the next clock's ticks, where nothing comes in it.
     #[inline(always)]
     fn next_request(&self) -> bool
-        requires clock { self.now.wires.clock < 2 ^ 49 }
+        requires clock { self.now.wires.clock < CLOCK_END }
         ensures { self.now.wires.wired ≡ true
             → result ≡ (has_request (pokey_tick self.now.wires.sound1) || has_request (pokey_tick self.now.wires.sound2)) }
     {
@@ -606,7 +615,7 @@ impl<V: VectorUnit, P: SoundUnit, C: CellUnit, D: DividerUnit> BoardBus<V, P, C,
     #[tactic(auto, using(crate::proofs::DividerLaws::next_lines), unfolding(crate::specs::Wires::line_of, crate::specs::Wires::devices_ticked))]
     pub fn next_line(&self) -> bool
         requires quiet { self.now.wires.clock < self.now.event_at }
-        requires clock { self.now.wires.clock < 2 ^ 49 }
+        requires clock { self.now.wires.clock < CLOCK_END }
         ensures { result ≡ line_of (devices_ticked self.now.wires) }
     {
         self.divider.unit.irq() || self.wired && self.next_request()
@@ -653,7 +662,7 @@ impl<V: VectorUnit, P: SoundUnit, C: CellUnit, D: DividerUnit> BoardBus<V, P, C,
     fn apply_due(&mut self, tape: &Tape)
         requires fits { Fits tape.now self.old }
         ensures value { self.new ≡ record self.old { wires = applied (due_at self.old.wires.clock tape.now.entries) self.old.wires; next = self.new.next; lagging = self.new.lagging; until = self.new.until; calls = self.new.calls } }
-        ensures next { IsPlace tape.now (self.old.wires.clock + 1) self.new.next }
+        ensures next { IsTapePlace tape.now (self.old.wires.clock + 1) self.new.next }
         ensures until { self.old.until ≤ self.new.until }
         ensures calls { self.new.calls ≤ self.old.calls + 5 * length (due_at self.old.wires.clock tape.now.entries) }
         ensures more { self.old.calls ≤ self.new.calls }
@@ -668,7 +677,7 @@ impl<V: VectorUnit, P: SoundUnit, C: CellUnit, D: DividerUnit> BoardBus<V, P, C,
     #[tactic(auto, using(board_base::proofs::TickLaws::next_clock, pokey_chip::proofs::RecordLemmas::lagging, crate::proofs::DividerLaws::lines), unfolding(crate::specs::Wires::devices_ticked))]
     fn tick(&mut self)
         requires begun { self.old.begun ≡ false }
-        requires clock { self.old.wires.clock < 2 ^ 49 }
+        requires clock { self.old.wires.clock < CLOCK_END }
         requires room { self.old.wires.clock < self.old.until }
         ensures does { Does self.old self.new (done_clock (devices_ticked self.old.wires)) (5 * wraps self.old.wires) }
     {
@@ -684,7 +693,7 @@ impl<V: VectorUnit, P: SoundUnit, C: CellUnit, D: DividerUnit> BoardBus<V, P, C,
     #[tactic(auto, using(crate::proofs::QuietLaws::later_devices), unfolding(crate::specs::Quiet::later, crate::specs::Quiet::passed))]
     pub fn pass(&mut self, clocks: u64)
         requires quiet { self.old.wires.clock + clocks ≤ self.old.event_at }
-        requires clock { self.old.wires.clock + clocks ≤ 2 ^ 49 }
+        requires clock { self.old.wires.clock + clocks ≤ CLOCK_END }
         requires room { self.old.wires.clock + clocks ≤ self.old.until }
         requires begun { self.old.begun ≡ false }
         ensures { self.new ≡ passed clocks self.old }
@@ -697,7 +706,7 @@ impl<V: VectorUnit, P: SoundUnit, C: CellUnit, D: DividerUnit> BoardBus<V, P, C,
     fn clock_with_events(&mut self, tape: &Tape)
         requires fits { Fits tape.now self.old }
         requires begun { self.old.begun ≡ false }
-        requires clock { self.old.wires.clock < 2 ^ 49 }
+        requires clock { self.old.wires.clock < CLOCK_END }
         requires room { self.old.wires.clock < self.old.until }
         ensures value { self.new ≡ record self.old { wires = done_clock (ticked tape.now.entries self.old.wires); next = self.new.next; event_at = self.new.event_at; lagging = self.new.lagging; until = self.new.until; calls = self.new.calls } }
         ensures fits { Fits tape.now self.new }
@@ -713,10 +722,11 @@ impl<V: VectorUnit, P: SoundUnit, C: CellUnit, D: DividerUnit> BoardBus<V, P, C,
     /// Looks for the next event, where the entries past are those of the clocks done.
     fn look_ahead(&mut self, tape: &Tape)
         requires begun { self.old.begun ≡ false }
-        requires place { IsPlace tape.now self.old.wires.clock self.old.next }
+        requires place { IsTapePlace tape.now self.old.wires.clock self.old.next }
         ensures value { self.new ≡ record self.old { event_at = self.new.event_at } }
         ensures fits { Fits tape.now self.new }
     {
+        // opens the tape
         let _entries = tape.entries();
         self.event_at = next_event(tape, self.next, self.wrap_at);
     }
@@ -736,7 +746,7 @@ impl<V: VectorUnit, P: SoundUnit, C: CellUnit, D: DividerUnit> BoardBus<V, P, C,
     pub fn begin(&mut self, tape: &Tape)
         requires fits { Fits tape.now self.old }
         requires begun { self.old.begun ≡ false }
-        requires clock { self.old.wires.clock < 2 ^ 49 }
+        requires clock { self.old.wires.clock < CLOCK_END }
         requires room { self.old.wires.clock < self.old.until }
         ensures value { self.new ≡ record self.old { wires = done_clock (ticked tape.now.entries self.old.wires); begun = true; next = self.new.next; event_at = self.new.event_at; lagging = self.new.lagging; until = self.new.until; calls = self.new.calls } }
         ensures fits { Fits tape.now self.new }
@@ -755,7 +765,7 @@ impl<V: VectorUnit, P: SoundUnit, C: CellUnit, D: DividerUnit> BoardBus<V, P, C,
     #[tactic(auto, using(crate::proofs::ClockLaws::clocks), unfolding(crate::specs::Bus::in_clock))]
     fn enter(&mut self, tape: &Tape)
         requires fits { Fits tape.now self.old }
-        requires clock { self.old.wires.clock < 2 ^ 49 }
+        requires clock { self.old.wires.clock < CLOCK_END }
         requires room { self.old.wires.clock < self.old.until }
         ensures value { self.new ≡ record self.old { wires = done_clock (in_clock tape.now.entries self.old.begun self.old.wires); begun = false; next = self.new.next; event_at = self.new.event_at; lagging = self.new.lagging; until = self.new.until; calls = self.new.calls } }
         ensures fits { Fits tape.now self.new }
@@ -774,26 +784,85 @@ impl<V: VectorUnit, P: SoundUnit, C: CellUnit, D: DividerUnit> BoardBus<V, P, C,
         }
     }
 
-    /// Brings each device to the present. One that stands there already isn't called.
-    #[tactic(auto, using(board_base::proofs::TickLaws::level, crate::proofs::DividerLaws::lines, crate::proofs::SettledLaws::brought))]
-    pub fn settle(&mut self)
-        ensures value { self.new ≡ record self.old { lagging = 0; until = self.new.until; calls = self.new.calls } }
+    /// Brings the generator to the present, by one call where it lags and by none where it stands there.
+    #[tactic(auto, using(board_base::proofs::TickLaws::level, crate::proofs::SettledLaws::brought))]
+    fn bring_vector(&mut self)
+        ensures value { self.new ≡ record self.old { lagging = record self.old.lagging { vector = 0 }; until = self.new.until; calls = self.new.calls } }
         ensures until { self.old.until ≤ self.new.until }
-        ensures calls { self.new.calls ≤ self.old.calls + self.old.lagging }
+        ensures calls { self.new.calls ≤ self.old.calls + self.old.lagging.vector }
         ensures more { self.old.calls ≤ self.new.calls }
-        ensures few { self.old.lagging ≤ 5 }
+        ensures few { self.old.lagging.vector ≤ 1 }
     {
         self.vector.level(&self.memory, self.clock);
+    }
+
+    /// Brings POKEY 1 to the present, by one call where it lags and by none where it stands there.
+    #[tactic(auto, using(board_base::proofs::TickLaws::level, crate::proofs::SettledLaws::brought))]
+    fn bring_sound1(&mut self)
+        ensures value { self.new ≡ record self.old { lagging = record self.old.lagging { sound1 = 0 }; until = self.new.until; calls = self.new.calls } }
+        ensures until { self.old.until ≤ self.new.until }
+        ensures calls { self.new.calls ≤ self.old.calls + self.old.lagging.sound1 }
+        ensures more { self.old.calls ≤ self.new.calls }
+        ensures few { self.old.lagging.sound1 ≤ 1 }
+    {
         self.sound1.level(self.clock);
+    }
+
+    /// Brings POKEY 2 to the present, by one call where it lags and by none where it stands there.
+    #[tactic(auto, using(board_base::proofs::TickLaws::level, crate::proofs::SettledLaws::brought))]
+    fn bring_sound2(&mut self)
+        ensures value { self.new ≡ record self.old { lagging = record self.old.lagging { sound2 = 0 }; until = self.new.until; calls = self.new.calls } }
+        ensures until { self.old.until ≤ self.new.until }
+        ensures calls { self.new.calls ≤ self.old.calls + self.old.lagging.sound2 }
+        ensures more { self.old.calls ≤ self.new.calls }
+        ensures few { self.old.lagging.sound2 ≤ 1 }
+    {
         self.sound2.level(self.clock);
+    }
+
+    /// Brings the EAROM to the present, by one call where it lags and by none where it stands there.
+    #[tactic(auto, using(board_base::proofs::TickLaws::level, crate::proofs::SettledLaws::brought))]
+    fn bring_cells(&mut self)
+        ensures value { self.new ≡ record self.old { lagging = record self.old.lagging { cells = 0 }; until = self.new.until; calls = self.new.calls } }
+        ensures until { self.old.until ≤ self.new.until }
+        ensures calls { self.new.calls ≤ self.old.calls + self.old.lagging.cells }
+        ensures more { self.old.calls ≤ self.new.calls }
+        ensures few { self.old.lagging.cells ≤ 1 }
+    {
         self.cells.level(self.clock);
+    }
+
+    /// Brings the divider to the present, by one call where it lags and by none where it stands there.
+    #[tactic(auto, using(board_base::proofs::TickLaws::level, crate::proofs::DividerLaws::lines, crate::proofs::SettledLaws::brought))]
+    fn bring_divider(&mut self)
+        ensures value { self.new ≡ record self.old { lagging = record self.old.lagging { divider = 0 }; until = self.new.until; calls = self.new.calls } }
+        ensures until { self.old.until ≤ self.new.until }
+        ensures calls { self.new.calls ≤ self.old.calls + self.old.lagging.divider }
+        ensures more { self.old.calls ≤ self.new.calls }
+        ensures few { self.old.lagging.divider ≤ 1 }
+    {
         self.divider.level(self.clock);
+    }
+
+    /// Brings each device to the present. One that stands there already isn't called.
+    pub fn settle(&mut self)
+        ensures value { self.new ≡ record self.old { lagging = none_lags; until = self.new.until; calls = self.new.calls } }
+        ensures until { self.old.until ≤ self.new.until }
+        ensures calls { self.new.calls ≤ self.old.calls + lagging_of self.old.lagging }
+        ensures more { self.old.calls ≤ self.new.calls }
+        ensures few { lagging_of self.old.lagging ≤ 5 }
+    {
+        self.bring_vector();
+        self.bring_sound1();
+        self.bring_sound2();
+        self.bring_cells();
+        self.bring_divider();
     }
 
     /// Whether the generator is halted.
     #[tactic(auto, using(board_base::proofs::TickLaws::level, crate::proofs::SettledLaws::settled))]
     pub fn is_halted(&self) -> bool
-        requires settled { self.now.lagging ≡ 0 }
+        requires settled { lagging_of self.now.lagging ≡ 0 }
         ensures { result ≡ self.now.wires.vg.halted }
     {
         self.vector.unit.halted()
@@ -801,7 +870,7 @@ impl<V: VectorUnit, P: SoundUnit, C: CellUnit, D: DividerUnit> BoardBus<V, P, C,
 
     /// Whether each device stands at the present.
     pub fn is_settled(&self) -> bool
-        ensures { result ≡ (self.now.lagging == 0) }
+        ensures { result ≡ (lagging_of self.now.lagging == 0) }
     {
         self.vector.done == self.clock
             && self.sound1.done == self.clock
@@ -852,7 +921,7 @@ impl<V: VectorUnit, P: SoundUnit, C: CellUnit, D: DividerUnit> BoardBus<V, P, C,
     /// Copies the board with this processor.
     #[tactic(auto, using(board_base::proofs::TickLaws::level, crate::proofs::SettledLaws::settled))]
     pub fn state(&self, cpu: &CpuState, into: &mut BoardState)
-        requires settled { self.now.lagging ≡ 0 }
+        requires settled { lagging_of self.now.lagging ≡ 0 }
         requires clock { self.now.wires.clock ≤ CLOCK_LIMIT + 16 }
         requires middle { IsSome cpu.now.mid → self.now.wires.clock ≤ CLOCK_LIMIT }
         ensures { into.new ≡ board_of cpu.now self.now.wires }
@@ -875,9 +944,9 @@ impl<V: VectorUnit, P: SoundUnit, C: CellUnit, D: DividerUnit> BoardBus<V, P, C,
     /// The records of each part since the last clearing.
     #[tactic(auto, using(board_base::proofs::TickLaws::level, crate::proofs::SettledLaws::settled))]
     pub fn trails(&self) -> Trails<'_>
-        ensures vector { self.now.lagging ≡ 0 → result.vector.now.records ≡ self.now.wires.strokes }
-        ensures sound1 { self.now.lagging ≡ 0 → result.sound1.now.records ≡ self.now.wires.levels1 }
-        ensures sound2 { self.now.lagging ≡ 0 → result.sound2.now.records ≡ self.now.wires.levels2 }
+        ensures vector { lagging_of self.now.lagging ≡ 0 → result.vector.now.records ≡ self.now.wires.strokes }
+        ensures sound1 { lagging_of self.now.lagging ≡ 0 → result.sound1.now.records ≡ self.now.wires.levels1 }
+        ensures sound2 { lagging_of self.now.lagging ≡ 0 → result.sound2.now.records ≡ self.now.wires.levels2 }
         ensures board { result.board.now.records ≡ self.now.wires.written }
         ensures rooms { self.now.rooms ≡ record { vector = result.vector.now.room; sound1 = result.sound1.now.room; sound2 = result.sound2.now.room; board = result.board.now.room } }
     {
@@ -892,7 +961,7 @@ impl<V: VectorUnit, P: SoundUnit, C: CellUnit, D: DividerUnit> BoardBus<V, P, C,
     /// Forgets the records.
     #[tactic(auto, using(board_base::proofs::TickLaws::level, crate::proofs::SettledLaws::settled))]
     pub fn clear_trails(&mut self)
-        requires settled { self.old.lagging ≡ 0 }
+        requires settled { lagging_of self.old.lagging ≡ 0 }
         ensures value { self.new ≡ record self.old { wires = record self.old.wires { strokes = []; levels1 = []; levels2 = []; written = [] }; until = self.new.until } }
     {
         self.vector.trail.clear();
@@ -901,15 +970,16 @@ impl<V: VectorUnit, P: SoundUnit, C: CellUnit, D: DividerUnit> BoardBus<V, P, C,
         self.written.clear();
     }
 
-    /// The clocks for which there is room at least.
+    /// Each trail of a device has room for the clocks of a window where it is empty. It does nothing.
     #[tactic(auto, using(crate::proofs::SettledLaws::settled))]
     pub fn has_room(&self)
-        requires settled { self.now.lagging ≡ 0 }
+        requires settled { lagging_of self.now.lagging ≡ 0 }
         requires strokes { self.now.wires.strokes ≡ [] }
         requires levels1 { self.now.wires.levels1 ≡ [] }
         requires levels2 { self.now.wires.levels2 ≡ [] }
         ensures { self.now.wires.clock + TRAIL_ROOM ≤ self.now.until }
     {
+        // opens the model
         let _clock = self.clock;
     }
 }
@@ -942,8 +1012,8 @@ impl<V: VectorUnit, P: SoundUnit, C: CellUnit, D: DividerUnit> Bus for BoardBus<
 /// The entries due at a clock: those from its place up to the place of the next clock.
 #[tactic(auto, using(crate::proofs::TapeLaws::due_entries))]
 fn due_entries(tape: &Tape, next: usize, after: usize, clock: u64) -> &[TapeEntry]
-    requires next { IsPlace tape.now clock next }
-    requires after { IsPlace tape.now (clock + 1) after }
+    requires next { IsTapePlace tape.now clock next }
+    requires after { IsTapePlace tape.now (clock + 1) after }
     ensures due { result.now ≡ due_at clock tape.now.entries }
     ensures ports { All (λ entry. IsPort entry.port) result.now }
 {
@@ -970,8 +1040,7 @@ fn deadlines_of(wrap: u64, entry: Option<u64>) -> Deadlines
 
 /// The sooner of a wrap and of an entry, where there is one.
 fn least_event(wrap: u64, entry: Option<u64>) -> u64
-    ensures wrap { result ≤ wrap }
-    ensures entry { IfSome entry (λ at. result ≤ at) }
+    ensures { result ≡ next_event_of wrap entry }
 {
     let deadlines = deadlines_of(wrap, entry);
     match deadlines.least() {

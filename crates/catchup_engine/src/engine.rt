@@ -39,13 +39,14 @@ pub struct Engine<V: VectorUnit, P: SoundUnit, C: CellUnit, D: DividerUnit> {
 impl<V: VectorUnit, P: SoundUnit, C: CellUnit, D: DividerUnit> Model for Engine<V, P, C, D> {
     ghost use Rattle.std.specs.Prelude.{◌≡◌, false};
     ghost use Rattle.catchup_engine.specs.EngineValue.{EngineValue};
+    ghost use Rattle.catchup_engine.specs.Lags.{lagging_of};
     ghost use Rattle.catchup_engine.specs.Runs.{IsInRange};
 
     ghost Value = { EngineValue };
 
     ghost view = { λ e. record {
       board = record { cpu = e.cpu; wires = e.bus.wires };
-      lagging = e.bus.lagging;
+      lagging = lagging_of e.bus.lagging;
       rooms = e.bus.rooms;
       calls = e.bus.calls;
       done = e.done;
@@ -74,8 +75,10 @@ impl<V: VectorUnit, P: SoundUnit, C: CellUnit, D: DividerUnit> Engine<V, P, C, D
             + C.calls devices.cells + D.calls devices.divider) 5) }
         ensures done { IfOk result (λ e. e.done ≡ 0) }
     {
+        // opens the model
         let _clock = state.clock;
         let bus = BoardBus::new(alloc, image, state, devices, wired)?;
+        // opens its range
         let _room = bus.clock();
         Ok(Engine {
             cpu: Cpu::new(state.cpu),
@@ -92,6 +95,7 @@ impl<V: VectorUnit, P: SoundUnit, C: CellUnit, D: DividerUnit> Engine<V, P, C, D
         requires place { IfSome state.now.cpu.mid (λ _. IsMiddle state.now.cpu) }
         ensures value { self.new ≡ record self.old { board = record { cpu = state.now.cpu; wires = reloaded self.old.board.wires state.now }; calls = counted_on self.old.calls 5 } }
     {
+        // opens the model
         let _clock = state.clock;
         self.bus.load(state);
         self.cpu = Cpu::new(state.cpu);
@@ -177,6 +181,7 @@ impl<V: VectorUnit, P: SoundUnit, C: CellUnit, D: DividerUnit> Engine<V, P, C, D
         requires settled { self.old.lagging ≡ 0 }
         requires empty { HasNoRecords self.old.board }
         ensures run { BreakRun tape.now.entries limit addresses.now self.old.board self.new.board }
+        ensures window { BreakRun tape.now.entries (window_limit limit self.old.board) addresses.now self.old.board self.new.board }
         ensures ends { (is_over (window_limit limit self.old.board) self.new.board || is_at_any addresses.now self.new.board) ≡ true }
         ensures boundary { self.new.board.cpu.mid ≡ None }
         ensures later { self.old.board.cpu.jam ≡ None → self.old.board.wires.clock < self.new.board.wires.clock }

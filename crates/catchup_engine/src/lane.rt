@@ -10,7 +10,7 @@ ghost use Rattle.catchup_engine.specs.Lags.{lags, AsksAt};
 ghost use Rattle.catchup_engine.specs.Wires.{has_request};
 
 use avg_device::VectorUnit;
-use board_base::{DividerState, EaromState, PokeyState, Trail, VectorMemory, VgState};
+use board_base::{CLOCK_END, DividerState, EaromState, PokeyState, Trail, VectorMemory, VgState};
 use earom_cells::CellUnit;
 use irq_watchdog::DividerUnit;
 use pokey_chip::SoundUnit;
@@ -55,7 +55,7 @@ impl<V: VectorUnit> VectorLane<V> {
     pub fn level(&mut self, memory: &VectorMemory, clock: u64)
         requires before { self.old.done ≤ clock }
         requires room { clock ≤ self.old.done + self.old.trail.spare }
-        requires clocks { clock ≤ 2 ^ 49 }
+        requires clocks { clock ≤ CLOCK_END }
         ensures done { self.new.done ≡ clock }
         ensures state { V.device self.new.unit ≡ ticks (vg_tick memory.now) self.old.done (clock - self.old.done) (V.device self.old.unit) }
         ensures records { self.new.trail.records ≡ self.old.trail.records
@@ -87,7 +87,7 @@ pub(crate) struct SoundLane<P: SoundUnit> {
 impl<P: SoundUnit> SoundLane<P> {
     /// A POKEY in a state at a clock.
     pub fn new(mut unit: P, state: &PokeyState, clock: u64, trail: Trail) -> SoundLane<P>
-        requires clocks { clock ≤ 2 ^ 49 }
+        requires clocks { clock ≤ CLOCK_END }
         ensures done { result.done ≡ clock }
         ensures state { P.device result.unit ≡ state.now }
         ensures trail { result.trail ≡ trail }
@@ -107,7 +107,7 @@ impl<P: SoundUnit> SoundLane<P> {
 
     /// Takes on a state at a clock.
     pub fn load(&mut self, state: &PokeyState, clock: u64)
-        requires clocks { clock ≤ 2 ^ 49 }
+        requires clocks { clock ≤ CLOCK_END }
         ensures done { self.new.done ≡ clock }
         ensures state { P.device self.new.unit ≡ state.now }
         ensures trail { self.new.trail ≡ self.old.trail }
@@ -124,7 +124,7 @@ impl<P: SoundUnit> SoundLane<P> {
     pub fn level(&mut self, clock: u64)
         requires before { self.old.done ≤ clock }
         requires room { clock ≤ self.old.done + self.old.trail.spare }
-        requires clocks { clock ≤ 2 ^ 49 }
+        requires clocks { clock ≤ CLOCK_END }
         ensures done { self.new.done ≡ clock }
         ensures state { P.device self.new.unit ≡ times pokey_tick (clock - self.old.done) (P.device self.old.unit) }
         ensures records { self.new.trail.records ≡ self.old.trail.records
@@ -147,7 +147,7 @@ impl<P: SoundUnit> SoundLane<P> {
     /// Asks it from which clock on it makes a request.
     #[tactic(auto, using(crate::proofs::LaneLaws::asking))]
     pub fn ask(&mut self)
-        requires clocks { self.old.done ≤ 2 ^ 49 }
+        requires clocks { self.old.done ≤ CLOCK_END }
         ensures unit { self.new.unit ≡ self.old.unit }
         ensures done { self.new.done ≡ self.old.done }
         ensures trail { self.new.trail ≡ self.old.trail }
@@ -163,7 +163,7 @@ impl<P: SoundUnit> SoundLane<P> {
     #[inline(always)]
     #[tactic(auto, using(crate::proofs::LaneLaws::next_requests))]
     pub fn asks_after(&self, clock: u64) -> bool
-        requires clock { clock < 2 ^ 49 }
+        requires clock { clock < CLOCK_END }
         requires before { self.now.done ≤ clock }
         ensures { AsksAt self.now.done self.now.request_at (P.device self.now.unit)
             → result ≡ has_request (pokey_tick (times pokey_tick (clock - self.now.done) (P.device self.now.unit))) }

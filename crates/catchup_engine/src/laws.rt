@@ -1,8 +1,13 @@
-ghost use Rattle.std.specs.Prelude.{◌≡◌, ℕ, ◌+◌, ◌*◌, ◌-◌, ◌≤◌, ◌<◌, List, true, None};
+//! Laws of the lockstep board, over all boards and tapes. Each function tells one, and does nothing.
+ghost use Rattle.std.specs.Prelude.{◌≡◌, ℕ, ◌+◌, ◌*◌, ◌-◌, ◌≤◌, ◌<◌, List, All, true, None};
 ghost use Rattle.board_base.specs.declared.divider.TheConstants.{DIVIDER_PERIOD};
+ghost use Rattle.catchup_engine.specs.declared.bus.TheConstants.{TRAIL_ROOM, WHOLE, WRAP, ENTRY};
+ghost use Rattle.catchup_engine.specs.declared.quiet.TheConstants.{PROGRAM_START};
 ghost use Rattle.tape_ports.specs.declared.entry.TapeEntry.{TapeEntry};
+ghost use Rattle.cpu_core.specs.Ranges.{IsByte};
 ghost use Rattle.catchup_engine.specs.Lockstep.{Board, step, access_in};
-ghost use Rattle.catchup_engine.specs.Run.{stepped, boundary_steps, clock_steps, cut_steps, to_boundary, run, to_cut, is_jammed, is_over, is_at, is_cut, IsPlaced};
+ghost use Rattle.catchup_engine.specs.Ranges.{IsBoardInRange};
+ghost use Rattle.catchup_engine.specs.Run.{stepped, boundary_steps, clock_steps, cut_steps, to_boundary, to_clock, to_cut, is_jammed, is_over, is_at, is_cut, IsPlaced};
 ghost use Rattle.catchup_engine.specs.Breaks.{turn, turned, TurnsTo};
 ghost use Rattle.catchup_engine.specs.Budget.{budget, counted, device_accesses, wraps, entries_applied, requests, resets_begun};
 ghost use Rattle.catchup_engine.specs.EngineValue.{cleared};
@@ -12,13 +17,13 @@ ghost use Rattle.catchup_engine.specs.Order.{AddsOneClock, AreMadeBetween, Recor
 /// and each of the three runs comes to its end. It tells a law, and does nothing.
 #[tactic(auto, using(crate::proofs::Ends::splits))]
 pub fn split_runs()
-    ensures run { (entries : List TapeEntry) → (x y : ℕ) → (b : Board) → x ≤ y → run entries y b ≡ run entries y (run entries x b) }
+    ensures clock { (entries : List TapeEntry) → (x y : ℕ) → (b : Board) → x ≤ y → to_clock entries y b ≡ to_clock entries y (to_clock entries x b) }
     ensures boundary { (entries : List TapeEntry) → (x y : ℕ) → (b : Board) → x ≤ y → IsPlaced b
-        → to_boundary entries y b ≡ to_boundary entries y (run entries x b) }
+        → to_boundary entries y b ≡ to_boundary entries y (to_clock entries x b) }
     ensures boundaries { (entries : List TapeEntry) → (x y : ℕ) → (b : Board) → x ≤ y → IsPlaced b
         → to_boundary entries y b ≡ to_boundary entries y (to_boundary entries x b) }
-    ensures cut { (entries : List TapeEntry) → (cut wrap : ℕ) → (b : Board) → run entries cut b ≡ run entries cut (to_cut entries cut wrap b) }
-    ensures run_end { (entries : List TapeEntry) → (cut : ℕ) → (b : Board) → is_at cut (run entries cut b) ≡ true }
+    ensures cut { (entries : List TapeEntry) → (cut wrap : ℕ) → (b : Board) → to_clock entries cut b ≡ to_clock entries cut (to_cut entries cut wrap b) }
+    ensures clock_end { (entries : List TapeEntry) → (cut : ℕ) → (b : Board) → is_at cut (to_clock entries cut b) ≡ true }
     ensures boundary_end { (entries : List TapeEntry) → (limit : ℕ) → (b : Board) → IsPlaced b → is_over limit (to_boundary entries limit b) ≡ true }
     ensures cut_end { (entries : List TapeEntry) → (cut wrap : ℕ) → (b : Board) → is_cut cut wrap (to_cut entries cut wrap b) ≡ true }
 {}
@@ -27,10 +32,10 @@ pub fn split_runs()
 /// does nothing.
 #[tactic(auto, using(crate::proofs::Ends::split_steps))]
 pub fn steps_of_split_runs()
-    ensures run { (entries : List TapeEntry) → (x y : ℕ) → (b : Board) → x ≤ y
-        → clock_steps entries y b ≡ clock_steps entries x b + clock_steps entries y (run entries x b) }
+    ensures clock { (entries : List TapeEntry) → (x y : ℕ) → (b : Board) → x ≤ y
+        → clock_steps entries y b ≡ clock_steps entries x b + clock_steps entries y (to_clock entries x b) }
     ensures boundary { (entries : List TapeEntry) → (x y : ℕ) → (b : Board) → x ≤ y → IsPlaced b
-        → boundary_steps entries y b ≡ clock_steps entries x b + boundary_steps entries y (run entries x b) }
+        → boundary_steps entries y b ≡ clock_steps entries x b + boundary_steps entries y (to_clock entries x b) }
     ensures boundaries { (entries : List TapeEntry) → (x y : ℕ) → (b : Board) → x ≤ y → IsPlaced b
         → boundary_steps entries y b ≡ boundary_steps entries x b + boundary_steps entries y (to_boundary entries x b) }
     ensures cut { (entries : List TapeEntry) → (cut wrap : ℕ) → (b : Board)
@@ -42,7 +47,7 @@ pub fn steps_of_split_runs()
 #[tactic(auto, using(crate::proofs::Places::places))]
 pub fn places_of_runs()
     ensures step { (entries : List TapeEntry) → (b : Board) → IsPlaced (step entries b) }
-    ensures run { (entries : List TapeEntry) → (cut : ℕ) → (b : Board) → IsPlaced b → IsPlaced (run entries cut b) }
+    ensures clock { (entries : List TapeEntry) → (cut : ℕ) → (b : Board) → IsPlaced b → IsPlaced (to_clock entries cut b) }
     ensures boundary { (entries : List TapeEntry) → (limit : ℕ) → (b : Board) → IsPlaced b → IsPlaced (to_boundary entries limit b) }
     ensures cut { (entries : List TapeEntry) → (cut wrap : ℕ) → (b : Board) → IsPlaced b → IsPlaced (to_cut entries cut wrap b) }
 {}
@@ -64,7 +69,7 @@ pub fn runs_are_turns()
 /// does nothing.
 #[tactic(auto, using(crate::proofs::Behind::behinds))]
 pub fn earlier_records()
-    ensures run { (entries : List TapeEntry) → (cut : ℕ) → (l : Recorded) → (b : Board) → run entries cut (behind l b) ≡ behind l (run entries cut b) }
+    ensures clock { (entries : List TapeEntry) → (cut : ℕ) → (l : Recorded) → (b : Board) → to_clock entries cut (behind l b) ≡ behind l (to_clock entries cut b) }
     ensures boundary { (entries : List TapeEntry) → (limit : ℕ) → (l : Recorded) → (b : Board)
         → to_boundary entries limit (behind l b) ≡ behind l (to_boundary entries limit b) }
     ensures cut { (entries : List TapeEntry) → (cut wrap : ℕ) → (l : Recorded) → (b : Board)
@@ -80,8 +85,8 @@ pub fn earlier_records()
 #[tactic(auto, using(crate::proofs::InOrder::orders))]
 pub fn one_record_of_each_part()
     ensures step { (entries : List TapeEntry) → (b : Board) → AddsOneClock entries b }
-    ensures run { (entries : List TapeEntry) → (from cut : ℕ) → (b : Board) → AreMadeBetween from (records_of b) b.wires.clock
-        → AreMadeBetween from (records_of (run entries cut b)) (run entries cut b).wires.clock }
+    ensures clock { (entries : List TapeEntry) → (from cut : ℕ) → (b : Board) → AreMadeBetween from (records_of b) b.wires.clock
+        → AreMadeBetween from (records_of (to_clock entries cut b)) (to_clock entries cut b).wires.clock }
     ensures boundary { (entries : List TapeEntry) → (from limit : ℕ) → (b : Board) → AreMadeBetween from (records_of b) b.wires.clock
         → AreMadeBetween from (records_of (to_boundary entries limit b)) (to_boundary entries limit b).wires.clock }
     ensures cut { (entries : List TapeEntry) → (from cut wrap : ℕ) → (b : Board) → AreMadeBetween from (records_of b) b.wires.clock
@@ -112,4 +117,25 @@ pub fn wraps_are_counted()
         → (stepped entries n b).wires.divider.phase < DIVIDER_PERIOD }
     ensures wrap { (entries : List TapeEntry) → (n : ℕ) → (b : Board) → b.wires.divider.phase < DIVIDER_PERIOD
         → DIVIDER_PERIOD - b.wires.divider.phase ≤ n → 1 ≤ counted entries (λ c. wraps c.wires) n b }
+{}
+
+/// A step keeps a board in its range, and so do some of them one after another: all that the types of
+/// its parts say of it, and bytes where the board has bytes. It tells a law, and does nothing.
+#[tactic(auto, using(crate::proofs::BoardRange::in_range))]
+pub fn steps_keep_range()
+    ensures step { (entries : List TapeEntry) → (b : Board) → All (λ entry. IsByte entry.value) entries
+        → IsBoardInRange b → IsBoardInRange (step entries b) }
+    ensures steps { (entries : List TapeEntry) → (n : ℕ) → (b : Board) → All (λ entry. IsByte entry.value) entries
+        → IsBoardInRange b → IsBoardInRange (stepped entries n b) }
+{}
+
+/// The numbers that the clauses of this crate call by name: the records that each trail has room for,
+/// the most clocks of a sequence, the names of the two deadlines, and where the program ROM begins.
+/// It tells a law, and does nothing.
+pub fn engine_numbers()
+    ensures trail_room { TRAIL_ROOM ≡ 6160 }
+    ensures whole { WHOLE ≡ 7 }
+    ensures wrap { WRAP ≡ 0 }
+    ensures entry { ENTRY ≡ 1 }
+    ensures program_start { PROGRAM_START ≡ 0x9000 }
 {}

@@ -15,8 +15,8 @@ mod turn;
 pub use devices::Devices;
 pub use engine::Engine;
 pub use laws::{
-    budget_in_parts, earlier_records, one_record_of_each_part, places_of_runs, runs_are_turns,
-    split_runs, steps_of_split_runs, wraps_are_counted,
+    budget_in_parts, earlier_records, engine_numbers, one_record_of_each_part, places_of_runs,
+    runs_are_turns, split_runs, steps_keep_range, steps_of_split_runs, wraps_are_counted,
 };
 pub use stop::Stop;
 pub use trace::{Access, Trace};

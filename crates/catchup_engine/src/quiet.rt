@@ -1,5 +1,5 @@
 //! Instructions in whose clocks nothing comes of itself.
-ghost use Rattle.std.specs.Prelude.{◌≡◌, ◌+◌, ◌≤◌, ◌^◌, false, None};
+ghost use Rattle.std.specs.Prelude.{◌≡◌, ◌+◌, ◌≤◌, false, None};
 ghost use Rattle.board_base.specs.declared.cpu.Sequence.{Sequence};
 ghost use Rattle.cpu_core.specs.Registers.{registers_of};
 ghost use Rattle.cpu_core.specs.Sequences.{Runs};
@@ -8,7 +8,7 @@ ghost use Rattle.catchup_engine.specs.Quiet.{passed};
 
 use crate::bus::{BoardBus, WHOLE};
 use avg_device::VectorUnit;
-use board_base::RAM_LEN;
+use board_base::{CLOCK_END, RAM_LEN};
 use cpu_core::{Bus, Cpu};
 use earom_cells::CellUnit;
 use irq_watchdog::DividerUnit;
@@ -40,7 +40,7 @@ impl<'a, V: VectorUnit, P: SoundUnit, C: CellUnit, D: DividerUnit> QuietBus<'a, 
     #[inline(always)]
     fn tell(&mut self)
         requires quiet { self.old.bus.now.wires.clock + self.old.made ≤ self.old.bus.now.event_at }
-        requires clock { self.old.bus.now.wires.clock + self.old.made ≤ 2 ^ 49 }
+        requires clock { self.old.bus.now.wires.clock + self.old.made ≤ CLOCK_END }
         requires room { self.old.bus.now.wires.clock + self.old.made ≤ self.old.bus.now.until }
         requires begun { self.old.bus.now.begun ≡ false }
         ensures same_reference { self.new.bus.ghost_name ≡ self.old.bus.ghost_name }
@@ -57,7 +57,7 @@ impl<'a, V: VectorUnit, P: SoundUnit, C: CellUnit, D: DividerUnit> QuietBus<'a, 
         requires none { self.old.made ≡ 0 }
         requires running { cpu.old.jam ≡ None }
         requires boundary { cpu.old.mid ≡ None }
-        requires level { self.old.bus.now.begun ≡ false }
+        requires between { self.old.bus.now.begun ≡ false }
         requires fits { Fits tape.now self.old.bus.now }
         requires quiet { self.old.bus.now.wires.clock + WHOLE ≤ self.old.bus.now.event_at }
         requires room { WHOLE ≤ room_of self.old.bus.now }
@@ -120,7 +120,7 @@ pub(crate) fn perform_quietly<V: VectorUnit, P: SoundUnit, C: CellUnit, D: Divid
 )
     requires running { cpu.old.jam ≡ None }
     requires boundary { cpu.old.mid ≡ None }
-    requires level { bus.old.begun ≡ false }
+    requires between { bus.old.begun ≡ false }
     requires fits { Fits tape.now bus.old }
     requires quiet { bus.old.wires.clock + WHOLE ≤ bus.old.event_at }
     requires room { WHOLE ≤ room_of bus.old }
@@ -131,5 +131,6 @@ pub(crate) fn perform_quietly<V: VectorUnit, P: SoundUnit, C: CellUnit, D: Divid
     let mut quiet = QuietBus::new(bus);
     quiet.instruction(cpu, tape);
     let QuietBus { bus: back, made: _ } = quiet;
+    // opens the model
     let _same = &*back;
 }

@@ -72,7 +72,7 @@ fn run_quietly<V: VectorUnit, P: SoundUnit, C: CellUnit, D: DividerUnit>(
     requires limit { limit ≤ CLOCK_LIMIT }
     requires boundary { cpu.mid ≡ None }
     requires range { IsInRange cpu bus.old }
-    requires level { bus.old.begun ≡ false }
+    requires between { bus.old.begun ≡ false }
     requires room { HasRoomTo limit bus.old }
     requires fits { Fits tape.now bus.old }
     ensures on { TurnsOn tape.now.entries limit addresses.now cpu bus.old bus.new result }
@@ -98,12 +98,13 @@ fn run_turns<V: VectorUnit, P: SoundUnit, C: CellUnit, D: DividerUnit>(
     requires limit { limit ≤ CLOCK_LIMIT }
     requires boundary { cpu.mid ≡ None }
     requires range { IsInRange cpu bus.old }
-    requires level { bus.old.begun ≡ false }
+    requires between { bus.old.begun ≡ false }
     requires room { HasRoomTo limit bus.old }
     requires fits { Fits tape.now bus.old }
     ensures runs { TurnsRun tape.now.entries limit addresses.now cpu bus.old bus.new result }
     ensures fits { Fits tape.now bus.new }
 {
+    // opens its range
     let _clock = bus.clock();
     while !is_at_break(&cpu, bus, limit, addresses) {
         cpu = turn_slowly(cpu, bus, tape, WHOLE);
@@ -123,12 +124,13 @@ pub(crate) fn run_until<V: VectorUnit, P: SoundUnit, C: CellUnit, D: DividerUnit
     requires limit { limit ≤ CLOCK_LIMIT }
     requires window { limit ≤ bus.old.wires.clock + DIVIDER_PERIOD }
     requires range { IsInRange cpu bus.old }
-    requires level { bus.old.begun ≡ false }
+    requires between { bus.old.begun ≡ false }
     requires until { bus.old.wires.clock + TRAIL_ROOM ≤ bus.old.until }
     requires written { bus.old.wires.written ≡ [] }
     requires fits { Fits tape.now bus.old }
     ensures runs { BoundaryRun tape.now.entries limit cpu bus.old bus.new result }
 {
+    // opens its range
     let _clock = bus.clock();
     if cpu.state().mid.is_some() {
         cpu = turn_slowly(cpu, bus, tape, WHOLE);
@@ -149,12 +151,13 @@ pub(crate) fn run_to_break<V: VectorUnit, P: SoundUnit, C: CellUnit, D: DividerU
     requires before { bus.old.wires.clock < limit }
     requires window { limit ≤ bus.old.wires.clock + DIVIDER_PERIOD }
     requires range { IsInRange cpu bus.old }
-    requires level { bus.old.begun ≡ false }
+    requires between { bus.old.begun ≡ false }
     requires until { bus.old.wires.clock + TRAIL_ROOM ≤ bus.old.until }
     requires written { bus.old.wires.written ≡ [] }
     requires fits { Fits tape.now bus.old }
     ensures runs { BreakRunBus tape.now.entries limit addresses.now cpu bus.old bus.new result }
 {
+    // opens its range
     let _clock = bus.clock();
     if cpu.state().jam.is_none() {
         cpu = turn_slowly(cpu, bus, tape, WHOLE);
@@ -171,7 +174,11 @@ fn clocks_to(clock: u64, cut: u64) -> u8
     ensures all { result ≡ WHOLE ⊎ clock + result ≡ cut }
 {
     let left = cut - clock;
-    if left < 7 { left as u8 } else { WHOLE }
+    if left < u64::from(WHOLE) {
+        left as u8
+    } else {
+        WHOLE
+    }
 }
 
 /// Does as many clocks as there are to a cut, unless a boundary comes after the wrap before.
@@ -185,7 +192,7 @@ pub(crate) fn run_to_cut<V: VectorUnit, P: SoundUnit, C: CellUnit, D: DividerUni
     requires cut { cut ≤ CLOCK_LIMIT }
     requires window { wrap ≤ bus.old.wires.clock + DIVIDER_PERIOD }
     requires range { IsInRange cpu bus.old }
-    requires level { bus.old.begun ≡ false }
+    requires between { bus.old.begun ≡ false }
     requires until { bus.old.wires.clock + TRAIL_ROOM ≤ bus.old.until }
     requires written { bus.old.wires.written ≡ [] }
     requires fits { Fits tape.now bus.old }

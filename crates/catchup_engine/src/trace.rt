@@ -3,10 +3,11 @@ ghost use Rattle.std.specs.Prelude.{◌≡◌, ◌+◌, ◌-◌, ◌<◌, ◌≤
 ghost use Rattle.cpu_core.specs.Places.{given_by};
 ghost use Rattle.cpu_core.specs.Registers.{registers_of};
 ghost use Rattle.cpu_core.specs.Sequences.{start_of};
+ghost use Rattle.board_base.specs.Cpu.{count_of};
 ghost use Rattle.catchup_engine.specs.Bus.{Fits, room_of};
 ghost use Rattle.catchup_engine.specs.Lockstep.{access_in, sequence_due};
 ghost use Rattle.catchup_engine.specs.Runs.{over_bus, BoundaryRun, IsInRange};
-ghost use Rattle.catchup_engine.specs.Trace.{Makes, count_of, made_of, opcode_by, seven_of, step_trace, trace_of};
+ghost use Rattle.catchup_engine.specs.Trace.{Makes, made_of, opcode_by, seven_of, step_trace, trace_of};
 ghost use Rattle.catchup_engine.specs.Turn.{TurnedBus};
 ghost use Rattle.catchup_engine.specs.Wires.{ticked};
 
@@ -48,8 +49,9 @@ impl Access {
 
 /// What one sequence did, or what was left of it.
 ///
-/// `opcode` is 0 for an interrupt and a reset. The first `count` of `accesses`, at most 7, are those
-/// made, dropped reads included; the others are zeros.
+/// `opcode` is 0 for an interrupt, for a reset, and for a board that is jammed, which makes no access.
+/// The first `count` of `accesses`, at most 7, are those made, dropped reads included; those after
+/// them are zeros.
 #[derive(Clone, Copy, Debug, PartialEq, Eq)]
 pub struct Trace {
     pub sequence: Sequence,
@@ -211,6 +213,7 @@ fn begin_one<V: VectorUnit, P: SoundUnit, C: CellUnit, D: DividerUnit>(
     let mut traced = TracedBus::new(bus);
     traced.begin(cpu, sequence, tape);
     let TracedBus { bus: back, made } = traced;
+    // opens the model
     let _same = &*back;
     made
 }
@@ -231,6 +234,7 @@ fn resume_one<V: VectorUnit, P: SoundUnit, C: CellUnit, D: DividerUnit>(
     let mut traced = TracedBus::new(bus);
     traced.resume(cpu, tape);
     let TracedBus { bus: back, made } = traced;
+    // opens the model
     let _same = &*back;
     made
 }
@@ -243,7 +247,7 @@ fn fetch_one<V: VectorUnit, P: SoundUnit, C: CellUnit, D: DividerUnit>(
 ) -> (Sequence, Access)
     requires running { cpu.old.jam ≡ None }
     requires boundary { cpu.old.mid ≡ None }
-    requires level { bus.old.begun ≡ false }
+    requires between { bus.old.begun ≡ false }
     requires fits { Fits tape.now bus.old }
     requires room { 3 ≤ room_of bus.old }
     ensures turned { TurnedBus tape.now.entries 1 cpu.old bus.old bus.new cpu.new }
@@ -269,7 +273,7 @@ fn next_one<V: VectorUnit, P: SoundUnit, C: CellUnit, D: DividerUnit>(
     tape: &Tape,
 ) -> Access
     requires middle { IsSome cpu.old.mid }
-    requires level { bus.old.begun ≡ false }
+    requires between { bus.old.begun ≡ false }
     requires fits { Fits tape.now bus.old }
     requires room { 1 ≤ room_of bus.old }
     ensures turned { TurnedBus tape.now.entries 1 cpu.old bus.old bus.new cpu.new }
@@ -293,7 +297,7 @@ fn begin_trace<V: VectorUnit, P: SoundUnit, C: CellUnit, D: DividerUnit>(
     tape: &Tape,
 ) -> Trace
     requires running { cpu.old.jam ≡ None }
-    requires level { bus.old.begun ≡ false }
+    requires between { bus.old.begun ≡ false }
     requires fits { Fits tape.now bus.old }
     requires room { 3 ≤ room_of bus.old }
     ensures turned { TurnedBus tape.now.entries 1 cpu.old bus.old bus.new cpu.new }
@@ -322,7 +326,7 @@ fn trace_running<V: VectorUnit, P: SoundUnit, C: CellUnit, D: DividerUnit>(
     tape: &Tape,
 ) -> Trace
     requires running { cpu.old.jam ≡ None }
-    requires level { bus.old.begun ≡ false }
+    requires between { bus.old.begun ≡ false }
     requires fits { Fits tape.now bus.old }
     requires range { IsInRange cpu.old bus.old }
     requires early { cpu.old.mid ≡ None → bus.old.wires.clock < CLOCK_LIMIT }
@@ -344,7 +348,7 @@ pub(crate) fn trace_sequence<V: VectorUnit, P: SoundUnit, C: CellUnit, D: Divide
     bus: &mut BoardBus<V, P, C, D>,
     tape: &Tape,
 ) -> Trace
-    requires level { bus.old.begun ≡ false }
+    requires between { bus.old.begun ≡ false }
     requires fits { Fits tape.now bus.old }
     requires range { IsInRange cpu.old bus.old }
     requires early { cpu.old.mid ≡ None → bus.old.wires.clock < CLOCK_LIMIT }

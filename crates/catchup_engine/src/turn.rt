@@ -1,5 +1,5 @@
 //! One turn of the board: what is left of a sequence, or the sequence that a fetch begins.
-ghost use Rattle.std.specs.Prelude.{◌≡◌, ◌+◌, ◌<◌, ◌^◌, ◌≤◌, ℕ, [], true, false, None, IsSome};
+ghost use Rattle.std.specs.Prelude.{◌≡◌, ◌≢◌, ◌+◌, ◌<◌, ◌≤◌, ℕ, [], true, false, None, IsSome};
 ghost use Rattle.cpu_core.specs.Places.{Advances};
 ghost use Rattle.cpu_core.specs.Sequences.{start_of, Runs};
 ghost use Rattle.catchup_engine.specs.Bus.{BusStep, Fits, room_of};
@@ -8,7 +8,7 @@ ghost use Rattle.catchup_engine.specs.Turn.{ReadsOpcode, Resets, TurnedBus};
 
 use crate::bus::{BoardBus, WHOLE};
 use avg_device::VectorUnit;
-use board_base::{Pending, Sequence};
+use board_base::{CLOCK_END, Pending, Sequence};
 use cpu_alu::Flags;
 use cpu_core::Cpu;
 use earom_cells::CellUnit;
@@ -32,7 +32,7 @@ pub(crate) fn due<V: VectorUnit, P: SoundUnit, C: CellUnit, D: DividerUnit>(
     }
 }
 
-/// Does a whole sequence.
+/// Does a whole instruction or interrupt sequence.
 fn perform<V: VectorUnit, P: SoundUnit, C: CellUnit, D: DividerUnit>(
     cpu: &mut Cpu,
     sequence: Sequence,
@@ -43,20 +43,20 @@ fn perform<V: VectorUnit, P: SoundUnit, C: CellUnit, D: DividerUnit>(
     requires boundary { cpu.old.mid ≡ None }
     requires fits { Fits tape.now bus.old }
     requires room { WHOLE ≤ room_of bus.old }
+    requires no_reset { sequence ≢ Sequence.Reset }
     ensures runs { Runs (BusStep tape.now.entries) (start_of sequence cpu.old) sequence bus.old bus.new cpu.new }
     ensures boundary { cpu.new.mid ≡ None }
     ensures fits { Fits tape.now bus.new }
 {
     match sequence {
-        Sequence::Reset => cpu.take_reset(bus, tape),
         Sequence::Interrupt => cpu.take_irq(bus, tape),
-        Sequence::Opcode => {
+        _ => {
             let _fetched = cpu.instruction(bus, tape);
         }
     }
 }
 
-/// Does a sequence, or its first clocks.
+/// Does an instruction or an interrupt sequence, or its first clocks.
 fn begin_sequence<V: VectorUnit, P: SoundUnit, C: CellUnit, D: DividerUnit>(
     cpu: &mut Cpu,
     sequence: Sequence,
@@ -70,6 +70,7 @@ fn begin_sequence<V: VectorUnit, P: SoundUnit, C: CellUnit, D: DividerUnit>(
     requires some { 1 ≤ clocks }
     requires few { clocks ≤ WHOLE }
     requires room { clocks ≤ room_of bus.old }
+    requires no_reset { sequence ≢ Sequence.Reset }
     ensures advances { (made : ℕ) × Advances (BusStep tape.now.entries) (start_of sequence cpu.old) sequence [] clocks made bus.old bus.new cpu.new }
     ensures fits { Fits tape.now bus.new }
 {
@@ -114,7 +115,7 @@ fn fetch<V: VectorUnit, P: SoundUnit, C: CellUnit, D: DividerUnit>(
 )
     requires running { cpu.old.jam ≡ None }
     requires boundary { cpu.old.mid ≡ None }
-    requires level { bus.old.begun ≡ false }
+    requires between { bus.old.begun ≡ false }
     requires fits { Fits tape.now bus.old }
     requires some { 1 ≤ clocks }
     requires few { clocks ≤ WHOLE }
@@ -138,7 +139,7 @@ fn resume<V: VectorUnit, P: SoundUnit, C: CellUnit, D: DividerUnit>(
     clocks: u8,
 )
     requires middle { IsSome cpu.old.mid }
-    requires level { bus.old.begun ≡ false }
+    requires between { bus.old.begun ≡ false }
     requires fits { Fits tape.now bus.old }
     requires some { 1 ≤ clocks }
     requires few { clocks ≤ WHOLE }
@@ -147,6 +148,7 @@ fn resume<V: VectorUnit, P: SoundUnit, C: CellUnit, D: DividerUnit>(
     ensures fits { Fits tape.now bus.new }
 {
     if let Some(mid) = cpu.state().mid {
+        // opens the model
         let _count = mid.count;
         let _made = cpu.resume(bus, tape, clocks);
     }
@@ -161,7 +163,7 @@ pub(crate) fn turn_slowly<V: VectorUnit, P: SoundUnit, C: CellUnit, D: DividerUn
     clocks: u8,
 ) -> Cpu
     requires running { cpu.jam ≡ None }
-    requires level { bus.old.begun ≡ false }
+    requires between { bus.old.begun ≡ false }
     requires fits { Fits tape.now bus.old }
     requires some { 1 ≤ clocks }
     requires few { clocks ≤ WHOLE }
@@ -184,7 +186,7 @@ pub(crate) fn reads_opcode<V: VectorUnit, P: SoundUnit, C: CellUnit, D: DividerU
     cpu: &Cpu,
     bus: &BoardBus<V, P, C, D>,
 ) -> bool
-    requires clock { bus.now.wires.clock < 2 ^ 49 }
+    requires clock { bus.now.wires.clock < CLOCK_END }
     ensures reads { result ≡ true → ReadsOpcode cpu.now bus.now }
     ensures quiet { result ≡ true → bus.now.wires.clock + WHOLE ≤ bus.now.event_at }
 {

@@ -1,9 +1,7 @@
 -- The numbers of a command that is read are clocks.
-use Rattle.std.proofs.Common.{◌≡◌, ℕ, ◌≤◌, ◌==◌, Bool, true, false, ◌&&◌, cond, leb, nat_le, List, [], ◌∷◌, length, Option, Some, None, refl, subst, arith}
-use Rattle.std.specs.Char.{is_ascii_digit}
-use Rattle.std.specs.List.{list_all, All, AllPairs, slice_split}
+use Rattle.std.proofs.Common.{◌≡◌, ℕ, ◌≤◌, ◌==◌, Bool, true, false, cond, leb, List, [], ◌∷◌, length, Option, Some, None, refl, subst, arith}
+use Rattle.std.specs.List.{All, AllPairs, slice_split}
 use Rattle.std.specs.Option.{option_and_then, option_map}
-use Rattle.std.specs.Str.Parse.{digits_value}
 use Rattle.std.proofs.lemmas.Bool.{leb-true}
 use Rattle.std.proofs.lemmas.List.Elements.{All-cons, All-nil, All-weaker}
 use Rattle.std.proofs.lemmas.List.Kept.{AllPairs-cons}
@@ -12,7 +10,8 @@ use Rattle.board_base.specs.declared.board.TheConstants.{CLOCK_LIMIT}
 use Rattle.command_line.specs.declared.option.Opt.{Opt}
 use Rattle.command_line.specs.declared.option.Opt.TheVariants.{State, Earom, Until, Cuts, Save, Cost, Timers}
 use Rattle.command_line.specs.declared.verb.Verb.{Verb}
-use Rattle.command_line.specs.declared.number.TheConstants.{CUTS, DIGITS}
+use Rattle.command_line.specs.declared.number.TheConstants.{CUTS}
+use Rattle.plain_text.specs.Numbers.{decimal_of}
 use Rattle.command_line.specs.Clocks.{AreClocks}
 use Rattle.command_line.specs.Numbers.{cuts_of, number_of, rising_from}
 use Rattle.command_line.specs.Settings.{first_value, no_settings, settings_from, settings_of, with_flag, with_value}
@@ -35,18 +34,13 @@ first_some : {A B : Type 0} (given : Option A) (value : Option B) (y : B) → fi
 first_some None value y is = is
 first_some (Some x) value y is = cc
 
-both_right : (a b : Bool) → (a && b) ≡ true → b ≡ true
-both_right true b is = is
-both_right false b is = cc
-
 -- a number is within the limit
 number_within : (word : List ℕ) (number : ℕ) → number_of word ≡ Some number → number ≤ CLOCK_LIMIT
 number_within word number is =
-    let first = nat_le 1 (length word) && nat_le (length word) DIGITS && list_all is_ascii_digit word in
-    let fits = leb (digits_value 10 word) CLOCK_LIMIT in
-    let parts = cond_some (first && fits) (digits_value 10 word) number is in
-    let last : leb (digits_value 10 word) CLOCK_LIMIT ≡ true = both_right first fits parts.0 in
-    omega (arith, leb-true (digits_value 10 word) CLOCK_LIMIT last, parts.1)
+    option_and_then_some (λ n. cond (leb n CLOCK_LIMIT) (Some n) None) (decimal_of word) number is
+    (λ n read rest.
+    let parts = cond_some (leb n CLOCK_LIMIT) n number rest in
+    omega (arith, leb-true n CLOCK_LIMIT parts.0, parts.1))
 
 -- what holds of numbers that rise from one on
 record Rising (least : ℕ) (numbers : List ℕ) : Type 0 where

@@ -1,17 +1,13 @@
 -- The numbers of the command line. This project's own profile.
-use Rattle.std.specs.Prelude.{ℕ, ◌==◌, ◌&&◌, List, [], ◌∷◌, length, nat_le, Option, Some, None, option_and_then, option_map, if◌then◌else◌}
-use Rattle.std.specs.Char.{is_ascii_digit}
-use Rattle.std.specs.List.{list_all, slice_split}
-use Rattle.std.specs.Str.Parse.{digits_value}
+use Rattle.std.specs.Prelude.{ℕ, ◌==◌, List, [], ◌∷◌, length, nat_le, Option, Some, None, option_and_then, option_map, if◌then◌else◌}
+use Rattle.std.specs.List.{slice_split}
 use Rattle.board_base.specs.declared.board.TheConstants.{CLOCK_LIMIT}
-use Rattle.command_line.specs.declared.number.TheConstants.{CUTS, DIGITS}
+use Rattle.plain_text.specs.Numbers.{decimal_of}
+use Rattle.command_line.specs.declared.number.TheConstants.{CUTS}
 
 -- a number is one or more decimal digits, not too many, and at most the limit of the clocks
 abbrev pub number_of : List ℕ → Option ℕ
-number_of word =
-    if nat_le 1 (length word) && nat_le (length word) DIGITS && list_all is_ascii_digit word && nat_le (digits_value 10 word) CLOCK_LIMIT
-    then Some (digits_value 10 word)
-    else None
+number_of word = option_and_then (λ number. if nat_le number CLOCK_LIMIT then Some number else None) (decimal_of word)
 
 -- the numbers of these words, where each is at least the one before it and the first at least this one
 unfoldable pub rising_from : ℕ → List (List ℕ) → Option (List ℕ)

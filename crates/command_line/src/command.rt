@@ -189,7 +189,7 @@ fn read_soak<'a>(arguments: &'a [String], settings: &Settings<'a>) -> Option<Com
     let [seed] = arguments else {
         return None;
     };
-    Some(Command::Soak(read_number(seed.as_str())?))
+    Some(Command::Soak(read_number(seed.as_bytes())?))
 }
 
 /// The command of the words of a command line, without the program's name.

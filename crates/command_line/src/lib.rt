@@ -2,6 +2,7 @@
 #![tactic(auto)]
 
 pub mod command;
+pub mod laws;
 pub mod number;
 pub mod option;
 pub mod settings;
@@ -9,7 +10,8 @@ pub mod verb;
 mod word;
 
 pub use command::{AsmWords, Command, DebugWords, RunWords, read_command};
-pub use number::{CUTS, Cuts, DIGITS, read_cuts, read_digits, read_number};
+pub use laws::{command_limits, command_words};
+pub use number::{CUTS, Cuts, read_cuts, read_number};
 pub use option::Opt;
 pub use settings::Settings;
 pub use verb::{VERBS, Verb};

@@ -50,7 +50,7 @@ impl<'a> Settings<'a> {
         match option {
             Opt::State if self.state.is_none() => self.state = Some(read_name(word)?),
             Opt::Earom if self.earom.is_none() => self.earom = Some(read_name(word)?),
-            Opt::Until if self.until.is_none() => self.until = Some(read_number(word)?),
+            Opt::Until if self.until.is_none() => self.until = Some(read_number(word.as_bytes())?),
             Opt::Cuts if self.cuts.is_empty() => self.cuts = read_cuts(word)?,
             Opt::Save if self.save.is_none() => self.save = Some(read_name(word)?),
             _ => return None,

@@ -284,7 +284,7 @@ fn a_number_has_fifteen_digits_and_a_limit(rt: HostRuntime) {
         ("000000000000010", 10),
         ("281474976710656", 281_474_976_710_656),
     ] {
-        assert_eq!(rt; read_number(word), Some(number), "{word:?}");
+        assert_eq!(rt; read_number(word.as_bytes()), Some(number), "{word:?}");
     }
     for word in [
         "",
@@ -300,7 +300,7 @@ fn a_number_has_fifteen_digits_and_a_limit(rt: HostRuntime) {
         "/",
         ":",
     ] {
-        assert_eq!(rt; read_number(word), None, "{word:?}");
+        assert_eq!(rt; read_number(word.as_bytes()), None, "{word:?}");
     }
 }
 

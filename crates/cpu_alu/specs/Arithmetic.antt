@@ -1,3 +1,4 @@
+-- Sums and differences with their flags (MCS6500 Programming Manual, ADC, SBC and CMP).
 use Rattle.std.specs.Prelude.{ℕ, ◌+◌, ◌-◌, ◌%◌, nat_lt, nat_le, Bool, true, false, not, ◌&&◌, if◌then◌else◌, pos, ◌-ℤ◌}
 use Rattle.std.specs.Int.{from_bool}
 use Rattle.cpu_alu.specs.declared.flags.Flags.{Flags}

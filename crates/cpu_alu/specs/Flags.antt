@@ -1,3 +1,4 @@
+-- The flags in a status byte.
 use Rattle.std.specs.Prelude.{ℕ, ◌+◌, ◌*◌, ◌==◌, Bool}
 use Rattle.std.specs.Int.{from_bool}
 use Rattle.cpu_alu.specs.declared.flags.Flags.{Flags}

@@ -1,3 +1,4 @@
+-- Tests of bits (MCS6500 Programming Manual).
 use Rattle.std.specs.Prelude.{ℕ, Bool, not, ◌&&◌, [], ◌∷◌}
 use Rattle.std.specs.List.{list_all}
 use Rattle.bit_words.specs.Bits.{is_bit}

@@ -1,3 +1,4 @@
+-- What sums and differences mean as numbers, binary and decimal.
 use Rattle.std.specs.Prelude.{◌≡◌, ℕ, ◌+◌, ◌*◌, ◌/◌, ◌%◌, ◌<◌, not, pos, ◌+ℤ◌, ◌-ℤ◌}
 use Rattle.std.specs.Int.{cast_signed, from_bool, w8}
 use Rattle.cpu_alu.specs.Decimal.{leaves_byte}

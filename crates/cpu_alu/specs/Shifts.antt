@@ -1,3 +1,4 @@
+-- Shifts and rotations (MCS6500 Programming Manual, ASL, LSR, ROL and ROR).
 use Rattle.std.specs.Prelude.{ℕ, Bool, false, [], ◌∷◌, ◌++◌, take, drop}
 use Rattle.cpu_alu.specs.declared.flags.Flags.{Flags}
 use Rattle.bit_words.specs.Bits.{bits, is_bit, number}

@@ -4,3 +4,4 @@ pub mod JamLemmas
 pub mod LengthLemmas
 pub mod PlaceLemmas
 pub mod ReplayLemmas
+pub mod ProcessorRange

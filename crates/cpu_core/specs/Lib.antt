@@ -6,3 +6,4 @@ pub mod Patterns
 pub mod Sequences
 pub mod Places
 pub mod Replays
+pub mod Ranges

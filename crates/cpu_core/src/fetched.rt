@@ -4,6 +4,8 @@
 /// the MCS6500 Programming Manual leaves such opcodes open).
 #[derive(Clone, Copy, Debug, PartialEq, Eq)]
 pub enum Fetched {
+    /// It was done.
     Done,
+    /// The opcode is undocumented.
     Jammed(u8),
 }

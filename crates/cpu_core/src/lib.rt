@@ -5,6 +5,7 @@
 mod addressing;
 mod bus;
 mod fetched;
+mod laws;
 mod middle;
 mod operations;
 mod parts;
@@ -18,6 +19,7 @@ mod sequence;
 
 pub use bus::Bus;
 pub use fetched::Fetched;
+pub use laws::sequences_keep_range;
 pub use middle::is_middle;
 pub use parts::in_two_parts;
 pub use processor::Cpu;

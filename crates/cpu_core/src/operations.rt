@@ -11,17 +11,29 @@ use cpu_table::Op;
 /// How an operation uses the bus: one pattern of accesses for each kind.
 #[derive(Clone, Copy)]
 pub(crate) enum Kind {
+    /// It reads its operand.
     Load,
+    /// It writes a register.
     Store,
+    /// It reads a byte, and writes it back twice.
     ReadModifyWrite,
+    /// It has no operand in memory.
     Implied,
+    /// It may go on elsewhere, near by.
     Branch,
+    /// It goes on elsewhere.
     Jump,
+    /// JSR.
     Call,
+    /// RTS.
     Return,
+    /// RTI.
     ReturnFromInterrupt,
+    /// It pushes a byte.
     Push,
+    /// It pulls a byte.
     Pull,
+    /// BRK.
     Break,
 }
 
@@ -185,7 +197,7 @@ fn change_flag(flags: Flags, op: Op) -> Flags
 /// Does an operation that needs no byte.
 #[tactic(auto, unfolding(crate::specs::Operations::worked_alone))]
 #[inline(always)]
-pub(crate) fn work_alone(r: &mut Registers, op: Op)
+pub(crate) fn implied(r: &mut Registers, op: Op)
     ensures { r.new ≡ worked_alone op r.old }
 {
     match op {

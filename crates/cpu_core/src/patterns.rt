@@ -82,7 +82,7 @@ pub(crate) fn implied<B: Bus>(r: &mut Registers, op: Op, bus: &mut B, feed: &B::
     ensures room { B.room bus.old ≤ B.room bus.new + 1 }
 {
     dummy_read(bus, feed, r.pc);
-    operations::work_alone(r, op);
+    operations::implied(r, op);
 }
 
 /// The address that a branch goes to from this `pc`.

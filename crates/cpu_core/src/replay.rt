@@ -8,8 +8,11 @@ use std::marker::Model;
 /// processor after its end.
 #[derive(Clone, Copy, Debug, PartialEq, Eq)]
 pub enum Next {
+    /// A read of an address.
     Read(u16),
+    /// A write to an address, and its byte.
     Write(u16, u8),
+    /// No access: the processor after the sequence.
     End(CpuState),
 }
 

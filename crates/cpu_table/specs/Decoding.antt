@@ -1,3 +1,4 @@
+-- Instructions as bytes: their lengths, and how they are decoded.
 use Rattle.std.specs.Prelude.{ℕ, ◌+◌, ◌*◌, ◌-◌, nat_lt, List, [], ◌∷◌, length, take, Option, Some, None, if◌then◌else◌}
 use Rattle.cpu_table.specs.declared.instruction.Op.{Op}
 use Rattle.cpu_table.specs.declared.instruction.Mode.{Mode}

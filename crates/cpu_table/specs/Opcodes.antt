@@ -1,3 +1,4 @@
+-- The opcode table.
 use denote.Enum.Bare.{sameb}
 use Rattle.std.specs.Prelude.{ℕ, ◌==◌, Bool, ◌&&◌, List, [], ◌∷◌, Option, Some, None, if◌then◌else◌}
 use Rattle.cpu_table.specs.contracts.instruction.Op as op_contracts

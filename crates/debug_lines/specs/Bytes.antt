@@ -1,7 +1,7 @@
 -- Bytes as a debugger shows them. This project's own profile.
 use Rattle.std.specs.Prelude.{ℕ, ◌+◌, ◌-◌, ◌*◌, ◌/◌, ◌%◌, List, [], ◌∷◌, ◌++◌, map, min, codes, Option, Some, None}
 use Rattle.std.specs.List.{flat_map, range_with_len}
-use Rattle.log_text.specs.Lines.{hex_byte}
+use Rattle.text_line.specs.Words.{hex_byte}
 use Rattle.debug_lines.specs.Columns.{address_head}
 use Rattle.debug_lines.specs.declared.mem.TheConstants.{ROW}
 

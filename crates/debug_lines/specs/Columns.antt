@@ -1,6 +1,6 @@
 -- The parts of a debugger's lines. This project's own profile.
 use Rattle.std.specs.Prelude.{ℕ, ◌-◌, List, [], ◌∷◌, ◌++◌, length, replicate, codes}
-use Rattle.log_text.specs.Lines.{hex_word}
+use Rattle.text_line.specs.Words.{hex_word}
 
 -- an address and a colon
 abbrev pub address_head : ℕ → List ℕ

@@ -7,7 +7,7 @@ use Rattle.cpu_table.specs.declared.instruction.Op.{Op}
 use Rattle.cpu_table.specs.declared.instruction.Mode.{Mode}
 use Rattle.cpu_table.specs.declared.instruction.Mode.TheVariants.{Implied, Accumulator, Immediate, ZeroPage, ZeroPageX, ZeroPageY, Absolute, AbsoluteX, AbsoluteY, Indirect, IndirectX, IndirectY, Relative}
 use Rattle.cpu_table.specs.Decoding.{decoded, length_of}
-use Rattle.log_text.specs.Lines.{hex_byte, hex_word}
+use Rattle.text_line.specs.Words.{hex_byte, hex_word}
 use Rattle.debug_lines.specs.Bytes.{Seen, further}
 use Rattle.debug_lines.specs.Columns.{listed}
 

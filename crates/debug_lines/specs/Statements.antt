@@ -7,7 +7,7 @@ use Rattle.asm_avg.specs.Statements.{text_of}
 use Rattle.avg_decode.specs.declared.word.VgWord.{VgWord}
 use Rattle.avg_decode.specs.declared.word.VgWord.TheVariants.{Vctr, Halt, Svec, Stat, Scal, Cntr, Jsrl, Rtsl, Jmpl}
 use Rattle.avg_decode.specs.Word.{second_of, word_of}
-use Rattle.log_text.specs.Lines.{hex_word}
+use Rattle.text_line.specs.Words.{hex_word}
 use Rattle.debug_lines.specs.Bytes.{Seen, further}
 use Rattle.debug_lines.specs.Columns.{listed}
 

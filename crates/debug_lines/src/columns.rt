@@ -1,7 +1,7 @@
 ghost use Rattle.std.specs.Prelude.{◌≡◌, length};
 ghost use Rattle.debug_lines.specs.Columns.{address_head};
 
-use log_text::Line;
+use text_line::Line;
 
 /// The places of an address and its colon.
 pub const HEAD: usize = 5;

@@ -1,6 +1,6 @@
 ghost use Rattle.std.specs.Prelude.{◌≡◌, ◌+◌, ◌++◌, ◌∷◌, [], ◌≤◌, length};
-ghost use Rattle.log_text.specs.Lines.{hex_byte};
-ghost use Rattle.log_text.specs.declared.line.TheConstants.{LONGEST};
+ghost use Rattle.text_line.specs.Words.{hex_byte};
+ghost use Rattle.text_line.specs.declared.line.TheConstants.{LONGEST};
 ghost use Rattle.debug_lines.specs.Columns.{address_head, column};
 ghost use Rattle.debug_lines.specs.Instructions.{bytes_text, dis_line, dis_size, first_text};
 
@@ -8,7 +8,7 @@ use crate::columns::{HEAD, address_line};
 use crate::operand::with_operand;
 use asm_cpu::mnemonic;
 use cpu_table::{decode, length};
-use log_text::Line;
+use text_line::Line;
 
 /// The places of the bytes of an instruction, behind the blank after its address.
 pub const BYTES: usize = 9;

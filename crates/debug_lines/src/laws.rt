@@ -16,9 +16,22 @@ ghost use Rattle.cpu_table.specs.Decoding.{length_of};
 ghost use Rattle.debug_lines.specs.Instructions.{target_of};
 ghost use Rattle.debug_lines.specs.Listed.{ReadsAs, ReadsAsSome};
 
+use crate::columns::HEAD;
+use crate::dis::BYTES;
+use crate::mem::ROW;
+use crate::vdis::WORDS;
 use asm_cpu::laws::{
     branch_to_its_target, bytes_of_an_instruction, bytes_of_an_opcode, bytes_of_an_operand,
 };
+
+/// The places of an address with its colon, the bytes of one line of `mem`, and the places of the
+/// bytes of a `dis` line and of the words of a `vdis` line.
+pub fn line_widths()
+    ensures head { HEAD ≡ 5 }
+    ensures row { ROW ≡ 16 }
+    ensures bytes { BYTES ≡ 9 }
+    ensures words { WORDS ≡ 10 }
+{}
 
 /// Bytes that are decoded to an operation, a mode and an operand are shown in one line, as these.
 pub fn instructions_are_shown_as_they_are_decoded()

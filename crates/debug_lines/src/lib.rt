@@ -12,7 +12,7 @@ mod vdis;
 pub use dis::dis_line;
 pub use laws::{
     a_branch_shows_its_target, an_assembled_instruction_is_shown, an_assembled_opcode_is_shown,
-    an_assembled_operand_is_shown, instructions_are_shown_as_they_are_decoded,
+    an_assembled_operand_is_shown, instructions_are_shown_as_they_are_decoded, line_widths,
 };
 pub use mem::{ROW, mem_line};
 pub use vdis::vdis_line;

@@ -1,9 +1,9 @@
 ghost use Rattle.std.specs.Prelude.{◌≡◌, ◌+◌, ◌≤◌, ◌++◌, ◌∷◌, length};
-ghost use Rattle.log_text.specs.declared.line.TheConstants.{LONGEST};
+ghost use Rattle.text_line.specs.declared.line.TheConstants.{LONGEST};
 ghost use Rattle.debug_lines.specs.Bytes.{byte_text, mem_line};
 
 use crate::columns::address_line;
-use log_text::Line;
+use text_line::Line;
 
 /// The most bytes of a line.
 pub const ROW: usize = 16;

@@ -1,11 +1,11 @@
 ghost use Rattle.std.specs.Prelude.{◌≡◌, ◌+◌, ◌++◌, ◌<◌, ◌≤◌, length};
 ghost use Rattle.cpu_table.specs.Decoding.{length_of};
-ghost use Rattle.log_text.specs.Lines.{hex_word};
-ghost use Rattle.log_text.specs.declared.line.TheConstants.{LONGEST};
+ghost use Rattle.text_line.specs.Words.{hex_word};
+ghost use Rattle.text_line.specs.declared.line.TheConstants.{LONGEST};
 ghost use Rattle.debug_lines.specs.Instructions.{operand_text, target_of};
 
 use cpu_table::Mode;
-use log_text::Line;
+use text_line::Line;
 
 /// Four hexadecimal digits.
 #[tactic(auto, using(std::proofs::Common::append_assoc))]

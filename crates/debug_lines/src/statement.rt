@@ -1,12 +1,12 @@
 ghost use Rattle.std.specs.Prelude.{◌≡◌, ◌+◌, ◌++◌, ◌∷◌, [], ◌<◌, ◌≤◌, decimal, length};
 ghost use Rattle.std.specs.Fmt.{signed_decimal};
 ghost use Rattle.avg_decode.specs.Word.{IsInRange};
-ghost use Rattle.log_text.specs.declared.line.TheConstants.{LONGEST};
+ghost use Rattle.text_line.specs.declared.line.TheConstants.{LONGEST};
 ghost use Rattle.debug_lines.specs.Statements.{jump_text, operands, statement_text};
 
 use crate::operand::with_word;
 use avg_decode::{VgWord, second};
-use log_text::Line;
+use text_line::Line;
 
 /// A vector: its word, its distances, and how bright it is.
 #[tactic(auto, using(std::proofs::Common::append_assoc))]

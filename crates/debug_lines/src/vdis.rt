@@ -7,7 +7,7 @@ use crate::columns::{HEAD, address_line};
 use crate::operand::with_word;
 use crate::statement::with_statement;
 use avg_decode::{VgWord, word_kind};
-use log_text::Line;
+use text_line::Line;
 
 /// The places of the words of an instruction, behind the blank after its address.
 pub const WORDS: usize = 10;

@@ -1,7 +1,7 @@
 -- What the loop over the lines of a script keeps.
 use Rattle.std.proofs.Common.{◌≡◌, ℕ, ◌+◌, ◌<◌, ◌≤◌, true, List, [], ◌∷◌, ◌++◌, length, Some, None, Result, Ok, Err, refl, sym, ap, ◌∙◌, arith}
 use Rattle.std.proofs.lemmas.List.{append_assoc, append-nil, nil_from_length}
-use Rattle.tape_ports.specs.Grammar.{lines_of}
+use Rattle.plain_text.specs.Lines.{lines_of}
 use Rattle.debug_script.specs.declared.command.Command.{Command}
 use Rattle.debug_script.specs.Script.{next_command, script_from, script_of, told, with_first}
 use Rattle.debug_script.specs.Stops.{Fit, StopsValue, are_few, no_stops, stops_after}
@@ -16,22 +16,11 @@ with_front-push : (front : List Command) (command : Command) (read : Result (Lis
 with_front-push front command (Ok commands) = rw append_assoc refl
 with_front-push front command (Err number) = refl
 
-with_front-nil : (read : Result (List Command) ℕ) → with_front [] read ≡ read
-with_front-nil (Ok commands) = refl
-with_front-nil (Err number) = refl
-
 -- after some lines: their commands, the stops that these leave, how many lines they are, and the rest of the text
 pub record ReadSoFar (text : List ℕ) (commands : List Command) (stops : StopsValue) (number : ℕ) (rest : List ℕ) : Type 0 where
   pub script : with_front commands (script_from (number + 1) stops (lines_of rest)) ≡ script_of text
   pub lines : number + length rest ≤ length text
   pub fit : (more : List Command) → Fit stops more → Fit no_stops (commands ++ more)
-
-pub so_far-start : (text : List ℕ) → ReadSoFar text [] no_stops 0 text
-so_far-start text = record {
-  script = with_front-nil (script_of text);
-  lines = omega arith;
-  fit = λ more fits. fits;
-}
 
 module _ (text : List ℕ) (commands : List Command) (stops : StopsValue) (number : ℕ) (rest line after : List ℕ)
     (so_far : ReadSoFar text commands stops number rest) (parted : lines_of rest ≡ line ∷ lines_of after) (shorter : length after < length rest) where

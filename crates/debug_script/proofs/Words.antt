@@ -1,7 +1,7 @@
 -- A line of four words or more.
 use Rattle.std.proofs.Common.{◌≡◌, ℕ, ◌<◌, eqb, List, [], ◌∷◌, None, length, refl, arith}
 use Rattle.std.proofs.lemmas.List.Splits.{length-slice_split}
-use Rattle.tape_ports.specs.Grammar.{words_of}
+use Rattle.plain_text.specs.Lines.{words_of}
 use Rattle.debug_script.specs.Commands.{command_of}
 
 command_of_four : (verb from count : List ℕ) (more : List (List ℕ)) → 0 < length more → command_of (verb ∷ from ∷ count ∷ more) ≡ None

@@ -1,7 +1,7 @@
 -- The commands of a debugger's script, as their lines give them. This project's own profile.
 use Rattle.std.specs.Prelude.{ℕ, ◌+◌, ◌*◌, ◌%◌, ◌==◌, Bool, ◌&&◌, ◌||◌, List, [], ◌∷◌, nat_le, Option, Some, None, option_and_then, option_map, bytes_eq, codes, if◌then◌else◌}
 use Rattle.command_line.specs.Numbers.{number_of}
-use Rattle.tape_ports.specs.Grammar.{value_of}
+use Rattle.plain_text.specs.Numbers.{value_of}
 use Rattle.debug_script.specs.declared.command.Command.{Command}
 use Rattle.debug_script.specs.declared.command.Command.TheVariants.{Break, Watch, StopVg, Clear, Go, Step, Until, Regs, Dev, Mem, Dis, Vdis}
 use Rattle.debug_script.specs.declared.command.Span.{Span}
@@ -17,12 +17,12 @@ abbrev pub where_it : {A : Type 0} → (A → Bool) → Option A → Option A
 where_it test given = option_and_then (λ x. if test x then Some x else None) given
 
 -- a count is a number from 1 to a greatest one
-abbrev pub count_of : ℕ → List ℕ → Option ℕ
-count_of most word = where_it (λ n. nat_le 1 n && nat_le n most) (number_of word)
+abbrev pub count_up_to : ℕ → List ℕ → Option ℕ
+count_up_to most word = where_it (λ n. nat_le 1 n && nat_le n most) (number_of word)
 
 -- so many items from an address on
 abbrev pub span_of : ℕ → List ℕ → List ℕ → Option Span
-span_of most from count = option_and_then (λ address. option_map (λ n. record { from = address; count = n }) (count_of most count)) (address_of from)
+span_of most from count = option_and_then (λ address. option_map (λ n. record { from = address; count = n }) (count_up_to most count)) (address_of from)
 
 -- a byte of the RAM or of the vector RAM may be watched
 abbrev pub is_watchable : ℕ → Bool
@@ -46,7 +46,7 @@ abbrev pub argument_command : List ℕ → List ℕ → Option Command
 argument_command verb argument =
     if bytes_eq verb (codes "break") then option_map Break (address_of argument) else (
     if bytes_eq verb (codes "watch") then option_map Watch (where_it is_watchable (address_of argument)) else (
-    if bytes_eq verb (codes "step") then option_map Step (count_of MOST_TURNS argument) else (
+    if bytes_eq verb (codes "step") then option_map Step (count_up_to MOST_TURNS argument) else (
     if bytes_eq verb (codes "until") then option_map Until (number_of argument) else None)))
 
 -- those with an address and a count

@@ -1,6 +1,6 @@
 -- The text of a debugger's script. This project's own profile.
 use Rattle.std.specs.Prelude.{◌≡◌, ℕ, ◌+◌, ◌<◌, ◌≤◌, List, [], ◌∷◌, length, Option, Some, None, Result, Ok, Err}
-use Rattle.tape_ports.specs.Grammar.{lines_of, words_of}
+use Rattle.plain_text.specs.Lines.{lines_of, words_of}
 use Rattle.debug_script.specs.declared.command.Command.{Command}
 use Rattle.debug_script.specs.declared.fault.ScriptFault.{ScriptFault}
 use Rattle.debug_script.specs.declared.fault.ScriptFault.TheVariants.{TooLong, BadCommand, OutOfMemory}

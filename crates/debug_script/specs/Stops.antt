@@ -11,6 +11,7 @@ pub record StopsValue : Type 0 where
   pub watches : List ℕ
   pub vg : Bool
 
+-- before the first command nothing stops
 abbrev pub no_stops : StopsValue
 no_stops = record { breaks = []; watches = []; vg = false }
 

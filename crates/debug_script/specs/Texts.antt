@@ -3,7 +3,8 @@ use Rattle.std.specs.Prelude.{ℕ, List, ◌++◌, codes, decimal}
 use Rattle.debug_script.specs.declared.fault.ScriptFault.{ScriptFault}
 use Rattle.debug_script.specs.declared.fault.ScriptFault.TheVariants.{TooLong, BadCommand, OutOfMemory}
 
-abbrev pub fault_text : ScriptFault → List ℕ
-fault_text TooLong = codes "too long"
-fault_text (BadCommand line) = codes "line " ++ (decimal line ++ codes ": command")
-fault_text OutOfMemory = codes "no memory"
+-- why a text is no script
+abbrev pub script_fault_text : ScriptFault → List ℕ
+script_fault_text TooLong = codes "too long"
+script_fault_text (BadCommand line) = codes "line " ++ (decimal line ++ codes ": command")
+script_fault_text OutOfMemory = codes "no memory"

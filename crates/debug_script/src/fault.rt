@@ -1,21 +1,22 @@
-use std::error::Error;
 use std::fmt;
+use thiserror::Error;
 
 /// Why a text is no script.
-#[derive(Clone, Copy, Debug, PartialEq, Eq)]
+#[derive(Clone, Copy, Debug, PartialEq, Eq, Error)]
 pub enum ScriptFault {
     /// More than `SCRIPT_LIMIT` bytes, which comes before all else.
     TooLong,
     /// The first line of no form, counted from 1.
     BadCommand(u32),
+    /// No memory for the commands.
     OutOfMemory,
 }
 
 impl fmt::Display for ScriptFault {
     ghost use Rattle.std.specs.Prelude.{Some};
-    ghost use Rattle.debug_script.specs.Texts.{fault_text};
+    ghost use Rattle.debug_script.specs.Texts.{script_fault_text};
 
-    ghost output = { λ fault. Some (fault_text fault) };
+    ghost output = { λ fault. Some (script_fault_text fault) };
 
     fn fmt<W: fmt::Write>(&self, f: &mut fmt::Formatter<W>) -> fmt::Result {
         match self {
@@ -25,5 +26,3 @@ impl fmt::Display for ScriptFault {
         }
     }
 }
-
-impl Error for ScriptFault {}

@@ -3,12 +3,14 @@
 
 pub mod command;
 pub mod fault;
+pub mod laws;
 mod line;
 pub mod script;
 pub mod stops;
 
 pub use command::{Command, Span};
 pub use fault::ScriptFault;
+pub use laws::script_limits;
 pub use script::{SCRIPT_LIMIT, read_script};
 pub use stops::{STOPS, Stops};
 

@@ -1,10 +1,10 @@
 ghost use Rattle.std.specs.Prelude.{◌≡◌, ◌≤◌};
-ghost use Rattle.tape_ports.specs.Grammar.{words_of};
-ghost use Rattle.debug_script.specs.Commands.{address_of, argument_command, command_of, count_of, is_watchable, is_word_address, plain_command, span_command, span_of};
+ghost use Rattle.plain_text.specs.Lines.{words_of};
+ghost use Rattle.debug_script.specs.Commands.{address_of, argument_command, command_of, count_up_to, is_watchable, is_word_address, plain_command, span_command, span_of};
 
 use crate::command::{Command, Span};
-use command_line::read_digits;
-use tape_ports::{read_value, read_word};
+use command_line::read_number;
+use plain_text::{read_value, read_word};
 
 /// The most turns of `step`.
 pub const MOST_TURNS: u64 = 1_000_000;
@@ -27,11 +27,11 @@ fn read_address(word: &[u8]) -> Option<u16>
     Some(u16::from_be_bytes([high, low]))
 }
 
-/// A number from 1 on.
+/// A number from 1 to `most`.
 fn read_count(most: u64, word: &[u8]) -> Option<u64>
-    ensures { result ≡ count_of most word.now }
+    ensures { result ≡ count_up_to most word.now }
 {
-    let count = read_digits(word)?;
+    let count = read_number(word)?;
     if count == 0 || count > most {
         return None;
     }
@@ -89,7 +89,7 @@ fn read_argument(verb: &[u8], argument: &[u8]) -> Option<Command>
             _ => None,
         },
         b"step" => Some(Command::Step(read_count(MOST_TURNS, argument)?)),
-        b"until" => Some(Command::Until(read_digits(argument)?)),
+        b"until" => Some(Command::Until(read_number(argument)?)),
         _ => None,
     }
 }

@@ -6,8 +6,8 @@ use crate::command::Command;
 use crate::fault::ScriptFault;
 use crate::line::read_command;
 use crate::stops::Stops;
+use plain_text::read_line;
 use std::alloc::Global;
-use tape_ports::read_line;
 
 /// The most bytes of a script.
 pub const SCRIPT_LIMIT: usize = 65_536;

@@ -22,8 +22,11 @@ use tape_ports::Tape;
 /// Why there is no measure.
 #[derive(Debug, Drop)]
 pub enum Fault {
+    /// The words are of no form.
     Usage,
+    /// No memory.
     OutOfMemory,
+    /// A write failed.
     Io(io::Error),
 }
 

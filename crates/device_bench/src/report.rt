@@ -41,7 +41,9 @@ const BOARD_CLOCKS: u64 = 250_000;
 /// most `CLOCK_LIMIT`.
 #[derive(Clone, Copy, Debug, PartialEq, Eq)]
 pub enum Report {
+    /// Sums, which are the same on every machine.
     Sums,
+    /// Times of so many clocks.
     Times { clocks: u64 },
 }
 

@@ -2,6 +2,7 @@
 -- which line, how long a hold lasts, and that a write can only clear bits are this project's own profile.
 use Rattle.std.specs.Prelude.{ℕ, ◌+◌, ◌%◌, Bool, not, ◌&&◌, ◌==◌, nat_lt, if◌then◌else◌, slice_index, slice_set, bit_and}
 use Rattle.bit_words.specs.Bits.{is_bit}
+use Rattle.board_base.specs.declared.earom.TheConstants.{HOLD_CLOCKS}
 use Rattle.board_base.specs.Earom.{EaromValue}
 
 -- the control lines that are high
@@ -25,17 +26,17 @@ is_held control = is_selected control && is_not_c1_high control
 abbrev pub written_cell : EaromValue → ℕ
 written_cell e = if is_c2_high e.control then 255 else bit_and (slice_index e.cells e.addr) e.value
 
--- the hold is complete with its 1,512th clock
+-- the hold is complete with the last of its clocks
 abbrev pub completed : EaromValue → EaromValue
-completed e = record e { hold = 1512; cells = slice_set e.cells e.addr (written_cell e) }
+completed e = record e { hold = HOLD_CLOCKS; cells = slice_set e.cells e.addr (written_cell e) }
 
 -- one clock more of a hold that isn't complete
 unfoldable pub held_on : EaromValue → EaromValue
-held_on e = if e.hold + 1 == 1512 then completed e else record e { hold = e.hold + 1 }
+held_on e = if e.hold + 1 == HOLD_CLOCKS then completed e else record e { hold = e.hold + 1 }
 
 -- one clock
 unfoldable pub earom_tick : EaromValue → EaromValue
-earom_tick e = if is_held e.control && nat_lt e.hold 1512 then held_on e else e
+earom_tick e = if is_held e.control && nat_lt e.hold HOLD_CLOCKS then held_on e else e
 
 -- the address and data latches are written, and the hold begins anew
 abbrev pub latched : ℕ → ℕ → EaromValue → EaromValue

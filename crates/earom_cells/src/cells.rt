@@ -5,11 +5,8 @@ ghost use Rattle.earom_cells.specs.Tick.{is_clock_high, is_not_c1_high, is_c2_hi
 
 use crate::unit::CellUnit;
 use bit_words::is_set;
-use board_base::{CallCount, Clocked, EaromState};
+use board_base::{CallCount, Clocked, EaromState, HOLD_CLOCKS};
 use std::marker::Model;
-
-/// The clocks for which an erase or a write is held until it is done.
-const HOLD: u16 = 1512;
 
 /// An EAROM that moves any number of clocks at the same cost.
 #[derive(Drop)]
@@ -99,7 +96,7 @@ fn complete(state: &mut EaromState)
     } else {
         state.cells[cell] & state.value
     };
-    state.hold = HOLD;
+    state.hold = HOLD_CLOCKS;
 }
 
 /// `n` clocks: a hold goes on, and is complete once.
@@ -107,10 +104,10 @@ fn complete(state: &mut EaromState)
 fn advance_state(state: &mut EaromState, n: u64)
     ensures { state.new ≡ times earom_tick n state.old }
 {
-    if !is_held(state.control) || state.hold >= HOLD {
+    if !is_held(state.control) || state.hold >= HOLD_CLOCKS {
         return;
     }
-    if n < u64::from(HOLD - state.hold) {
+    if n < u64::from(HOLD_CLOCKS - state.hold) {
         state.hold += n as u16;
     } else {
         complete(state);

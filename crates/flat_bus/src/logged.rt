@@ -1,7 +1,9 @@
 /// Whether a byte was read or written.
 #[derive(Clone, Copy, Debug, PartialEq, Eq)]
 pub enum Direction {
+    /// It was read.
     Read,
+    /// It was written.
     Write,
 }
 

@@ -11,11 +11,11 @@ use Rattle.save_state.specs.Reading.{IsWhole}
 use Rattle.catchup_engine.specs.EngineValue.{EngineValue, HasNoRecords, cleared, counted_on}
 use Rattle.catchup_engine.specs.Lockstep.{Board}
 use Rattle.catchup_engine.specs.Order.{Recorded, behind}
-use Rattle.catchup_engine.specs.Run.{IsPlaced, boundary_steps, clock_steps, run, stepped, to_boundary}
+use Rattle.catchup_engine.specs.Run.{IsPlaced, boundary_steps, clock_steps, to_clock, stepped, to_boundary}
 use Rattle.catchup_engine.specs.Wires.{board_of}
-use Rattle.catchup_engine.proofs.Behind.{run-behind, to_boundary-behind}
+use Rattle.catchup_engine.proofs.Behind.{to_clock-behind, to_boundary-behind}
 use Rattle.catchup_engine.proofs.Budgets.{budget-parts}
-use Rattle.catchup_engine.proofs.Ends.{boundary-run-steps}
+use Rattle.catchup_engine.proofs.Ends.{boundary-clock-steps}
 use Rattle.catchup_engine.proofs.Places.{stepped-placed}
 use Rattle.catchup_engine.proofs.Runs.{stepped-add}
 use Rattle.gravitar_commands.specs.declared.until.Until.TheVariants.{Clock, Boundary}
@@ -46,15 +46,15 @@ pub fresh-whole : (e : EngineValue) → HasNoRecords e.board → e.lagging ≡ 0
 fresh-whole e none settled whole = record { placed = placed-whole e.board whole; phase = whole.divider.phase; empty = none; settled = settled }
 
 module _ (entries : List TapeEntry) where
-  run-cleared : (cut : ℕ) (b : Board) → cleared (run entries cut (cleared b)) ≡ cleared (run entries cut b)
-  run-cleared cut = from-behind (λ b. cleared (run entries cut b)) (λ l b. ap cleared (run-behind entries cut l b))
+  run-cleared : (cut : ℕ) (b : Board) → cleared (to_clock entries cut (cleared b)) ≡ cleared (to_clock entries cut b)
+  run-cleared cut = from-behind (λ b. cleared (to_clock entries cut b)) (λ l b. ap cleared (to_clock-behind entries cut l b))
 
   end-cleared : (limit : ℕ) (b : Board) → cleared (to_boundary entries limit (cleared b)) ≡ cleared (to_boundary entries limit b)
   end-cleared limit = from-behind (λ b. cleared (to_boundary entries limit b)) (λ l b. ap cleared (to_boundary-behind entries limit l b))
 
-  saved-run-behind : (cut : ℕ) (l : Recorded) (b : Board) → saved_bytes (run entries cut (behind l b)) ≡ saved_bytes (run entries cut b)
+  saved-run-behind : (cut : ℕ) (l : Recorded) (b : Board) → saved_bytes (to_clock entries cut (behind l b)) ≡ saved_bytes (to_clock entries cut b)
   unfolding saved_bytes
-  saved-run-behind cut l b = ap saved_bytes (run-behind entries cut l b)
+  saved-run-behind cut l b = ap saved_bytes (to_clock-behind entries cut l b)
 
   saved-end-behind : (limit : ℕ) (l : Recorded) (b : Board) → saved_bytes (to_boundary entries limit (behind l b)) ≡ saved_bytes (to_boundary entries limit b)
   unfolding saved_bytes
@@ -65,8 +65,8 @@ module _ (entries : List TapeEntry) where
   cut_events-cleared cut save b =
       let text : slice_text entries (Clock cut) (cleared b) ≡ slice_text entries (Clock cut) b =
       text-cleared entries (steps_to entries (Clock cut) (cleared b)) b ∙ ap (λ n. text_of_steps entries n b) (steps-cleared entries (Clock cut) b) in
-      let saved = from-behind (λ b. saved_bytes (run entries cut b)) (saved-run-behind cut) b in
-      ap (λ text. sending text ++ storing save (saved_bytes (run entries cut (cleared b)))) text
+      let saved = from-behind (λ b. saved_bytes (to_clock entries cut b)) (saved-run-behind cut) b in
+      ap (λ text. sending text ++ storing save (saved_bytes (to_clock entries cut (cleared b)))) text
       ∙ ap (λ bytes. sending (slice_text entries (Clock cut) b) ++ storing save bytes) saved
 
   last_events-cleared : (limit : ℕ) (wanted : Wanted) (calls : ℕ) (b : Board) → last_events entries limit wanted calls (cleared b) ≡ last_events entries limit wanted calls b
@@ -152,8 +152,8 @@ module _ (entries : List TapeEntry) (limit : ℕ) (wanted : Wanted) (cuts : List
   same-price : (n : ℕ) → window_price entries n now.board ≡ window_price entries n reached
   same-price n = same-of (window_price entries n) (price-cleared entries n) now.board reached u.board
 
-  there : (c : ℕ) → stepped entries (u.steps + clock_steps entries c reached) start.board ≡ run entries c reached
-  unfolding run
+  there : (c : ℕ) → stepped entries (u.steps + clock_steps entries c reached) start.board ≡ to_clock entries c reached
+  unfolding to_clock
   there c = stepped-add entries u.steps (clock_steps entries c reached) start.board
 
   module _ (lowered : ℕ) (is : lowered ≡ min (get_or cuts i 0) limit) (inside : i < length cuts) where
@@ -161,36 +161,36 @@ module _ (entries : List TapeEntry) (limit : ℕ) (wanted : Wanted) (cuts : List
     left = drop_more cuts i 0 inside
 
     events-left : (calls : ℕ) → run_events entries limit wanted calls cuts start.board
-        ≡ u.done ++ (cut_events entries lowered wanted.save now.board ++ run_events entries limit wanted calls (drop (i + 1) cuts) (run entries lowered reached))
+        ≡ u.done ++ (cut_events entries lowered wanted.save now.board ++ run_events entries limit wanted calls (drop (i + 1) cuts) (to_clock entries lowered reached))
     unfolding run_events
     events-left calls =
         u.events calls
         ∙ ap (λ rest. u.done ++ run_events entries limit wanted calls rest reached) left
-        ∙ ap (λ c. u.done ++ (cut_events entries c wanted.save reached ++ run_events entries limit wanted calls (drop (i + 1) cuts) (run entries c reached)))
+        ∙ ap (λ c. u.done ++ (cut_events entries c wanted.save reached ++ run_events entries limit wanted calls (drop (i + 1) cuts) (to_clock entries c reached)))
         (sym is)
-        ∙ ap (λ events. u.done ++ (events ++ run_events entries limit wanted calls (drop (i + 1) cuts) (run entries lowered reached)))
+        ∙ ap (λ events. u.done ++ (events ++ run_events entries limit wanted calls (drop (i + 1) cuts) (to_clock entries lowered reached)))
         (sym (same-cut lowered wanted.save))
 
-    last-left : last_board entries limit cuts start.board ≡ last_board entries limit (drop (i + 1) cuts) (run entries lowered reached)
+    last-left : last_board entries limit cuts start.board ≡ last_board entries limit (drop (i + 1) cuts) (to_clock entries lowered reached)
     unfolding last_board
     last-left =
         u.last
         ∙ ap (λ rest. last_board entries limit rest reached) left
-        ∙ ap (λ c. last_board entries limit (drop (i + 1) cuts) (run entries c reached)) (sym is)
+        ∙ ap (λ c. last_board entries limit (drop (i + 1) cuts) (to_clock entries c reached)) (sym is)
 
     -- one cut more
     pub cuts-on : (next : EngineValue) (out2 : Option (List ℕ)) (stores2 : Option (List Kept)) (shelf2 sink2 absences2 : ℕ)
         → Did (cut_events entries lowered wanted.save now.board) out1 out2 stores1 stores2 → shelf2 ≡ shelf1 → sink2 ≡ sink1 → absences1 ≤ absences2
-        → next.board ≡ cleared (run entries lowered now.board) → IsFresh next
+        → next.board ≡ cleared (to_clock entries lowered now.board) → IsFresh next
         → next.calls ≤ now.calls + window_price entries (clock_steps entries lowered now.board) now.board + 10 → counted_on now.calls 5 ≤ next.calls
         → CutUpTo entries limit wanted cuts start next (i + 1) out0 out2 stores0 stores2 shelf0 shelf2 sink0 sink2 absences0 absences2
     cuts-on next out2 stores2 shelf2 sink2 absences2 did shelf sink absences board fresh most least =
         let events = cut_events entries lowered wanted.save now.board in
         let more = clock_steps entries lowered reached in
-        let later = run entries lowered reached in
+        let later = to_clock entries lowered reached in
         let before = u.whole in
         let most_cut : lowered ≤ limit = rw is (omega arith) in
-        let split = boundary-run-steps entries lowered limit reached most_cut (stepped-placed entries u.steps start.board u.placed) in
+        let split = boundary-clock-steps entries lowered limit reached most_cut (stepped-placed entries u.steps start.board u.placed) in
         let price = price-add entries u.steps more start.board in
         let own : window_price entries (clock_steps entries lowered now.board) now.board ≡ window_price entries more reached =
         ap (λ n. window_price entries n now.board) (same-steps lowered) ∙ same-price more in
@@ -203,7 +203,7 @@ module _ (entries : List TapeEntry) (limit : ℕ) (wanted : Wanted) (cuts : List
           steps = u.steps + more;
           board =
               ap cleared board
-              ∙ same-of (λ b. cleared (run entries lowered b)) (run-cleared entries lowered) now.board reached u.board
+              ∙ same-of (λ b. cleared (to_clock entries lowered b)) (run-cleared entries lowered) now.board reached u.board
               ∙ ap cleared (sym (there lowered));
           events = λ calls.
               events-left calls

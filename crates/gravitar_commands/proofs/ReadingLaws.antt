@@ -6,11 +6,11 @@ use Rattle.save_state.specs.declared.TheConstants.{STATE_LEN}
 use Rattle.save_state.specs.declared.fault.StateFault.{StateFault}
 use Rattle.save_state.specs.Reading.{ReadsState}
 use Rattle.gravitar_commands.specs.declared.cause.Cause.{Cause}
-use Rattle.gravitar_commands.specs.declared.stop.Stop.{Stop}
-use Rattle.gravitar_commands.specs.declared.stop.Stop.TheVariants.{Bad, Absent, Outside, NoMemory}
+use Rattle.gravitar_commands.specs.declared.failure.Failure.{Failure}
+use Rattle.gravitar_commands.specs.declared.failure.Failure.TheVariants.{Bad, Absent, Outside, NoMemory}
 use Rattle.gravitar_commands.specs.Causes.{cause_text}
 use Rattle.gravitar_commands.specs.Outcome.{ForReading, first_bytes, note_text, read_as, refused, state_file, state_read}
-use Rattle.gravitar_commands.specs.Stages.{Gives, IsBadOrMemory, Refuses, StageAbsences, StopAbsences}
+use Rattle.gravitar_commands.specs.Stages.{Gives, IsBadOrMemory, Refuses, StageAbsences, FailureAbsences}
 
 -- a file that came with these bytes
 abbrev Came : Option Files → List ℕ → ℕ → List ℕ → Type 0
@@ -27,7 +27,7 @@ came-reads (Some whole) name bytes reading came reads =
     rw (sym same) reads
 
 -- what comes of a state file is what comes of its bytes
-pub state-came : (told : Option Files) (name bytes held : List ℕ) (result : Result BoardValue Stop) → Came told name STATE_LEN bytes → held ≡ bytes
+pub state-came : (told : Option Files) (name bytes held : List ℕ) (result : Result BoardValue Failure) → Came told name STATE_LEN bytes → held ≡ bytes
     → ((reading : Result BoardValue StateFault) → ReadsState held reading → Gives (λ board. board) (read_as name (state_read reading)) result)
     → IfSome told (λ files. ForReading (Some name) files (λ reading. Gives (λ board. board) (state_file files name reading) result))
 unfolding state_file
@@ -36,21 +36,21 @@ state-came (Some files) name bytes held result came same reads = λ reading is.
     rw came (reads reading (rw same (came-reads (files name) name bytes reading came is)))
 
 -- a file that is bad, or want of memory for the note on it
-pub refused-as : (name : List ℕ) (cause : Cause) (stop : Stop) → IsBadOrMemory (note_text name (cause_text cause)) stop
-    → Refuses {B = BoardValue} (read_as name (Err cause)) stop
+pub refused-as : (name : List ℕ) (cause : Cause) (failure : Failure) → IsBadOrMemory (note_text name (cause_text cause)) failure
+    → Refuses {B = BoardValue} (read_as name (Err cause)) failure
 refused-as name cause (Bad note) is = ap (λ text. Err (refused 4 text)) (sym is)
 refused-as name cause (Absent note) is = absurd is
 refused-as name cause Outside is = absurd is
 refused-as name cause NoMemory is = tt
 
-pub bad-absences : (text : List ℕ) (n : ℕ) (stop : Stop) → IsBadOrMemory text stop → StopAbsences n n stop
+pub bad-absences : (text : List ℕ) (n : ℕ) (failure : Failure) → IsBadOrMemory text failure → FailureAbsences n n failure
 bad-absences text n (Bad note) is = omega arith
 bad-absences text n (Absent note) is = absurd is
 bad-absences text n Outside is = absurd is
 bad-absences text n NoMemory is = omega arith
 
 -- a stage that raised no count of absences, after one that may have raised it
-pub absences-after : {A : Type 0} (before now : ℕ) (result : Result A Stop) → before ≤ now → StageAbsences now now result → StageAbsences before now result
+pub absences-after : {A : Type 0} (before now : ℕ) (result : Result A Failure) → before ≤ now → StageAbsences now now result → StageAbsences before now result
 absences-after before now (Ok a) later same = later
 absences-after before now (Err (Bad note)) later same = later
 absences-after before now (Err (Absent note)) later same = (let rose = same.rose in record { later = later; rose = omega arith; fits = same.fits })

@@ -15,7 +15,7 @@ use Rattle.catchup_engine.specs.EngineValue.{EngineValue, HasNoRecords, cleared}
 use Rattle.catchup_engine.specs.Order.{Recorded, AreMadeBetween, behind, records_of}
 use Rattle.catchup_engine.proofs.Ended.{at-stop, cleared-empty, over-stop}
 use Rattle.catchup_engine.proofs.Runs.{steps-none, stepped-add}
-use Rattle.catchup_engine.proofs.Ends.{boundary-split-steps, run-cut-steps}
+use Rattle.catchup_engine.proofs.Ends.{boundary-split-steps, to_clock-cut-steps}
 use Rattle.catchup_engine.proofs.Behind.{stepped-behind, boundary_steps-behind, clock_steps-behind, cut_steps-behind, budget-behind, counted-behind, behind-cleared}
 use Rattle.catchup_engine.proofs.Budgets.{counted-add, budget-add}
 use Rattle.catchup_engine.proofs.Clocks.{stepped-clock}
@@ -81,7 +81,7 @@ module _ (entries : List TapeEntry) where
   steps-split : (until : Until) (b : lockstep.Board) → IsPlaced b
       → steps_to entries until b ≡ window_steps entries until b + steps_to entries until (stepped entries (window_steps entries until b) b)
   unfolding to_cut to_boundary
-  steps-split (Clock cut) b placed = run-cut-steps entries cut (wrap_of b) b
+  steps-split (Clock cut) b placed = to_clock-cut-steps entries cut (wrap_of b) b
   steps-split (Boundary limit) b placed = boundary-split-steps entries (window_limit limit b) limit b (omega arith) placed
 
 -- a slice that didn't end with its window alone is over

@@ -5,7 +5,7 @@ use Rattle.tape_ports.specs.declared.entry.TapeEntry.{TapeEntry}
 use Rattle.board_base.specs.Board.{BoardValue}
 use Rattle.catchup_engine.specs.EngineValue.{EngineValue, HasNoRecords, cleared, counted_on}
 use Rattle.catchup_engine.specs.Lockstep.{Board}
-use Rattle.catchup_engine.specs.Run.{run, to_boundary}
+use Rattle.catchup_engine.specs.Run.{to_clock, to_boundary}
 use Rattle.catchup_engine.specs.Wires.{board_of, reloaded}
 use Rattle.gravitar_commands.specs.declared.until.Until.TheVariants.{Clock, Boundary}
 use Rattle.gravitar_commands.specs.Slice.{end_of}
@@ -39,15 +39,15 @@ unfolding saved_bytes
 saved-cleared b now held is saved = saved ∙ ap saved_bytes is
 
 -- a slice ends where the run does
-clock-end : (entries : List TapeEntry) (cut : ℕ) (b : Board) → end_of entries (Clock cut) b ≡ run entries cut b
-unfolding run
+clock-end : (entries : List TapeEntry) (cut : ℕ) (b : Board) → end_of entries (Clock cut) b ≡ to_clock entries cut b
+unfolding to_clock
 clock-end entries cut b = refl
 
 boundary-end : (entries : List TapeEntry) (limit : ℕ) (b : Board) → end_of entries (Boundary limit) b ≡ to_boundary entries limit b
 unfolding to_boundary
 boundary-end entries limit b = refl
 
-pub at-cut : (entries : List TapeEntry) (cut : ℕ) (b now : Board) → now ≡ cleared (end_of entries (Clock cut) b) → now ≡ cleared (run entries cut b)
+pub at-cut : (entries : List TapeEntry) (cut : ℕ) (b now : Board) → now ≡ cleared (end_of entries (Clock cut) b) → now ≡ cleared (to_clock entries cut b)
 at-cut entries cut b now is = is ∙ ap cleared (clock-end entries cut b)
 
 pub at-end : (entries : List TapeEntry) (limit : ℕ) (b now : Board) → now ≡ cleared (end_of entries (Boundary limit) b)

@@ -29,16 +29,16 @@ use Rattle.catchup_engine.specs.EngineValue.{cleared, counted_on}
 use Rattle.catchup_engine.specs.Lockstep.{Board}
 use Rattle.gravitar_commands.specs.declared.assembled.Assembled.{Assembled}
 use Rattle.gravitar_commands.specs.declared.parts.Parts.{Parts}
-use Rattle.gravitar_commands.specs.declared.stop.Ending.{Ending}
-use Rattle.gravitar_commands.specs.declared.stop.Ending.TheVariants.{Done, Jammed}
-use Rattle.gravitar_commands.specs.declared.stop.Stop.{Stop}
-use Rattle.gravitar_commands.specs.declared.stop.Stop.TheVariants.{Bad, Absent, Outside, NoMemory}
-use Rattle.gravitar_commands.specs.Events.{Did, sending, text_of, stores_of}
+use Rattle.gravitar_commands.specs.declared.failure.Ending.{Ending}
+use Rattle.gravitar_commands.specs.declared.failure.Ending.TheVariants.{Done, Jammed}
+use Rattle.gravitar_commands.specs.declared.failure.Failure.{Failure}
+use Rattle.gravitar_commands.specs.declared.failure.Failure.TheVariants.{Bad, Absent, Outside, NoMemory}
+use Rattle.gravitar_commands.specs.Events.{Did, DidFirst, sending, text_of, stores_of}
 use Rattle.gravitar_commands.specs.LastLine.{ending_by, status_of_ending}
-use Rattle.gravitar_commands.specs.Outcome.{Comes, ComesOf, asm_files, asm_outcome, CommandComes, FitsRun, ForReading, Outcome, and_then, command_outcome, debug_files, debug_outcome, fault_text, finished, first_board, limit_of, memory_text, refused, read_as, run_files, run_outcome, script_file, script_read, show_outcome, soak_outcome, state_file, usage_text, wanted_by, note_text, workload_of}
+use Rattle.gravitar_commands.specs.Outcome.{Comes, ComesOf, ComesOver, IsRun, asm_files, asm_outcome, CommandComes, FitsRun, ForReading, Outcome, and_then, command_outcome, debug_files, debug_outcome, outside_text, finished, first_board, limit_of, memory_text, refused, read_as, run_files, run_outcome, script_file, script_read, show_outcome, soak_outcome, state_file, usage_text, wanted_by, note_text, workload_of}
 use Rattle.gravitar_commands.specs.Slices.{FitsCalls, StopsIn, Wanted, last_board, run_events, storing}
 use Rattle.gravitar_commands.specs.Sources.{both_listings}
-use Rattle.gravitar_commands.specs.Stages.{status_of, note_of, Ends, IsBadOrMemory, Noted, Refuses, RunComes, StageAbsences, StopEnds, StopQuiet, session_outcome}
+use Rattle.gravitar_commands.specs.Stages.{status_of, note_of, Ends, IsBadOrMemory, Noted, Refuses, RunComes, StageAbsences, FailureEnds, FailureWroteNothing, session_outcome}
 use Rattle.gravitar_commands.proofs.CutLaws.{fits-least}
 use Rattle.gravitar_commands.proofs.EventLaws.{did-first-of, did-first-sending, did-nothing, did-sending, did-storing, did-then, did-then-first}
 
@@ -62,88 +62,133 @@ unfolding text_of stores_of
 did-idle out0 out1 stores0 stores1 took same = record { text = took ∙ sym (grown-nothing out0); stores = same ∙ sym (grown-nothing stores0) }
 
 -- what comes of an outcome comes of that of a command
-pub comes-map : (first second : Outcome → Type 0) (command : Option CommandValue) (files : Files) → ((outcome : Outcome) → first outcome → second outcome)
-    → ComesOf command files first → ComesOf command files second
-comes-map first second None files so comes = so (refused 2 usage_text) comes
-comes-map first second (Some command) files so comes = λ reading is.
+comes-over : (first second : Outcome → Type 0) (command : CommandValue) (told : Option Files) → ((outcome : Outcome) → first outcome → second outcome)
+    → ComesOver command told first → ComesOver command told second
+comes-over first second command None so comes = tt
+comes-over first second command (Some files) so comes = λ reading is.
     (let c = comes reading is in record { calls = c.calls; fits = c.fits; of_outcome = so (command_outcome command files reading c.calls) c.of_outcome })
+
+pub comes-map : (first second : Outcome → Type 0) (command : Option CommandValue) (told : Option Files)
+    → ((outcome : Outcome) → first outcome → second outcome) → ComesOf command told first → ComesOf command told second
+comes-map first second None told so comes = so (refused 2 usage_text) comes
+comes-map first second (Some (run_of run)) told so comes = comes-over first second (run_of run) told so comes
+comes-map first second (Some (asm_of asm)) told so comes = comes-over first second (asm_of asm) told so comes
+comes-map first second (Some (debug_of debug)) told so comes = comes-over first second (debug_of debug) told so comes
+comes-map first second (Some (show_of name)) told so comes = comes-over first second (show_of name) told so comes
+comes-map first second (Some (soak_of seed)) told so comes = so (soak_outcome seed) comes
 
 -- of words that are those of this command
 of-command : (first second : Outcome → Type 0) (words : List (List ℕ)) (command : CommandValue) (told : Option Files) → Some command ≡ command_of words
     → ((outcome : Outcome) → first outcome → second outcome)
-    → IfSome told (λ files. ComesOf (Some command) files first) → IfSome told (λ files. Comes words files second)
-of-command first second words command None some so comes = tt
-of-command first second words command (Some files) some so comes =
-    subst (λ c. ComesOf c files second) some (comes-map first second (Some command) files so comes)
+    → ComesOf (Some command) told first → Comes words told second
+of-command first second words command told some so comes =
+    subst (λ c. ComesOf c told second) some (comes-map first second (Some command) told so comes)
 
 -- of a command that is this one
 pub of-same : (holds : Outcome → Type 0) (told : Option Files) (command other : CommandValue) → other ≡ command
-    → IfSome told (λ files. ComesOf (Some command) files holds) → IfSome told (λ files. ComesOf (Some other) files holds)
+    → ComesOf (Some command) told holds → ComesOf (Some other) told holds
 of-same holds told command other same comes = rw same comes
 
 -- of words of no form
 of-usage : (holds : Outcome → Type 0) (words : List (List ℕ)) (told : Option Files) → None ≡ command_of words → holds (refused 2 usage_text)
-    → IfSome told (λ files. Comes words files holds)
-of-usage holds words None none h = tt
-of-usage holds words (Some files) none h = subst (λ c. ComesOf c files holds) none h
+    → Comes words told holds
+of-usage holds words told none h = subst (λ c. ComesOf c told holds) none h
 
 pub usage-outcome : (told : Option Files) (words : List (List ℕ)) (out0 out1 : Option (List ℕ)) (stores0 stores1 : Option (List Kept))
     → None ≡ command_of words → out1 ≡ out0 → stores1 ≡ stores0
-    → IfSome told (λ files. Comes words files (λ outcome. (2 ≡ outcome.status) × Did outcome.events out0 out1 stores0 stores1))
+    → Comes words told (λ outcome. (2 ≡ outcome.status) × Did outcome.events out0 out1 stores0 stores1)
 usage-outcome told words out0 out1 stores0 stores1 none took same =
     of-usage (λ outcome. (2 ≡ outcome.status) × Did outcome.events out0 out1 stores0 stores1) words told none
     (refl, did-idle out0 out1 stores0 stores1 took same)
 
 pub usage-note : (told : Option Files) (words : List (List ℕ)) (notes0 notes1 : Option (List ℕ)) (faults0 faults1 : ℕ)
     → None ≡ command_of words → Noted notes0 notes1 faults0 faults1 usage_text
-    → IfSome told (λ files. Comes words files (λ outcome. Noted notes0 notes1 faults0 faults1 outcome.note))
+    → Comes words told (λ outcome. Noted notes0 notes1 faults0 faults1 outcome.note)
 usage-note told words notes0 notes1 faults0 faults1 none h =
     of-usage (λ outcome. Noted notes0 notes1 faults0 faults1 outcome.note) words told none h
 
 -- a refusal that is the outcome
-refusal : (outcome : Outcome) (stop : Stop) (status : ℕ) (out0 out1 : Option (List ℕ)) (stores0 stores1 : Option (List Kept))
-    → status ≡ status_of stop → StopEnds outcome out0 out1 stores0 stores1 stop → status ≢ 6 → status ≢ 7
-    → outcome ≡ refused (status_of stop) (note_of stop)
+refusal : (outcome : Outcome) (failure : Failure) (status : ℕ) (out0 out1 : Option (List ℕ)) (stores0 stores1 : Option (List Kept))
+    → status ≡ status_of failure → FailureEnds outcome out0 out1 stores0 stores1 failure → status ≢ 6 → status ≢ 7
+    → outcome ≡ refused (status_of failure) (note_of failure)
 refusal outcome (Bad note) status out0 out1 stores0 stores1 is ends not6 not7 = ends
 refusal outcome (Absent note) status out0 out1 stores0 stores1 is ends not6 not7 = ends
 refusal outcome Outside status out0 out1 stores0 stores1 is ends not6 not7 = absurd (not6 is)
 refusal outcome NoMemory status out0 out1 stores0 stores1 is ends not6 not7 = absurd (not7 is)
 
-quiet-of : (stop : Stop) (status : ℕ) (out0 out1 : Option (List ℕ)) (stores0 stores1 : Option (List Kept)) → status ≡ status_of stop
-    → StopQuiet out0 out1 stores0 stores1 stop → status ≢ 6 → (out1 ≡ out0) × (stores1 ≡ stores0)
+quiet-of : (failure : Failure) (status : ℕ) (out0 out1 : Option (List ℕ)) (stores0 stores1 : Option (List Kept)) → status ≡ status_of failure
+    → FailureWroteNothing out0 out1 stores0 stores1 failure → status ≢ 6 → (out1 ≡ out0) × (stores1 ≡ stores0)
 quiet-of (Bad note) status out0 out1 stores0 stores1 is quiet not6 = quiet
 quiet-of (Absent note) status out0 out1 stores0 stores1 is quiet not6 = quiet
 quiet-of Outside status out0 out1 stores0 stores1 is quiet not6 = absurd (not6 is)
 quiet-of NoMemory status out0 out1 stores0 stores1 is quiet not6 = quiet
 
-module _ (told : Option Files) (words : List (List ℕ)) (command : CommandValue) (stop : Stop) (status : ℕ) (out0 out1 : Option (List ℕ))
-    (stores0 stores1 : Option (List Kept)) (some : Some command ≡ command_of words) (is : status ≡ status_of stop)
-    (comes : IfSome told (λ files. ComesOf (Some command) files (λ outcome. StopEnds outcome out0 out1 stores0 stores1 stop))) where
-  pub stop-outcome : StopQuiet out0 out1 stores0 stores1 stop → status ≢ 6 → status ≢ 7
-      → IfSome told (λ files. Comes words files (λ outcome. (status ≡ outcome.status) × Did outcome.events out0 out1 stores0 stores1))
-  stop-outcome quiet not6 not7 =
-      let nothing = quiet-of stop status out0 out1 stores0 stores1 is quiet not6 in
-      of-command (λ outcome. StopEnds outcome out0 out1 stores0 stores1 stop)
+module _ (told : Option Files) (words : List (List ℕ)) (command : CommandValue) (failure : Failure) (status : ℕ) (out0 out1 : Option (List ℕ))
+    (stores0 stores1 : Option (List Kept)) (some : Some command ≡ command_of words) (is : status ≡ status_of failure)
+    (comes : ComesOf (Some command) told (λ outcome. FailureEnds outcome out0 out1 stores0 stores1 failure)) where
+  pub failure-outcome : FailureWroteNothing out0 out1 stores0 stores1 failure → status ≢ 6 → status ≢ 7
+      → Comes words told (λ outcome. (status ≡ outcome.status) × Did outcome.events out0 out1 stores0 stores1)
+  failure-outcome quiet not6 not7 =
+      let nothing = quiet-of failure status out0 out1 stores0 stores1 is quiet not6 in
+      of-command (λ outcome. FailureEnds outcome out0 out1 stores0 stores1 failure)
       (λ outcome. (status ≡ outcome.status) × Did outcome.events out0 out1 stores0 stores1) words command told some
       (λ outcome ends.
-      rw (refusal outcome stop status out0 out1 stores0 stores1 is ends not6 not7)
+      rw (refusal outcome failure status out0 out1 stores0 stores1 is ends not6 not7)
       (is, did-idle out0 out1 stores0 stores1 nothing.0 nothing.1)) comes
 
-  pub stop-note : (notes0 notes1 : Option (List ℕ)) (faults0 faults1 : ℕ) → Noted notes0 notes1 faults0 faults1 (note_of stop) → status ≢ 6 → status ≢ 7
-      → IfSome told (λ files. Comes words files (λ outcome. Noted notes0 notes1 faults0 faults1 outcome.note))
-  stop-note notes0 notes1 faults0 faults1 h not6 not7 =
-      of-command (λ outcome. StopEnds outcome out0 out1 stores0 stores1 stop) (λ outcome. Noted notes0 notes1 faults0 faults1 outcome.note) words command
-      told some (λ outcome ends. rw (refusal outcome stop status out0 out1 stores0 stores1 is ends not6 not7) h) comes
+  pub failure-note : (notes0 notes1 : Option (List ℕ)) (faults0 faults1 : ℕ) → Noted notes0 notes1 faults0 faults1 (note_of failure) → status ≢ 6 → status ≢ 7
+      → Comes words told (λ outcome. Noted notes0 notes1 faults0 faults1 outcome.note)
+  failure-note notes0 notes1 faults0 faults1 h not6 not7 =
+      of-command (λ outcome. FailureEnds outcome out0 out1 stores0 stores1 failure) (λ outcome. Noted notes0 notes1 faults0 faults1 outcome.note) words command
+      told some (λ outcome ends. rw (refusal outcome failure status out0 out1 stores0 stores1 is ends not6 not7) h) comes
 
-pub fault-note : (stop : Stop) (status : ℕ) (notes0 notes1 : Option (List ℕ)) (faults0 faults1 : ℕ) → status ≡ status_of stop
-    → Noted notes0 notes1 faults0 faults1 (note_of stop) → status ≡ 6 → Noted notes0 notes1 faults0 faults1 fault_text
+-- a command that was done
+pub done-outcome : (told : Option Files) (words : List (List ℕ)) (command : CommandValue) (ending : Ending) (status : ℕ) (out0 out1 : Option (List ℕ))
+    (stores0 stores1 : Option (List Kept)) → Some command ≡ command_of words → status ≡ status_of_ending ending
+    → ComesOf (Some command) told (λ outcome. Ends outcome out0 out1 stores0 stores1 (Ok ending))
+    → Comes words told (λ outcome. (status ≡ outcome.status) × Did outcome.events out0 out1 stores0 stores1)
+done-outcome told words command ending status out0 out1 stores0 stores1 some is comes =
+    of-command (λ outcome. Ends outcome out0 out1 stores0 stores1 (Ok ending))
+    (λ outcome. (status ≡ outcome.status) × Did outcome.events out0 out1 stores0 stores1) words command told some
+    (λ outcome ends. (is ∙ sym ends.0, ends.2)) comes
+
+-- nothing was noted
+noted-nothing : (notes : Option (List ℕ)) (faults : ℕ) → Noted notes notes faults faults []
+noted-nothing notes faults = record {
+  later = omega arith;
+  part = (0, sym (grown-nothing notes));
+  whole = λ _. sym (grown-nothing notes);
+}
+
+pub done-note : (told : Option Files) (words : List (List ℕ)) (command : CommandValue) (ending : Ending) (out0 out1 : Option (List ℕ))
+    (stores0 stores1 : Option (List Kept)) (notes : Option (List ℕ)) (faults : ℕ) → Some command ≡ command_of words
+    → ComesOf (Some command) told (λ outcome. Ends outcome out0 out1 stores0 stores1 (Ok ending))
+    → Comes words told (λ outcome. Noted notes notes faults faults outcome.note)
+done-note told words command ending out0 out1 stores0 stores1 notes faults some comes =
+    of-command (λ outcome. Ends outcome out0 out1 stores0 stores1 (Ok ending)) (λ outcome. Noted notes notes faults faults outcome.note) words command
+    told some (λ outcome ends. subst (λ text. Noted notes notes faults faults text) (sym ends.1) (noted-nothing notes faults)) comes
+
+-- a fault outside has let the first part of what is defined be done
+pub failure-stopped : (told : Option Files) (words : List (List ℕ)) (command : CommandValue) (failure : Failure) (status : ℕ)
+    (out0 out1 : Option (List ℕ)) (stores0 stores1 : Option (List Kept)) → Some command ≡ command_of words → status ≡ status_of failure
+    → ComesOf (Some command) told (λ outcome. FailureEnds outcome out0 out1 stores0 stores1 failure) → status ≡ 6
+    → Comes words told (λ outcome. DidFirst outcome.events out0 out1 stores0 stores1)
+failure-stopped told words command (Bad note) status out0 out1 stores0 stores1 some is comes six = absurd (omega arith)
+failure-stopped told words command (Absent note) status out0 out1 stores0 stores1 some is comes six = absurd (omega arith)
+failure-stopped told words command Outside status out0 out1 stores0 stores1 some is comes six =
+    of-command (λ outcome. FailureEnds outcome out0 out1 stores0 stores1 Outside) (λ outcome. DidFirst outcome.events out0 out1 stores0 stores1)
+    words command told some (λ outcome ends. ends) comes
+failure-stopped told words command NoMemory status out0 out1 stores0 stores1 some is comes six = absurd (omega arith)
+
+pub fault-note : (failure : Failure) (status : ℕ) (notes0 notes1 : Option (List ℕ)) (faults0 faults1 : ℕ) → status ≡ status_of failure
+    → Noted notes0 notes1 faults0 faults1 (note_of failure) → status ≡ 6 → Noted notes0 notes1 faults0 faults1 outside_text
 fault-note (Bad note) status notes0 notes1 faults0 faults1 is h six = absurd (omega arith)
 fault-note (Absent note) status notes0 notes1 faults0 faults1 is h six = absurd (omega arith)
 fault-note Outside status notes0 notes1 faults0 faults1 is h six = h
 fault-note NoMemory status notes0 notes1 faults0 faults1 is h six = absurd (omega arith)
 
-pub memory-note : (stop : Stop) (status : ℕ) (notes0 notes1 : Option (List ℕ)) (faults0 faults1 : ℕ) → status ≡ status_of stop
-    → Noted notes0 notes1 faults0 faults1 (note_of stop) → status ≡ 7 → Noted notes0 notes1 faults0 faults1 memory_text
+pub memory-note : (failure : Failure) (status : ℕ) (notes0 notes1 : Option (List ℕ)) (faults0 faults1 : ℕ) → status ≡ status_of failure
+    → Noted notes0 notes1 faults0 faults1 (note_of failure) → status ≡ 7 → Noted notes0 notes1 faults0 faults1 memory_text
 memory-note (Bad note) status notes0 notes1 faults0 faults1 is h seven = absurd (omega arith)
 memory-note (Absent note) status notes0 notes1 faults0 faults1 is h seven = absurd (omega arith)
 memory-note Outside status notes0 notes1 faults0 faults1 is h seven = absurd (omega arith)
@@ -153,15 +198,31 @@ memory-note NoMemory status notes0 notes1 faults0 faults1 is h seven = h
 pub usage-status : Contains {X = ℕ} (0 ∷ 2 ∷ 3 ∷ 4 ∷ 5 ∷ 6 ∷ 7 ∷ []) 2
 usage-status = (1, omega arith, refl)
 
-pub stop-status : (stop : Stop) (status : ℕ) → status ≡ status_of stop → Contains {X = ℕ} (0 ∷ 2 ∷ 3 ∷ 4 ∷ 5 ∷ 6 ∷ 7 ∷ []) status
-stop-status (Bad note) status is = rw is (3, omega arith, refl)
-stop-status (Absent note) status is = rw is (4, omega arith, refl)
-stop-status Outside status is = rw is (5, omega arith, refl)
-stop-status NoMemory status is = rw is (6, omega arith, refl)
+pub failure-status : (failure : Failure) (status : ℕ) → status ≡ status_of failure → Contains {X = ℕ} (0 ∷ 2 ∷ 3 ∷ 4 ∷ 5 ∷ 6 ∷ 7 ∷ []) status
+failure-status (Bad note) status is = rw is (3, omega arith, refl)
+failure-status (Absent note) status is = rw is (4, omega arith, refl)
+failure-status Outside status is = rw is (5, omega arith, refl)
+failure-status NoMemory status is = rw is (6, omega arith, refl)
 
 pub ending-contained : (ending : Ending) (status : ℕ) → status ≡ status_of_ending ending → Contains {X = ℕ} (0 ∷ 2 ∷ 3 ∷ 4 ∷ 5 ∷ 6 ∷ 7 ∷ []) status
 ending-contained Done status is = rw is (0, omega arith, refl)
 ending-contained Jammed status is = rw is (2, omega arith, refl)
+
+-- the status of a jam is that of a run alone
+pub not-jammed : (result : Result Ending Failure) → IfOk result (λ ending. ending ≡ Done) → result ≡ Ok Jammed → ⊥
+not-jammed (Ok Done) done is = cc
+not-jammed (Ok Jammed) done is = cc
+not-jammed (Err failure) done is = cc
+
+pub jam-ending : (ending : Ending) (status : ℕ) → status ≡ status_of_ending ending → status ≡ 3 → ending ≡ Jammed
+jam-ending Done status is three = absurd (omega arith)
+jam-ending Jammed status is three = refl
+
+pub jam-failure : (failure : Failure) (status : ℕ) → status ≡ status_of failure → status ≡ 3 → ⊥
+jam-failure (Bad note) status is three = omega arith
+jam-failure (Absent note) status is three = omega arith
+jam-failure Outside status is three = omega arith
+jam-failure NoMemory status is three = omega arith
 
 -- some number fits a run that isn't begun
 some-calls : (said : SettingsValue) (files : Result Parts Outcome) → (calls : ℕ) × IfOk files (λ parts. FitsRun said parts calls)
@@ -173,31 +234,31 @@ some-calls said (Ok parts) =
 some-calls said (Err refusal) = (0, tt)
 
 -- a stage that stopped before anything was done
-stop-ends : {A : Type 0} (files : Result A Outcome) (outcome : A → Outcome) (stop : Stop) (out0 out1 : Option (List ℕ)) (stores0 stores1 : Option (List Kept))
-    → Refuses files stop → out1 ≡ out0 → stores1 ≡ stores0 → StopEnds (finished files outcome) out0 out1 stores0 stores1 stop
-stop-ends files outcome (Bad note) out0 out1 stores0 stores1 refuses took same = ap (λ r. finished r outcome) refuses
-stop-ends files outcome (Absent note) out0 out1 stores0 stores1 refuses took same = ap (λ r. finished r outcome) refuses
-stop-ends files outcome Outside out0 out1 stores0 stores1 refuses took same = did-nothing _ out0 out1 stores0 stores1 took same
-stop-ends files outcome NoMemory out0 out1 stores0 stores1 refuses took same = tt
+failure-ends : {A : Type 0} (files : Result A Outcome) (outcome : A → Outcome) (failure : Failure) (out0 out1 : Option (List ℕ)) (stores0 stores1 : Option (List Kept))
+    → Refuses files failure → out1 ≡ out0 → stores1 ≡ stores0 → FailureEnds (finished files outcome) out0 out1 stores0 stores1 failure
+failure-ends files outcome (Bad note) out0 out1 stores0 stores1 refuses took same = ap (λ r. finished r outcome) refuses
+failure-ends files outcome (Absent note) out0 out1 stores0 stores1 refuses took same = ap (λ r. finished r outcome) refuses
+failure-ends files outcome Outside out0 out1 stores0 stores1 refuses took same = did-nothing _ out0 out1 stores0 stores1 took same
+failure-ends files outcome NoMemory out0 out1 stores0 stores1 refuses took same = tt
 
 -- a run that stopped at its files
-pub run-stopped : (told : Option Files) (run : RunValue) (stop : Stop) (out0 out1 : Option (List ℕ)) (stores0 stores1 : Option (List Kept))
-    → IfSome told (λ files. ForReading run.settings.state files (λ reading. Refuses (run_files files run reading) stop)) → out1 ≡ out0 → stores1 ≡ stores0
+pub run-stopped : (told : Option Files) (run : RunValue) (failure : Failure) (out0 out1 : Option (List ℕ)) (stores0 stores1 : Option (List Kept))
+    → IfSome told (λ files. ForReading run.settings.state files (λ reading. Refuses (run_files files run reading) failure)) → out1 ≡ out0 → stores1 ≡ stores0
     → IfSome told (λ files. ForReading run.settings.state files (λ reading.
-    CommandComes (run_of run) files reading (λ outcome. StopEnds outcome out0 out1 stores0 stores1 stop)))
+    CommandComes (run_of run) files reading (λ outcome. FailureEnds outcome out0 out1 stores0 stores1 failure)))
 unfolding command_outcome
-run-stopped None run stop out0 out1 stores0 stores1 refuses took same = tt
-run-stopped (Some files) run stop out0 out1 stores0 stores1 refuses took same = λ reading is.
+run-stopped None run failure out0 out1 stores0 stores1 refuses took same = tt
+run-stopped (Some files) run failure out0 out1 stores0 stores1 refuses took same = λ reading is.
     (let (calls, fits) = some-calls run.settings (run_files files run reading) in record {
       calls = calls;
       fits = fits;
       of_outcome =
-          stop-ends (run_files files run reading) (λ parts. run_outcome run.settings parts calls) stop out0 out1 stores0 stores1 (refuses reading is) took same;
+          failure-ends (run_files files run reading) (λ parts. run_outcome run.settings parts calls) failure out0 out1 stores0 stores1 (refuses reading is) took same;
     })
 
 -- a run whose files were good
 pub run-comes : (told : Option Files) (run : RunValue) (said : SettingsValue) (parts : Parts) (out0 out1 : Option (List ℕ))
-    (stores0 held stores1 : Option (List Kept)) (result : Result Ending Stop) → said ≡ run.settings → held ≡ stores0
+    (stores0 held stores1 : Option (List Kept)) (result : Result Ending Failure) → said ≡ run.settings → held ≡ stores0
     → IfSome told (λ files. ForReading run.settings.state files (λ reading. run_files files run reading ≡ Ok parts))
     → RunComes said parts (λ outcome. Ends outcome out0 out1 held stores1 result)
     → IfSome told (λ files. ForReading run.settings.state files (λ reading.
@@ -211,16 +272,16 @@ run-comes (Some files) run said parts out0 out1 stores0 held stores1 result same
 }
 
 -- sources that couldn't be had
-pub asm-stopped : (told : Option Files) (words : AsmValue) (stop : Stop) (out0 out1 : Option (List ℕ)) (stores0 stores1 : Option (List Kept))
-    → IfSome told (λ files. Refuses (asm_files files words) stop) → out1 ≡ out0 → stores1 ≡ stores0
+pub asm-stopped : (told : Option Files) (words : AsmValue) (failure : Failure) (out0 out1 : Option (List ℕ)) (stores0 stores1 : Option (List Kept))
+    → IfSome told (λ files. Refuses (asm_files files words) failure) → out1 ≡ out0 → stores1 ≡ stores0
     → IfSome told (λ files. ForReading None files (λ reading.
-    CommandComes (asm_of words) files reading (λ outcome. StopEnds outcome out0 out1 stores0 stores1 stop)))
+    CommandComes (asm_of words) files reading (λ outcome. FailureEnds outcome out0 out1 stores0 stores1 failure)))
 unfolding command_outcome
-asm-stopped None words stop out0 out1 stores0 stores1 refuses took same = tt
-asm-stopped (Some files) words stop out0 out1 stores0 stores1 refuses took same = λ reading is. record {
+asm-stopped None words failure out0 out1 stores0 stores1 refuses took same = tt
+asm-stopped (Some files) words failure out0 out1 stores0 stores1 refuses took same = λ reading is. record {
   calls = 0;
   fits = tt;
-  of_outcome = stop-ends (asm_files files words) (asm_outcome words.image) stop out0 out1 stores0 stores1 refuses took same;
+  of_outcome = failure-ends (asm_files files words) (asm_outcome words.image) failure out0 out1 stores0 stores1 refuses took same;
 }
 
 -- sources that are good
@@ -248,24 +309,24 @@ module _ (told : Option Files) (words : AsmValue) (made : Assembled) (good : IfS
       )
 
   pub asm-unstored : (held : Option (List Kept)) → held ≡ stores0 → out1 ≡ grown out0 text → stores1 ≡ held
-      → IfSome told (λ files. ForReading None files (λ reading. CommandComes (asm_of words) files reading (λ outcome. StopEnds outcome out0 out1 stores0 stores1 Outside)))
+      → IfSome told (λ files. ForReading None files (λ reading. CommandComes (asm_of words) files reading (λ outcome. FailureEnds outcome out0 out1 stores0 stores1 Outside)))
   unfolding asm_outcome
   asm-unstored held kept took idle =
-      asm-comes told words made (λ outcome. StopEnds outcome out0 out1 stores0 stores1 Outside) good
+      asm-comes told words made (λ outcome. FailureEnds outcome out0 out1 stores0 stores1 Outside) good
       (did-then-first (sending (both_listings made)) (storing (Some words.image) made.image) out0 out1 out1 stores0 held stores1
       (did-sending (both_listings made) out0 out1 stores0 held (took ∙ ap (grown out0) listed) kept)
       (did-nothing (storing (Some words.image) made.image) out1 out1 held stores1 refl idle))
 
   pub asm-unwritten : (k : ℕ) × (out1 ≡ grown out0 (take k text)) → stores1 ≡ stores0
-      → IfSome told (λ files. ForReading None files (λ reading. CommandComes (asm_of words) files reading (λ outcome. StopEnds outcome out0 out1 stores0 stores1 Outside)))
+      → IfSome told (λ files. ForReading None files (λ reading. CommandComes (asm_of words) files reading (λ outcome. FailureEnds outcome out0 out1 stores0 stores1 Outside)))
   unfolding asm_outcome
   asm-unwritten cut idle =
-      asm-comes told words made (λ outcome. StopEnds outcome out0 out1 stores0 stores1 Outside) good
+      asm-comes told words made (λ outcome. FailureEnds outcome out0 out1 stores0 stores1 Outside) good
       (did-first-of (sending (both_listings made)) (storing (Some words.image) made.image) out0 out1 stores0 stores1
       (did-first-sending (both_listings made) out0 out1 stores0 stores1 (cut.0, cut.1 ∙ ap (λ t. grown out0 (take cut.0 t)) listed) idle))
 
 -- a stage that knows no count of absences leaves the one before it
-pub absences-on : (before now : ℕ) (result : Result Ending Stop) → ((n : ℕ) → StageAbsences n n result) → before ≤ now → StageAbsences before now result
+pub absences-on : (before now : ℕ) (result : Result Ending Failure) → ((n : ℕ) → StageAbsences n n result) → before ≤ now → StageAbsences before now result
 absences-on before now (Ok ending) knows later = later
 absences-on before now (Err (Bad note)) knows later = later
 absences-on before now (Err (Absent note)) knows later = let none = (knows 0).rose in absurd (omega arith)
@@ -273,70 +334,70 @@ absences-on before now (Err Outside) knows later = later
 absences-on before now (Err NoMemory) knows later = later
 
 -- a session whose files couldn't be had
-refused-first : {A B : Type 0} (given : Result A Outcome) (next : A → Result B Outcome) (stop : Stop) → Refuses given stop → Refuses (and_then given next) stop
+refused-first : {A B : Type 0} (given : Result A Outcome) (next : A → Result B Outcome) (failure : Failure) → Refuses given failure → Refuses (and_then given next) failure
 refused-first given next (Bad note) refuses = ap (λ r. and_then r next) refuses
 refused-first given next (Absent note) refuses = ap (λ r. and_then r next) refuses
 refused-first given next Outside refuses = tt
 refused-first given next NoMemory refuses = tt
 
-refused-then : {A B : Type 0} (given : Result A Outcome) (a : A) (next : A → Result B Outcome) (stop : Stop) → given ≡ Ok a → Refuses (next a) stop
-    → Refuses (and_then given next) stop
+refused-then : {A B : Type 0} (given : Result A Outcome) (a : A) (next : A → Result B Outcome) (failure : Failure) → given ≡ Ok a → Refuses (next a) failure
+    → Refuses (and_then given next) failure
 refused-then given a next (Bad note) is refuses = ap (λ r. and_then r next) is ∙ refuses
 refused-then given a next (Absent note) is refuses = ap (λ r. and_then r next) is ∙ refuses
 refused-then given a next Outside is refuses = tt
 refused-then given a next NoMemory is refuses = tt
 
-debug-refused : (told : Option Files) (words : DebugValue) (stop : Stop) (out0 out1 : Option (List ℕ)) (stores0 stores1 : Option (List Kept))
-    → IfSome told (λ files. ForReading words.run.settings.state files (λ reading. Refuses (debug_files files words reading) stop)) → out1 ≡ out0
+debug-refused : (told : Option Files) (words : DebugValue) (failure : Failure) (out0 out1 : Option (List ℕ)) (stores0 stores1 : Option (List Kept))
+    → IfSome told (λ files. ForReading words.run.settings.state files (λ reading. Refuses (debug_files files words reading) failure)) → out1 ≡ out0
     → stores1 ≡ stores0
     → IfSome told (λ files. ForReading words.run.settings.state files (λ reading.
-    CommandComes (debug_of words) files reading (λ outcome. StopEnds outcome out0 out1 stores0 stores1 stop)))
+    CommandComes (debug_of words) files reading (λ outcome. FailureEnds outcome out0 out1 stores0 stores1 failure)))
 unfolding command_outcome
-debug-refused None words stop out0 out1 stores0 stores1 refuses took same = tt
-debug-refused (Some files) words stop out0 out1 stores0 stores1 refuses took same = λ reading is. record {
+debug-refused None words failure out0 out1 stores0 stores1 refuses took same = tt
+debug-refused (Some files) words failure out0 out1 stores0 stores1 refuses took same = λ reading is. record {
   calls = 0;
   fits = tt;
   of_outcome =
-      stop-ends (debug_files files words reading) (λ session. debug_outcome words.run.settings.timers session.0 session.1) stop out0 out1 stores0 stores1
+      failure-ends (debug_files files words reading) (λ session. debug_outcome words.run.settings.timers session.0 session.1) failure out0 out1 stores0 stores1
       (refuses reading is) took same;
 }
 
-pub debug-stopped : (told : Option Files) (words : DebugValue) (run : RunValue) (stop : Stop) (out0 out1 : Option (List ℕ)) (stores0 stores1 : Option (List Kept))
+pub debug-stopped : (told : Option Files) (words : DebugValue) (run : RunValue) (failure : Failure) (out0 out1 : Option (List ℕ)) (stores0 stores1 : Option (List Kept))
     → run ≡ words.run
-    → IfSome told (λ files. ForReading run.settings.state files (λ reading. Refuses (run_files files run reading) stop)) → out1 ≡ out0 → stores1 ≡ stores0
+    → IfSome told (λ files. ForReading run.settings.state files (λ reading. Refuses (run_files files run reading) failure)) → out1 ≡ out0 → stores1 ≡ stores0
     → IfSome told (λ files. ForReading words.run.settings.state files (λ reading.
-    CommandComes (debug_of words) files reading (λ outcome. StopEnds outcome out0 out1 stores0 stores1 stop)))
+    CommandComes (debug_of words) files reading (λ outcome. FailureEnds outcome out0 out1 stores0 stores1 failure)))
 unfolding debug_files
-debug-stopped told words run stop out0 out1 stores0 stores1 same refuses took kept =
-    debug-refused told words stop out0 out1 stores0 stores1 (by_told told (rw (← same) refuses)) took kept
+debug-stopped told words run failure out0 out1 stores0 stores1 same refuses took kept =
+    debug-refused told words failure out0 out1 stores0 stores1 (by_told told (rw (← same) refuses)) took kept
   where
-    first : (files : Files) (reading : Result BoardValue StateFault) → Refuses (run_files files words.run reading) stop → Refuses (debug_files files words reading) stop
-    first files reading r = refused-first (run_files files words.run reading) _ stop r
+    first : (files : Files) (reading : Result BoardValue StateFault) → Refuses (run_files files words.run reading) failure → Refuses (debug_files files words reading) failure
+    first files reading r = refused-first (run_files files words.run reading) _ failure r
 
-    by_told : (told : Option Files) → IfSome told (λ files. ForReading words.run.settings.state files (λ reading. Refuses (run_files files words.run reading) stop))
-        → IfSome told (λ files. ForReading words.run.settings.state files (λ reading. Refuses (debug_files files words reading) stop))
+    by_told : (told : Option Files) → IfSome told (λ files. ForReading words.run.settings.state files (λ reading. Refuses (run_files files words.run reading) failure))
+        → IfSome told (λ files. ForReading words.run.settings.state files (λ reading. Refuses (debug_files files words reading) failure))
     by_told None r = tt
     by_told (Some files) r = λ reading is. first files reading (r reading is)
 
 -- a session whose script couldn't be had
-pub debug-unread : (told again : Option Files) (words : DebugValue) (run : RunValue) (name : List ℕ) (parts : Parts) (stop : Stop) (out0 out1 : Option (List ℕ))
+pub debug-unread : (told again : Option Files) (words : DebugValue) (run : RunValue) (name : List ℕ) (parts : Parts) (failure : Failure) (out0 out1 : Option (List ℕ))
     (stores0 stores1 : Option (List Kept)) → run ≡ words.run → name ≡ words.script → again ≡ told
     → IfSome told (λ files. ForReading run.settings.state files (λ reading. run_files files run reading ≡ Ok parts))
-    → IfSome again (λ files. Refuses (script_file files name) stop) → out1 ≡ out0 → stores1 ≡ stores0
+    → IfSome again (λ files. Refuses (script_file files name) failure) → out1 ≡ out0 → stores1 ≡ stores0
     → IfSome told (λ files. ForReading words.run.settings.state files (λ reading.
-    CommandComes (debug_of words) files reading (λ outcome. StopEnds outcome out0 out1 stores0 stores1 stop)))
+    CommandComes (debug_of words) files reading (λ outcome. FailureEnds outcome out0 out1 stores0 stores1 failure)))
 unfolding debug_files
-debug-unread told again words run name parts stop out0 out1 stores0 stores1 same named kept good refuses took held =
-    debug-refused told words stop out0 out1 stores0 stores1 (by_told told (rw (← same) good) (rw (← kept, ← named) refuses)) took held
+debug-unread told again words run name parts failure out0 out1 stores0 stores1 same named kept good refuses took held =
+    debug-refused told words failure out0 out1 stores0 stores1 (by_told told (rw (← same) good) (rw (← kept, ← named) refuses)) took held
   where
-    then_ : (files : Files) (reading : Result BoardValue StateFault) → run_files files words.run reading ≡ Ok parts → Refuses (script_file files words.script) stop
-        → Refuses (debug_files files words reading) stop
+    then_ : (files : Files) (reading : Result BoardValue StateFault) → run_files files words.run reading ≡ Ok parts → Refuses (script_file files words.script) failure
+        → Refuses (debug_files files words reading) failure
     then_ files reading g r =
-        refused-then (run_files files words.run reading) parts _ stop g (refused-first (script_file files words.script) (λ commands. Ok (parts, commands)) stop r)
+        refused-then (run_files files words.run reading) parts _ failure g (refused-first (script_file files words.script) (λ commands. Ok (parts, commands)) failure r)
 
     by_told : (told : Option Files) → IfSome told (λ files. ForReading words.run.settings.state files (λ reading. run_files files words.run reading ≡ Ok parts))
-        → IfSome told (λ files. Refuses (script_file files words.script) stop)
-        → IfSome told (λ files. ForReading words.run.settings.state files (λ reading. Refuses (debug_files files words reading) stop))
+        → IfSome told (λ files. Refuses (script_file files words.script) failure)
+        → IfSome told (λ files. ForReading words.run.settings.state files (λ reading. Refuses (debug_files files words reading) failure))
     by_told None g r = tt
     by_told (Some files) g r = λ reading is. then_ files reading (g reading is) r
 
@@ -403,30 +464,30 @@ module _ (wired : Bool) (name bytes : List ℕ) (parts : Parts) (out0 out1 : Opt
 
   pub session-cut : (commands : List Command) (first : Board) → first ≡ first_board wired parts → script_of bytes ≡ Ok commands
       → (k : ℕ) × (out1 ≡ grown out0 (take k (session_text parts.tape no_stops commands first))) → (stores : Option (List Kept))
-      → StopEnds (session_outcome wired name parts bytes) out0 out1 stores stores Outside
+      → FailureEnds (session_outcome wired name parts bytes) out0 out1 stores stores Outside
   unfolding debug_outcome
   session-cut commands first made is cut stores =
       rw (script-good bytes commands short is) (did-first-sending _ out0 out1 stores stores (rw (← made) cut) refl)
 
-  pub session-bad : (number : ℕ) (stop : Stop) → script_of bytes ≡ Err number
-      → IsBadOrMemory (note_text name (cause_text (Script (script.BadCommand number)))) stop → (stores : Option (List Kept))
-      → StopEnds (session_outcome wired name parts bytes) out0 out1 stores stores stop
+  pub session-bad : (number : ℕ) (failure : Failure) → script_of bytes ≡ Err number
+      → IsBadOrMemory (note_text name (cause_text (Script (script.BadCommand number)))) failure → (stores : Option (List Kept))
+      → FailureEnds (session_outcome wired name parts bytes) out0 out1 stores stores failure
   session-bad number (Bad note) is noted stores = rw (script-bad bytes number short is) (ap (refused 4) (sym noted))
   session-bad number (Absent note) is noted stores = absurd noted
   session-bad number Outside is noted stores = absurd noted
   session-bad number NoMemory is noted stores = tt
 
 -- a state that couldn't be had
-pub show-stopped : (told : Option Files) (name : List ℕ) (stop : Stop) (out0 out1 : Option (List ℕ)) (stores0 stores1 : Option (List Kept))
-    → IfSome told (λ files. ForReading (Some name) files (λ reading. Refuses (state_file files name reading) stop)) → out1 ≡ out0 → stores1 ≡ stores0
+pub show-stopped : (told : Option Files) (name : List ℕ) (failure : Failure) (out0 out1 : Option (List ℕ)) (stores0 stores1 : Option (List Kept))
+    → IfSome told (λ files. ForReading (Some name) files (λ reading. Refuses (state_file files name reading) failure)) → out1 ≡ out0 → stores1 ≡ stores0
     → IfSome told (λ files. ForReading (Some name) files (λ reading.
-    CommandComes (show_of name) files reading (λ outcome. StopEnds outcome out0 out1 stores0 stores1 stop)))
+    CommandComes (show_of name) files reading (λ outcome. FailureEnds outcome out0 out1 stores0 stores1 failure)))
 unfolding command_outcome
-show-stopped None name stop out0 out1 stores0 stores1 refuses took same = tt
-show-stopped (Some files) name stop out0 out1 stores0 stores1 refuses took same = λ reading is. record {
+show-stopped None name failure out0 out1 stores0 stores1 refuses took same = tt
+show-stopped (Some files) name failure out0 out1 stores0 stores1 refuses took same = λ reading is. record {
   calls = 0;
   fits = tt;
-  of_outcome = stop-ends (state_file files name reading) show_outcome stop out0 out1 stores0 stores1 (refuses reading is) took same;
+  of_outcome = failure-ends (state_file files name reading) show_outcome failure out0 out1 stores0 stores1 (refuses reading is) took same;
 }
 
 -- a state that is there
@@ -436,13 +497,6 @@ pub show-comes : (told : Option Files) (name : List ℕ) (board : BoardValue) (h
 unfolding command_outcome
 show-comes None name board holds good comes = tt
 show-comes (Some files) name board holds good comes = λ reading is. record { calls = 0; fits = tt; of_outcome = rw (good reading is) comes }
-
--- a large run needs no file
-pub soak-comes : (told : Option Files) (seed : ℕ) (holds : Outcome → Type 0) → holds (soak_outcome seed)
-    → IfSome told (λ files. ComesOf (Some (soak_of seed)) files holds)
-unfolding command_outcome
-soak-comes None seed holds comes = tt
-soak-comes (Some files) seed holds comes = λ reading is. record { calls = 0; fits = tt; of_outcome = comes }
 
 -- what a large run comes to, over the engine that was made for its workload
 module _ (seed : ℕ) (image : List ℕ) (tape : TapeValue) (end : ℕ) (start : BoardValue) (first : Board) (is_image : image ≡ image_of seed)
@@ -462,7 +516,7 @@ module _ (seed : ℕ) (image : List ℕ) (tape : TapeValue) (end : ℕ) (start :
   soak-done took stores = (refl, refl, did-sending _ out0 out1 stores stores (took ∙ ap (grown out0) same-text) refl)
 
   pub soak-cut : (k : ℕ) × (out1 ≡ grown out0 (take k (run_text tape.entries end first))) → (stores : Option (List Kept))
-      → StopEnds (soak_outcome seed) out0 out1 stores stores Outside
+      → FailureEnds (soak_outcome seed) out0 out1 stores stores Outside
   unfolding soak_outcome
   soak-cut (k, cut) stores =
       did-first-sending _ out0 out1 stores stores (k, cut ∙ ap (λ text. grown out0 (take k text)) same-text) refl
@@ -510,7 +564,7 @@ module _ (said : SettingsValue) (parts : Parts) (limit : ℕ) (wanted : Wanted) 
       }
 
   pub run-cut : StopsIn parts.tape.entries limit wanted before cuts first out0 out1 stores0 stores1
-      → RunComes said parts (λ outcome. StopEnds outcome out0 out1 stores0 stores1 Outside)
+      → RunComes said parts (λ outcome. FailureEnds outcome out0 out1 stores0 stores1 Outside)
   unfolding run_outcome
   run-cut stopped = record {
     calls = stopped.calls;

@@ -2,9 +2,9 @@
 use Rattle.std.proofs.Common.{◌≡◌, ℕ, ◌≤◌, min, List, [], ◌∷◌, ◌++◌, Option, Some, None, refl, sym, ap, ◌∙◌, arith, append_assoc, append-nil}
 use Rattle.tape_ports.specs.declared.entry.TapeEntry.{TapeEntry}
 use Rattle.catchup_engine.specs.Lockstep.{Board}
-use Rattle.catchup_engine.specs.Run.{IsPlaced, boundary_steps, clock_steps, run, to_boundary}
-use Rattle.catchup_engine.proofs.Ends.{boundary-run, boundary-run-steps}
-use Rattle.catchup_engine.proofs.Places.{run-placed}
+use Rattle.catchup_engine.specs.Run.{IsPlaced, boundary_steps, clock_steps, to_clock, to_boundary}
+use Rattle.catchup_engine.proofs.Ends.{boundary-clock, boundary-clock-steps}
+use Rattle.catchup_engine.proofs.Places.{to_clock-placed}
 use Rattle.gravitar_commands.specs.declared.until.Until.TheVariants.{Clock, Boundary}
 use Rattle.gravitar_commands.specs.Events.{sending, text_of}
 use Rattle.gravitar_commands.specs.Slice.{slice_text, text_of_steps}
@@ -43,25 +43,25 @@ module _ (entries : List TapeEntry) (limit : ℕ) (wanted : Wanted) (calls : ℕ
   unfolding cut_events
   cut-text cut b =
       rw (
-        text_of-append (sending (slice_text entries (Clock cut) b)) (storing wanted.save (saved_bytes (run entries cut b))),
-        text_of-storing wanted.save (saved_bytes (run entries cut b)),
+        text_of-append (sending (slice_text entries (Clock cut) b)) (storing wanted.save (saved_bytes (to_clock entries cut b))),
+        text_of-storing wanted.save (saved_bytes (to_clock entries cut b)),
         text_of-sending (slice_text entries (Clock cut) b),
       ) (append-nil (slice_text entries (Clock cut) b))
 
   -- a slice and the rest of the run are the run
   slice-and-rest : (cut : ℕ) (b : Board) → cut ≤ limit → IsPlaced b
-      → slice_text entries (Clock cut) b ++ text_of (last_events entries limit wanted calls (run entries cut b)) ≡ text_of (last_events entries limit wanted calls b)
-  unfolding run
+      → slice_text entries (Clock cut) b ++ text_of (last_events entries limit wanted calls (to_clock entries cut b)) ≡ text_of (last_events entries limit wanted calls b)
+  unfolding to_clock
   slice-and-rest cut b h placed =
-      let later = run entries cut b in
+      let later = to_clock entries cut b in
       let first = slice_text entries (Clock cut) b in
       let rest = slice_text entries (Boundary limit) later in
       let ending = ending_text wanted.cost calls (to_boundary entries limit later) in
       let whole : slice_text entries (Boundary limit) b ≡ first ++ rest =
-      ap (λ n. text_of_steps entries n b) (boundary-run-steps entries cut limit b h placed)
+      ap (λ n. text_of_steps entries n b) (boundary-clock-steps entries cut limit b h placed)
       ∙ text-add entries (clock_steps entries cut b) (boundary_steps entries limit later) b in
       let same : ending_text wanted.cost calls (to_boundary entries limit b) ≡ ending =
-      ap (ending_text wanted.cost calls) (boundary-run entries cut limit b h placed) in
+      ap (ending_text wanted.cost calls) (boundary-clock entries cut limit b h placed) in
       ap (λ text. first ++ text) (last-text later)
       ∙ sym (append_assoc first rest ending)
       ∙ sym (last-text b ∙ ap (λ text. text ++ ending_text wanted.cost calls (to_boundary entries limit b)) whole ∙ ap (λ text. (first ++ rest) ++ text) same)
@@ -73,10 +73,10 @@ module _ (entries : List TapeEntry) (limit : ℕ) (wanted : Wanted) (calls : ℕ
   text-cut [] b placed = refl
   text-cut (cut ∷ cuts) b placed =
       let c = min cut limit in
-      let later = run entries c b in
+      let later = to_clock entries c b in
       text_of-append (cut_events entries c wanted.save b) (run_events entries limit wanted calls cuts later)
       ∙ ap (λ text. text ++ text_of (run_events entries limit wanted calls cuts later)) (cut-text c b)
-      ∙ ap (λ text. slice_text entries (Clock c) b ++ text) (text-cut cuts later (run-placed entries c b placed))
+      ∙ ap (λ text. slice_text entries (Clock c) b ++ text) (text-cut cuts later (to_clock-placed entries c b placed))
       ∙ slice-and-rest c b (omega arith) placed
 
   -- and so is its last board
@@ -84,7 +84,7 @@ module _ (entries : List TapeEntry) (limit : ℕ) (wanted : Wanted) (calls : ℕ
   unfolding last_board
   board-cut [] b placed = refl
   board-cut (cut ∷ cuts) b placed =
-      board-cut cuts (run entries (min cut limit) b) (run-placed entries (min cut limit) b placed)
-      ∙ sym (boundary-run entries (min cut limit) limit b (omega arith) placed)
+      board-cut cuts (to_clock entries (min cut limit) b) (to_clock-placed entries (min cut limit) b placed)
+      ∙ sym (boundary-clock entries (min cut limit) limit b (omega arith) placed)
 
 pub ruleset cut_laws = (text-cut, board-cut)

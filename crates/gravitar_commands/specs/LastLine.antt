@@ -1,8 +1,8 @@
 -- How a run ends: its last line, and its status.
 use Rattle.std.specs.Prelude.{ℕ, List, Option, Some, None}
 use Rattle.catchup_engine.specs.Lockstep.{Board}
-use Rattle.gravitar_commands.specs.declared.stop.Ending.{Ending}
-use Rattle.gravitar_commands.specs.declared.stop.Ending.TheVariants.{Done, Jammed}
+use Rattle.gravitar_commands.specs.declared.failure.Ending.{Ending}
+use Rattle.gravitar_commands.specs.declared.failure.Ending.TheVariants.{Done, Jammed}
 use Rattle.log_text.specs.LogText.{end_text, jam_text}
 
 -- the last line of a run that has ended at a board, by the opcode that jammed it

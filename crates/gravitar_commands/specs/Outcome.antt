@@ -1,6 +1,6 @@
 -- What a command writes, stores and answers, by its words and its files.
 use Rattle.std.specs.Prelude.{ℕ, ◌+◌, ◌==◌, min, Bool, false, List, [], ◌++◌, length, replicate, take, codes, nat_lt, Option, Some, None, Result, Ok, Err, IfSome, IfOk, if◌then◌else◌}
-use Rattle.asm_text.specs.declared.listing.ListingLine.{ListingLine}
+use Rattle.asm_core.specs.declared.listing.ListingLine.{ListingLine}
 use Rattle.asm_text.specs.declared.scan.TheConstants.{TEXT_LIMIT}
 use Rattle.rom_image.specs.declared.image.TheConstants.{IMAGE_LEN}
 use Rattle.rom_image.specs.declared.fault.ImageFault.TheVariants.{Length}
@@ -12,6 +12,7 @@ use Rattle.tape_ports.specs.Grammar.{tape_of}
 use Rattle.save_state.specs.declared.TheConstants.{STATE_LEN}
 use Rattle.save_state.specs.declared.fault.StateFault.{StateFault}
 use Rattle.save_state.specs.Reading.{ReadsState}
+use Rattle.board_base.specs.declared.earom.TheConstants.{CELLS}
 use Rattle.board_base.specs.Board.{BoardValue, board_at_power_on}
 use Rattle.board_debug.specs.BoardText.{board_text}
 use Rattle.board_debug.specs.Session.{session_text}
@@ -29,7 +30,6 @@ use Rattle.workload_gen.specs.Roms.{image_of}
 use Rattle.workload_gen.specs.Tape as workload
 use Rattle.catchup_engine.specs.Wires.{wires_of}
 use Rattle.catchup_engine.specs.Lockstep.{Board}
-use Rattle.gravitar_commands.specs.declared.cause.TheConstants.{CELLS_LEN}
 use Rattle.gravitar_commands.specs.declared.assembled.Assembled.{Assembled}
 use Rattle.gravitar_commands.specs.declared.assembled.Language.{Language}
 use Rattle.gravitar_commands.specs.declared.assembled.Language.TheVariants.{Processor, Generator}
@@ -55,8 +55,8 @@ refused status note = record { status = status; note = note; events = [] }
 abbrev pub usage_text : List ℕ
 usage_text = codes "gravitar: usage: run IMAGE TAPE, asm CPUSRC VGSRC OUT, debug IMAGE TAPE SCRIPT, show STATE, soak SEED\n"
 
-abbrev pub fault_text : List ℕ
-fault_text = codes "gravitar: outside fault\n"
+abbrev pub outside_text : List ℕ
+outside_text = codes "gravitar: outside fault\n"
 
 abbrev pub memory_text : List ℕ
 memory_text = codes "gravitar: no memory\n"
@@ -99,7 +99,7 @@ state_read (Err fault) = Err (State fault)
 
 -- the cells of an EAROM have one length
 unfoldable pub cells_read : List ℕ → Result (List ℕ) Cause
-cells_read bytes = if length bytes == CELLS_LEN then Ok bytes else Err (Cells (length bytes))
+cells_read bytes = if length bytes == CELLS then Ok bytes else Err (Cells (length bytes))
 
 unfoldable pub image_file : Files → List ℕ → Result (List ℕ) Outcome
 image_file files name = and_then (first_bytes name IMAGE_LEN (files name)) (λ bytes. read_as name (image_read bytes))
@@ -112,7 +112,7 @@ unfoldable pub state_file : Files → List ℕ → Result BoardValue StateFault 
 state_file files name reading = and_then (first_bytes name STATE_LEN (files name)) (λ bytes. read_as name (state_read reading))
 
 unfoldable pub cells_file : Files → List ℕ → Result (List ℕ) Outcome
-cells_file files name = and_then (first_bytes name CELLS_LEN (files name)) (λ bytes. read_as name (cells_read bytes))
+cells_file files name = and_then (first_bytes name CELLS (files name)) (λ bytes. read_as name (cells_read bytes))
 
 -- the board to begin with: that of the state file, or the one at power-on
 abbrev pub board_file : Files → Option (List ℕ) → Result BoardValue StateFault → Result BoardValue Outcome
@@ -268,10 +268,29 @@ pub record CommandComes (command : CommandValue) (files : Files) (reading : Resu
 abbrev pub ForReading : Option (List ℕ) → Files → (Result BoardValue StateFault → Type 0) → Type 0
 ForReading name files holds = (reading : Result BoardValue StateFault) → IsReading name files reading → holds reading
 
--- the same of words: those of no form are refused
-abbrev pub ComesOf : Option CommandValue → Files → (Outcome → Type 0) → Type 0
-ComesOf None files holds = holds (refused 2 usage_text)
-ComesOf (Some command) files holds = ForReading (state_name command) files (λ reading. CommandComes command files reading holds)
+-- the same over the files of a shelf, where it tells them
+abbrev pub ComesOver : CommandValue → Option Files → (Outcome → Type 0) → Type 0
+ComesOver command told holds =
+    IfSome told (λ files. ForReading (state_name command) files (λ reading. CommandComes command files reading holds))
 
-abbrev pub Comes : List (List ℕ) → Files → (Outcome → Type 0) → Type 0
-Comes words files holds = ComesOf (command_of words) files holds
+-- the same of words: those of no form are refused, and a command that reads no file has its outcome whether the shelf tells
+-- its files or not
+abbrev pub ComesOf : Option CommandValue → Option Files → (Outcome → Type 0) → Type 0
+ComesOf None told holds = holds (refused 2 usage_text)
+ComesOf (Some (run_of run)) told holds = ComesOver (run_of run) told holds
+ComesOf (Some (asm_of asm)) told holds = ComesOver (asm_of asm) told holds
+ComesOf (Some (debug_of debug)) told holds = ComesOver (debug_of debug) told holds
+ComesOf (Some (show_of name)) told holds = ComesOver (show_of name) told holds
+ComesOf (Some (soak_of seed)) told holds = holds (soak_outcome seed)
+
+abbrev pub Comes : List (List ℕ) → Option Files → (Outcome → Type 0) → Type 0
+Comes words told holds = ComesOf (command_of words) told holds
+
+-- a command that runs an image to the end of a tape, the one whose status tells a jam
+abbrev pub IsRun : Option CommandValue → Type 0
+IsRun None = ⊥
+IsRun (Some (run_of run)) = Unit {0}
+IsRun (Some (asm_of asm)) = ⊥
+IsRun (Some (debug_of debug)) = ⊥
+IsRun (Some (show_of name)) = ⊥
+IsRun (Some (soak_of seed)) = ⊥

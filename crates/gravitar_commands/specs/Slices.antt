@@ -8,7 +8,7 @@ use Rattle.save_state.specs.StateBytes.{state_bytes}
 use Rattle.catchup_engine.specs.Budget.{counted, device_accesses, entries_applied, requests, resets_begun, wraps}
 use Rattle.catchup_engine.specs.EngineValue.{counted_on}
 use Rattle.catchup_engine.specs.Lockstep.{Board}
-use Rattle.catchup_engine.specs.Run.{boundary_steps, run, to_boundary}
+use Rattle.catchup_engine.specs.Run.{boundary_steps, to_clock, to_boundary}
 use Rattle.catchup_engine.specs.Wires.{board_of}
 use Rattle.gravitar_commands.specs.declared.until.Until.TheVariants.{Clock, Boundary}
 use Rattle.outside_io.specs.Shelf.{Kept}
@@ -37,7 +37,7 @@ storing (Some name) bytes = stored name bytes ∷ []
 
 -- a slice up to a cut: its lines, and then its board
 unfoldable pub cut_events : List TapeEntry → ℕ → Option (List ℕ) → Board → List Event
-cut_events entries cut save b = sending (slice_text entries (Clock cut) b) ++ storing save (saved_bytes (run entries cut b))
+cut_events entries cut save b = sending (slice_text entries (Clock cut) b) ++ storing save (saved_bytes (to_clock entries cut b))
 
 -- the line of the device calls, where it is asked for
 abbrev pub cost_line : Bool → ℕ → List ℕ
@@ -59,12 +59,12 @@ last_events entries limit wanted calls b =
 unfoldable pub run_events : List TapeEntry → ℕ → Wanted → ℕ → List ℕ → Board → List Event
 run_events entries limit wanted calls [] b = last_events entries limit wanted calls b
 run_events entries limit wanted calls (cut ∷ cuts) b =
-    cut_events entries (min cut limit) wanted.save b ++ run_events entries limit wanted calls cuts (run entries (min cut limit) b)
+    cut_events entries (min cut limit) wanted.save b ++ run_events entries limit wanted calls cuts (to_clock entries (min cut limit) b)
 
 -- the board at the end of the last slice
 unfoldable pub last_board : List TapeEntry → ℕ → List ℕ → Board → Board
 last_board entries limit [] b = to_boundary entries limit b
-last_board entries limit (cut ∷ cuts) b = last_board entries limit cuts (run entries (min cut limit) b)
+last_board entries limit (cut ∷ cuts) b = last_board entries limit cuts (to_clock entries (min cut limit) b)
 
 -- the device calls that a run of so many slices may cost: two for each device access, ten for each wrap and each slice, five
 -- for each entry, reset and request of a wired POKEY, and five more

@@ -6,7 +6,7 @@ use Rattle.asm_cpu.specs.Statements.{cpu_statement}
 use Rattle.asm_cpu.specs.declared.source.TheConstants.{PROGRAM_ROM}
 use Rattle.asm_listing.specs.ListingText.{listing_text}
 use Rattle.asm_text.specs.declared.fault.AsmFault.{AsmFault}
-use Rattle.asm_text.specs.declared.listing.ListingLine.{ListingLine}
+use Rattle.asm_core.specs.declared.listing.ListingLine.{ListingLine}
 use Rattle.gravitar_commands.specs.declared.assembled.Assembled.{Assembled}
 use Rattle.gravitar_commands.specs.declared.assembled.Language.{Language}
 use Rattle.gravitar_commands.specs.declared.assembled.Language.TheVariants.{Processor, Generator}

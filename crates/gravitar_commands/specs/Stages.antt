@@ -5,89 +5,89 @@ use Rattle.outside_io.specs.Known.{grown}
 use Rattle.outside_io.specs.Shelf.{Files, Kept}
 use Rattle.command_line.specs.SettingsValue.{SettingsValue}
 use Rattle.gravitar_commands.specs.declared.parts.Parts.{Parts}
-use Rattle.gravitar_commands.specs.declared.stop.Stop.{Stop}
-use Rattle.gravitar_commands.specs.declared.stop.Stop.TheVariants.{Bad, Absent, Outside, NoMemory}
-use Rattle.gravitar_commands.specs.declared.stop.Ending.{Ending}
-use Rattle.gravitar_commands.specs.declared.stop.OutsideFault.{OutsideFault}
-use Rattle.gravitar_commands.specs.declared.stop.OutsideFault.TheVariants.{Shelf, Out}
+use Rattle.gravitar_commands.specs.declared.failure.Failure.{Failure}
+use Rattle.gravitar_commands.specs.declared.failure.Failure.TheVariants.{Bad, Absent, Outside, NoMemory}
+use Rattle.gravitar_commands.specs.declared.failure.Ending.{Ending}
+use Rattle.gravitar_commands.specs.declared.failure.OutsideFault.{OutsideFault}
+use Rattle.gravitar_commands.specs.declared.failure.OutsideFault.TheVariants.{Shelf, Out}
 use Rattle.gravitar_commands.specs.Events.{Did, DidFirst}
 use Rattle.gravitar_commands.specs.LastLine.{status_of_ending}
-use Rattle.gravitar_commands.specs.Outcome.{Outcome, FitsRun, debug_outcome, fault_text, finished, memory_text, read_as, refused, run_outcome, script_file, script_read}
+use Rattle.gravitar_commands.specs.Outcome.{Outcome, FitsRun, debug_outcome, outside_text, finished, memory_text, read_as, refused, run_outcome, script_file, script_read}
 
 -- the status of a command that stopped
-abbrev pub status_of : Stop → ℕ
+abbrev pub status_of : Failure → ℕ
 status_of (Bad note) = 4
 status_of (Absent note) = 5
 status_of Outside = 6
 status_of NoMemory = 7
 
 -- its note
-abbrev pub note_of : Stop → List ℕ
+abbrev pub note_of : Failure → List ℕ
 note_of (Bad note) = string_bytes note
 note_of (Absent note) = string_bytes note
-note_of Outside = fault_text
+note_of Outside = outside_text
 note_of NoMemory = memory_text
 
 -- a stage that writes nothing: its answer is the one that is defined over the files, or a fault or want of memory
-abbrev pub Refuses : {B : Type 0} → Result B Outcome → Stop → Type 0
+abbrev pub Refuses : {B : Type 0} → Result B Outcome → Failure → Type 0
 Refuses defined Outside = Unit {0}
 Refuses defined NoMemory = Unit {0}
-Refuses defined stop = defined ≡ Err (refused (status_of stop) (note_of stop))
+Refuses defined failure = defined ≡ Err (refused (status_of failure) (note_of failure))
 
-abbrev pub Gives : {A B : Type 0} → (A → B) → Result B Outcome → Result A Stop → Type 0
+abbrev pub Gives : {A B : Type 0} → (A → B) → Result B Outcome → Result A Failure → Type 0
 Gives view defined (Ok a) = defined ≡ Ok (view a)
-Gives view defined (Err stop) = Refuses defined stop
+Gives view defined (Err failure) = Refuses defined failure
 
 -- a script's bytes, which are still to be read, or what stopped them
-abbrev pub GivesScript : {V : Type 0} → (V → List ℕ) → Files → List ℕ → Result V Stop → Type 0
+abbrev pub GivesScript : {V : Type 0} → (V → List ℕ) → Files → List ℕ → Result V Failure → Type 0
 GivesScript view files name (Ok bytes) = script_file files name ≡ read_as name (script_read (view bytes))
-GivesScript view files name (Err stop) = Refuses (script_file files name) stop
+GivesScript view files name (Err failure) = Refuses (script_file files name) failure
 
 -- what a script's bytes come to in a session
 abbrev pub session_outcome : Bool → List ℕ → Parts → List ℕ → Outcome
 session_outcome wired name parts bytes = finished (read_as name (script_read bytes)) (debug_outcome wired parts)
 
 -- only an outside fault has raised the count, and it always has
-abbrev pub StopFaults : ℕ → ℕ → Stop → Type 0
-StopFaults before now Outside = Raised before now
-StopFaults before now _ = now ≡ before
+abbrev pub FailureFaults : ℕ → ℕ → Failure → Type 0
+FailureFaults before now Outside = Raised before now
+FailureFaults before now _ = now ≡ before
 
-abbrev pub StageFaults : {A : Type 0} → ℕ → ℕ → Result A Stop → Type 0
+abbrev pub StageFaults : {A : Type 0} → ℕ → ℕ → Result A Failure → Type 0
 StageFaults before now (Ok _) = now ≡ before
-StageFaults before now (Err stop) = StopFaults before now stop
+StageFaults before now (Err failure) = FailureFaults before now failure
 
 -- absent comes only where the count of absences rose
-abbrev pub StopAbsences : ℕ → ℕ → Stop → Type 0
-StopAbsences before now (Absent _) = Raised before now
-StopAbsences before now _ = before ≤ now
+abbrev pub FailureAbsences : ℕ → ℕ → Failure → Type 0
+FailureAbsences before now (Absent _) = Raised before now
+FailureAbsences before now _ = before ≤ now
 
-abbrev pub StageAbsences : {A : Type 0} → ℕ → ℕ → Result A Stop → Type 0
+abbrev pub StageAbsences : {A : Type 0} → ℕ → ℕ → Result A Failure → Type 0
 StageAbsences before now (Ok _) = before ≤ now
-StageAbsences before now (Err stop) = StopAbsences before now stop
+StageAbsences before now (Err failure) = FailureAbsences before now failure
 
 -- what is defined, or a prefix of it before an outside fault
-abbrev pub StopEnds : Outcome → Option (List ℕ) → Option (List ℕ) → Option (List Kept) → Option (List Kept) → Stop → Type 0
-StopEnds outcome out0 out1 stores0 stores1 Outside = DidFirst outcome.events out0 out1 stores0 stores1
-StopEnds outcome out0 out1 stores0 stores1 NoMemory = Unit {0}
-StopEnds outcome out0 out1 stores0 stores1 stop = outcome ≡ refused (status_of stop) (note_of stop)
+abbrev pub FailureEnds : Outcome → Option (List ℕ) → Option (List ℕ) → Option (List Kept) → Option (List Kept) → Failure → Type 0
+FailureEnds outcome out0 out1 stores0 stores1 Outside = DidFirst outcome.events out0 out1 stores0 stores1
+FailureEnds outcome out0 out1 stores0 stores1 NoMemory = Unit {0}
+FailureEnds outcome out0 out1 stores0 stores1 failure = outcome ≡ refused (status_of failure) (note_of failure)
 
 -- the whole of a command
-abbrev pub Ends : Outcome → Option (List ℕ) → Option (List ℕ) → Option (List Kept) → Option (List Kept) → Result Ending Stop → Type 0
+abbrev pub Ends : Outcome → Option (List ℕ) → Option (List ℕ) → Option (List Kept) → Option (List Kept) → Result Ending Failure → Type 0
 Ends outcome out0 out1 stores0 stores1 (Ok ending) =
     (outcome.status ≡ status_of_ending ending) × (outcome.note ≡ []) × Did outcome.events out0 out1 stores0 stores1
-Ends outcome out0 out1 stores0 stores1 (Err stop) = StopEnds outcome out0 out1 stores0 stores1 stop
+Ends outcome out0 out1 stores0 stores1 (Err failure) = FailureEnds outcome out0 out1 stores0 stores1 failure
 
 -- nothing was written or stored, but for a success and an outside fault
-abbrev pub StopQuiet : Option (List ℕ) → Option (List ℕ) → Option (List Kept) → Option (List Kept) → Stop → Type 0
-StopQuiet out0 out1 stores0 stores1 Outside = Unit {0}
-StopQuiet out0 out1 stores0 stores1 _ = (out1 ≡ out0) × (stores1 ≡ stores0)
+abbrev pub FailureWroteNothing : Option (List ℕ) → Option (List ℕ) → Option (List Kept) → Option (List Kept) → Failure → Type 0
+FailureWroteNothing out0 out1 stores0 stores1 Outside = Unit {0}
+FailureWroteNothing out0 out1 stores0 stores1 _ = (out1 ≡ out0) × (stores1 ≡ stores0)
 
-abbrev pub IsQuiet : {A : Type 0} → Option (List ℕ) → Option (List ℕ) → Option (List Kept) → Option (List Kept) → Result A Stop → Type 0
-IsQuiet out0 out1 stores0 stores1 (Ok _) = Unit {0}
-IsQuiet out0 out1 stores0 stores1 (Err stop) = StopQuiet out0 out1 stores0 stores1 stop
+abbrev pub WroteNothing : {A : Type 0} → Option (List ℕ) → Option (List ℕ) → Option (List Kept) → Option (List Kept) → Result A Failure → Type 0
+WroteNothing out0 out1 stores0 stores1 (Ok _) = Unit {0}
+WroteNothing out0 out1 stores0 stores1 (Err failure) = FailureWroteNothing out0 out1 stores0 stores1 failure
 
 -- an outside fault is one of the shelf or of the output, and nothing else has raised their counts
-abbrev pub EndFaults : {A : Type 0} → ℕ → ℕ → ℕ → ℕ → Result A Stop → Type 0
+abbrev pub EndFaults : {A : Type 0} → ℕ → ℕ → ℕ → ℕ → Result A Failure → Type 0
 EndFaults shelf0 shelf1 out0 out1 (Ok _) = (shelf1 ≡ shelf0) × (out1 ≡ out0)
 EndFaults shelf0 shelf1 out0 out1 (Err Outside) = (shelf0 ≤ shelf1) × (out0 ≤ out1) × (Rose shelf0 shelf1 ⊎ Rose out0 out1)
 EndFaults shelf0 shelf1 out0 out1 (Err _) = (shelf1 ≡ shelf0) × (out1 ≡ out0)
@@ -99,7 +99,7 @@ pub record Noted (notes0 notes1 : Option (List ℕ)) (faults0 faults1 : ℕ) (te
   pub whole : ¬ Rose faults0 faults1 → notes1 ≡ grown notes0 text
 
 -- a bad file with this note, or want of memory for the note
-abbrev pub IsBadOrMemory : List ℕ → Stop → Type 0
+abbrev pub IsBadOrMemory : List ℕ → Failure → Type 0
 IsBadOrMemory text (Bad note) = string_bytes note ≡ text
 IsBadOrMemory text NoMemory = Unit {0}
 IsBadOrMemory text _ = ⊥

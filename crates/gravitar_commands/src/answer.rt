@@ -2,7 +2,7 @@ ghost use Rattle.std.specs.Prelude.{◌≡◌};
 ghost use Rattle.gravitar_commands.specs.LastLine.{status_of_ending};
 ghost use Rattle.gravitar_commands.specs.Stages.{status_of, note_of};
 
-use crate::stop::{Ending, Stop};
+use crate::failure::{Ending, Failure};
 
 /// The note on a fault of the shelf or of the output.
 pub const OUTSIDE_FAULT: &[u8] = b"gravitar: outside fault\n";
@@ -11,25 +11,25 @@ pub const OUTSIDE_FAULT: &[u8] = b"gravitar: outside fault\n";
 pub const NO_MEMORY: &[u8] = b"gravitar: no memory\n";
 
 /// The status of a command that stopped.
-pub fn status(stop: &Stop) -> u8
-    ensures { result ≡ status_of stop.now }
+pub fn status(failure: &Failure) -> u8
+    ensures { result ≡ status_of failure.now }
 {
-    match stop {
-        Stop::Bad(_) => 4,
-        Stop::Absent(_) => 5,
-        Stop::Outside => 6,
-        Stop::NoMemory => 7,
+    match failure {
+        Failure::Bad(_) => 4,
+        Failure::Absent(_) => 5,
+        Failure::Outside => 6,
+        Failure::NoMemory => 7,
     }
 }
 
 /// The note of a command that stopped.
-pub fn note(stop: &Stop) -> &[u8]
-    ensures { result.now ≡ note_of stop.now }
+pub fn note(failure: &Failure) -> &[u8]
+    ensures { result.now ≡ note_of failure.now }
 {
-    match stop {
-        Stop::Bad(note) | Stop::Absent(note) => note.as_bytes(),
-        Stop::Outside => OUTSIDE_FAULT,
-        Stop::NoMemory => NO_MEMORY,
+    match failure {
+        Failure::Bad(note) | Failure::Absent(note) => note.as_bytes(),
+        Failure::Outside => OUTSIDE_FAULT,
+        Failure::NoMemory => NO_MEMORY,
     }
 }
 

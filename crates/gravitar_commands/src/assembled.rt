@@ -1,14 +1,17 @@
 ghost use Rattle.asm_text.specs.Answers.{Answers};
 ghost use Rattle.gravitar_commands.specs.Sources.{assembled_in};
 
-use asm_text::{AsmFault, Listing};
+use asm_core::Listing;
+use asm_text::AsmFault;
 use rom_image::Image;
 use std::alloc::Global;
 
 /// Whose statements a source has.
 #[derive(Clone, Copy, Debug, PartialEq, Eq)]
 pub enum Language {
+    /// Those of the processor.
     Processor,
+    /// Those of the vector generator.
     Generator,
 }
 

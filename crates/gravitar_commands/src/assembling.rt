@@ -3,15 +3,16 @@ ghost use Rattle.command_line.specs.CommandValue.{asm_of};
 ghost use Rattle.outside_io.specs.Causes.{Rose};
 ghost use Rattle.gravitar_commands.specs.Outcome.{CommandComes, ForReading, asm_files, read_as, source_file};
 ghost use Rattle.gravitar_commands.specs.Sources.{assembled_in, both_listings, source_read};
-ghost use Rattle.gravitar_commands.specs.Stages.{Ends, EndFaults, Gives, IsQuiet, StageAbsences, StageFaults};
+ghost use Rattle.gravitar_commands.specs.Stages.{Ends, EndFaults, Gives, WroteNothing, StageAbsences, StageFaults};
 
 use crate::assembled::{Assembled, Language, assemble};
 use crate::cause::Cause;
+use crate::failure::{Ending, Failure};
 use crate::load::{bad, fetch};
 use crate::slices::store_under;
-use crate::stop::{Ending, Stop};
+use asm_core::Listing;
 use asm_listing::{Text, push_listing};
-use asm_text::{AsmFault, Listing, TEXT_LIMIT};
+use asm_text::{AsmFault, TEXT_LIMIT};
 use board_base::OutOfMemory;
 use command_line::AsmWords;
 use outside_io::{Shelf, Sink};
@@ -25,7 +26,7 @@ fn read_source(
     name: &str,
     bytes: &[u8],
     image: &mut Image,
-) -> Result<Listing, Stop>
+) -> Result<Listing, Failure>
     ensures content { Gives (λ listing. (image.new, listing)) (read_as name.now (source_read (assembled_in language bytes.now image.old))) result }
     ensures faults { (n : ℕ) → StageFaults n n result }
 {
@@ -37,7 +38,7 @@ fn read_source(
             name,
             Cause::Source(AsmFault::Line { line, cause }),
         )),
-        Err(AsmFault::OutOfMemory) => Err(Stop::NoMemory),
+        Err(AsmFault::OutOfMemory) => Err(Failure::NoMemory),
     }
 }
 
@@ -49,7 +50,7 @@ fn load_source<S: Shelf>(
     name: &str,
     image: &mut Image,
     shelf: &mut S,
-) -> Result<Listing, Stop>
+) -> Result<Listing, Failure>
     ensures content { IfSome (S.files shelf.old) (λ files.
         Gives (λ listing. (image.new, listing)) (source_file language files name.now image.old) result) }
     ensures files { S.files shelf.new ≡ S.files shelf.old }
@@ -63,14 +64,18 @@ fn load_source<S: Shelf>(
 
 /// Both sources, the processor's wholly before the generator's, in one blank image.
 #[tactic(auto, unfolding(crate::specs::Outcome::asm_files))]
-fn load_asm<S: Shelf>(alloc: Global, words: &AsmWords<'_>, shelf: &mut S) -> Result<Assembled, Stop>
+fn load_asm<S: Shelf>(
+    alloc: Global,
+    words: &AsmWords<'_>,
+    shelf: &mut S,
+) -> Result<Assembled, Failure>
     ensures content { IfSome (S.files shelf.old) (λ files. Gives (λ made. made) (asm_files files words.now) result) }
     ensures stores { S.stores shelf.new ≡ S.stores shelf.old }
     ensures faults { StageFaults (S.faults shelf.old) (S.faults shelf.new) result }
     ensures absences { StageAbsences (S.absences shelf.old) (S.absences shelf.new) result }
 {
     let Ok(mut image) = Image::blank(alloc) else {
-        return Err(Stop::NoMemory);
+        return Err(Failure::NoMemory);
     };
     match load_source(
         alloc,
@@ -79,7 +84,7 @@ fn load_asm<S: Shelf>(alloc: Global, words: &AsmWords<'_>, shelf: &mut S) -> Res
         &mut image,
         shelf,
     ) {
-        Err(stop) => Err(stop),
+        Err(failure) => Err(failure),
         Ok(processor) => {
             match load_source(
                 alloc,
@@ -88,7 +93,7 @@ fn load_asm<S: Shelf>(alloc: Global, words: &AsmWords<'_>, shelf: &mut S) -> Res
                 &mut image,
                 shelf,
             ) {
-                Err(stop) => Err(stop),
+                Err(failure) => Err(failure),
                 Ok(generator) => Ok(Assembled {
                     image,
                     processor,
@@ -116,26 +121,27 @@ pub fn perform_asm<S: Shelf, O: Sink>(
     words: &AsmWords<'_>,
     shelf: &mut S,
     out: &mut O,
-) -> Result<Ending, Stop>
+) -> Result<Ending, Failure>
     ensures outcome { IfSome (S.files shelf.old) (λ files. ForReading None files (λ reading.
         CommandComes (asm_of words.now) files reading (λ outcome.
         Ends outcome (O.taken out.old) (O.taken out.new) (S.stores shelf.old) (S.stores shelf.new) result))) }
-    ensures quiet { IsQuiet (O.taken out.old) (O.taken out.new) (S.stores shelf.old) (S.stores shelf.new) result }
+    ensures done { IfOk result (λ ending. ending ≡ Ending.Done) }
+    ensures quiet { WroteNothing (O.taken out.old) (O.taken out.new) (S.stores shelf.old) (S.stores shelf.new) result }
     ensures faults { EndFaults (S.faults shelf.old) (S.faults shelf.new) (O.faults out.old) (O.faults out.new) result }
     ensures absences { StageAbsences (S.absences shelf.old) (S.absences shelf.new) result }
 {
     let made = match load_asm(alloc, words, shelf) {
         Ok(made) => made,
-        Err(stop) => return Err(stop),
+        Err(failure) => return Err(failure),
     };
     let Ok(text) = list_both(alloc, &made) else {
-        return Err(Stop::NoMemory);
+        return Err(Failure::NoMemory);
     };
     let Ok(()) = out.write(text.bytes()) else {
-        return Err(Stop::Outside);
+        return Err(Failure::Outside);
     };
     let Ok(()) = store_under(Some(words.image), made.image.bytes(), shelf) else {
-        return Err(Stop::Outside);
+        return Err(Failure::Outside);
     };
     Ok(Ending::Done)
 }

@@ -4,13 +4,13 @@ ghost use Rattle.cpu_core.specs.Places.{IsProcessor};
 ghost use Rattle.debug_script.specs.declared.script.TheConstants.{SCRIPT_LIMIT};
 ghost use Rattle.outside_io.specs.Shelf.{Kept};
 ghost use Rattle.gravitar_commands.specs.Outcome.{CommandComes, ForReading};
-ghost use Rattle.gravitar_commands.specs.Stages.{Ends, EndFaults, GivesScript, IsQuiet, StageAbsences, StageFaults, session_outcome};
+ghost use Rattle.gravitar_commands.specs.Stages.{Ends, EndFaults, GivesScript, WroteNothing, StageAbsences, StageFaults, session_outcome};
 
 use crate::board_devices::devices;
 use crate::cause::Cause;
+use crate::failure::{Ending, Failure};
 use crate::load::{bad, fetch, load_run};
 use crate::parts::Parts;
-use crate::stop::{Ending, Stop};
 use board_debug::{DebugFault, run_script};
 use catchup_engine::Engine;
 use command_line::{DebugWords, RunWords, Settings};
@@ -20,7 +20,7 @@ use std::alloc::Global;
 
 /// The bytes of a script, which are read as commands when they are run.
 #[tactic(auto, unfolding(crate::specs::Outcome::script_file, crate::specs::Outcome::script_read))]
-fn load_script<S: Shelf>(alloc: Global, name: &str, shelf: &mut S) -> Result<Vec<u8>, Stop>
+fn load_script<S: Shelf>(alloc: Global, name: &str, shelf: &mut S) -> Result<Vec<u8>, Failure>
     ensures content { IfSome (S.files shelf.old) (λ files. GivesScript (λ bytes. bytes.items) files name.now result) }
     ensures length { IfOk result (λ bytes. length bytes.items ≤ SCRIPT_LIMIT) }
     ensures stores { S.stores shelf.new ≡ S.stores shelf.old }
@@ -42,17 +42,18 @@ fn run_session<O: Sink>(
     parts: &Parts,
     script: &[u8],
     out: &mut O,
-) -> Result<Ending, Stop>
+) -> Result<Ending, Failure>
     requires length { length script.now ≤ SCRIPT_LIMIT }
     requires place { IsProcessor parts.now.board.cpu }
     ensures outcome { (stores : Option (List Kept)) → Ends (session_outcome wired name.now parts.now script.now)
         (O.taken out.old) (O.taken out.new) stores stores result }
-    ensures quiet { (stores : Option (List Kept)) → IsQuiet (O.taken out.old) (O.taken out.new) stores stores result }
+    ensures done { IfOk result (λ ending. ending ≡ Ending.Done) }
+    ensures quiet { (stores : Option (List Kept)) → WroteNothing (O.taken out.old) (O.taken out.new) stores stores result }
     ensures faults { (n : ℕ) → EndFaults n n (O.faults out.old) (O.faults out.new) result }
     ensures absences { (n : ℕ) → StageAbsences n n result }
 {
     let Ok(mut engine) = Engine::new(alloc, &parts.image, &parts.board, devices(), wired) else {
-        return Err(Stop::NoMemory);
+        return Err(Failure::NoMemory);
     };
     match run_script(alloc, &mut engine, &parts.tape, script, out) {
         Ok(()) => Ok(Ending::Done),
@@ -61,8 +62,8 @@ fn run_session<O: Sink>(
             name,
             Cause::Script(ScriptFault::BadCommand(line)),
         )),
-        Err(DebugFault::SinkFault) => Err(Stop::Outside),
-        Err(DebugFault::OutOfMemory) => Err(Stop::NoMemory),
+        Err(DebugFault::SinkFault) => Err(Failure::Outside),
+        Err(DebugFault::OutOfMemory) => Err(Failure::NoMemory),
     }
 }
 
@@ -80,21 +81,22 @@ fn debug_run<S: Shelf, O: Sink>(
     name: &str,
     shelf: &mut S,
     out: &mut O,
-) -> Result<Ending, Stop>
+) -> Result<Ending, Failure>
     ensures outcome { IfSome (S.files shelf.old) (λ files. ForReading run.now.settings.state files (λ reading.
         CommandComes (debug_of (record { run = run.now; script = name.now })) files reading (λ outcome.
         Ends outcome (O.taken out.old) (O.taken out.new) (S.stores shelf.old) (S.stores shelf.new) result))) }
-    ensures quiet { IsQuiet (O.taken out.old) (O.taken out.new) (S.stores shelf.old) (S.stores shelf.new) result }
+    ensures done { IfOk result (λ ending. ending ≡ Ending.Done) }
+    ensures quiet { WroteNothing (O.taken out.old) (O.taken out.new) (S.stores shelf.old) (S.stores shelf.new) result }
     ensures faults { EndFaults (S.faults shelf.old) (S.faults shelf.new) (O.faults out.old) (O.faults out.new) result }
     ensures absences { StageAbsences (S.absences shelf.old) (S.absences shelf.new) result }
 {
     let parts = match load_run(alloc, run, shelf) {
         Ok(parts) => parts,
-        Err(stop) => return Err(stop),
+        Err(failure) => return Err(failure),
     };
     let script = match load_script(alloc, name, shelf) {
         Ok(script) => script,
-        Err(stop) => return Err(stop),
+        Err(failure) => return Err(failure),
     };
     let wired = has_timers(&run.settings);
     run_session(alloc, wired, name, &parts, &script, out)
@@ -106,11 +108,12 @@ pub fn perform_debug<S: Shelf, O: Sink>(
     words: &DebugWords<'_>,
     shelf: &mut S,
     out: &mut O,
-) -> Result<Ending, Stop>
+) -> Result<Ending, Failure>
     ensures outcome { IfSome (S.files shelf.old) (λ files. ForReading words.now.run.settings.state files (λ reading.
         CommandComes (debug_of words.now) files reading (λ outcome.
         Ends outcome (O.taken out.old) (O.taken out.new) (S.stores shelf.old) (S.stores shelf.new) result))) }
-    ensures quiet { IsQuiet (O.taken out.old) (O.taken out.new) (S.stores shelf.old) (S.stores shelf.new) result }
+    ensures done { IfOk result (λ ending. ending ≡ Ending.Done) }
+    ensures quiet { WroteNothing (O.taken out.old) (O.taken out.new) (S.stores shelf.old) (S.stores shelf.new) result }
     ensures faults { EndFaults (S.faults shelf.old) (S.faults shelf.new) (O.faults out.old) (O.faults out.new) result }
     ensures absences { StageAbsences (S.absences shelf.old) (S.absences shelf.new) result }
 {

@@ -32,19 +32,31 @@ const FAILING: [(u64, &[u64], &str); 7] = [
     (7, &[100, 100, 101, 202], "L 12 05\nE 202\n"),
 ];
 
-/// Runs to the call that fails. The seventh is none.
+/// Runs to the call that fails, where the note is written and where it isn't. The seventh call is
+/// none.
 fn check_failing<R: Abort + Alloc<A = Global>>(
     rt: &R,
-    failing: u64,
-    clocks: &[u64],
-    text: &str,
+    row: &(u64, &[u64], &str),
+    is_noted: bool,
 ) -> Result<(), Fail> {
-    let outside = Outside {
-        shelf: &[failing],
+    let (failing, clocks, text) = row;
+    let noted = Outside {
+        shelf: &[*failing],
         ..STEADY
     };
+    let noteless = Outside {
+        shelf: &[*failing],
+        notes: &[1],
+        ..STEADY
+    };
+    let outside = if is_noted { noted } else { noteless };
     let trial = try_latch(rt.alloc(), CUTS, outside)?;
-    let (status, note) = if failing < 7 { (6, OUTSIDE) } else { (0, "") };
+    let status = if *failing < 7 { 6 } else { 0 };
+    let note = if *failing < 7 && is_noted {
+        OUTSIDE
+    } else {
+        ""
+    };
     check_trial(rt, CUTS, &trial, status, text, note);
     check_clocks(rt, CUTS, &trial, clocks);
     Ok(())
@@ -52,8 +64,9 @@ fn check_failing<R: Abort + Alloc<A = Global>>(
 
 #[test]
 fn each_call_of_the_shelf_that_fails_ends_the_run(rt: HostRuntime) -> Result<(), Fail> {
-    for (failing, clocks, text) in &FAILING {
-        check_failing(&rt, *failing, clocks, text)?;
+    for row in &FAILING {
+        check_failing(&rt, row, true)?;
+        check_failing(&rt, row, false)?;
     }
     Ok(())
 }

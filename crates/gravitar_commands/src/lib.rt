@@ -18,6 +18,7 @@ mod cut_tests;
 #[cfg(test)]
 mod debug_tests;
 mod debugging;
+mod failure;
 #[cfg(test)]
 mod fault_tests;
 #[cfg(test)]
@@ -42,16 +43,15 @@ mod slices;
 mod soak_tests;
 mod soaking;
 mod steady;
-mod stop;
 #[cfg(test)]
 mod tests;
 mod until;
 mod words;
 
 pub use answer::NO_MEMORY;
+pub use failure::OutsideFault;
 pub use laws::{cuts_leave_the_run, log_is_one_list};
 pub use program::{USAGE, gravitar};
 pub use slices::run_slices;
 pub use steady::steady_status;
-pub use stop::OutsideFault;
 pub use words::Words;

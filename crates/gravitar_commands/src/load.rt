@@ -8,10 +8,10 @@ ghost use Rattle.gravitar_commands.specs.Causes.{cause_text};
 ghost use Rattle.gravitar_commands.specs.Outcome.{ForReading, board_file, both_files, cells_file, cells_into, cells_read, first_bytes, image_file, image_read, note_text, read_as, run_files, start_files, state_file, state_read, tape_file, tape_read, with_cells};
 ghost use Rattle.gravitar_commands.specs.Stages.{Gives, StageFaults, StageAbsences, IsBadOrMemory};
 
-use crate::cause::{CELLS_LEN, Cause};
+use crate::cause::Cause;
+use crate::failure::Failure;
 use crate::parts::Parts;
-use crate::stop::Stop;
-use board_base::BoardState;
+use board_base::{BoardState, CELLS};
 use command_line::{RunWords, Settings};
 use outside_io::{Loaded, Shelf, ShelfFault};
 use rom_image::{IMAGE_LEN, Image, ImageFault};
@@ -20,23 +20,23 @@ use std::alloc::Global;
 use tape_ports::{TAPE_LIMIT, Tape, TapeFault};
 
 /// A note on a file, or want of memory for it.
-fn note_on(alloc: Global, name: &str, cause: Cause) -> Result<String, Stop>
+fn note_on(alloc: Global, name: &str, cause: Cause) -> Result<String, Failure>
     ensures ok { IfOk result (λ note. string_bytes note ≡ note_text name.now (cause_text cause)) }
-    ensures err { IfErr result (λ stop. stop ≡ Stop.NoMemory) }
+    ensures err { IfErr result (λ failure. failure ≡ Failure.NoMemory) }
 {
     match format!(in alloc; "gravitar: {name}: {cause}\n") {
         Ok(note) => Ok(note),
-        Err(_) => Err(Stop::NoMemory),
+        Err(_) => Err(Failure::NoMemory),
     }
 }
 
 /// The refusal of a bad file.
-pub fn bad(alloc: Global, name: &str, cause: Cause) -> Stop
+pub fn bad(alloc: Global, name: &str, cause: Cause) -> Failure
     ensures { IsBadOrMemory (note_text name.now (cause_text cause)) result }
 {
     match note_on(alloc, name, cause) {
-        Ok(note) => Stop::Bad(note),
-        Err(stop) => stop,
+        Ok(note) => Failure::Bad(note),
+        Err(failure) => failure,
     }
 }
 
@@ -46,7 +46,7 @@ pub fn fetch<S: Shelf>(
     name: &str,
     limit: usize,
     shelf: &mut S,
-) -> Result<Vec<u8>, Stop>
+) -> Result<Vec<u8>, Failure>
     ensures content { IfSome (S.files shelf.old)
         (λ files. Gives (λ bytes. bytes.items) (first_bytes name.now limit (files name.now)) result) }
     ensures files { S.files shelf.new ≡ S.files shelf.old }
@@ -58,30 +58,30 @@ pub fn fetch<S: Shelf>(
     match shelf.load(name, limit, &mut bytes) {
         Ok(Loaded::Found) => Ok(bytes),
         Ok(Loaded::Absent) => match note_on(alloc, name, Cause::Absent) {
-            Ok(note) => Err(Stop::Absent(note)),
-            Err(stop) => Err(stop),
+            Ok(note) => Err(Failure::Absent(note)),
+            Err(failure) => Err(failure),
         },
-        Err(ShelfFault::Failed) => Err(Stop::Outside),
-        Err(ShelfFault::OutOfMemory) => Err(Stop::NoMemory),
+        Err(ShelfFault::Failed) => Err(Failure::Outside),
+        Err(ShelfFault::OutOfMemory) => Err(Failure::NoMemory),
     }
 }
 
 /// An image of these bytes.
 #[tactic(auto, unfolding(crate::specs::Outcome::image_read))]
-fn read_image(alloc: Global, name: &str, bytes: &[u8]) -> Result<Image, Stop>
+fn read_image(alloc: Global, name: &str, bytes: &[u8]) -> Result<Image, Failure>
     ensures content { Gives (λ image. image) (read_as name.now (image_read bytes.now)) result }
     ensures faults { (n : ℕ) → StageFaults n n result }
 {
     match Image::read(alloc, bytes) {
         Ok(image) => Ok(image),
         Err(ImageFault::Length(n)) => Err(bad(alloc, name, Cause::Image(ImageFault::Length(n)))),
-        Err(ImageFault::OutOfMemory) => Err(Stop::NoMemory),
+        Err(ImageFault::OutOfMemory) => Err(Failure::NoMemory),
     }
 }
 
 /// A tape of these bytes.
 #[tactic(auto, unfolding(crate::specs::Outcome::tape_read))]
-fn read_tape(alloc: Global, name: &str, bytes: &[u8]) -> Result<Tape, Stop>
+fn read_tape(alloc: Global, name: &str, bytes: &[u8]) -> Result<Tape, Failure>
     ensures content { Gives (λ tape. tape) (read_as name.now (tape_read bytes.now)) result }
     ensures faults { (n : ℕ) → StageFaults n n result }
 {
@@ -93,12 +93,12 @@ fn read_tape(alloc: Global, name: &str, bytes: &[u8]) -> Result<Tape, Stop>
             name,
             Cause::Tape(TapeFault::BadLine { line, cause }),
         )),
-        Err(TapeFault::OutOfMemory) => Err(Stop::NoMemory),
+        Err(TapeFault::OutOfMemory) => Err(Failure::NoMemory),
     }
 }
 
 /// The board of these bytes.
-fn read_state(alloc: Global, name: &str, bytes: &[u8]) -> Result<BoardState, Stop>
+fn read_state(alloc: Global, name: &str, bytes: &[u8]) -> Result<BoardState, Failure>
     ensures content { (reading : Result BoardValue StateFault) → ReadsState bytes.now reading
         → Gives (λ board. board) (read_as name.now (state_read reading)) result }
     ensures place { IfOk result (λ board. IsProcessor board.cpu) }
@@ -113,7 +113,7 @@ fn read_state(alloc: Global, name: &str, bytes: &[u8]) -> Result<BoardState, Sto
 
 /// The image file.
 #[tactic(auto, unfolding(crate::specs::Outcome::image_file))]
-fn load_image<S: Shelf>(alloc: Global, name: &str, shelf: &mut S) -> Result<Image, Stop>
+fn load_image<S: Shelf>(alloc: Global, name: &str, shelf: &mut S) -> Result<Image, Failure>
     ensures content { IfSome (S.files shelf.old) (λ files. Gives (λ image. image) (image_file files name.now) result) }
     ensures files { S.files shelf.new ≡ S.files shelf.old }
     ensures stores { S.stores shelf.new ≡ S.stores shelf.old }
@@ -126,7 +126,7 @@ fn load_image<S: Shelf>(alloc: Global, name: &str, shelf: &mut S) -> Result<Imag
 
 /// The tape.
 #[tactic(auto, unfolding(crate::specs::Outcome::tape_file))]
-fn load_tape<S: Shelf>(alloc: Global, name: &str, shelf: &mut S) -> Result<Tape, Stop>
+fn load_tape<S: Shelf>(alloc: Global, name: &str, shelf: &mut S) -> Result<Tape, Failure>
     ensures content { IfSome (S.files shelf.old) (λ files. Gives (λ tape. tape) (tape_file files name.now) result) }
     ensures files { S.files shelf.new ≡ S.files shelf.old }
     ensures stores { S.stores shelf.new ≡ S.stores shelf.old }
@@ -139,7 +139,7 @@ fn load_tape<S: Shelf>(alloc: Global, name: &str, shelf: &mut S) -> Result<Tape,
 
 /// The board of a state file.
 #[tactic(auto, unfolding(crate::specs::Outcome::state_file))]
-pub fn load_state<S: Shelf>(alloc: Global, name: &str, shelf: &mut S) -> Result<BoardState, Stop>
+pub fn load_state<S: Shelf>(alloc: Global, name: &str, shelf: &mut S) -> Result<BoardState, Failure>
     ensures content { IfSome (S.files shelf.old) (λ files. ForReading (Some name.now) files
         (λ reading. Gives (λ board. board) (state_file files name.now reading) result)) }
     ensures place { IfOk result (λ board. IsProcessor board.cpu) }
@@ -150,7 +150,7 @@ pub fn load_state<S: Shelf>(alloc: Global, name: &str, shelf: &mut S) -> Result<
 {
     match fetch(alloc, name, STATE_LEN, shelf) {
         Ok(bytes) => read_state(alloc, name, &bytes),
-        Err(stop) => Err(stop),
+        Err(failure) => Err(failure),
     }
 }
 
@@ -159,7 +159,7 @@ fn load_board<S: Shelf>(
     alloc: Global,
     name: Option<&str>,
     shelf: &mut S,
-) -> Result<BoardState, Stop>
+) -> Result<BoardState, Failure>
     ensures content { IfSome (S.files shelf.old) (λ files. ForReading (option_map (λ n. n.now) name.entry) files
         (λ reading. Gives (λ board. board) (board_file files (option_map (λ n. n.now) name.entry) reading) result)) }
     ensures place { IfOk result (λ board. IsProcessor board.cpu) }
@@ -176,12 +176,17 @@ fn load_board<S: Shelf>(
 
 /// The cells of these bytes, put into a board.
 #[tactic(auto, unfolding(crate::specs::Outcome::cells_read))]
-fn read_cells(alloc: Global, name: &str, bytes: &[u8], board: &mut BoardState) -> Result<(), Stop>
+fn read_cells(
+    alloc: Global,
+    name: &str,
+    bytes: &[u8],
+    board: &mut BoardState,
+) -> Result<(), Failure>
     ensures content { Gives (λ _. board.new.earom.cells) (read_as name.now (cells_read bytes.now)) result }
     ensures board { OnOk result (board.new ≡ with_cells board.old bytes.now) }
     ensures faults { (n : ℕ) → StageFaults n n result }
 {
-    match <[u8; CELLS_LEN]>::try_from(bytes) {
+    match <[u8; CELLS]>::try_from(bytes) {
         Ok(cells) => {
             board.earom.cells = cells;
             Ok(())
@@ -197,7 +202,7 @@ fn load_cells<S: Shelf>(
     name: Option<&str>,
     board: &mut BoardState,
     shelf: &mut S,
-) -> Result<(), Stop>
+) -> Result<(), Failure>
     ensures content { IfSome (S.files shelf.old) (λ files.
         Gives (λ _. board.new) (cells_into files (option_map (λ n. n.now) name.entry) board.old) result) }
     ensures place { OnOk result (board.new.cpu ≡ board.old.cpu) }
@@ -209,9 +214,9 @@ fn load_cells<S: Shelf>(
     let Some(name) = name else {
         return Ok(());
     };
-    match fetch(alloc, name, CELLS_LEN, shelf) {
+    match fetch(alloc, name, CELLS, shelf) {
         Ok(bytes) => read_cells(alloc, name, &bytes, board),
-        Err(stop) => Err(stop),
+        Err(failure) => Err(failure),
     }
 }
 
@@ -221,7 +226,7 @@ fn load_start<S: Shelf>(
     alloc: Global,
     settings: &Settings<'_>,
     shelf: &mut S,
-) -> Result<BoardState, Stop>
+) -> Result<BoardState, Failure>
     ensures content { IfSome (S.files shelf.old) (λ files. ForReading settings.now.state files
         (λ reading. Gives (λ board. board) (start_files files settings.now reading) result)) }
     ensures place { IfOk result (λ board. IsProcessor board.cpu) }
@@ -231,9 +236,9 @@ fn load_start<S: Shelf>(
     ensures absences { StageAbsences (S.absences shelf.old) (S.absences shelf.new) result }
 {
     match load_board(alloc, settings.state, shelf) {
-        Err(stop) => Err(stop),
+        Err(failure) => Err(failure),
         Ok(mut board) => match load_cells(alloc, settings.earom, &mut board, shelf) {
-            Err(stop) => Err(stop),
+            Err(failure) => Err(failure),
             Ok(()) => Ok(board),
         },
     }
@@ -245,7 +250,7 @@ fn load_both<S: Shelf>(
     alloc: Global,
     words: &RunWords<'_>,
     shelf: &mut S,
-) -> Result<(Image, Tape), Stop>
+) -> Result<(Image, Tape), Failure>
     ensures content { IfSome (S.files shelf.old) (λ files. Gives (λ both. (both.0, both.1)) (both_files files words.now) result) }
     ensures files { S.files shelf.new ≡ S.files shelf.old }
     ensures stores { S.stores shelf.new ≡ S.stores shelf.old }
@@ -253,9 +258,9 @@ fn load_both<S: Shelf>(
     ensures absences { StageAbsences (S.absences shelf.old) (S.absences shelf.new) result }
 {
     match load_image(alloc, words.image, shelf) {
-        Err(stop) => Err(stop),
+        Err(failure) => Err(failure),
         Ok(image) => match load_tape(alloc, words.tape, shelf) {
-            Err(stop) => Err(stop),
+            Err(failure) => Err(failure),
             Ok(tape) => Ok((image, tape)),
         },
     }
@@ -263,7 +268,11 @@ fn load_both<S: Shelf>(
 
 /// The files of a run, each read wholly before the next: image, tape, state, EAROM.
 #[tactic(auto, unfolding(crate::specs::Outcome::run_files))]
-pub fn load_run<S: Shelf>(alloc: Global, words: &RunWords<'_>, shelf: &mut S) -> Result<Parts, Stop>
+pub fn load_run<S: Shelf>(
+    alloc: Global,
+    words: &RunWords<'_>,
+    shelf: &mut S,
+) -> Result<Parts, Failure>
     ensures content { IfSome (S.files shelf.old) (λ files. ForReading words.now.settings.state files
         (λ reading. Gives (λ parts. parts) (run_files files words.now reading) result)) }
     ensures place { IfOk result (λ parts. IsProcessor parts.board.cpu) }
@@ -273,9 +282,9 @@ pub fn load_run<S: Shelf>(alloc: Global, words: &RunWords<'_>, shelf: &mut S) ->
     ensures absences { StageAbsences (S.absences shelf.old) (S.absences shelf.new) result }
 {
     match load_both(alloc, words, shelf) {
-        Err(stop) => Err(stop),
+        Err(failure) => Err(failure),
         Ok((image, tape)) => match load_start(alloc, &words.settings, shelf) {
-            Err(stop) => Err(stop),
+            Err(failure) => Err(failure),
             Ok(board) => Ok(Parts { image, tape, board }),
         },
     }

@@ -1,4 +1,4 @@
-ghost use Rattle.std.specs.Prelude.{◌≡◌, ◌≢◌, ◌+◌, ◌≤◌, ◌<◌, ◌↔◌, ◌⊎◌, [], ◌∷◌, IfSome, Contains, None, Some};
+ghost use Rattle.std.specs.Prelude.{◌≡◌, ◌≢◌, ◌+◌, ◌≤◌, ◌<◌, ◌↔◌, ◌⊎◌, [], ◌∷◌, IfSome, IfOk, Contains, None, Some, Ok};
 ghost use Rattle.command_line.specs.CommandLine.{command_of};
 ghost use Rattle.command_line.specs.CommandValue.{run_of, show_of};
 ghost use Rattle.command_line.specs.CommandWords.{command_value};
@@ -6,18 +6,18 @@ ghost use Rattle.cpu_core.specs.Places.{IsProcessor};
 ghost use Rattle.outside_io.specs.Causes.{Rose};
 ghost use Rattle.gravitar_commands.specs.Events.{Did, DidFirst};
 ghost use Rattle.gravitar_commands.specs.LastLine.{ending_by};
-ghost use Rattle.gravitar_commands.specs.Outcome.{Comes, ComesOf, CommandComes, ForReading, limit_of, usage_text, fault_text, memory_text};
-ghost use Rattle.gravitar_commands.specs.Stages.{Ends, EndFaults, IsQuiet, Noted, RunComes, StageAbsences};
+ghost use Rattle.gravitar_commands.specs.Outcome.{Comes, ComesOf, CommandComes, ForReading, IsRun, limit_of, usage_text, outside_text, memory_text};
+ghost use Rattle.gravitar_commands.specs.Stages.{Ends, EndFaults, WroteNothing, Noted, RunComes, StageAbsences};
 
 use crate::answer::{ending_status, note, status};
 use crate::assembling::perform_asm;
 use crate::board_devices::devices;
 use crate::debugging::perform_debug;
+use crate::failure::{Ending, Failure};
 use crate::load::{load_run, load_state};
 use crate::parts::Parts;
 use crate::slices::run_slices;
 use crate::soaking::perform_soak;
-use crate::stop::{Ending, Stop};
 use crate::words::Words;
 use board_base::CpuState;
 use board_debug::write_board;
@@ -57,11 +57,11 @@ fn run_parts<S: Shelf, O: Sink>(
     parts: &Parts,
     shelf: &mut S,
     out: &mut O,
-) -> Result<Ending, Stop>
+) -> Result<Ending, Failure>
     requires place { IsProcessor parts.now.board.cpu }
     ensures outcome { RunComes settings.now parts.now (λ outcome.
         Ends outcome (O.taken out.old) (O.taken out.new) (S.stores shelf.old) (S.stores shelf.new) result) }
-    ensures quiet { IsQuiet (O.taken out.old) (O.taken out.new) (S.stores shelf.old) (S.stores shelf.new) result }
+    ensures quiet { WroteNothing (O.taken out.old) (O.taken out.new) (S.stores shelf.old) (S.stores shelf.new) result }
     ensures faults { EndFaults (S.faults shelf.old) (S.faults shelf.new) (O.faults out.old) (O.faults out.new) result }
     ensures absences { StageAbsences (S.absences shelf.old) (S.absences shelf.new) result }
 {
@@ -73,7 +73,7 @@ fn run_parts<S: Shelf, O: Sink>(
         devices(),
         settings.timers,
     ) {
-        Err(_) => Err(Stop::NoMemory),
+        Err(_) => Err(Failure::NoMemory),
         Ok(mut engine) => match run_slices(
             &mut engine,
             &parts.tape,
@@ -86,7 +86,7 @@ fn run_parts<S: Shelf, O: Sink>(
             out,
         ) {
             Ok(()) => Ok(ending(engine.cpu())),
-            Err(_) => Err(Stop::Outside),
+            Err(_) => Err(Failure::Outside),
         },
     }
 }
@@ -97,16 +97,16 @@ fn perform_run<S: Shelf, O: Sink>(
     words: &RunWords<'_>,
     shelf: &mut S,
     out: &mut O,
-) -> Result<Ending, Stop>
+) -> Result<Ending, Failure>
     ensures outcome { IfSome (S.files shelf.old) (λ files. ForReading words.now.settings.state files (λ reading.
         CommandComes (run_of words.now) files reading (λ outcome.
         Ends outcome (O.taken out.old) (O.taken out.new) (S.stores shelf.old) (S.stores shelf.new) result))) }
-    ensures quiet { IsQuiet (O.taken out.old) (O.taken out.new) (S.stores shelf.old) (S.stores shelf.new) result }
+    ensures quiet { WroteNothing (O.taken out.old) (O.taken out.new) (S.stores shelf.old) (S.stores shelf.new) result }
     ensures faults { EndFaults (S.faults shelf.old) (S.faults shelf.new) (O.faults out.old) (O.faults out.new) result }
     ensures absences { StageAbsences (S.absences shelf.old) (S.absences shelf.new) result }
 {
     match load_run(alloc, words, shelf) {
-        Err(stop) => Err(stop),
+        Err(failure) => Err(failure),
         Ok(parts) => run_parts(alloc, &words.settings, &parts, shelf, out),
     }
 }
@@ -117,19 +117,20 @@ fn perform_show<S: Shelf, O: Sink>(
     name: &str,
     shelf: &mut S,
     out: &mut O,
-) -> Result<Ending, Stop>
+) -> Result<Ending, Failure>
     ensures outcome { IfSome (S.files shelf.old) (λ files. ForReading (Some name.now) files (λ reading.
         CommandComes (show_of name.now) files reading (λ outcome.
         Ends outcome (O.taken out.old) (O.taken out.new) (S.stores shelf.old) (S.stores shelf.new) result))) }
-    ensures quiet { IsQuiet (O.taken out.old) (O.taken out.new) (S.stores shelf.old) (S.stores shelf.new) result }
+    ensures done { IfOk result (λ ending. ending ≡ Ending.Done) }
+    ensures quiet { WroteNothing (O.taken out.old) (O.taken out.new) (S.stores shelf.old) (S.stores shelf.new) result }
     ensures faults { EndFaults (S.faults shelf.old) (S.faults shelf.new) (O.faults out.old) (O.faults out.new) result }
     ensures absences { StageAbsences (S.absences shelf.old) (S.absences shelf.new) result }
 {
     match load_state(alloc, name, shelf) {
-        Err(stop) => Err(stop),
+        Err(failure) => Err(failure),
         Ok(board) => match write_board(&board, out) {
             Ok(()) => Ok(Ending::Done),
-            Err(_) => Err(Stop::Outside),
+            Err(_) => Err(Failure::Outside),
         },
     }
 }
@@ -140,10 +141,11 @@ fn perform<S: Shelf, O: Sink>(
     command: &Command<'_>,
     shelf: &mut S,
     out: &mut O,
-) -> Result<Ending, Stop>
-    ensures outcome { IfSome (S.files shelf.old) (λ files. ComesOf (Some (command_value command.now)) files (λ outcome.
-        Ends outcome (O.taken out.old) (O.taken out.new) (S.stores shelf.old) (S.stores shelf.new) result)) }
-    ensures quiet { IsQuiet (O.taken out.old) (O.taken out.new) (S.stores shelf.old) (S.stores shelf.new) result }
+) -> Result<Ending, Failure>
+    ensures outcome { ComesOf (Some (command_value command.now)) (S.files shelf.old) (λ outcome.
+        Ends outcome (O.taken out.old) (O.taken out.new) (S.stores shelf.old) (S.stores shelf.new) result) }
+    ensures jam { result ≡ Ok Ending.Jammed → IsRun (Some (command_value command.now)) }
+    ensures quiet { WroteNothing (O.taken out.old) (O.taken out.new) (S.stores shelf.old) (S.stores shelf.new) result }
     ensures faults { EndFaults (S.faults shelf.old) (S.faults shelf.new) (O.faults out.old) (O.faults out.new) result }
     ensures absences { StageAbsences (S.absences shelf.old) (S.absences shelf.new) result }
 {
@@ -169,19 +171,20 @@ pub fn gravitar<S: Shelf, O: Sink, N: Sink>(
     out: &mut O,
     notes: &mut N,
 ) -> u8
-    // Without a fault and with memory, all is as defined.
-    ensures outcome { result ≢ 6 → result ≢ 7 → IfSome (S.files shelf.old) (λ files. Comes words.now files (λ outcome.
-        (result ≡ outcome.status) × Did outcome.events (O.taken out.old) (O.taken out.new) (S.stores shelf.old) (S.stores shelf.new))) }
+    // Without a fault and with memory, all is as defined, where the shelf tells its files or none is read.
+    ensures outcome { result ≢ 6 → result ≢ 7 → Comes words.now (S.files shelf.old) (λ outcome.
+        (result ≡ outcome.status) × Did outcome.events (O.taken out.old) (O.taken out.new) (S.stores shelf.old) (S.stores shelf.new)) }
 
     // After 6 the first part of what is defined was done, and nothing after it.
-    ensures stopped { result ≡ 6 → IfSome (S.files shelf.old) (λ files. Comes words.now files (λ outcome.
-        DidFirst outcome.events (O.taken out.old) (O.taken out.new) (S.stores shelf.old) (S.stores shelf.new))) }
+    ensures stopped { result ≡ 6 → Comes words.now (S.files shelf.old) (λ outcome.
+        DidFirst outcome.events (O.taken out.old) (O.taken out.new) (S.stores shelf.old) (S.stores shelf.new)) }
 
     // Nothing was written or stored, whether the files are told or not.
     ensures quiet { Contains (2 ∷ 4 ∷ 5 ∷ 7 ∷ []) result → (O.taken out.new ≡ O.taken out.old) × (S.stores shelf.new ≡ S.stores shelf.old) }
 
     ensures statuses { Contains (0 ∷ 2 ∷ 3 ∷ 4 ∷ 5 ∷ 6 ∷ 7 ∷ []) result }
     ensures usage { (result ≡ 2) ↔ (command_of words.now ≡ None) }
+    ensures jam { result ≡ 3 → IsRun (command_of words.now) }
     ensures absent { result ≡ 5 → Rose (S.absences shelf.old) (S.absences shelf.new) }
     ensures fault { result ≡ 6 → Rose (S.faults shelf.old) (S.faults shelf.new) ⊎ Rose (O.faults out.old) (O.faults out.new) }
     ensures shelf_fault { S.faults shelf.old < S.faults shelf.new → result ≡ 6 }
@@ -190,10 +193,10 @@ pub fn gravitar<S: Shelf, O: Sink, N: Sink>(
 
     // The note, of which a failed write took a part.
     ensures usage_note { result ≡ 2 → Noted (N.taken notes.old) (N.taken notes.new) (N.faults notes.old) (N.faults notes.new) usage_text }
-    ensures fault_note { result ≡ 6 → Noted (N.taken notes.old) (N.taken notes.new) (N.faults notes.old) (N.faults notes.new) fault_text }
+    ensures fault_note { result ≡ 6 → Noted (N.taken notes.old) (N.taken notes.new) (N.faults notes.old) (N.faults notes.new) outside_text }
     ensures memory_note { result ≡ 7 → Noted (N.taken notes.old) (N.taken notes.new) (N.faults notes.old) (N.faults notes.new) memory_text }
-    ensures note { result ≢ 6 → result ≢ 7 → IfSome (S.files shelf.old) (λ files. Comes words.now files (λ outcome.
-        Noted (N.taken notes.old) (N.taken notes.new) (N.faults notes.old) (N.faults notes.new) outcome.note)) }
+    ensures note { result ≢ 6 → result ≢ 7 → Comes words.now (S.files shelf.old) (λ outcome.
+        Noted (N.taken notes.old) (N.taken notes.new) (N.faults notes.old) (N.faults notes.new) outcome.note) }
     ensures no_note { Contains (0 ∷ 3 ∷ []) result → notes.new ≡ notes.old }
 {
     let Some(command) = words.command() else {
@@ -202,9 +205,9 @@ pub fn gravitar<S: Shelf, O: Sink, N: Sink>(
     };
     match perform(alloc, &command, shelf, out) {
         Ok(ending) => ending_status(ending),
-        Err(stop) => {
-            let _ = notes.write(note(&stop));
-            status(&stop)
+        Err(failure) => {
+            let _ = notes.write(note(&failure));
+            status(&failure)
         }
     }
 }

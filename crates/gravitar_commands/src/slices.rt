@@ -4,7 +4,7 @@ ghost use Rattle.outside_io.specs.Causes.{HasCause};
 ghost use Rattle.outside_io.specs.Known.{grown};
 ghost use Rattle.outside_io.specs.Sink.{Takes};
 ghost use Rattle.catchup_engine.specs.EngineValue.{HasNoRecords, cleared, counted_on};
-ghost use Rattle.catchup_engine.specs.Run.{boundary_steps, clock_steps, run, to_boundary};
+ghost use Rattle.catchup_engine.specs.Run.{boundary_steps, clock_steps, to_clock, to_boundary};
 ghost use Rattle.gravitar_commands.specs.Events.{Did, DidFirst, stores_of};
 ghost use Rattle.gravitar_commands.specs.Fresh.{IsFresh};
 ghost use Rattle.gravitar_commands.specs.LastLine.{last_text};
@@ -13,8 +13,8 @@ ghost use Rattle.gravitar_commands.specs.Slices.{FitsCalls, StopsIn, cost_line, 
 ghost use Rattle.gravitar_commands.specs.Stages.{SliceFaults};
 
 use crate::board_bytes::{Saved, load_saved};
+use crate::failure::OutsideFault;
 use crate::slice::run_slice;
-use crate::stop::OutsideFault;
 use crate::until::Until;
 use avg_device::VectorUnit;
 use board_base::{BoardState, CLOCK_LIMIT};
@@ -60,7 +60,7 @@ fn cut_slice<V: VectorUnit, P: SoundUnit, C: CellUnit, D: DividerUnit, S: Shelf,
         (O.taken out.old) (O.taken out.new) (S.stores shelf.old) (S.stores shelf.new)) }
     ensures faults { SliceFaults (S.faults shelf.old) (S.faults shelf.new) (O.faults out.old) (O.faults out.new) result }
     ensures absences { S.absences shelf.old ≤ S.absences shelf.new }
-    ensures board { OnOk result (engine.new.board ≡ cleared (run tape.now.entries cut engine.old.board)) }
+    ensures board { OnOk result (engine.new.board ≡ cleared (to_clock tape.now.entries cut engine.old.board)) }
     ensures fresh { OnOk result (IsFresh engine.new) }
     ensures most { OnOk result (engine.new.calls ≤ engine.old.calls
         + window_price tape.now.entries (clock_steps tape.now.entries cut engine.old.board) engine.old.board + 10) }

@@ -1,10 +1,10 @@
-ghost use Rattle.std.specs.Prelude.{◌≡◌, ℕ, List, Option};
+ghost use Rattle.std.specs.Prelude.{◌≡◌, ℕ, IfOk, List, Option};
 ghost use Rattle.outside_io.specs.Shelf.{Kept};
 ghost use Rattle.gravitar_commands.specs.Outcome.{soak_outcome};
-ghost use Rattle.gravitar_commands.specs.Stages.{Ends, EndFaults, IsQuiet, StageAbsences};
+ghost use Rattle.gravitar_commands.specs.Stages.{Ends, EndFaults, WroteNothing, StageAbsences};
 
 use crate::board_devices::devices;
-use crate::stop::{Ending, Stop};
+use crate::failure::{Ending, Failure};
 use board_base::BoardState;
 use catchup_engine::Engine;
 use outside_io::Sink;
@@ -14,21 +14,22 @@ use workload_gen::make;
 
 /// Makes the workload of a number, runs it to the end of its tape, and writes its summary. All memory
 /// is taken before the first clock.
-pub fn perform_soak<O: Sink>(alloc: Global, seed: u64, out: &mut O) -> Result<Ending, Stop>
+pub fn perform_soak<O: Sink>(alloc: Global, seed: u64, out: &mut O) -> Result<Ending, Failure>
     ensures outcome { (stores : Option (List Kept)) → Ends (soak_outcome seed) (O.taken out.old) (O.taken out.new) stores stores result }
-    ensures quiet { (stores : Option (List Kept)) → IsQuiet (O.taken out.old) (O.taken out.new) stores stores result }
+    ensures done { IfOk result (λ ending. ending ≡ Ending.Done) }
+    ensures quiet { (stores : Option (List Kept)) → WroteNothing (O.taken out.old) (O.taken out.new) stores stores result }
     ensures faults { (n : ℕ) → EndFaults n n (O.faults out.old) (O.faults out.new) result }
     ensures absences { (n : ℕ) → StageAbsences n n result }
 {
     let Ok((image, tape)) = make(alloc, seed) else {
-        return Err(Stop::NoMemory);
+        return Err(Failure::NoMemory);
     };
     let board = BoardState::power_on();
     let Ok(mut engine) = Engine::new(alloc, &image, &board, devices(), false) else {
-        return Err(Stop::NoMemory);
+        return Err(Failure::NoMemory);
     };
     match run_soak(&mut engine, &tape, tape.end(), out) {
         Ok(()) => Ok(Ending::Done),
-        Err(_) => Err(Stop::Outside),
+        Err(_) => Err(Failure::Outside),
     }
 }

@@ -1,5 +1,5 @@
 //! What the program does where nothing outside fails.
-ghost use Rattle.std.specs.Prelude.{◌≡◌, ◌≢◌, false};
+ghost use Rattle.std.specs.Prelude.{◌≡◌, ◌≢◌, false, Some};
 ghost use Rattle.outside_io.specs.Content.{content_of};
 ghost use Rattle.gravitar_commands.specs.Outcome.{Comes};
 
@@ -16,7 +16,7 @@ pub fn steady_status<N: Sink>(
     notes: &mut N,
 ) -> u8
     ensures no_fault { result ≢ 6 }
-    ensures defined { shelf.old.changed ≡ false → result ≢ 7 → Comes words.now (content_of shelf.old.files) (λ outcome. result ≡ outcome.status) }
+    ensures defined { shelf.old.changed ≡ false → result ≢ 7 → Comes words.now (Some (content_of shelf.old.files)) (λ outcome. result ≡ outcome.status) }
 {
     let mut out = SteadySink::new();
     gravitar(alloc, words, shelf, &mut out, notes)

@@ -2,6 +2,8 @@
 /// that isn't before it.
 #[derive(Clone, Copy, Debug, PartialEq, Eq)]
 pub enum Until {
+    /// To a clock.
     Clock(u64),
+    /// To a boundary.
     Boundary(u64),
 }

@@ -1,8 +1,8 @@
 //! The program `gravitar`: a command line's words, done on real files and streams.
 #![tactic(auto)]
 
-pub use gravitar_commands::{gravitar, run_slices};
-use gravitar_commands::{NO_MEMORY, USAGE, Words};
+use gravitar_commands::{NO_MEMORY, USAGE};
+pub use gravitar_commands::{OutsideFault, Words, gravitar, run_slices};
 use outside_io::{FileShelf, Sink, TextSink};
 use std::alloc::Global;
 use std::process::ExitCode;
@@ -11,7 +11,9 @@ use std::{env, io};
 /// Why a command line can't be taken.
 #[derive(Clone, Copy, Debug, PartialEq, Eq)]
 enum Unread {
+    /// A word isn't UTF-8.
     NotText,
+    /// No memory for a word.
     NoMemory,
 }
 

@@ -1,7 +1,7 @@
 -- The divider after any number of ticks, in one step.
 use Rattle.std.proofs.Common.{◌≡◌, ℕ, ◌+◌, ◌/◌, ◌%◌, ◌<◌, ◌||◌, nat_le, if◌then◌else◌, zero, suc, arith, ap, sym, ◌∙◌}
 use Rattle.std.proofs.lemmas.Bool.Decides.{nat_tests}
-use Rattle.board_base.specs.declared.divider.TheConstants.{DIVIDER_PERIOD}
+use Rattle.board_base.specs.declared.divider.TheConstants.{DIVIDER_PERIOD, WATCHDOG_WRAPS}
 use Rattle.board_base.specs.declared.divider.Pending.TheVariants.{Watchdog}
 use Rattle.board_base.specs.Divider.{DividerValue, IsDivider}
 use Rattle.board_base.specs.Ticks.{ticks, times}
@@ -16,8 +16,8 @@ unfoldable pub divided : ℕ → DividerValue → DividerValue
 divided n d = record {
   phase = (d.phase + n) % DIVIDER_PERIOD;
   irq = d.irq || nat_le 1 (wraps n d);
-  dog = (d.dog + wraps n d) % 8;
-  pending = if nat_le 8 (d.dog + wraps n d) then Watchdog else d.pending;
+  dog = (d.dog + wraps n d) % WATCHDOG_WRAPS;
+  pending = if nat_le WATCHDOG_WRAPS (d.dog + wraps n d) then Watchdog else d.pending;
 }
 
 divided-zero : (d : DividerValue) → IsDivider d → divided 0 d ≡ d

@@ -1,13 +1,13 @@
 -- The interrupt divider and the watchdog. This project's own profile.
 use Rattle.std.specs.Prelude.{◌+◌, ◌/◌, ◌%◌, ◌^◌, Bool, true, false, ◌==◌, if◌then◌else◌}
-use Rattle.board_base.specs.declared.divider.TheConstants.{DIVIDER_PERIOD}
+use Rattle.board_base.specs.declared.divider.TheConstants.{DIVIDER_PERIOD, WATCHDOG_WRAPS}
 use Rattle.board_base.specs.declared.divider.Pending.TheVariants.{Nothing, Watchdog}
 use Rattle.board_base.specs.Divider.{DividerValue}
 
--- a wrap asks for an interrupt, and the eighth since the watchdog was cleared for a reset
+-- a wrap asks for an interrupt, and the last of those that the watchdog counts for a reset
 unfoldable pub wrapped : DividerValue → DividerValue
 wrapped d =
-    if d.dog == 7
+    if d.dog + 1 == WATCHDOG_WRAPS
     then record d { phase = 0; irq = true; dog = 0; pending = Watchdog }
     else record d { phase = 0; irq = true; dog = d.dog + 1 }
 

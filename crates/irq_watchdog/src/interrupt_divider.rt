@@ -4,14 +4,14 @@ ghost use Rattle.board_base.specs.Ticks.{times};
 ghost use Rattle.irq_watchdog.specs.Tick.{divider_tick};
 
 use crate::unit::DividerUnit;
-use board_base::{CallCount, Clocked, DIVIDER_PERIOD, DividerState, Pending};
+use board_base::{CallCount, Clocked, DIVIDER_PERIOD, DividerState, Pending, WATCHDOG_WRAPS};
 use std::marker::Model;
 
 /// The clocks from a wrap to the next.
 const PERIOD: u64 = DIVIDER_PERIOD as u64;
 
-/// The wraps since the watchdog was cleared that ask for a reset.
-const WATCHDOG_WRAPS: u64 = 8;
+/// The wraps that ask for a reset.
+const WRAPS: u64 = WATCHDOG_WRAPS as u64;
 
 /// A divider that moves any number of clocks at the same cost.
 #[derive(Drop)]
@@ -72,7 +72,7 @@ fn wraps_within(phase: u16, n: u64) -> u64
 fn pending_after(pending: Pending, count: u64) -> Pending
     ensures { result ≡ (if nat_le WATCHDOG_WRAPS count then Pending.Watchdog else pending) }
 {
-    if count >= WATCHDOG_WRAPS {
+    if count >= WRAPS {
         Pending::Watchdog
     } else {
         pending
@@ -101,7 +101,7 @@ fn moved_over_wraps(state: DividerState, n: u64) -> DividerState
     DividerState {
         phase: phase_after(state.phase, n),
         irq: state.irq || wraps >= 1,
-        dog: (count % WATCHDOG_WRAPS) as u8,
+        dog: (count % WRAPS) as u8,
         pending: pending_after(state.pending, count),
     }
 }

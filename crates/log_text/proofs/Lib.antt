@@ -1,5 +1,5 @@
 mod Each
-mod GatherLaws
+pub mod GatherLaws
 mod LineLaws
 pub mod LogLaws
 mod NextLaws

@@ -8,7 +8,7 @@ use Rattle.board_base.specs.declared.record.Record.{Record}
 use Rattle.board_base.specs.declared.part.Part.{Part}
 use Rattle.board_base.specs.declared.part.Part.TheVariants.{Generator, Pokey1, Pokey2, Board}
 use Rattle.log_text.specs.Lines.{record_text}
-use Rattle.bit_words.specs.Sooner.{sooner_of}
+use Rattle.board_base.specs.Sooner.{sooner_of}
 use Rattle.log_text.specs.LogText.{PartRecord, merged, merged_text, log_text, made_by, place_of, IsNotAfter, IsInOrder, MergedIsOneLog}
 use Rattle.log_text.proofs.Each.{Each, EachLater, each_later-from_all_pairs}
 use Rattle.log_text.proofs.NextLaws.{From, After, generator_first, pokey1_first, pokey2_first, board_first, next_none}

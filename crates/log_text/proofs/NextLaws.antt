@@ -7,7 +7,7 @@ use Rattle.board_base.specs.declared.part.Part.{Part}
 use Rattle.board_base.specs.declared.part.Part.TheVariants.{Generator, Pokey1, Pokey2, Board}
 use Rattle.board_base.specs.Records.{clock_of}
 use Rattle.log_text.specs.LogText.{PartRecord, by_clock, from_part, merged}
-use Rattle.bit_words.specs.Sooner.{sooner_of}
+use Rattle.board_base.specs.Sooner.{sooner_of}
 use Rattle.log_text.specs.Merging.{first_clock, earliest_of, TakesAt, AreSorted}
 use Rattle.log_text.proofs.Each.{Each, each-append, each-map, each-weaker, least_first, rising_tail}
 use Rattle.log_text.proofs.SortLaws.{clock, by_clock-first}

@@ -1,23 +1,11 @@
 -- The lines of the log, which are this project's own.
-use Rattle.std.specs.Prelude.{ℕ, ◌/◌, ◌%◌, List, [], ◌∷◌, ◌++◌, codes, decimal, true}
-use Rattle.std.specs.Fmt.{digit_glyph, signed_decimal}
-use Rattle.std.specs.List.{join_with_byte}
+use Rattle.std.specs.Prelude.{ℕ, List, [], ◌∷◌, codes, decimal}
+use Rattle.std.specs.Fmt.{signed_decimal}
+use Rattle.text_line.specs.Words.{line, hex_byte}
 use Rattle.board_base.specs.declared.record.Record.{Record}
 use Rattle.board_base.specs.declared.record.Record.TheVariants.{Stroke, Levels, Latch, WatchdogReset}
 use Rattle.board_base.specs.declared.part.Part.{Part}
 use Rattle.board_base.specs.declared.part.Part.TheVariants.{Pokey2}
-
--- words with a blank between each two, and LF at the end
-abbrev pub line : List (List ℕ) → List ℕ
-line words = join_with_byte 32 words ++ 10 ∷ []
-
--- a byte as two capital hexadecimal digits
-abbrev pub hex_byte : ℕ → List ℕ
-hex_byte n = digit_glyph true (n / 16) ∷ digit_glyph true (n % 16) ∷ []
-
--- a word of 16 bits as four capital hexadecimal digits
-abbrev pub hex_word : ℕ → List ℕ
-hex_word n = hex_byte (n / 256) ++ hex_byte (n % 256)
 
 -- the letter of a line of levels: A for those of POKEY 1, B for those of POKEY 2; no other part makes levels
 abbrev pub levels_letter : Part → List ℕ

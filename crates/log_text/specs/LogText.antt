@@ -5,7 +5,8 @@ use Rattle.board_base.specs.declared.record.Record.{Record}
 use Rattle.board_base.specs.declared.part.Part.{Part}
 use Rattle.board_base.specs.declared.part.Part.TheVariants.{Generator, Pokey1, Pokey2, Board}
 use Rattle.board_base.specs.Records.{clock_of}
-use Rattle.log_text.specs.Lines.{line, hex_byte, hex_word, record_text}
+use Rattle.text_line.specs.Words.{line, hex_byte, hex_word}
+use Rattle.log_text.specs.Lines.{record_text}
 
 -- a record and the part of the board that made it
 abbrev pub PartRecord : Type 0

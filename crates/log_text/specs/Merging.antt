@@ -3,7 +3,7 @@ use Rattle.std.specs.Prelude.{◌≡◌, ◌≢◌, ℕ, List, [], ◌∷◌}
 use Rattle.std.specs.Prelude.{Option, Some, None}
 use Rattle.std.specs.List.Sorted.{IsNonDecreasingBy}
 use Rattle.board_base.specs.declared.record.Record.{Record}
-use Rattle.bit_words.specs.Sooner.{sooner_of}
+use Rattle.board_base.specs.Sooner.{sooner_of}
 use Rattle.board_base.specs.Records.{clock_of}
 
 -- the clock of the first record

@@ -8,12 +8,17 @@ use outside_io::{Sink, SinkFault};
 use std::marker::Model;
 
 /// Room for the bytes of a block.
-pub(crate) const BLOCK: usize = 4096;
+pub const BLOCK: usize = 4096;
+
+/// A block has 4,096 bytes. It tells a law, and does nothing.
+pub fn block_size()
+    ensures { BLOCK ≡ 4096 }
+{}
 
 /// Lines on their way to a sink, many of which go out in one write. It takes no memory. What stands
 /// in it when it is dropped is lost.
 #[derive(Drop)]
-pub(crate) struct Block {
+pub struct Block {
     bytes: ArrayVec<u8, BLOCK>,
 }
 
@@ -30,7 +35,7 @@ impl Model for Block {
 
 impl Block {
     /// A block in which nothing stands.
-    pub(crate) fn new() -> Block
+    pub fn new() -> Block
         ensures { result ≡ [] }
     {
         Block {
@@ -39,7 +44,7 @@ impl Block {
     }
 
     /// Puts a line behind those that stand here. Where it doesn't fit, those are written first.
-    pub(crate) fn push<O: Sink>(&mut self, line: &[u8], out: &mut O) -> Result<(), SinkFault>
+    pub fn push<O: Sink>(&mut self, line: &[u8], out: &mut O) -> Result<(), SinkFault>
         requires { length line.now ≤ BLOCK }
         ensures taken { Gathers (O.taken out.old) (O.taken out.new) (self.old ++ line.now) self.new result }
         ensures cause { HasCause (O.faults out.old) (O.faults out.new) result }
@@ -55,7 +60,7 @@ impl Block {
     }
 
     /// Writes what stands here, if anything does, and leaves nothing.
-    pub(crate) fn flush<O: Sink>(&mut self, out: &mut O) -> Result<(), SinkFault>
+    pub fn flush<O: Sink>(&mut self, out: &mut O) -> Result<(), SinkFault>
         ensures taken { Takes (O.taken out.old) (O.taken out.new) self.old result }
         ensures cause { HasCause (O.faults out.old) (O.faults out.new) result }
         ensures emptied { OnOk result (self.new ≡ []) }

@@ -2,8 +2,8 @@ ghost use Rattle.log_text.specs.LogText.{end_text, jam_text, cost_text};
 ghost use Rattle.outside_io.specs.Causes.{HasCause};
 ghost use Rattle.outside_io.specs.Sink.{Takes};
 
-use crate::line::Line;
 use outside_io::{Sink, SinkFault};
+use text_line::Line;
 
 /// Writes the last line of a run that reached its limit; `clock` is the board's.
 #[tactic(auto, unfolding(crate::specs::LogText::end_text))]

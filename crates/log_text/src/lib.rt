@@ -3,13 +3,12 @@
 
 mod block;
 mod last;
-pub mod line;
 mod merge;
 mod merged;
 mod record_line;
 
+pub use block::{BLOCK, Block, block_size};
 pub use last::{write_cost, write_end, write_jam};
-pub use line::{LONGEST, Line};
 pub use merged::{one_log, write_merged};
 
 #[cfg(test)]

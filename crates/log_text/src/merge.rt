@@ -3,8 +3,7 @@ ghost use Rattle.std.specs.Iterator.{YieldsFirst, item_count};
 ghost use Rattle.log_text.specs.LogText.{merged};
 ghost use Rattle.log_text.specs.Merging.{first_clock, earliest_of, TakesAt, AreSorted};
 
-use bit_words::sooner;
-use board_base::{Part, Record};
+use board_base::{Part, Record, sooner};
 
 /// The records of four trails by clock, within a clock in the order of the parts.
 #[derive(Clone, Copy)]
@@ -53,7 +52,7 @@ impl Iterator for Merge<'_> {
 
     ghost remaining = { item_count (λ m. merged m.vector.now m.sound1.now m.sound2.now m.board.now) };
 
-    #[tactic(auto, unfolding(bit_words::specs::Sooner::sooner_of))]
+    #[tactic(auto, unfolding(board_base::specs::Sooner::sooner_of))]
     fn next(&mut self) -> Option<(Part, Record)> {
         let Some(clock) = self.earliest() else {
             return None;

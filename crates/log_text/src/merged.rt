@@ -6,9 +6,10 @@ ghost use Rattle.outside_io.specs.Sink.{Takes};
 
 use crate::block::Block;
 use crate::merge::Merge;
-use crate::record_line::record_line;
+use crate::record_line::set_line;
 use board_base::{Part, Trails};
 use outside_io::{Sink, SinkFault};
+use text_line::Line;
 
 /// Writes a line for each record, earlier clocks first. Lines of one clock come as the parts move in
 /// it: generator, POKEY 1, POKEY 2, and then what the rest of the board recorded. The lines go out in
@@ -30,8 +31,9 @@ pub fn write_merged<O: Sink>(trails: &Trails<'_>, out: &mut O) -> Result<(), Sin
         board: trails.board.records(),
     };
     let mut block = Block::new();
+    let mut line = Line::empty();
     for (part, record) in merge {
-        let line = record_line(part, record);
+        set_line(&mut line, part, record);
         block.push(line.bytes(), out)?;
     }
     block.flush(out)

@@ -1,10 +1,10 @@
-ghost use Rattle.std.specs.Prelude.{◌≡◌, ◌+◌, ◌≤◌, ◌^◌, ◌++◌, IfOk, [], length, take, drop};
+ghost use Rattle.std.specs.Prelude.{◌≡◌, ◌+◌, ◌≤◌, ◌++◌, IfOk, [], length, take, drop};
 ghost use Rattle.board_base.specs.Pokey.{pokey_at_power_on};
 ghost use Rattle.flat_bus.specs.Flat.{zeros};
 ghost use Rattle.pokey_chip.specs.Tick.{pokey_gives, pokey_tick};
 ghost use Rattle.other_board.specs.Beeper.{is_pokey, ticked};
 
-use board_base::{OutOfMemory, Record, Trail};
+use board_base::{CLOCK_END, OutOfMemory, Record, Trail};
 use cpu_core::Bus;
 use flat_bus::UnloggedBus;
 use pokey_chip::{FastPokey, SoundUnit, one_record_a_clock};
@@ -22,14 +22,15 @@ pub struct Beeper {
 }
 
 impl Model for Beeper {
-    ghost use Rattle.std.specs.Prelude.{◌≤◌, ◌+◌, ◌^◌};
+    ghost use Rattle.std.specs.Prelude.{◌≤◌, ◌+◌};
+    ghost use Rattle.board_base.specs.declared.board.TheConstants.{CLOCK_END};
     ghost use Rattle.other_board.specs.Beeper.{BeeperValue};
 
     ghost Value = { BeeperValue };
 
     ghost view = { λ b. record { ram = b.ram; pokey = b.pokey.device; clock = b.clock; left = b.left; levels = b.trail.records } };
 
-    ghost invariant = { λ b. (b.left ≤ b.trail.spare) × (b.clock + b.left ≤ 2 ^ 49) };
+    ghost invariant = { λ b. (b.left ≤ b.trail.spare) × (b.clock + b.left ≤ CLOCK_END) };
 }
 
 /// Whether an address is one of the POKEY's.
@@ -43,7 +44,7 @@ fn reaches_pokey(addr: u16) -> bool
 #[tactic(auto, unfolding(board_base::specs::Ticks::ticks, board_base::specs::Ticks::made))]
 fn tick_pokey(pokey: &mut FastPokey, clock: u64, trail: &mut Trail)
     requires room { 1 ≤ trail.old.spare }
-    requires clock { clock + 1 ≤ 2 ^ 49 }
+    requires clock { clock + 1 ≤ CLOCK_END }
     ensures state { pokey.new.device ≡ pokey_tick pokey.old.device }
     ensures records { trail.new.records ≡ trail.old.records ++ pokey_gives clock pokey.old.device }
     ensures spare { trail.old.spare ≤ trail.new.spare + 1 }

@@ -28,7 +28,9 @@ const BEEPING: [u8; 18] = [
 /// Why it ended early.
 #[derive(Debug, Drop)]
 enum Fault {
+    /// No memory.
     NoMemory,
+    /// A write failed.
     Output(io::Error),
 }
 

@@ -23,8 +23,8 @@ pub trait Shelf {
     ghost absences: { Self → ℕ };
 
     /// Puts the first bytes of a file into the empty `into`: all of them where there are at most
-    /// `limit`, else one byte more than `limit`. After an `Err` nothing is said of `into`, and the
-    /// caller drops it. Want of memory is free.
+    /// `limit`, else `limit` and one more. A file that isn't there leaves it empty. After an `Err`
+    /// nothing is said of `into`, and the caller drops it. Want of memory is free.
     fn load(&mut self, name: &str, limit: usize, into: &mut Vec<u8>) -> Result<Loaded, ShelfFault>
         requires { into.old.items ≡ [] }
         ensures content { Loads (files self.old) name.now limit result into.new.items }

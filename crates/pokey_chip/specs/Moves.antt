@@ -1,6 +1,8 @@
 -- A move of a POKEY from underflow to underflow. The pulses and the clocks of a channel are counted from the start of the
 -- move; no register is written in it.
 use Rattle.std.specs.Prelude.{◌≡◌, ℕ, ◌+◌, ◌-◌, ◌*◌, ◌^◌, ◌<◌, ◌≤◌, ◌==◌, if◌then◌else◌, Bool}
+use Rattle.board_base.specs.declared.board.TheConstants.{CLOCK_END}
+use Rattle.board_base.specs.declared.pokey.TheConstants.{LONGEST_PERIOD, PRESCALER_BASE, PRESCALER_LINE}
 use Rattle.board_base.specs.Pokey.{PokeyValue}
 use Rattle.board_base.specs.Ticks.{times}
 use Rattle.pokey_chip.specs.declared.channel.Channel.{Channel}
@@ -17,23 +19,23 @@ use Rattle.pokey_chip.specs.Tick.{left_of, pokey_tick, turned}
 abbrev pub due_at : Pace → ℕ → ℕ
 due_at Never pulse = 2 ^ 64 - 1
 due_at ChipClock pulse = pulse
-due_at (By28 count) pulse = pulse * 28 - count
-due_at (By114 count) pulse = pulse * 114 - count
+due_at (By28 count) pulse = pulse * PRESCALER_BASE - count
+due_at (By114 count) pulse = pulse * PRESCALER_LINE - count
 
 -- the clocks from one underflow to the next; none where none comes
 abbrev pub step_of : Pace → ℕ → ℕ
 step_of Never period = 0
 step_of ChipClock period = period
-step_of (By28 count) period = period * 28
-step_of (By114 count) period = period * 114
+step_of (By28 count) period = period * PRESCALER_BASE
+step_of (By114 count) period = period * PRESCALER_LINE
 
 -- a channel's next underflow comes with a pulse to come, and in the clock of that pulse
 pub record IsTimed (v : Voice) : Type 0 where
   pub prescaler : IsPace v.pace
   pub some : 1 ≤ v.pulse
-  pub few : v.pulse ≤ 2 ^ 49 + 65542
+  pub few : v.pulse ≤ CLOCK_END + LONGEST_PERIOD
   pub low : 1 ≤ v.period
-  pub high : v.period ≤ 65542
+  pub high : v.period ≤ LONGEST_PERIOD
   pub step : v.step ≡ step_of v.pace v.period
   pub due : v.due ≡ due_at v.pace v.pulse
 
@@ -52,7 +54,7 @@ left_of_voice v n = v.pulse - paced v.pace n
 pub record IsLeft (v : Voice) (n : ℕ) : Type 0 where
   pub prescaler : IsPace v.pace
   pub some : paced v.pace n < v.pulse
-  pub most : v.pulse ≤ paced v.pace n + 65542
+  pub most : v.pulse ≤ paced v.pace n + LONGEST_PERIOD
 
 -- a channel after `done` clocks of a move: its pulses, its period, and the pulse with which it underflows next
 pub record IsVoice (c : Channel) (done : ℕ) (p : PokeyValue) (v : Voice) : Type 0 where
@@ -61,7 +63,7 @@ pub record IsVoice (c : Channel) (done : ℕ) (p : PokeyValue) (v : Voice) : Typ
   pub period : v.period ≡ period_of p.audf p.audctl c
   pub next : left_of c (times pokey_tick done p) + pulses_of c done p ≡ v.pulse
   pub some : 1 ≤ left_of c (times pokey_tick done p)
-  pub most : left_of c (times pokey_tick done p) ≤ 65542
+  pub most : left_of c (times pokey_tick done p) ≤ LONGEST_PERIOD
 
 -- the turns of those channels that are due, in order
 unfoldable pub turns_taken : Bool → Bool → Bool → Bool → PokeyValue → PokeyValue

@@ -49,6 +49,6 @@ NoneRequests p n = MakesNoRequest p First n × MakesNoRequest p Second n × Make
 abbrev pub left_in : Channel → ℕ → PokeyValue → ℕ
 left_in c n p = left_of c p - pulses_of c n p
 
--- where a fact first fails: it is_held below that number and not at it; or it never fails
+-- where a fact first fails: it holds below that number and not at it; or it never fails
 abbrev pub FirstFails : (ℕ → Type 0) → Option ℕ → Type 0
 FirstFails P place = MatchOption place ((k : ℕ) → P k) (λ n. (P n → ⊥) × ((k : ℕ) → k < n → P k))

@@ -3,6 +3,7 @@
 use Rattle.std.specs.Prelude.{ℕ, ◌+◌, ◌-◌, ◌*◌, ◌%◌, ◌^◌, Bool, false, not, ◌&&◌, ◌||◌, ◌==◌, nat_eq, nat_lt, if◌then◌else◌, List, [], ◌∷◌, slice_index}
 use Rattle.std.specs.Int.{bit_at, from_bool}
 use Rattle.std.specs.Cmp.Lexicographic.{pointwise}
+use Rattle.board_base.specs.declared.pokey.TheConstants.{POT_LIMIT, PRESCALER_BASE, PRESCALER_LINE}
 use Rattle.bit_words.specs.Bits.{is_bit}
 use Rattle.board_base.specs.declared.record.Record.{Record}
 use Rattle.board_base.specs.declared.record.Record.TheVariants.{Levels}
@@ -41,17 +42,17 @@ clocked p = record p {
   poly5 = rolled (is_held p.skctl) Five p.poly5;
   poly9 = rolled (is_held p.skctl) Nine p.poly9;
   poly17 = rolled (is_held p.skctl) Seventeen p.poly17;
-  pre28 = prescaled (is_held p.skctl) 28 p.pre28;
-  pre114 = prescaled (is_held p.skctl) 114 p.pre114;
+  pre28 = prescaled (is_held p.skctl) PRESCALER_BASE p.pre28;
+  pre114 = prescaled (is_held p.skctl) PRESCALER_LINE p.pre114;
 }
 
 -- whether the prescaler by 114 pulses in this clock
 abbrev pub line_pulses : PokeyValue → Bool
-line_pulses p = not (is_held p.skctl) && pulsed 114 p.pre114
+line_pulses p = not (is_held p.skctl) && pulsed PRESCALER_LINE p.pre114
 
 -- whether the base clock pulses: AUDCTL bit 0 chooses the prescaler by 114, else it is that by 28
 abbrev pub base_pulses : PokeyValue → Bool
-base_pulses p = not (is_held p.skctl) && (if is_bit p.audctl SLOW_BASE_CLOCK then pulsed 114 p.pre114 else pulsed 28 p.pre28)
+base_pulses p = not (is_held p.skctl) && (if is_bit p.audctl SLOW_BASE_CLOCK then pulsed PRESCALER_LINE p.pre114 else pulsed PRESCALER_BASE p.pre28)
 
 -- whether the pots are counted in this clock: in each one while SKCTL bit 2 is set, and else at a pulse of the prescaler by 114
 abbrev pub pots_rise : PokeyValue → Bool
@@ -59,7 +60,7 @@ pots_rise p = is_bit p.skctl FAST_POT_SCAN || line_pulses p
 
 -- step 2: the pot count, which stands still at 228
 unfoldable pub pot_counted : Bool → PokeyValue → PokeyValue
-pot_counted rise p = record p { pot = if rise && nat_lt p.pot 228 then p.pot + 1 else p.pot }
+pot_counted rise p = record p { pot = if rise && nat_lt p.pot POT_LIMIT then p.pot + 1 else p.pot }
 
 -- a channel gets a pulse in each clock, or with the base clock; the lower channel of a pair gets none
 abbrev pub is_pulsed : Bool → ℕ → Channel → Bool

@@ -2,13 +2,18 @@ ghost use Rattle.std.specs.Prelude.{◌≡◌, ◌+◌, ◌*◌, ◌<◌, ◌≤
 
 use crate::control::{CHIP_CLOCK_1, CHIP_CLOCK_3, JOIN_1_2, JOIN_3_4};
 use bit_words::is_set;
+use board_base::LONGEST_PERIOD;
 
 /// A channel of a POKEY: channels 1 to 4.
 #[derive(Clone, Copy, Debug, PartialEq, Eq)]
 pub enum Channel {
+    /// Channel 1.
     First,
+    /// Channel 2.
     Second,
+    /// Channel 3.
     Third,
+    /// Channel 4.
     Fourth,
 }
 
@@ -97,7 +102,7 @@ impl Channel {
     pub(crate) fn period(self, audf: &[u8; 4], audctl: u8) -> u32
         ensures value { result ≡ period_of audf.now audctl self }
         ensures low { 1 ≤ result }
-        ensures high { result ≤ 65542 }
+        ensures high { result ≤ LONGEST_PERIOD }
     {
         self.frequency(audf, audctl) + self.extra(audctl)
     }

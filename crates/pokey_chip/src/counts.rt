@@ -1,4 +1,4 @@
-ghost use Rattle.std.specs.Prelude.{◌≡◌, ◌+◌, ◌^◌, ◌<◌, ◌≤◌, [], ◌∷◌, min};
+ghost use Rattle.std.specs.Prelude.{◌≡◌, ◌+◌, ◌<◌, ◌≤◌, [], ◌∷◌, min};
 ghost use Rattle.board_base.specs.Ticks.{times};
 ghost use Rattle.pokey_chip.specs.Moves.{IsLeft, left_of_voice};
 ghost use Rattle.pokey_chip.specs.Pulses.{rises_of};
@@ -8,14 +8,14 @@ use crate::control::FAST_POT_SCAN;
 use crate::tick::is_held;
 use crate::voice::Voices;
 use bit_words::is_set;
-use board_base::PokeyState;
+use board_base::{CLOCK_END, POT_LIMIT, PRESCALER_BASE, PRESCALER_LINE, PokeyState};
 use pokey_timer::{prescaler_after, pulses_in};
 
 /// How often the pots are counted in the next `n` clocks.
 #[inline(always)]
 #[tactic(auto, using(crate::proofs::PulseLaws::pots))]
 fn pot_rises(state: &PokeyState, n: u64) -> u64
-    requires { n ≤ 2 ^ 49 }
+    requires { n ≤ CLOCK_END }
     ensures { result ≡ rises_of n state.now }
 {
     if is_set(state.skctl, FAST_POT_SCAN) {
@@ -23,7 +23,7 @@ fn pot_rises(state: &PokeyState, n: u64) -> u64
     } else if is_held(state.skctl) {
         0
     } else {
-        pulses_in(state.pre114, 114, n)
+        pulses_in(state.pre114, PRESCALER_LINE, n)
     }
 }
 
@@ -31,10 +31,10 @@ fn pot_rises(state: &PokeyState, n: u64) -> u64
 #[inline(always)]
 #[tactic(auto, using(crate::proofs::PulseLaws::few_rises))]
 fn pot_after(state: &PokeyState, n: u64) -> u8
-    requires { n ≤ 2 ^ 49 }
-    ensures { result ≡ min 228 (state.now.pot + rises_of n state.now) }
+    requires { n ≤ CLOCK_END }
+    ensures { result ≡ min POT_LIMIT (state.now.pot + rises_of n state.now) }
 {
-    (u64::from(state.pot) + pot_rises(state, n)).min(228) as u8
+    (u64::from(state.pot) + pot_rises(state, n)).min(u64::from(POT_LIMIT)) as u8
 }
 
 /// A prescaler after `n` clocks, one or more, in which it is held or runs.
@@ -43,7 +43,7 @@ fn pot_after(state: &PokeyState, n: u64) -> u8
 fn prescaled(held: bool, period: u8, count: u8, n: u64) -> u8
     requires count { count < period }
     requires some { 1 ≤ n }
-    requires n { n ≤ 2 ^ 49 }
+    requires n { n ≤ CLOCK_END }
     ensures value { result ≡ times (prescaled held period) n count }
     ensures below { result < period }
 {
@@ -59,23 +59,23 @@ fn prescaled(held: bool, period: u8, count: u8, n: u64) -> u8
 #[inline(always)]
 pub(crate) fn put_counts(state: &mut PokeyState, start: &PokeyState, voices: &Voices, n: u64)
     requires some { 1 ≤ n }
-    requires n { n ≤ 2 ^ 49 }
+    requires n { n ≤ CLOCK_END }
     requires first { IsLeft voices.now.first n }
     requires second { IsLeft voices.now.second n }
     requires third { IsLeft voices.now.third n }
     requires fourth { IsLeft voices.now.fourth n }
     ensures { state.new ≡ record state.old {
       left = left_of_voice voices.now.first n ∷ left_of_voice voices.now.second n ∷ left_of_voice voices.now.third n ∷ left_of_voice voices.now.fourth n ∷ [];
-      pre28 = times (prescaled (is_held start.now.skctl) 28) n start.now.pre28;
-      pre114 = times (prescaled (is_held start.now.skctl) 114) n start.now.pre114;
-      pot = min 228 (start.now.pot + rises_of n start.now);
+      pre28 = times (prescaled (is_held start.now.skctl) PRESCALER_BASE) n start.now.pre28;
+      pre114 = times (prescaled (is_held start.now.skctl) PRESCALER_LINE) n start.now.pre114;
+      pot = min POT_LIMIT (start.now.pot + rises_of n start.now);
     } }
 {
     let held = is_held(start.skctl);
     *state = PokeyState {
         left: voices.left(n),
-        pre28: prescaled(held, 28, start.pre28, n),
-        pre114: prescaled(held, 114, start.pre114, n),
+        pre28: prescaled(held, PRESCALER_BASE, start.pre28, n),
+        pre114: prescaled(held, PRESCALER_LINE, start.pre114, n),
         pot: pot_after(start, n),
         ..*state
     };

@@ -1,4 +1,4 @@
-ghost use Rattle.std.specs.Prelude.{◌≡◌, ◌+◌, ◌==◌, ◌^◌, ◌≤◌};
+ghost use Rattle.std.specs.Prelude.{◌≡◌, ◌+◌, ◌==◌, ◌≤◌};
 ghost use Rattle.board_base.specs.Pokey.{pokey_at_power_on};
 ghost use Rattle.board_base.specs.Ticks.{times};
 ghost use Rattle.board_base.specs.Trail.{Extended};
@@ -13,7 +13,7 @@ use crate::registers::{read_register, write_register};
 use crate::tick::{is_held, levels, record_change, turn};
 use crate::unit::SoundUnit;
 use crate::voice::Voices;
-use board_base::{CallCount, Clocked, PokeyState, Trail};
+use board_base::{CLOCK_END, CallCount, Clocked, PokeyState, Trail};
 use std::marker::Model;
 
 /// A POKEY that goes from underflow to underflow: between two of them only its polynomial registers
@@ -70,7 +70,7 @@ fn take_turns(state: &mut PokeyState, voices: &Voices, at: u64)
 /// that was taken on may have other levels than those that its channels have.
 fn advance_by_underflows(state: &mut PokeyState, from: u64, n: u64, trail: &mut Trail)
     requires room { n ≤ trail.old.spare }
-    requires clocks { from + n ≤ 2 ^ 49 }
+    requires clocks { from + n ≤ CLOCK_END }
     ensures state { state.new ≡ times pokey_tick n state.old }
     ensures records { Extended trail.old trail.new (levels_made from n state.old) }
 {

@@ -1,4 +1,7 @@
-//! A POKEY: its clock, its registers, and two devices of the same behaviour.
+//! A POKEY (C012294 data sheet): its clock, its registers, and two devices of the same behaviour.
+//!
+//! `control` has the bits of its control registers and `registers` its registers by their numbers. Of a
+//! clock's five steps `tick` does the first three and the last, and `channel` knows the periods.
 #![tactic(auto)]
 
 mod bits;
@@ -6,6 +9,7 @@ mod channel;
 mod control;
 mod counts;
 pub mod fast;
+pub mod laws;
 mod pace;
 pub mod plain;
 mod poly_registers;
@@ -16,6 +20,7 @@ pub mod unit;
 mod voice;
 
 pub use fast::FastPokey;
+pub use laws::{control_bits, register_numbers};
 pub use plain::PlainPokey;
 pub use unit::{SoundUnit, one_record_a_clock};
 

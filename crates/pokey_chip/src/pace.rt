@@ -1,4 +1,4 @@
-ghost use Rattle.std.specs.Prelude.{◌≡◌, ℕ, ◌^◌, ◌≤◌};
+ghost use Rattle.std.specs.Prelude.{◌≡◌, ℕ, ◌≤◌};
 ghost use Rattle.pokey_chip.specs.Paces.{IsPace, paced};
 ghost use Rattle.pokey_chip.specs.Pulses.{pulses_of};
 
@@ -6,7 +6,7 @@ use crate::channel::Channel;
 use crate::control::SLOW_BASE_CLOCK;
 use crate::tick::is_held;
 use bit_words::is_set;
-use board_base::PokeyState;
+use board_base::{CLOCK_END, PRESCALER_BASE, PRESCALER_LINE, PokeyState};
 use pokey_timer::pulses_in;
 
 /// What gives a channel its pulses while no register is written.
@@ -48,15 +48,15 @@ impl Pace {
     /// The pulses in the next `n` clocks.
     #[inline(always)]
     pub fn pulses(self, n: u64) -> u64
-        requires n { n ≤ 2 ^ 49 }
+        requires n { n ≤ CLOCK_END }
         requires prescaler { IsPace self }
         ensures { result ≡ paced self n }
     {
         match self {
             Pace::Never => 0,
             Pace::ChipClock => n,
-            Pace::By28 { count } => pulses_in(count, 28, n),
-            Pace::By114 { count } => pulses_in(count, 114, n),
+            Pace::By28 { count } => pulses_in(count, PRESCALER_BASE, n),
+            Pace::By114 { count } => pulses_in(count, PRESCALER_LINE, n),
         }
     }
 }

@@ -1,4 +1,4 @@
-ghost use Rattle.std.specs.Prelude.{◌≡◌, ◌+◌, ◌^◌, ◌≤◌};
+ghost use Rattle.std.specs.Prelude.{◌≡◌, ◌+◌, ◌≤◌};
 ghost use Rattle.board_base.specs.Pokey.{pokey_at_power_on};
 ghost use Rattle.board_base.specs.Ticks.{times};
 ghost use Rattle.board_base.specs.Trail.{Extended};
@@ -8,7 +8,7 @@ use crate::quiet::quiet_clocks;
 use crate::registers::{read_register, write_register};
 use crate::tick::tick_into;
 use crate::unit::SoundUnit;
-use board_base::{CallCount, Clocked, PokeyState, Trail};
+use board_base::{CLOCK_END, CallCount, Clocked, PokeyState, Trail};
 use std::marker::Model;
 
 /// A POKEY that does each clock by itself.
@@ -51,7 +51,7 @@ impl Clocked for PlainPokey {
 #[tactic(auto, using(board_base::proofs::TickLaws::one_tick, crate::proofs::RecordLemmas::unchanged))]
 fn advance_by_clocks(state: &mut PokeyState, from: u64, n: u64, trail: &mut Trail)
     requires room { n ≤ trail.old.spare }
-    requires clocks { from + n ≤ 2 ^ 49 }
+    requires clocks { from + n ≤ CLOCK_END }
     ensures state { state.new ≡ times pokey_tick n state.old }
     ensures records { Extended trail.old trail.new (levels_made from n state.old) }
 {

@@ -4,8 +4,8 @@ ghost use Rattle.pokey_chip.specs.Pulses.{asks, FirstFails, HasNoUnderflow, Make
 
 use crate::channel::Channel;
 use crate::pace::Pace;
-use bit_words::{is_set, sooner};
-use board_base::PokeyState;
+use bit_words::is_set;
+use board_base::{PRESCALER_BASE, PRESCALER_LINE, PokeyState, sooner};
 use pokey_timer::clocks_to_underflow;
 
 /// The clocks up to and with the next underflow of a channel, where one comes.
@@ -16,8 +16,8 @@ fn underflow_in(state: &PokeyState, channel: Channel) -> Option<u64>
     match Pace::of(state, channel) {
         Pace::Never => None,
         Pace::ChipClock => Some(u64::from(left)),
-        Pace::By28 { count } => Some(clocks_to_underflow(left, count, 28)),
-        Pace::By114 { count } => Some(clocks_to_underflow(left, count, 114)),
+        Pace::By28 { count } => Some(clocks_to_underflow(left, count, PRESCALER_BASE)),
+        Pace::By114 { count } => Some(clocks_to_underflow(left, count, PRESCALER_LINE)),
     }
 }
 

@@ -8,31 +8,31 @@ use board_base::PokeyState;
 // Registers that are written (POKEY C012294 data sheet): 0 to 7 are AUDF and AUDC of channels 1 to
 // 4, and those without a name here do nothing.
 
-const AUDF1: u8 = 0x0;
+pub(crate) const AUDF1: u8 = 0x0;
 
-const AUDC4: u8 = 0x7;
+pub(crate) const AUDC4: u8 = 0x7;
 
-const AUDCTL: u8 = 0x8;
+pub(crate) const AUDCTL: u8 = 0x8;
 
-const STIMER: u8 = 0x9;
+pub(crate) const STIMER: u8 = 0x9;
 
-const POTGO: u8 = 0xB;
+pub(crate) const POTGO: u8 = 0xB;
 
-const IRQEN: u8 = 0xE;
+pub(crate) const IRQEN: u8 = 0xE;
 
-const SKCTL: u8 = 0xF;
+pub(crate) const SKCTL: u8 = 0xF;
 
 // Registers that are read: those without a name here give FF.
 
-const POT0: u8 = 0x0;
+pub(crate) const POT0: u8 = 0x0;
 
-const POT7: u8 = 0x7;
+pub(crate) const POT7: u8 = 0x7;
 
-const ALLPOT: u8 = 0x8;
+pub(crate) const ALLPOT: u8 = 0x8;
 
-const RANDOM: u8 = 0xA;
+pub(crate) const RANDOM: u8 = 0xA;
 
-const IRQST: u8 = 0xE;
+pub(crate) const IRQST: u8 = 0xE;
 
 /// The count of a pot, as far as its target.
 fn pot(state: &PokeyState, which: u8) -> u8

@@ -106,6 +106,238 @@ fn a_volume_alone_is_a_level_and_is_recorded_once(rt: HostRuntime) -> Result<(),
     Ok(())
 }
 
+/// Both POKEYs give these records of the clocks 0 to `end` from a state.
+fn assert_loaded(
+    rt: &impl Abort,
+    alloc: Global,
+    state: &PokeyState,
+    end: u32,
+    expected: &[Record],
+) -> Result<(), OutOfMemory> {
+    let mut plain = PlainPokey::new();
+    let mut plain_records = Vec::new(alloc);
+    plain.load(state);
+    move_to(alloc, &mut plain, 0, end, &mut plain_records)?;
+    assert_eq!(rt; plain_records.as_slice(), expected);
+    let mut fast = FastPokey::new();
+    let mut fast_records = Vec::new(alloc);
+    fast.load(state);
+    move_to(alloc, &mut fast, 0, end, &mut fast_records)?;
+    assert_eq!(rt; fast_records.as_slice(), expected);
+    Ok(())
+}
+
+/// A POKEY whose channel 1 is on the chip clock with period 4, and underflows in the clocks 0, 4, 8
+/// and so on.
+fn every_4_clocks(audctl: u8, audc: u8) -> PokeyState {
+    PokeyState {
+        audc: [audc, 0, 0, 0],
+        audctl: 0x40 + audctl % 0x40,
+        skctl: 3,
+        ..PokeyState::power_on()
+    }
+}
+
+// Noise, worked out by hand: s0, s1, .. are the bits of the loaded register from the lowest on, and
+// then those that come in. A register has shifted t + 1 times when it is looked at in clock t, so an
+// underflow there takes s(t+1); underflows are in the clocks 0, 4, 8, ..
+
+#[test]
+fn noise_of_the_register_of_17_bits(rt: HostRuntime) -> Result<(), Fail> {
+    // s(k+17) = s(k+5) + s(k); s1 and s9 are 1.
+    // s1 = 1, s5 = 0, s9 = 1, s13 = 0, s17 = s5 + s0 = 0, s21 = s9 + s4 = 1, s25 = s13 + s8 = 0.
+    let state = PokeyState {
+        poly17: 0x00202,
+        ..every_4_clocks(0, 0x85)
+    };
+    let expected = [
+        levels(0, 5, 0),
+        levels(4, 0, 0),
+        levels(8, 5, 0),
+        levels(12, 0, 0),
+        levels(20, 5, 0),
+        levels(24, 0, 0),
+    ];
+    assert_loaded(&rt, rt.alloc(), &state, 28, &expected)?;
+    Ok(())
+}
+
+#[test]
+fn noise_of_the_register_of_9_bits(rt: HostRuntime) -> Result<(), Fail> {
+    // s(k+9) = s(k+4) + s(k); s1 and s4 are 1.
+    // s1 = 1, s5 = 0, s9 = s4 + s0 = 1, s13 = s8 + s4 = 1, s17 = s12 + s8 = (s7 + s3) + 0 = 0.
+    let state = PokeyState {
+        audctl: 0xC0,
+        poly9: 0x012,
+        ..every_4_clocks(0, 0x85)
+    };
+    let expected = [
+        levels(0, 5, 0),
+        levels(4, 0, 0),
+        levels(8, 5, 0),
+        levels(16, 0, 0),
+    ];
+    assert_loaded(&rt, rt.alloc(), &state, 20, &expected)?;
+    Ok(())
+}
+
+#[test]
+fn noise_of_the_register_of_4_bits(rt: HostRuntime) -> Result<(), Fail> {
+    // s(k+4) = s(k+1) + s(k), s1 alone is 1: 0 1 0 0 1 1 0 1 0 1 1 1 1 0 0, and again.
+    // s1 = 1, s5 = 1, s9 = 1, s13 = 0, s17 = s2 = 0, s21 = s6 = 0, s25 = s10 = 1.
+    let state = PokeyState {
+        poly4: 0x2,
+        ..every_4_clocks(0, 0xC5)
+    };
+    let expected = [levels(0, 5, 0), levels(12, 0, 0), levels(24, 5, 0)];
+    assert_loaded(&rt, rt.alloc(), &state, 28, &expected)?;
+    Ok(())
+}
+
+#[test]
+fn a_tone_through_the_register_of_5_bits(rt: HostRuntime) -> Result<(), Fail> {
+    // s(k+5) = s(k+2) + s(k), s1 alone is 1: 0 1 0 0 0 0 1 0 0 1 0 1 1 0 0 1 1 1 ..
+    // s1 = 1 turns the tone over, s5 = 0 keeps it, s9 = 1 turns it, s13 = 0 keeps it, s17 = 1 turns it.
+    let state = PokeyState {
+        poly5: 0x02,
+        ..every_4_clocks(0, 0x25)
+    };
+    let expected = [levels(0, 5, 0), levels(8, 0, 0), levels(16, 5, 0)];
+    assert_loaded(&rt, rt.alloc(), &state, 20, &expected)?;
+    Ok(())
+}
+
+#[test]
+fn channel_1_is_filtered_by_channel_3(rt: HostRuntime) -> Result<(), Fail> {
+    // The tone of channel 1 turns in the clocks 0, 4, 8, 12, 16. Channel 3, on the chip clock with
+    // period 6, takes it in the clocks 1 (a 1), 7 (a 0), 13 (a 0) and 19 (a 1). The signal is 1 where
+    // both differ.
+    let state = PokeyState {
+        audf: [0, 0, 2, 0],
+        left: [1, 1, 2, 1],
+        ..every_4_clocks(0x24, 0xA5)
+    };
+    let expected = [
+        levels(0, 5, 0),
+        levels(1, 0, 0),
+        levels(4, 5, 0),
+        levels(7, 0, 0),
+        levels(8, 5, 0),
+        levels(12, 0, 0),
+        levels(16, 5, 0),
+        levels(19, 0, 0),
+    ];
+    assert_loaded(&rt, rt.alloc(), &state, 20, &expected)?;
+    Ok(())
+}
+
+#[test]
+fn channel_2_is_filtered_by_channel_4(rt: HostRuntime) -> Result<(), Fail> {
+    // The base clock pulses in the clocks 0, 28, 56, .., in each of which the tone of channel 2 turns:
+    // 1, 0, 1, 0, 1. Channel 4 has its turn after it and takes the tone in the clocks 0, 56 and 112,
+    // each time a 1. The signal is 1 where both differ: 0, 1, 0, 1, 0.
+    let state = PokeyState {
+        audf: [0, 0, 0, 1],
+        audc: [0, 0xA6, 0, 0],
+        audctl: 0x02,
+        skctl: 3,
+        pre28: 27,
+        ..PokeyState::power_on()
+    };
+    let expected = [
+        levels(28, 0, 6),
+        levels(56, 0, 0),
+        levels(84, 0, 6),
+        levels(112, 0, 0),
+    ];
+    assert_loaded(&rt, rt.alloc(), &state, 113, &expected)?;
+    Ok(())
+}
+
+#[test]
+fn a_base_clock_by_114(rt: HostRuntime) -> Result<(), Fail> {
+    // The prescaler stands at 113, so it pulses in the clocks 0, 114 and 228; that by 28 isn't taken.
+    let state = PokeyState {
+        audc: [0xA5, 0, 0, 0],
+        audctl: 0x01,
+        skctl: 3,
+        pre114: 113,
+        ..PokeyState::power_on()
+    };
+    let expected = [levels(0, 5, 0), levels(114, 0, 0), levels(228, 5, 0)];
+    assert_loaded(&rt, rt.alloc(), &state, 229, &expected)?;
+    Ok(())
+}
+
+#[test]
+fn channels_3_and_4_are_joined(rt: HostRuntime) -> Result<(), Fail> {
+    // On the chip clock the pair has 1 + 256 * 0 + 7 = 8 pulses: channel 4 underflows in the clocks 0,
+    // 8 and 16. Channel 3 stands still.
+    let state = PokeyState {
+        audf: [0, 0, 1, 0],
+        audc: [0, 0, 0xA3, 0xA7],
+        audctl: 0x28,
+        skctl: 3,
+        ..PokeyState::power_on()
+    };
+    let upper = |clock: u64, l4: u8| Record::Levels {
+        clock,
+        l1: 0,
+        l2: 0,
+        l3: 0,
+        l4,
+    };
+    let expected = [upper(0, 7), upper(8, 0), upper(16, 7)];
+    assert_loaded(&rt, rt.alloc(), &state, 17, &expected)?;
+    Ok(())
+}
+
+/// The pot count after `clocks` from 226, with the prescaler by 114 at 113.
+fn pot_after<P: SoundUnit>(
+    alloc: Global,
+    mut unit: P,
+    skctl: u8,
+    clocks: u32,
+) -> Result<(u8, u8), OutOfMemory> {
+    unit.load(&PokeyState {
+        skctl,
+        pre114: 113,
+        pot: 226,
+        targets: [228, 227, 255, 0, 0, 0, 0, 0],
+        ..PokeyState::power_on()
+    });
+    move_to(alloc, &mut unit, 0, clocks, &mut Vec::new(alloc))?;
+    Ok((unit.read(0), unit.read(8)))
+}
+
+#[test]
+fn a_pot_is_counted_in_each_clock_or_each_114(rt: HostRuntime) -> Result<(), Fail> {
+    // SKCTL and clocks; POT0, and ALLPOT, whose bits 0 to 2 are 1 where the count is below 228, 227
+    // and 255. The slow scan counts in the clocks 0 and 114; with SKCTL bits 0 and 1 both 0 it stands.
+    let rows = [
+        (3, 1, 227, 0b101),
+        (3, 114, 227, 0b101),
+        (3, 115, 228, 0b100),
+        (3, 229, 228, 0b100),
+        (0, 300, 226, 0b111),
+        (7, 1, 227, 0b101),
+        (7, 2, 228, 0b100),
+        (4, 2, 228, 0b100),
+        (7, 3, 228, 0b100),
+    ];
+    for (skctl, clocks, pot, counted) in rows {
+        assert_eq!(rt;
+            pot_after(rt.alloc(), PlainPokey::new(), skctl, clocks)?,
+            (pot, counted)
+        );
+        assert_eq!(rt;
+            pot_after(rt.alloc(), FastPokey::new(), skctl, clocks)?,
+            (pot, counted)
+        );
+    }
+    Ok(())
+}
+
 fn assert_random<P: SoundUnit>(
     rt: &impl Abort,
     alloc: Global,

@@ -11,7 +11,9 @@ use crate::control::{
     SLOW_BASE_CLOCK, VOLUME_ONLY,
 };
 use bit_words::is_set;
-use board_base::{PokeyState, Record, Trail};
+use board_base::{
+    LONGEST_PERIOD, POT_LIMIT, PRESCALER_BASE, PRESCALER_LINE, PokeyState, Record, Trail,
+};
 use pokey_poly::Poly;
 
 /// Whether the polynomial registers and the prescalers are held.
@@ -66,8 +68,8 @@ fn clock_registers(state: &mut PokeyState)
     state.poly5 = roll(held, Poly::Five, u32::from(state.poly5)) as u8;
     state.poly9 = roll(held, Poly::Nine, u32::from(state.poly9)) as u16;
     state.poly17 = roll(held, Poly::Seventeen, state.poly17);
-    state.pre28 = prescale(held, 28, state.pre28);
-    state.pre114 = prescale(held, 114, state.pre114);
+    state.pre28 = prescale(held, PRESCALER_BASE, state.pre28);
+    state.pre114 = prescale(held, PRESCALER_LINE, state.pre114);
 }
 
 /// Whether a prescaler that isn't held pulses in the next clock.
@@ -83,7 +85,7 @@ fn wraps(count: u8, period: u8) -> bool
 fn line_pulses(state: &PokeyState) -> bool
     ensures { result ≡ line_pulses state.now }
 {
-    !is_held(state.skctl) && wraps(state.pre114, 114)
+    !is_held(state.skctl) && wraps(state.pre114, PRESCALER_LINE)
 }
 
 /// Whether the base clock pulses in the next clock.
@@ -93,9 +95,9 @@ fn base_pulses(state: &PokeyState) -> bool
     if is_held(state.skctl) {
         false
     } else if is_set(state.audctl, SLOW_BASE_CLOCK) {
-        wraps(state.pre114, 114)
+        wraps(state.pre114, PRESCALER_LINE)
     } else {
-        wraps(state.pre28, 28)
+        wraps(state.pre28, PRESCALER_BASE)
     }
 }
 
@@ -111,7 +113,7 @@ fn pots_rise(state: &PokeyState) -> bool
 fn count_pot(state: &mut PokeyState, rise: bool)
     ensures { state.new ≡ pot_counted rise state.old }
 {
-    if rise && state.pot < 228 {
+    if rise && state.pot < POT_LIMIT {
         state.pot += 1;
     }
 }
@@ -136,7 +138,7 @@ fn underflows(state: &PokeyState, base: bool, channel: Channel) -> bool
 fn left_after(state: &PokeyState, base: bool, channel: Channel) -> u32
     ensures value { result ≡ left_after base state.now channel }
     ensures low { 1 ≤ result }
-    ensures high { result ≤ 65542 }
+    ensures high { result ≤ LONGEST_PERIOD }
 {
     let left = state.left[channel.index()];
     if !is_pulsed(base, state.audctl, channel) {

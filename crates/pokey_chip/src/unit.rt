@@ -1,4 +1,4 @@
-ghost use Rattle.std.specs.Prelude.{◌≡◌, ℕ, ◌+◌, ◌^◌, ◌<◌, ◌≤◌, length, MatchOption};
+ghost use Rattle.std.specs.Prelude.{◌≡◌, ℕ, ◌+◌, ◌<◌, ◌≤◌, length, MatchOption};
 ghost use Rattle.board_base.specs.Counts.{Counted};
 ghost use Rattle.board_base.specs.Pokey.{PokeyValue};
 ghost use Rattle.board_base.specs.Records.{MadeBetween};
@@ -8,7 +8,7 @@ ghost use Rattle.pokey_chip.specs.Quiet.{AnswersEachLag, IsEverQuiet, IsQuietBef
 ghost use Rattle.pokey_chip.specs.Registers.{pot_set, register_read, register_written};
 ghost use Rattle.pokey_chip.specs.Tick.{levels_made, pokey_gives, pokey_tick};
 
-use board_base::{Clocked, Part, PokeyState, Trail};
+use board_base::{CLOCK_END, Clocked, Part, PokeyState, Trail};
 
 /// A POKEY (C012294 data sheet; the pots, joined pairs and the order within a clock are this
 /// project's own profile).
@@ -25,7 +25,7 @@ pub trait SoundUnit: Clocked {
     /// them.
     fn advance(&mut self, from: u64, n: u64, trail: &mut Trail)
         requires room { n ≤ trail.old.spare }
-        requires clocks { from + n ≤ 2 ^ 49 }
+        requires clocks { from + n ≤ CLOCK_END }
         ensures state { device self.new ≡ times pokey_tick n (device self.old) }
         ensures records { Extended trail.old trail.new (levels_made from n (device self.old)) }
         ensures counted { Counted (Self.calls self.old) (Self.calls self.new) };

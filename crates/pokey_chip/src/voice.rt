@@ -1,10 +1,10 @@
-ghost use Rattle.std.specs.Prelude.{◌≡◌, ◌+◌, ◌^◌, ◌≤◌, All, [], ◌∷◌, min};
+ghost use Rattle.std.specs.Prelude.{◌≡◌, ◌+◌, ◌≤◌, All, [], ◌∷◌, min};
 ghost use Rattle.pokey_chip.specs.Moves.{due_at, step_of, IsLeft, IsPassed, IsTimed, IsVoice, left_of_voice};
 ghost use Rattle.pokey_chip.specs.Paces.{IsPace};
 
 use crate::channel::Channel;
 use crate::pace::Pace;
-use board_base::PokeyState;
+use board_base::{CLOCK_END, LONGEST_PERIOD, PRESCALER_BASE, PRESCALER_LINE, PokeyState};
 
 /// A channel in a move: what gives it its pulses, its period in pulses and in clocks, the pulse with
 /// which it underflows next and the clock of that pulse, both counted from the start of the move.
@@ -22,14 +22,14 @@ pub struct Voice {
 fn clock_of(pace: Pace, pulse: u64) -> u64
     requires prescaler { IsPace pace }
     requires some { 1 ≤ pulse }
-    requires few { pulse ≤ 2 ^ 49 + 65542 }
+    requires few { pulse ≤ CLOCK_END + LONGEST_PERIOD }
     ensures { result ≡ due_at pace pulse }
 {
     match pace {
         Pace::Never => u64::MAX,
         Pace::ChipClock => pulse,
-        Pace::By28 { count } => pulse * 28 - u64::from(count),
-        Pace::By114 { count } => pulse * 114 - u64::from(count),
+        Pace::By28 { count } => pulse * u64::from(PRESCALER_BASE) - u64::from(count),
+        Pace::By114 { count } => pulse * u64::from(PRESCALER_LINE) - u64::from(count),
     }
 }
 
@@ -42,8 +42,8 @@ fn clocks_between(pace: Pace, pulses: u32) -> u64
     match pace {
         Pace::Never => 0,
         Pace::ChipClock => pulses,
-        Pace::By28 { .. } => pulses * 28,
-        Pace::By114 { .. } => pulses * 114,
+        Pace::By28 { .. } => pulses * u64::from(PRESCALER_BASE),
+        Pace::By114 { .. } => pulses * u64::from(PRESCALER_LINE),
     }
 }
 
@@ -71,7 +71,7 @@ impl Voice {
     #[tactic(auto, using(crate::proofs::VoiceLaws::passes))]
     fn after(self, at: u64) -> Voice
         requires timed { IsTimed self }
-        requires at { at ≤ 2 ^ 49 }
+        requires at { at ≤ CLOCK_END }
         ensures { IsPassed at self result }
     {
         if self.due != at {
@@ -87,11 +87,11 @@ impl Voice {
     /// The pulses left of the channel after `n` clocks.
     #[inline(always)]
     fn left(self, n: u64) -> u32
-        requires n { n ≤ 2 ^ 49 }
+        requires n { n ≤ CLOCK_END }
         requires left { IsLeft self n }
         ensures value { result ≡ left_of_voice self n }
         ensures low { 1 ≤ result }
-        ensures high { result ≤ 65542 }
+        ensures high { result ≤ LONGEST_PERIOD }
     {
         (self.pulse - self.pace.pulses(n)) as u32
     }
@@ -130,7 +130,7 @@ impl Voices {
         requires second { IsTimed self.second }
         requires third { IsTimed self.third }
         requires fourth { IsTimed self.fourth }
-        requires at { at ≤ 2 ^ 49 }
+        requires at { at ≤ CLOCK_END }
         ensures first { IsPassed at self.first result.first }
         ensures second { IsPassed at self.second result.second }
         ensures third { IsPassed at self.third result.third }
@@ -147,13 +147,13 @@ impl Voices {
     /// The pulses left of the channels after `n` clocks.
     #[inline(always)]
     pub fn left(&self, n: u64) -> [u32; 4]
-        requires n { n ≤ 2 ^ 49 }
+        requires n { n ≤ CLOCK_END }
         requires first { IsLeft self.now.first n }
         requires second { IsLeft self.now.second n }
         requires third { IsLeft self.now.third n }
         requires fourth { IsLeft self.now.fourth n }
         ensures value { result ≡ left_of_voice self.now.first n ∷ left_of_voice self.now.second n ∷ left_of_voice self.now.third n ∷ left_of_voice self.now.fourth n ∷ [] }
-        ensures range { All (λ left. (1 ≤ left) × (left ≤ 65542)) result }
+        ensures range { All (λ left. (1 ≤ left) × (left ≤ LONGEST_PERIOD)) result }
     {
         [
             self.first.left(n),

@@ -7,9 +7,13 @@ ghost use Rattle.pokey_poly.specs.Shift.{incoming, moved, shifted, tap_of, width
 /// A polynomial register, by its number of bits (POKEY C012294 data sheet).
 #[derive(Clone, Copy, Debug, PartialEq, Eq)]
 pub enum Poly {
+    /// Of 4 bits.
     Four,
+    /// Of 5 bits.
     Five,
+    /// Of 9 bits.
     Nine,
+    /// Of 17 bits.
     Seventeen,
 }
 

@@ -1,5 +1,7 @@
-ghost use Rattle.std.specs.Prelude.{◌≡◌, ◌^◌, ◌<◌, ◌≤◌, max};
+ghost use Rattle.std.specs.Prelude.{◌≡◌, ◌<◌, ◌≤◌, max};
 ghost use Rattle.pokey_timer.specs.Countdown.{skipped};
+
+use board_base::CLOCK_END;
 
 /// What is left of a countdown after this many pulses, and the underflows among them.
 #[inline]
@@ -7,7 +9,7 @@ ghost use Rattle.pokey_timer.specs.Countdown.{skipped};
 pub fn skip(left: u32, period: u32, pulses: u64) -> (u32, u64)
     requires left { 1 ≤ left }
     requires period { 1 ≤ period }
-    requires pulses { pulses ≤ 2 ^ 49 }
+    requires pulses { pulses ≤ CLOCK_END }
     ensures value { result ≡ skipped period pulses (left, 0) }
     ensures some { 1 ≤ result.0 }
     ensures most { result.0 ≤ max left period }

@@ -1,12 +1,14 @@
-ghost use Rattle.std.specs.Prelude.{◌≡◌, ℕ, ◌^◌, ◌<◌, ◌≤◌};
+ghost use Rattle.std.specs.Prelude.{◌≡◌, ℕ, ◌<◌, ◌≤◌};
 ghost use Rattle.pokey_timer.specs.Prescaler.{count_after, pulses};
+
+use board_base::CLOCK_END;
 
 /// The pulses that a prescaler gives in the next `n` ticks.
 #[inline]
 #[tactic(auto, using(crate::proofs::Prescalers::rounds))]
 pub fn pulses_in(count: u8, period: u8, n: u64) -> u64
     requires count { count < period }
-    requires n { n ≤ 2 ^ 49 }
+    requires n { n ≤ CLOCK_END }
     ensures { result ≡ pulses period count n }
 {
     (u64::from(count) + n) / u64::from(period)
@@ -17,7 +19,7 @@ pub fn pulses_in(count: u8, period: u8, n: u64) -> u64
 #[tactic(auto, using(crate::proofs::Prescalers::rounds))]
 pub fn prescaler_after(count: u8, period: u8, n: u64) -> u8
     requires count { count < period }
-    requires n { n ≤ 2 ^ 49 }
+    requires n { n ≤ CLOCK_END }
     ensures value { result ≡ count_after period count n }
     ensures below { result < period }
 {

@@ -4,6 +4,6 @@ use Rattle.rom_image.specs.declared.fault.ImageFault.{ImageFault}
 use Rattle.rom_image.specs.declared.fault.ImageFault.TheVariants.{Length, OutOfMemory}
 
 -- why bytes are no image
-abbrev pub fault_text : ImageFault → List ℕ
-fault_text (Length n) = codes "length " ++ decimal n
-fault_text OutOfMemory = codes "no memory"
+abbrev pub image_fault_text : ImageFault → List ℕ
+image_fault_text (Length n) = codes "length " ++ decimal n
+image_fault_text OutOfMemory = codes "no memory"

@@ -3,9 +3,11 @@
 
 pub mod fault;
 pub mod image;
+pub mod laws;
 
 pub use fault::ImageFault;
 pub use image::{IMAGE_LEN, Image, PROGRAM_ROM_LEN};
+pub use laws::image_numbers;
 
 #[cfg(test)]
 mod tests;

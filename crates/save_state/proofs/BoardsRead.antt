@@ -9,20 +9,20 @@ use Rattle.std.proofs.lemmas.List.Folds.{concat-append}
 use Rattle.cpu_table.specs.Opcodes.{row_of}
 use Rattle.board_base.specs.Cpu.{CpuValue, MidValue, IsMid}
 use Rattle.board_base.specs.Board.{BoardValue}
-use Rattle.board_base.specs.Divider.{DividerValue, IsDivider}
+use Rattle.board_base.specs.Divider.{DividerValue, IsDivider, reset_number}
 use Rattle.board_base.specs.declared.cpu.Sequence.{Sequence}
 use Rattle.board_base.specs.declared.cpu.Sequence.TheVariants.{Opcode, Interrupt, Reset}
 use Rattle.board_base.specs.declared.divider.Pending.{Pending}
 use Rattle.board_base.specs.declared.divider.Pending.TheVariants.{Nothing, Power, Watchdog}
 use Rattle.board_base.specs.Cpu.{cpu_at_power_on}
 use Rattle.cpu_core.specs.Places.{IsMiddle}
-use Rattle.save_state.specs.StateBytes.{pending_number, sequence_number, number_of, sequence_of, middle_at, board_pieces, processor_of, last_clock}
+use Rattle.save_state.specs.StateBytes.{sequence_number, number_of, sequence_of, middle_at, board_pieces, processor_of, last_clock}
 use Rattle.save_state.specs.Sections.{head_fields, register_fields, jam_fields, undocumented, port_fields, divider_fields, middle_of_version, middle_fields, eight_fields, place_fields, zero_fields, head_pieces, register_pieces, jam_pieces, port_pieces, divider_pieces, middle_pieces, eight_pieces, zero_pieces, processor_pieces, back_pieces}
 use Rattle.save_state.specs.Walk.{next, read_all, processor_at, middle_after, back_at, board_at}
 use Rattle.save_state.specs.Reading.{IsWholeCpu, IsWhole}
 use Rattle.save_state.proofs.Laws.{AreSpelled, spelled_read}
 use Rattle.save_state.proofs.Whole.{tells_processor}
-use Rattle.save_state.proofs.Spelled.{next_ok, plain, two_parts, three_parts, four_parts, flag_most, word_most, long_most, back_read}
+use Rattle.save_state.proofs.Spelled.{next_ok, plain, two_parts, three_parts, four_parts, flag_most, u16_most, u64_most, back_read}
 
 -- the clock and the processor
 head_spelled : (cpu : CpuValue) (version : ℕ) → AreSpelled cpu head_fields (head_pieces version)
@@ -32,7 +32,7 @@ head_spelled cpu version = ((refl, tt), ((refl, (refl, refl, refl)), tt))
 registers_spelled : (cpu : CpuValue) (last clock : ℕ) (c : CpuValue) → clock < 2 ^ 64 → clock ≤ last → c.p / 16 % 4 ≡ 0 → AreSpelled cpu (register_fields last) (register_pieces clock c)
 unfolding AreSpelled register_fields
 registers_spelled cpu last clock c small most flags =
-    ((refl, long_most clock last small most), ((refl, tt), ((refl, tt), ((refl, tt), ((refl, tt), ((refl, tt), ((refl, flags), tt)))))))
+    ((refl, u64_most clock last small most), ((refl, tt), ((refl, tt), ((refl, tt), ((refl, tt), ((refl, tt), ((refl, flags), tt)))))))
 
 -- whether it is jammed, as the first of its bytes tells it
 jam_spelled : (cpu : CpuValue) (jam : Option ℕ) (rest : List ℕ) → IfSome jam (λ o. row_of o ≡ None) → AreSpelled cpu (jam_fields (slice_index (concat (jam_pieces jam) ++ rest) 0)) (jam_pieces jam)
@@ -60,7 +60,7 @@ ports_spelled : (cpu : CpuValue) (out in0 in3 in4 : ℕ) → in0 < 64 → AreSpe
 unfolding AreSpelled port_fields
 ports_spelled cpu out in0 in3 in4 h = ((refl, tt), ((refl, omega arith), ((refl, tt), ((refl, tt), tt))))
 
-pending_most : (p : Pending) → pending_number p ≤ 2
+pending_most : (p : Pending) → reset_number p ≤ 2
 pending_most Nothing = omega arith
 pending_most Power = omega arith
 pending_most Watchdog = omega arith
@@ -68,7 +68,7 @@ pending_most Watchdog = omega arith
 divider_spelled : (cpu : CpuValue) (d : DividerValue) → IsDivider d → AreSpelled cpu divider_fields (divider_pieces d)
 unfolding AreSpelled divider_fields
 divider_spelled cpu d h =
-    ((refl, word_most d.phase 6143 (omega (arith, h.phase)) (omega (arith, h.phase))), ((refl, flag_most d.irq), ((refl, omega (arith, h.dog)), ((refl, pending_most d.pending), tt))))
+    ((refl, u16_most d.phase 6143 (omega (arith, h.phase)) (omega (arith, h.phase))), ((refl, flag_most d.irq), ((refl, omega (arith, h.dog)), ((refl, pending_most d.pending), tt))))
 
 zeros_spelled : (cpu : CpuValue) → AreSpelled cpu zero_fields zero_pieces
 unfolding AreSpelled zero_fields

@@ -10,7 +10,7 @@ use Rattle.std.proofs.lemmas.Nat.{from_le_bytes-to_le_bytes_2, from_le_bytes-to_
 use Rattle.board_base.specs.Ranges.{IsWithin}
 use Rattle.board_base.specs.Cpu.{CpuValue, MidValue}
 use Rattle.board_base.specs.Board.{BoardValue}
-use Rattle.board_base.specs.Divider.{DividerValue, IsDivider}
+use Rattle.board_base.specs.Divider.{DividerValue, IsDivider, reset_number}
 use Rattle.board_base.specs.Earom.{EaromValue, IsEarom}
 use Rattle.board_base.specs.Pokey.{PokeyValue, IsPokey}
 use Rattle.board_base.specs.Vg.{VgValue, IsVg}
@@ -19,8 +19,8 @@ use Rattle.board_base.specs.declared.cpu.Sequence.TheVariants.{Opcode, Interrupt
 use Rattle.board_base.specs.declared.divider.Pending.{Pending}
 use Rattle.board_base.specs.declared.divider.Pending.TheVariants.{Nothing, Power, Watchdog}
 use Rattle.cpu_core.specs.Places.{IsMiddle}
-use Rattle.save_state.specs.Fields.{signed, word, long}
-use Rattle.save_state.specs.StateBytes.{processor_of, pending_number, sequence_number, sequence_of, table, board_pieces, state_bytes, first_state_bytes}
+use Rattle.save_state.specs.Fields.{i32_bytes, u16_bytes, u64_bytes}
+use Rattle.save_state.specs.StateBytes.{processor_of, sequence_number, sequence_of, table, board_pieces, state_bytes, first_state_bytes}
 use Rattle.save_state.specs.Sections.{head_pieces, register_pieces, port_pieces, zero_pieces, back_pieces, divider_pieces, stack_pieces, vg_pieces, pokey_pieces, pulse_pieces, earom_pieces, jam_pieces, middle_pieces, eight_pieces}
 use Rattle.save_state.specs.Walk.{board_at}
 use Rattle.save_state.specs.Reading.{IsWhole, Spells, HasFields}
@@ -47,7 +47,7 @@ flag_back false = refl
 abbrev signed_in : List (List ℕ) → ℕ → ℤ
 signed_in ps k = cast_signed w32 (from_le_bytes w32 (piece ps k))
 
-signed_again : (n : ℕ) (z : ℤ) → n ≤ 2 ^ 30 → IsWithin n z → cast_signed w32 (from_le_bytes w32 (signed z)) ≡ z
+signed_again : (n : ℕ) (z : ℤ) → n ≤ 2 ^ 30 → IsWithin n z → cast_signed w32 (from_le_bytes w32 (i32_bytes z)) ≡ z
 signed_again n z small h =
     let bits : cast_unsigned w32 z < 2 ^ 32 = omega (arith, ints) in
     ap (λ (m : ℕ). cast_signed w32 m) (from_le_bytes-to_le_bytes_4 (cast_unsigned w32 z) bits) ∙ signed_back n z small h
@@ -167,7 +167,7 @@ earom_back e more h = same_earom e _ (from_le_bytes-to_le_bytes_2 e.hold (omega 
 abbrev pending_of : ℕ → Pending
 pending_of n = cond (n == 0) Nothing (cond (n == 1) Power Watchdog)
 
-pending_back : (p : Pending) → pending_of (pending_number p) ≡ p
+pending_back : (p : Pending) → pending_of (reset_number p) ≡ p
 pending_back Nothing = refl
 pending_back Power = refl
 pending_back Watchdog = refl
@@ -241,8 +241,8 @@ with_cpu b jam mid = record b { cpu = record b.cpu { jam = jam; mid = mid } }
 
 parts_back : (b : BoardValue) (jam : Option ℕ) (mid found : Option MidValue) (jam_found : Option ℕ) (more1 more2 more3 more4 more5 : List (List ℕ)) → IsWhole b → jam_found ≡ jam → found ≡ mid
     → record (with_cpu b jam mid) {
-      clock = from_le_bytes w64 (long b.clock);
-      cpu = record b.cpu { pc = from_le_bytes w16 (word b.cpu.pc); jam = jam_found; mid = found };
+      clock = from_le_bytes w64 (u64_bytes b.clock);
+      cpu = record b.cpu { pc = from_le_bytes w16 (u16_bytes b.cpu.pc); jam = jam_found; mid = found };
       divider = divider_of (divider_pieces b.divider ++ more1);
       vg = vg_of (vg_pieces b.vg ++ more2);
       sound1 = pokey_of (pokey_pieces b.sound1 ++ more3);

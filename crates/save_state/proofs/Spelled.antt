@@ -18,7 +18,7 @@ use Rattle.board_base.specs.Pokey.{PokeyValue, IsPokey}
 use Rattle.board_base.specs.Vg.{VgValue, IsVg}
 use Rattle.cpu_core.specs.Places.{IsMiddle}
 use Rattle.save_state.specs.StateBytes.{left_range}
-use Rattle.save_state.specs.Fields.{Field, Fits, flag, word, quad, long, signed}
+use Rattle.save_state.specs.Fields.{Field, Fits, flag, u16_bytes, u32_bytes, u64_bytes, i32_bytes}
 use Rattle.save_state.specs.Sections.{halted_fields, pen_fields, stack_fields, beam_fields, tone_fields, pulse_fields, level_fields, last_fields, earom_fields, memory_fields, stack_pieces, beam_pieces, vg_pieces, tone_pieces, pulse_pieces, level_pieces, last_pieces, pokey_pieces, earom_pieces, back_pieces}
 use Rattle.save_state.specs.Walk.{◌>>=◌, next, read_all, vg_at, pokey_at, back_at}
 use Rattle.save_state.specs.Reading.{IsWhole}
@@ -55,23 +55,23 @@ pub flag_most : (b : Bool) → from_bool b ≤ 1
 flag_most true = omega arith
 flag_most false = omega arith
 
-pub word_most : (n greatest : ℕ) → n < 2 ^ 16 → n ≤ greatest → from_le_bytes w16 (word n) ≤ greatest
-word_most n greatest small h = subst (λ (m : ℕ). m ≤ greatest) (sym (from_le_bytes-to_le_bytes_2 n small)) h
+pub u16_most : (n greatest : ℕ) → n < 2 ^ 16 → n ≤ greatest → from_le_bytes w16 (u16_bytes n) ≤ greatest
+u16_most n greatest small h = subst (λ (m : ℕ). m ≤ greatest) (sym (from_le_bytes-to_le_bytes_2 n small)) h
 
-word_least : (n : ℕ) → n < 2 ^ 16 → 1 ≤ n → 1 ≤ from_le_bytes w16 (word n)
-word_least n small h = subst (λ (m : ℕ). 1 ≤ m) (sym (from_le_bytes-to_le_bytes_2 n small)) h
+u16_least : (n : ℕ) → n < 2 ^ 16 → 1 ≤ n → 1 ≤ from_le_bytes w16 (u16_bytes n)
+u16_least n small h = subst (λ (m : ℕ). 1 ≤ m) (sym (from_le_bytes-to_le_bytes_2 n small)) h
 
-quad_most : (n greatest : ℕ) → n < 2 ^ 32 → n ≤ greatest → from_le_bytes w32 (quad n) ≤ greatest
-quad_most n greatest small h = subst (λ (m : ℕ). m ≤ greatest) (sym (from_le_bytes-to_le_bytes_4 n small)) h
+u32_most : (n greatest : ℕ) → n < 2 ^ 32 → n ≤ greatest → from_le_bytes w32 (u32_bytes n) ≤ greatest
+u32_most n greatest small h = subst (λ (m : ℕ). m ≤ greatest) (sym (from_le_bytes-to_le_bytes_4 n small)) h
 
-quad_least : (n : ℕ) → n < 2 ^ 32 → 1 ≤ n → 1 ≤ from_le_bytes w32 (quad n)
-quad_least n small h = subst (λ (m : ℕ). 1 ≤ m) (sym (from_le_bytes-to_le_bytes_4 n small)) h
+u32_least : (n : ℕ) → n < 2 ^ 32 → 1 ≤ n → 1 ≤ from_le_bytes w32 (u32_bytes n)
+u32_least n small h = subst (λ (m : ℕ). 1 ≤ m) (sym (from_le_bytes-to_le_bytes_4 n small)) h
 
-pub long_most : (n greatest : ℕ) → n < 2 ^ 64 → n ≤ greatest → from_le_bytes w64 (long n) ≤ greatest
-long_most n greatest small h = subst (λ (m : ℕ). m ≤ greatest) (sym (from_le_bytes-to_le_bytes_8 n small)) h
+pub u64_most : (n greatest : ℕ) → n < 2 ^ 64 → n ≤ greatest → from_le_bytes w64 (u64_bytes n) ≤ greatest
+u64_most n greatest small h = subst (λ (m : ℕ). m ≤ greatest) (sym (from_le_bytes-to_le_bytes_8 n small)) h
 
 -- a number of 32 bits, seen through its four bytes
-signed_fits : (n : ℕ) (z : ℤ) → n ≤ 2 ^ 30 → IsWithin n z → IsWithin n (cast_signed w32 (from_le_bytes w32 (signed z)))
+signed_fits : (n : ℕ) (z : ℤ) → n ≤ 2 ^ 30 → IsWithin n z → IsWithin n (cast_signed w32 (from_le_bytes w32 (i32_bytes z)))
 signed_fits n z small h =
     let bits : cast_unsigned w32 z < 2 ^ 32 = omega (arith, ints) in
     subst (λ (m : ℕ). IsWithin n (cast_signed w32 m)) (sym (from_le_bytes-to_le_bytes_4 (cast_unsigned w32 z) bits)) (within_back n z small h)
@@ -79,7 +79,7 @@ signed_fits n z small h =
 -- the vector generator
 abbrev pen_rest : VgValue → List (List ℕ)
 pen_rest v =
-    (v.phase ∷ []) ∷ word v.pc ∷ (v.sp ∷ []) ∷ (v.colour ∷ []) ∷ (v.intensity ∷ []) ∷ (v.lin ∷ []) ∷
+    (v.phase ∷ []) ∷ u16_bytes v.pc ∷ (v.sp ∷ []) ∷ (v.colour ∷ []) ∷ (v.intensity ∷ []) ∷ (v.lin ∷ []) ∷
     (v.bin ∷ []) ∷ (v.pen ∷ []) ∷ v.bytes ∷ []
 
 halted_spelled : (cpu : CpuValue) (v : VgValue) → AreSpelled cpu halted_fields (flag v.halted ∷ [])
@@ -91,7 +91,7 @@ unfolding AreSpelled pen_fields
 pen_spelled cpu v h = (
   (refl, omega (arith, h.phase)),
   (
-    (refl, word_most v.pc 8191 (omega (arith, h.pc)) (omega (arith, h.pc))),
+    (refl, u16_most v.pc 8191 (omega (arith, h.pc)) (omega (arith, h.pc))),
     (
       (refl, omega (arith, h.sp)),
       (
@@ -124,19 +124,19 @@ stack_spelled cpu stack len h =
     let b = to_at stack 1 len h (omega arith) in
     let c = to_at stack 2 len h (omega arith) in
     let d = to_at stack 3 len h (omega arith) in (
-      (refl, word_most (slice_index stack 0) 8191 (omega (arith, a)) (omega (arith, a))),
+      (refl, u16_most (slice_index stack 0) 8191 (omega (arith, a)) (omega (arith, a))),
       (
-        (refl, word_most (slice_index stack 1) 8191 (omega (arith, b)) (omega (arith, b))),
+        (refl, u16_most (slice_index stack 1) 8191 (omega (arith, b)) (omega (arith, b))),
         (
-          (refl, word_most (slice_index stack 2) 8191 (omega (arith, c)) (omega (arith, c))),
-          ((refl, word_most (slice_index stack 3) 8191 (omega (arith, d)) (omega (arith, d))), tt),
+          (refl, u16_most (slice_index stack 2) 8191 (omega (arith, c)) (omega (arith, c))),
+          ((refl, u16_most (slice_index stack 3) 8191 (omega (arith, d)) (omega (arith, d))), tt),
         ),
       ),
     )
 
-left_by : (cpu : CpuValue) (b : Bool) (n : ℕ) → (b ≡ true → 1 ≤ n) → n ≤ 8192 → (b ≡ false → n ≡ 0) → (length (word n) ≡ 2) × Fits cpu (left_range b) (word n)
-left_by cpu true n least most none = (refl, (word_least n (omega arith) (least refl), word_most n 8192 (omega arith) most))
-left_by cpu false n least most none = (refl, word_most n 0 (omega arith) (omega (arith, none refl)))
+left_by : (cpu : CpuValue) (b : Bool) (n : ℕ) → (b ≡ true → 1 ≤ n) → n ≤ 8192 → (b ≡ false → n ≡ 0) → (length (u16_bytes n) ≡ 2) × Fits cpu (left_range b) (u16_bytes n)
+left_by cpu true n least most none = (refl, (u16_least n (omega arith) (least refl), u16_most n 8192 (omega arith) most))
+left_by cpu false n least most none = (refl, u16_most n 0 (omega arith) (omega (arith, none refl)))
 
 beam_spelled : (cpu : CpuValue) (v : VgValue) → IsVg v → AreSpelled cpu (beam_fields v.phase) (beam_pieces v)
 unfolding AreSpelled beam_fields
@@ -191,9 +191,9 @@ tone_spelled cpu p h = (
               (
                 (refl, omega (arith, h.poly5)),
                 (
-                  (refl, word_most p.poly9 511 (omega (arith, h.poly9)) (omega (arith, h.poly9))),
+                  (refl, u16_most p.poly9 511 (omega (arith, h.poly9)) (omega (arith, h.poly9))),
                   (
-                    (refl, quad_most p.poly17 131071 (omega (arith, h.poly17)) (omega (arith, h.poly17))),
+                    (refl, u32_most p.poly17 131071 (omega (arith, h.poly17)) (omega (arith, h.poly17))),
                     ((refl, omega (arith, h.pre28)), ((refl, omega (arith, h.pre114)), tt)),
                   ),
                 ),
@@ -209,8 +209,8 @@ tone_spelled cpu p h = (
 pulse_at : (left : List ℕ) (i : ℕ) → length left ≡ 4 → All (λ left. (1 ≤ left) × (left ≤ 65542)) left → i < 4 → (1 ≤ slice_index left i) × (slice_index left i ≤ 65542)
 pulse_at left i len h small = All-get_or (λ left. (1 ≤ left) × (left ≤ 65542)) left i 0 (omega arith) h
 
-pulse_fits : (n : ℕ) → (1 ≤ n) × (n ≤ 65542) → (1 ≤ from_le_bytes w32 (quad n)) × (from_le_bytes w32 (quad n) ≤ 65542)
-pulse_fits n h = (quad_least n (omega (arith, h.1)) h.0, quad_most n 65542 (omega (arith, h.1)) h.1)
+pulse_fits : (n : ℕ) → (1 ≤ n) × (n ≤ 65542) → (1 ≤ from_le_bytes w32 (u32_bytes n)) × (from_le_bytes w32 (u32_bytes n) ≤ 65542)
+pulse_fits n h = (u32_least n (omega (arith, h.1)) h.0, u32_most n 65542 (omega (arith, h.1)) h.1)
 
 pulse_spelled : (cpu : CpuValue) (left : List ℕ) → length left ≡ 4 → All (λ left. (1 ≤ left) × (left ≤ 65542)) left → AreSpelled cpu pulse_fields (pulse_pieces left)
 unfolding AreSpelled pulse_fields
@@ -270,7 +270,7 @@ earom_spelled cpu e h = (
     (refl, tt),
     (
       (refl, omega (arith, h.control)),
-      ((refl, word_most e.hold 1512 (omega (arith, h.hold)) h.hold), ((refl, tt), ((h.cells, tt), tt))),
+      ((refl, u16_most e.hold 1512 (omega (arith, h.hold)) h.hold), ((refl, tt), ((h.cells, tt), tt))),
     ),
   ),
 )

@@ -63,21 +63,25 @@ count_to w greatest = record { width = byte_len w; range = number_from_1 w great
 abbrev pub signed_to : ℕ → Field
 signed_to n = record { width = 4; range = signed_within n }
 
--- how a flag is spelled, and numbers of 16, 32 and 64 bits, and signed ones of 32
+-- how a flag is spelled
 abbrev pub flag : Bool → List ℕ
 flag b = from_bool b ∷ []
 
-abbrev pub word : ℕ → List ℕ
-word n = to_le_bytes w16 n
+-- a number of 16 bits, low byte first
+abbrev pub u16_bytes : ℕ → List ℕ
+u16_bytes n = to_le_bytes w16 n
 
-abbrev pub quad : ℕ → List ℕ
-quad n = to_le_bytes w32 n
+-- a number of 32 bits, low byte first
+abbrev pub u32_bytes : ℕ → List ℕ
+u32_bytes n = to_le_bytes w32 n
 
-abbrev pub long : ℕ → List ℕ
-long n = to_le_bytes w64 n
+-- a number of 64 bits, low byte first
+abbrev pub u64_bytes : ℕ → List ℕ
+u64_bytes n = to_le_bytes w64 n
 
-abbrev pub signed : ℤ → List ℕ
-signed z = to_le_bytes w32 (cast_unsigned w32 z)
+-- a signed number of 32 bits, in two's complement
+abbrev pub i32_bytes : ℤ → List ℕ
+i32_bytes z = to_le_bytes w32 (cast_unsigned w32 z)
 
 -- what ranges go by in a file: the greatest clock, whether the processor is jammed, whether it stands inside no sequence,
 -- and whether a vector is being drawn

@@ -6,6 +6,7 @@ use Rattle.board_base.specs.Divider.{DividerValue}
 use Rattle.board_base.specs.Earom.{EaromValue}
 use Rattle.board_base.specs.Pokey.{PokeyValue}
 use Rattle.board_base.specs.Vg.{VgValue}
+use Rattle.board_base.specs.declared.phase.TheConstants.{DRAW}
 use Rattle.save_state.specs.Fields.{Field, Facts, undocumented_opcode, fields_of, pieces_of}
 use Rattle.save_state.specs.StateBytes.{head_rows, clock_rows, register_rows, jam_rows, port_rows, divider_rows, sequence_rows, place_rows, eight_rows, zero_rows, halted_rows, pen_rows, stack_rows, left_range, beam_rows, vg_rows, tone_rows, pulse_rows, level_rows, last_rows, pokey_rows, earom_rows, memory_rows}
 
@@ -86,10 +87,10 @@ abbrev pub stack_pieces : List ℕ → List (List ℕ)
 stack_pieces stack = pieces_of stack_rows stack
 
 abbrev pub left_field : ℕ → Field
-left_field phase = record { width = 2; range = left_range (phase == 5) }
+left_field phase = record { width = 2; range = left_range (phase == DRAW) }
 
 unfoldable pub beam_fields : ℕ → List Field
-beam_fields phase = fields_of (record no_facts { drawing = phase == 5 }) beam_rows
+beam_fields phase = fields_of (record no_facts { drawing = phase == DRAW }) beam_rows
 
 abbrev pub beam_pieces : VgValue → List (List ℕ)
 beam_pieces v = pieces_of beam_rows v

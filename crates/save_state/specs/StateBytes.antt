@@ -4,25 +4,20 @@ use Rattle.std.specs.Option.{is_some}
 use Rattle.std.specs.List.{concat}
 use Rattle.std.specs.Int.{w16, w32, w64, from_le_bytes}
 use Rattle.board_base.specs.Board.{BoardValue}
-use Rattle.board_base.specs.Cpu.{CpuValue, MidValue}
-use Rattle.board_base.specs.Divider.{DividerValue}
+use Rattle.board_base.specs.Cpu.{CpuValue, MidValue, count_of}
+use Rattle.board_base.specs.Divider.{DividerValue, reset_number}
 use Rattle.board_base.specs.Earom.{EaromValue}
 use Rattle.board_base.specs.Pokey.{PokeyValue}
 use Rattle.board_base.specs.Vg.{VgValue}
 use Rattle.board_base.specs.declared.board.TheConstants.{RAM_LEN, CLOCK_LIMIT}
-use Rattle.board_base.specs.declared.divider.TheConstants.{DIVIDER_PERIOD}
+use Rattle.board_base.specs.declared.divider.TheConstants.{DIVIDER_PERIOD, WATCHDOG_WRAPS}
+use Rattle.board_base.specs.declared.earom.TheConstants.{HOLD_CLOCKS}
+use Rattle.board_base.specs.declared.pokey.TheConstants.{LONGEST_PERIOD, POT_LIMIT, PRESCALER_BASE, PRESCALER_LINE}
 use Rattle.board_base.specs.declared.vector_memory.TheConstants.{VECTOR_RAM_LEN}
 use Rattle.board_base.specs.declared.cpu.Sequence.{Sequence}
 use Rattle.board_base.specs.declared.cpu.Sequence.TheVariants.{Opcode, Interrupt, Reset}
-use Rattle.board_base.specs.declared.divider.Pending.{Pending}
-use Rattle.board_base.specs.declared.divider.Pending.TheVariants.{Nothing, Power, Watchdog}
-use Rattle.save_state.specs.Fields.{Range, letters, six_zeros, flags, undocumented_opcode, byte_at_most, byte_from_1, number_at_most, number_from_1, place, any, byte_to, number_to, count_to, signed_to, flag, word, quad, long, signed, Facts, Row, row, row_by, rows_of, rows_at, pieces_of}
-
--- the number of a pending reset
-abbrev pub pending_number : Pending → ℕ
-pending_number Nothing = 0
-pending_number Power = 1
-pending_number Watchdog = 2
+use Rattle.board_base.specs.declared.phase.TheConstants.{DRAW}
+use Rattle.save_state.specs.Fields.{Range, letters, six_zeros, flags, undocumented_opcode, byte_at_most, byte_from_1, number_at_most, number_from_1, place, any, byte_to, number_to, count_to, signed_to, flag, u16_bytes, u32_bytes, u64_bytes, i32_bytes, Facts, Row, row, row_by, rows_of, rows_at, pieces_of}
 
 -- the number of a sequence, none being 0
 abbrev pub sequence_number : Sequence → ℕ
@@ -30,30 +25,30 @@ sequence_number Opcode = 1
 sequence_number Interrupt = 2
 sequence_number Reset = 3
 
+-- the number of the sequence that a processor stands inside
 abbrev pub number_of : Option MidValue → ℕ
 number_of None = 0
 number_of (Some m) = sequence_number m.sequence
 
--- the opcode that jams, the clocks that are done of a sequence, and their six bytes, all 0 where there are none
+-- the opcode that jams, 0 where none does
 abbrev pub opcode_of : Option ℕ → ℕ
 opcode_of None = 0
 opcode_of (Some o) = o
 
-abbrev pub count_of : Option MidValue → ℕ
-count_of None = 0
-count_of (Some m) = m.count
-
+-- the six bytes of a sequence's clocks, all 0 inside none
 abbrev pub bytes_of : Option MidValue → List ℕ
 bytes_of None = 0 ∷ 0 ∷ 0 ∷ 0 ∷ 0 ∷ 0 ∷ []
 bytes_of (Some m) = m.bytes
 
--- the ranges of these: the opcode is an undocumented one, and the bytes are such that the processor can stand there
+-- the opcode that jams is an undocumented one
 abbrev pub opcode_range : Bool → Range
 opcode_range jammed = if jammed then undocumented_opcode else byte_at_most 0
 
+-- a sequence has one to six clocks done of it
 abbrev pub count_range : Bool → Range
 count_range idle = if idle then byte_at_most 0 else byte_from_1 6
 
+-- the bytes are such that the processor can stand there
 abbrev pub bytes_range : Bool → Range
 bytes_range idle = if idle then six_zeros else place
 
@@ -83,12 +78,12 @@ head_rows =
 
 -- the clocks done
 abbrev pub clock_rows : List (Row ℕ)
-clock_rows = row_by 4 8 (λ facts. number_at_most w64 facts.last) (λ clock. long clock) ∷ []
+clock_rows = row_by 4 8 (λ facts. number_at_most w64 facts.last) (λ clock. u64_bytes clock) ∷ []
 
 -- the registers: pc, a, x, y, s, and p with bits 4 and 5 clear
 abbrev pub register_rows : List (Row CpuValue)
 register_rows =
-    row 12 (any 2) (λ c. word c.pc) ∷
+    row 12 (any 2) (λ c. u16_bytes c.pc) ∷
     row 14 (any 1) (λ c. c.a ∷ []) ∷
     row 15 (any 1) (λ c. c.x ∷ []) ∷
     row 16 (any 1) (λ c. c.y ∷ []) ∷
@@ -115,10 +110,10 @@ port_rows =
 -- the divider and the watchdog
 abbrev pub divider_rows : List (Row DividerValue)
 divider_rows =
-    row 25 (number_to w16 (DIVIDER_PERIOD - 1)) (λ d. word d.phase) ∷
+    row 25 (number_to w16 (DIVIDER_PERIOD - 1)) (λ d. u16_bytes d.phase) ∷
     row 27 (byte_to 1) (λ d. flag d.irq) ∷
-    row 28 (byte_to 7) (λ d. d.dog ∷ []) ∷
-    row 29 (byte_to 2) (λ d. pending_number d.pending ∷ []) ∷
+    row 28 (byte_to (WATCHDOG_WRAPS - 1)) (λ d. d.dog ∷ []) ∷
+    row 29 (byte_to 2) (λ d. reset_number d.pending ∷ []) ∷
     []
 
 -- the sequence that the processor stands inside, which is none where it is jammed
@@ -147,8 +142,8 @@ halted_rows = row 44 (byte_to 1) (λ v. flag v.halted) ∷ []
 -- its program, what it draws with, and the word under way
 abbrev pub pen_rows : List (Row VgValue)
 pen_rows =
-    row 45 (byte_to 5) (λ v. v.phase ∷ []) ∷
-    row 46 (number_to w16 8191) (λ v. word v.pc) ∷
+    row 45 (byte_to DRAW) (λ v. v.phase ∷ []) ∷
+    row 46 (number_to w16 8191) (λ v. u16_bytes v.pc) ∷
     row 48 (byte_to 3) (λ v. v.sp ∷ []) ∷
     row 49 (byte_to 7) (λ v. v.colour ∷ []) ∷
     row 50 (byte_to 15) (λ v. v.intensity ∷ []) ∷
@@ -161,20 +156,20 @@ pen_rows =
 -- its stack of four
 abbrev pub stack_rows : List (Row (List ℕ))
 stack_rows =
-    row 58 (number_to w16 8191) (λ stack. word (slice_index stack 0)) ∷
-    row 60 (number_to w16 8191) (λ stack. word (slice_index stack 1)) ∷
-    row 62 (number_to w16 8191) (λ stack. word (slice_index stack 2)) ∷
-    row 64 (number_to w16 8191) (λ stack. word (slice_index stack 3)) ∷
+    row 58 (number_to w16 8191) (λ stack. u16_bytes (slice_index stack 0)) ∷
+    row 60 (number_to w16 8191) (λ stack. u16_bytes (slice_index stack 1)) ∷
+    row 62 (number_to w16 8191) (λ stack. u16_bytes (slice_index stack 2)) ∷
+    row 64 (number_to w16 8191) (λ stack. u16_bytes (slice_index stack 3)) ∷
     []
 
--- the beam, the vector being drawn, and the clocks that are left of it, in phase 5 alone
+-- the beam, the vector being drawn, and the clocks that are left of it, in the phase that draws alone
 abbrev pub beam_rows : List (Row VgValue)
 beam_rows =
-    row 66 (signed_to 1073741824) (λ v. signed v.x) ∷
-    row 70 (signed_to 1073741824) (λ v. signed v.y) ∷
-    row 74 (signed_to 134217728) (λ v. signed v.dx) ∷
-    row 78 (signed_to 134217728) (λ v. signed v.dy) ∷
-    row_by 82 2 (λ facts. left_range facts.drawing) (λ v. word v.left) ∷
+    row 66 (signed_to 1073741824) (λ v. i32_bytes v.x) ∷
+    row 70 (signed_to 1073741824) (λ v. i32_bytes v.y) ∷
+    row 74 (signed_to 134217728) (λ v. i32_bytes v.dx) ∷
+    row 78 (signed_to 134217728) (λ v. i32_bytes v.dy) ∷
+    row_by 82 2 (λ facts. left_range facts.drawing) (λ v. u16_bytes v.left) ∷
     []
 
 -- all of it
@@ -192,19 +187,19 @@ tone_rows =
     row 11 (byte_to 7) (λ p. p.irqst ∷ []) ∷
     row 12 (byte_to 15) (λ p. p.poly4 ∷ []) ∷
     row 13 (byte_to 31) (λ p. p.poly5 ∷ []) ∷
-    row 14 (number_to w16 511) (λ p. word p.poly9) ∷
-    row 16 (number_to w32 131071) (λ p. quad p.poly17) ∷
-    row 20 (byte_to 27) (λ p. p.pre28 ∷ []) ∷
-    row 21 (byte_to 113) (λ p. p.pre114 ∷ []) ∷
+    row 14 (number_to w16 511) (λ p. u16_bytes p.poly9) ∷
+    row 16 (number_to w32 131071) (λ p. u32_bytes p.poly17) ∷
+    row 20 (byte_to (PRESCALER_BASE - 1)) (λ p. p.pre28 ∷ []) ∷
+    row 21 (byte_to (PRESCALER_LINE - 1)) (λ p. p.pre114 ∷ []) ∷
     []
 
 -- the pulses that are left of each of its channels
 abbrev pub pulse_rows : List (Row (List ℕ))
 pulse_rows =
-    row 22 (count_to w32 65542) (λ left. quad (slice_index left 0)) ∷
-    row 26 (count_to w32 65542) (λ left. quad (slice_index left 1)) ∷
-    row 30 (count_to w32 65542) (λ left. quad (slice_index left 2)) ∷
-    row 34 (count_to w32 65542) (λ left. quad (slice_index left 3)) ∷
+    row 22 (count_to w32 LONGEST_PERIOD) (λ left. u32_bytes (slice_index left 0)) ∷
+    row 26 (count_to w32 LONGEST_PERIOD) (λ left. u32_bytes (slice_index left 1)) ∷
+    row 30 (count_to w32 LONGEST_PERIOD) (λ left. u32_bytes (slice_index left 2)) ∷
+    row 34 (count_to w32 LONGEST_PERIOD) (λ left. u32_bytes (slice_index left 3)) ∷
     []
 
 -- its tone and high-pass bits, and its pots
@@ -212,7 +207,7 @@ abbrev pub level_rows : List (Row PokeyValue)
 level_rows =
     row 38 (byte_to 15) (λ p. p.tone ∷ []) ∷
     row 39 (byte_to 3) (λ p. p.pass ∷ []) ∷
-    row 40 (byte_to 228) (λ p. p.pot ∷ []) ∷
+    row 40 (byte_to POT_LIMIT) (λ p. p.pot ∷ []) ∷
     row 41 (any 8) (λ p. p.targets) ∷
     []
 
@@ -235,7 +230,7 @@ earom_rows =
     row 190 (byte_to 63) (λ e. e.addr ∷ []) ∷
     row 191 (any 1) (λ e. e.value ∷ []) ∷
     row 192 (byte_to 15) (λ e. e.control ∷ []) ∷
-    row 193 (number_to w16 1512) (λ e. word e.hold) ∷
+    row 193 (number_to w16 HOLD_CLOCKS) (λ e. u16_bytes e.hold) ∷
     row 195 (any 1) (λ e. e.out ∷ []) ∷
     row 196 (any 64) (λ e. e.cells) ∷
     []
@@ -287,7 +282,7 @@ facts_of version file = record {
   last = last_clock version (slice_index file 30);
   jammed = slice_index file 19 == 1;
   idle = slice_index file 30 == 0;
-  drawing = slice_index file 45 == 5;
+  drawing = slice_index file 45 == DRAW;
 }
 
 -- the sequence that a number from 1 to 3 tells

@@ -26,7 +26,7 @@ impl<'a> Cursor<'a> {
     ghost use Rattle.std.specs.Int.{w16, w32, w64, from_bool};
     ghost use Rattle.board_base.specs.Ranges.{IsWithin};
     ghost use Rattle.cpu_table.specs.Opcodes.{row_of};
-    ghost use Rattle.save_state.specs.Fields.{flags, any, byte_from_1, byte_to, number_to, count_to, signed_to, flag, word, quad, long, signed};
+    ghost use Rattle.save_state.specs.Fields.{flags, any, byte_from_1, byte_to, number_to, count_to, signed_to, flag, u16_bytes, u32_bytes, u64_bytes, i32_bytes};
     ghost use Rattle.save_state.specs.Sections.{undocumented};
     ghost use Rattle.save_state.specs.Walk.{Gives, read_field};
 
@@ -175,7 +175,7 @@ impl<'a> Cursor<'a> {
     #[tactic(auto, unfolding(crate::specs::Walk::field_at))]
     pub fn read_address(&mut self) -> u16
         requires { 2 ≤ length self.old }
-        ensures field { read_field (any 2) self.old ≡ Ok (word result, self.new) }
+        ensures field { read_field (any 2) self.old ≡ Ok (u16_bytes result, self.new) }
         ensures len { length self.new + 2 ≡ length self.old }
     {
         u16::from_le_bytes(self.read_array())
@@ -183,9 +183,9 @@ impl<'a> Cursor<'a> {
 
     /// Reads a number of 16 bits that is at most `greatest`.
     #[tactic(auto, unfolding(crate::specs::Walk::field_at))]
-    pub fn read_word(&mut self, greatest: u16) -> Result<u16, usize>
+    pub fn read_u16(&mut self, greatest: u16) -> Result<u16, usize>
         requires { 2 ≤ length self.old }
-        ensures field { Gives (λ x. (word x, self.new)) result (read_field (number_to w16 greatest) self.old) }
+        ensures field { Gives (λ x. (u16_bytes x, self.new)) result (read_field (number_to w16 greatest) self.old) }
         ensures range { IfOk result (λ x. x ≤ greatest) }
         ensures len { IfOk result (λ _. length self.new + 2 ≡ length self.old) }
     {
@@ -199,9 +199,9 @@ impl<'a> Cursor<'a> {
 
     /// Reads a number of 32 bits that is at most `greatest`.
     #[tactic(auto, unfolding(crate::specs::Walk::field_at))]
-    pub fn read_quad(&mut self, greatest: u32) -> Result<u32, usize>
+    pub fn read_u32(&mut self, greatest: u32) -> Result<u32, usize>
         requires { 4 ≤ length self.old }
-        ensures field { Gives (λ x. (quad x, self.new)) result (read_field (number_to w32 greatest) self.old) }
+        ensures field { Gives (λ x. (u32_bytes x, self.new)) result (read_field (number_to w32 greatest) self.old) }
         ensures range { IfOk result (λ x. x ≤ greatest) }
         ensures len { IfOk result (λ _. length self.new + 4 ≡ length self.old) }
     {
@@ -215,9 +215,9 @@ impl<'a> Cursor<'a> {
 
     /// Reads a number of 64 bits that is at most `greatest`.
     #[tactic(auto, unfolding(crate::specs::Walk::field_at))]
-    pub fn read_long(&mut self, greatest: u64) -> Result<u64, usize>
+    pub fn read_u64(&mut self, greatest: u64) -> Result<u64, usize>
         requires { 8 ≤ length self.old }
-        ensures field { Gives (λ x. (long x, self.new)) result (read_field (number_to w64 greatest) self.old) }
+        ensures field { Gives (λ x. (u64_bytes x, self.new)) result (read_field (number_to w64 greatest) self.old) }
         ensures range { IfOk result (λ x. x ≤ greatest) }
         ensures len { IfOk result (λ _. length self.new + 8 ≡ length self.old) }
     {
@@ -233,7 +233,7 @@ impl<'a> Cursor<'a> {
     #[tactic(auto, unfolding(crate::specs::Walk::field_at))]
     pub fn read_count(&mut self, greatest: u16) -> Result<u16, usize>
         requires { 2 ≤ length self.old }
-        ensures field { Gives (λ x. (word x, self.new)) result (read_field (count_to w16 greatest) self.old) }
+        ensures field { Gives (λ x. (u16_bytes x, self.new)) result (read_field (count_to w16 greatest) self.old) }
         ensures least { IfOk result (λ x. 1 ≤ x) }
         ensures range { IfOk result (λ x. x ≤ greatest) }
         ensures len { IfOk result (λ _. length self.new + 2 ≡ length self.old) }
@@ -250,7 +250,7 @@ impl<'a> Cursor<'a> {
     #[tactic(auto, unfolding(crate::specs::Walk::field_at))]
     pub fn read_pulses(&mut self, greatest: u32) -> Result<u32, usize>
         requires { 4 ≤ length self.old }
-        ensures field { Gives (λ x. (quad x, self.new)) result (read_field (count_to w32 greatest) self.old) }
+        ensures field { Gives (λ x. (u32_bytes x, self.new)) result (read_field (count_to w32 greatest) self.old) }
         ensures least { IfOk result (λ x. 1 ≤ x) }
         ensures range { IfOk result (λ x. x ≤ greatest) }
         ensures len { IfOk result (λ _. length self.new + 4 ≡ length self.old) }
@@ -265,10 +265,10 @@ impl<'a> Cursor<'a> {
 
     /// Reads a signed number of 32 bits that is no further than `greatest` from 0.
     #[tactic(auto, unfolding(crate::specs::Walk::field_at))]
-    pub fn read_signed(&mut self, greatest: u32) -> Result<i32, usize>
+    pub fn read_i32(&mut self, greatest: u32) -> Result<i32, usize>
         requires some { 4 ≤ length self.old }
         requires small { greatest ≤ 1073741824 }
-        ensures field { Gives (λ x. (signed x, self.new)) result (read_field (signed_to greatest) self.old) }
+        ensures field { Gives (λ x. (i32_bytes x, self.new)) result (read_field (signed_to greatest) self.old) }
         ensures range { IfOk result (λ x. IsWithin greatest x) }
         ensures len { IfOk result (λ _. length self.new + 4 ≡ length self.old) }
     {

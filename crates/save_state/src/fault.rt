@@ -1,11 +1,11 @@
 ghost use Rattle.std.specs.Prelude.{Some};
-ghost use Rattle.save_state.specs.Texts.{fault_text};
+ghost use Rattle.save_state.specs.Texts.{state_fault_text};
 
-use std::error::Error;
 use std::fmt;
+use thiserror::Error;
 
 /// Why bytes are no saved board.
-#[derive(Clone, Copy, Debug, PartialEq, Eq)]
+#[derive(Clone, Copy, Debug, PartialEq, Eq, Error)]
 pub enum StateFault {
     /// The number of bytes, where it isn't `STATE_LEN`.
     Length(usize),
@@ -16,7 +16,7 @@ pub enum StateFault {
 }
 
 impl fmt::Display for StateFault {
-    ghost output = { λ fault. Some (fault_text fault) };
+    ghost output = { λ fault. Some (state_fault_text fault) };
 
     fn fmt<W: fmt::Write>(&self, f: &mut fmt::Formatter<W>) -> fmt::Result {
         match self {
@@ -26,5 +26,3 @@ impl fmt::Display for StateFault {
         }
     }
 }
-
-impl Error for StateFault {}

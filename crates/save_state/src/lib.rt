@@ -10,13 +10,13 @@ mod read_middle;
 mod read_pokey;
 mod read_vg;
 mod reading;
-mod reading_law;
+mod state_laws;
 mod writer;
 mod writing;
 
 pub use fault::StateFault;
 pub use reading::read;
-pub use reading_law::one_reading;
+pub use state_laws::{one_reading, state_numbers};
 pub use writing::write;
 
 /// The number of bytes of a saved board.

@@ -17,7 +17,7 @@ pub fn read_registers(cursor: &mut Cursor, last: u64) -> Result<(u64, CpuState),
     ensures mid { IfOk result (λ x. x.1.mid ≡ None) }
     ensures len { IfOk result (λ _. length cursor.new + 15 ≡ length cursor.old) }
 {
-    let clock = cursor.read_long(last)?;
+    let clock = cursor.read_u64(last)?;
     let pc = cursor.read_address();
     let a = cursor.read_any();
     let x = cursor.read_any();

@@ -4,7 +4,7 @@ ghost use Rattle.save_state.specs.Walk.{Gives, read_fields};
 
 use crate::cursor::Cursor;
 use board_base::divider::DIVIDER_PERIOD;
-use board_base::{DividerState, EaromState, Pending};
+use board_base::{DividerState, EaromState, HOLD_CLOCKS, Pending, WATCHDOG_WRAPS};
 
 /// Reads the divider and the watchdog.
 #[tactic(auto, unfolding(crate::specs::Walk::read_all, crate::specs::Sections::divider_fields))]
@@ -13,9 +13,9 @@ pub fn read_divider(cursor: &mut Cursor) -> Result<DividerState, usize>
     ensures fields { Gives (λ x. (divider_pieces x, cursor.new)) result (read_fields divider_fields cursor.old) }
     ensures len { IfOk result (λ _. length cursor.new + 5 ≡ length cursor.old) }
 {
-    let phase = cursor.read_word(DIVIDER_PERIOD - 1)?;
+    let phase = cursor.read_u16(DIVIDER_PERIOD - 1)?;
     let irq = cursor.read_flag()?;
-    let dog = cursor.read_byte(7)?;
+    let dog = cursor.read_byte(WATCHDOG_WRAPS - 1)?;
     let number = cursor.read_byte(2)?;
     let pending = match number {
         0 => Pending::Nothing,
@@ -40,7 +40,7 @@ pub fn read_earom(cursor: &mut Cursor) -> Result<EaromState, usize>
     let addr = cursor.read_byte(63)?;
     let value = cursor.read_any();
     let control = cursor.read_byte(15)?;
-    let hold = cursor.read_word(1512)?;
+    let hold = cursor.read_u16(HOLD_CLOCKS)?;
     let out = cursor.read_any();
     let cells = cursor.read_array::<64>();
     Ok(EaromState {

@@ -3,7 +3,7 @@ ghost use Rattle.save_state.specs.Sections.{tone_fields, tone_pieces, pulse_fiel
 ghost use Rattle.save_state.specs.Walk.{Gives, pokey_at, read_fields};
 
 use crate::cursor::Cursor;
-use board_base::PokeyState;
+use board_base::{LONGEST_PERIOD, POT_LIMIT, PRESCALER_BASE, PRESCALER_LINE, PokeyState};
 
 /// Reads the registers of a POKEY; all else is as at power-on.
 #[tactic(auto, unfolding(crate::specs::Walk::read_all, crate::specs::Sections::tone_fields))]
@@ -20,10 +20,10 @@ fn read_registers(cursor: &mut Cursor) -> Result<PokeyState, usize>
     let irqst = cursor.read_byte(7)?;
     let poly4 = cursor.read_byte(15)?;
     let poly5 = cursor.read_byte(31)?;
-    let poly9 = cursor.read_word(511)?;
-    let poly17 = cursor.read_quad(131_071)?;
-    let pre28 = cursor.read_byte(27)?;
-    let pre114 = cursor.read_byte(113)?;
+    let poly9 = cursor.read_u16(511)?;
+    let poly17 = cursor.read_u32(131_071)?;
+    let pre28 = cursor.read_byte(PRESCALER_BASE - 1)?;
+    let pre114 = cursor.read_byte(PRESCALER_LINE - 1)?;
     Ok(PokeyState {
         audf,
         audc,
@@ -46,13 +46,13 @@ fn read_registers(cursor: &mut Cursor) -> Result<PokeyState, usize>
 fn read_left(cursor: &mut Cursor) -> Result<[u32; 4], usize>
     requires some { 16 ≤ length cursor.old }
     ensures fields { Gives (λ x. (pulse_pieces x, cursor.new)) result (read_fields pulse_fields cursor.old) }
-    ensures range { IfOk result (λ x. All (λ left. (1 ≤ left) × (left ≤ 65542)) x) }
+    ensures range { IfOk result (λ x. All (λ left. (1 ≤ left) × (left ≤ LONGEST_PERIOD)) x) }
     ensures len { IfOk result (λ _. length cursor.new + 16 ≡ length cursor.old) }
 {
-    let first = cursor.read_pulses(65_542)?;
-    let second = cursor.read_pulses(65_542)?;
-    let third = cursor.read_pulses(65_542)?;
-    let fourth = cursor.read_pulses(65_542)?;
+    let first = cursor.read_pulses(LONGEST_PERIOD)?;
+    let second = cursor.read_pulses(LONGEST_PERIOD)?;
+    let third = cursor.read_pulses(LONGEST_PERIOD)?;
+    let fourth = cursor.read_pulses(LONGEST_PERIOD)?;
     Ok([first, second, third, fourth])
 }
 
@@ -82,7 +82,7 @@ pub fn read_pokey(cursor: &mut Cursor) -> Result<PokeyState, usize>
     let left = read_left(cursor)?;
     let tone = cursor.read_byte(15)?;
     let pass = cursor.read_byte(3)?;
-    let pot = cursor.read_byte(228)?;
+    let pot = cursor.read_byte(POT_LIMIT)?;
     let targets = cursor.read_array::<8>();
     let last = read_last(cursor)?;
     Ok(PokeyState {

@@ -1,10 +1,11 @@
 ghost use Rattle.std.specs.Prelude.{◌≡◌, ◌≢◌, ◌+◌, ◌<◌, ◌≤◌, ◌∷◌, [], All, IfOk, length, slice_index};
-ghost use Rattle.save_state.specs.Fields.{word};
+ghost use Rattle.save_state.specs.Fields.{u16_bytes};
 ghost use Rattle.save_state.specs.Sections.{stack_pieces, stack_fields, left_field, pen_fields, vg_pieces};
 ghost use Rattle.save_state.specs.Walk.{Gives, vg_at, read_field, read_fields};
 
 use crate::cursor::Cursor;
 use board_base::VgState;
+use board_base::phase::DRAW;
 
 /// What the generator draws with, its program and the word under way.
 #[derive(Clone, Copy)]
@@ -28,26 +29,26 @@ fn read_stack(cursor: &mut Cursor) -> Result<[u16; 4], usize>
     ensures range { IfOk result (λ x. All (λ to. to < 8192) x) }
     ensures len { IfOk result (λ _. length cursor.new + 8 ≡ length cursor.old) }
 {
-    let first = cursor.read_word(8191)?;
-    let second = cursor.read_word(8191)?;
-    let third = cursor.read_word(8191)?;
-    let fourth = cursor.read_word(8191)?;
+    let first = cursor.read_u16(8191)?;
+    let second = cursor.read_u16(8191)?;
+    let third = cursor.read_u16(8191)?;
+    let fourth = cursor.read_u16(8191)?;
     Ok([first, second, third, fourth])
 }
 
 /// Reads the clocks that are left of a vector.
 fn read_left(cursor: &mut Cursor, phase: u8) -> Result<u16, usize>
     requires some { 2 ≤ length cursor.old }
-    ensures field { Gives (λ x. (word x, cursor.new)) result (read_field (left_field phase) cursor.old) }
-    ensures drawing { IfOk result (λ x. phase ≡ 5 → 1 ≤ x) }
+    ensures field { Gives (λ x. (u16_bytes x, cursor.new)) result (read_field (left_field phase) cursor.old) }
+    ensures drawing { IfOk result (λ x. phase ≡ DRAW → 1 ≤ x) }
     ensures longest { IfOk result (λ x. x ≤ 8192) }
-    ensures resting { IfOk result (λ x. phase ≢ 5 → x ≡ 0) }
+    ensures resting { IfOk result (λ x. phase ≢ DRAW → x ≡ 0) }
     ensures len { IfOk result (λ _. length cursor.new + 2 ≡ length cursor.old) }
 {
-    if phase == 5 {
+    if phase == DRAW {
         cursor.read_count(8192)
     } else {
-        cursor.read_word(0)
+        cursor.read_u16(0)
     }
 }
 
@@ -55,9 +56,9 @@ fn read_left(cursor: &mut Cursor, phase: u8) -> Result<u16, usize>
 #[tactic(auto, unfolding(crate::specs::Walk::read_all, crate::specs::Sections::pen_fields))]
 fn read_pen(cursor: &mut Cursor) -> Result<Pen, usize>
     requires some { 13 ≤ length cursor.old }
-    ensures fields { Gives (λ x. ((x.phase ∷ []) ∷ word x.pc ∷ (x.sp ∷ []) ∷ (x.colour ∷ []) ∷ (x.intensity ∷ []) ∷ (x.lin ∷ []) ∷ (x.bin ∷ []) ∷ (x.pen ∷ []) ∷ x.bytes ∷ [], cursor.new)) result (read_fields pen_fields cursor.old) }
+    ensures fields { Gives (λ x. ((x.phase ∷ []) ∷ u16_bytes x.pc ∷ (x.sp ∷ []) ∷ (x.colour ∷ []) ∷ (x.intensity ∷ []) ∷ (x.lin ∷ []) ∷ (x.bin ∷ []) ∷ (x.pen ∷ []) ∷ x.bytes ∷ [], cursor.new)) result (read_fields pen_fields cursor.old) }
     ensures value { IfOk result (λ x. slice_index cursor.old 0 ≡ x.phase) }
-    ensures phase { IfOk result (λ x. x.phase ≤ 5) }
+    ensures phase { IfOk result (λ x. x.phase ≤ DRAW) }
     ensures pc { IfOk result (λ x. x.pc ≤ 8191) }
     ensures sp { IfOk result (λ x. x.sp ≤ 3) }
     ensures colour { IfOk result (λ x. x.colour ≤ 7) }
@@ -66,8 +67,8 @@ fn read_pen(cursor: &mut Cursor) -> Result<Pen, usize>
     ensures pen { IfOk result (λ x. x.pen ≤ 15) }
     ensures len { IfOk result (λ _. length cursor.new + 13 ≡ length cursor.old) }
 {
-    let phase = cursor.read_byte(5)?;
-    let pc = cursor.read_word(8191)?;
+    let phase = cursor.read_byte(DRAW)?;
+    let pc = cursor.read_u16(8191)?;
     let sp = cursor.read_byte(3)?;
     let colour = cursor.read_byte(7)?;
     let intensity = cursor.read_byte(15)?;
@@ -99,10 +100,10 @@ pub fn read_vg(cursor: &mut Cursor) -> Result<VgState, usize>
     let halted = cursor.read_flag()?;
     let pen = read_pen(cursor)?;
     let stack = read_stack(cursor)?;
-    let x = cursor.read_signed(1 << 30)?;
-    let y = cursor.read_signed(1 << 30)?;
-    let dx = cursor.read_signed(1 << 27)?;
-    let dy = cursor.read_signed(1 << 27)?;
+    let x = cursor.read_i32(1 << 30)?;
+    let y = cursor.read_i32(1 << 30)?;
+    let dx = cursor.read_i32(1 << 27)?;
+    let dy = cursor.read_i32(1 << 27)?;
     let left = read_left(cursor, pen.phase)?;
     let bytes = pen.bytes;
     let vg = VgState {

@@ -8,7 +8,7 @@ ghost use Rattle.save_state.specs.Sections.{pulse_pieces, jam_pieces, vg_pieces,
 
 use crate::STATE_LEN;
 use crate::range::keep_ranges;
-use crate::writer::{put, put_long, put_quad, put_signed, put_word};
+use crate::writer::{put, put_i32, put_u16, put_u32, put_u64};
 use board_base::{
     BoardState, CpuState, DividerState, EaromState, Mid, Pending, PokeyState, Sequence, VgState,
 };
@@ -32,8 +32,8 @@ fn put_processor(out: &mut [u8; STATE_LEN], at: usize, clock: u64, cpu: &CpuStat
     ensures at { result ≡ at + 21 }
 {
     let at = put(out, at, &[2, b'G', b'V', b'S']);
-    let at = put_long(out, at, clock);
-    let at = put_word(out, at, cpu.pc);
+    let at = put_u64(out, at, clock);
+    let at = put_u16(out, at, cpu.pc);
     let at = put(out, at, &[cpu.a, cpu.x, cpu.y, cpu.s, cpu.p]);
     put_jam(out, at, cpu.jam)
 }
@@ -49,7 +49,7 @@ fn put_divider(out: &mut [u8; STATE_LEN], at: usize, divider: &DividerState) -> 
         Pending::Power => 1,
         Pending::Watchdog => 2,
     };
-    let at = put_word(out, at, divider.phase);
+    let at = put_u16(out, at, divider.phase);
     put(out, at, &[u8::from(divider.irq), divider.dog, pending])
 }
 
@@ -87,22 +87,22 @@ fn put_vg(out: &mut [u8; STATE_LEN], at: usize, vg: &VgState) -> usize
     ensures at { result ≡ at + 40 }
 {
     let at = put(out, at, &[u8::from(vg.halted), vg.phase]);
-    let at = put_word(out, at, vg.pc);
+    let at = put_u16(out, at, vg.pc);
     let at = put(
         out,
         at,
         &[vg.sp, vg.colour, vg.intensity, vg.lin, vg.bin, vg.pen],
     );
     let at = put(out, at, &vg.bytes);
-    let at = put_word(out, at, vg.stack[0]);
-    let at = put_word(out, at, vg.stack[1]);
-    let at = put_word(out, at, vg.stack[2]);
-    let at = put_word(out, at, vg.stack[3]);
-    let at = put_signed(out, at, vg.x);
-    let at = put_signed(out, at, vg.y);
-    let at = put_signed(out, at, vg.dx);
-    let at = put_signed(out, at, vg.dy);
-    put_word(out, at, vg.left)
+    let at = put_u16(out, at, vg.stack[0]);
+    let at = put_u16(out, at, vg.stack[1]);
+    let at = put_u16(out, at, vg.stack[2]);
+    let at = put_u16(out, at, vg.stack[3]);
+    let at = put_i32(out, at, vg.x);
+    let at = put_i32(out, at, vg.y);
+    let at = put_i32(out, at, vg.dx);
+    let at = put_i32(out, at, vg.dy);
+    put_u16(out, at, vg.left)
 }
 
 /// Writes the pulses that are left of each channel.
@@ -111,10 +111,10 @@ fn put_left(out: &mut [u8; STATE_LEN], at: usize, left: [u32; 4]) -> usize
     ensures bytes { take result out.new ≡ take at out.old ++ concat (pulse_pieces left) }
     ensures at { result ≡ at + 16 }
 {
-    let at = put_quad(out, at, left[0]);
-    let at = put_quad(out, at, left[1]);
-    let at = put_quad(out, at, left[2]);
-    put_quad(out, at, left[3])
+    let at = put_u32(out, at, left[0]);
+    let at = put_u32(out, at, left[1]);
+    let at = put_u32(out, at, left[2]);
+    put_u32(out, at, left[3])
 }
 
 /// Writes a POKEY.
@@ -137,8 +137,8 @@ fn put_pokey(out: &mut [u8; STATE_LEN], at: usize, pokey: &PokeyState) -> usize
             pokey.poly5,
         ],
     );
-    let at = put_word(out, at, pokey.poly9);
-    let at = put_quad(out, at, pokey.poly17);
+    let at = put_u16(out, at, pokey.poly9);
+    let at = put_u32(out, at, pokey.poly17);
     let at = put(out, at, &[pokey.pre28, pokey.pre114]);
     let at = put_left(out, at, pokey.left);
     let at = put(out, at, &[pokey.tone, pokey.pass, pokey.pot]);
@@ -154,7 +154,7 @@ fn put_earom(out: &mut [u8; STATE_LEN], at: usize, earom: &EaromState) -> usize
     ensures at { result ≡ at + 70 }
 {
     let at = put(out, at, &[earom.addr, earom.value, earom.control]);
-    let at = put_word(out, at, earom.hold);
+    let at = put_u16(out, at, earom.hold);
     let at = put(out, at, &[earom.out]);
     put(out, at, &earom.cells)
 }

@@ -183,10 +183,6 @@ pub record SoakEnds (entries : List TapeEntry) (limit : ℕ) (start now : Engine
   pub board : now.board ≡ cleared (to_boundary entries limit start.board)
 
 module _ (entries : List TapeEntry) (limit : ℕ) (start now : EngineValue) (total : Summary) (s : Soaked entries limit start now total) where
-  -- no number passes 64 bits
-  pub soaked-room : IsSmall most_clocks total
-  soaked-room = small-later _ most_clocks total s.few s.small
-
   -- the records after one window more
   abbrev made_on : Recorded
   made_on = joined s.made (records_of (window_end entries limit now.board))

@@ -91,15 +91,6 @@ pub record Tallied (records : List Record) (i : ℕ) (t : Tally) : Type 0 where
   pub tally : t ≡ tally_of (take i records)
   pub small : IsSmallTally i t
 
-pub small-longer : (n m : ℕ) (t : Tally) → n ≤ m → IsSmallTally n t → IsSmallTally m t
-small-longer n m t h s = record {
-  strokes = (let a = s.strokes in omega arith);
-  levels = (let a = s.levels in omega arith);
-  latches = (let a = s.latches in omega arith);
-  resets = (let a = s.resets in omega arith);
-  sum = (let a = s.sum in omega arith);
-}
-
 pub tallied-start : (records : List Record) (t : Tally) → t ≡ tally_of [] → Tallied records 0 t
 unfolding tally_of
 tallied-start records t is = record {

@@ -1,7 +1,7 @@
 -- The seven lines of a large run, which are this project's own.
 use Rattle.std.specs.Prelude.{ℕ, List, [], ◌∷◌, codes, decimal}
 use Rattle.std.specs.List.{concat}
-use Rattle.log_text.specs.Lines.{line}
+use Rattle.text_line.specs.Words.{line}
 use Rattle.tape_ports.specs.declared.entry.TapeEntry.{TapeEntry}
 use Rattle.catchup_engine.specs.Lockstep.{Board}
 use Rattle.catchup_engine.specs.Order.{records_of}

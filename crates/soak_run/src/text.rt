@@ -5,9 +5,9 @@ ghost use Rattle.soak_run.specs.SoakText.{count_line, soak_text};
 
 use crate::summary::Summary;
 use arrayvec::ArrayVec;
-use log_text::Line;
 use outside_io::{Sink, SinkFault};
 use std::marker::Model;
+use text_line::Line;
 
 /// Room for the bytes of seven lines.
 const ROOM: usize = 224;

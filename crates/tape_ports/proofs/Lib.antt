@@ -1,6 +1,5 @@
-pub mod Digits
-pub mod Parting
 pub mod Places
 pub mod Reading
 pub mod DueLaws
 pub mod TextLaws
+pub mod Words

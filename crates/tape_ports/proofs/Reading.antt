@@ -6,12 +6,13 @@ use Rattle.std.proofs.lemmas.List.{append_assoc, append-nil, nil_from_length}
 use Rattle.std.proofs.lemmas.List.Elements.{All-push, All-weaker}
 use Rattle.std.proofs.lemmas.List.Sorted.{IsNonDecreasingBy-push}
 use Rattle.board_base.specs.declared.board.TheConstants.{CLOCK_LIMIT}
-use Rattle.tape_ports.proofs.Parting.{some_line}
+use Rattle.plain_text.proofs.Parting.{some_line}
+use Rattle.plain_text.specs.Lines.{lines_of, words_of}
 use Rattle.tape_ports.specs.declared.entry.TapeEntry.{TapeEntry}
 use Rattle.tape_ports.specs.declared.fault.LineCause.{LineCause}
 use Rattle.tape_ports.specs.declared.fault.LineCause.TheVariants as cause
 use Rattle.tape_ports.specs.declared.line.Line.TheVariants.{Entry, End}
-use Rattle.tape_ports.specs.Grammar.{lines_of, words_of, line_of, ComesAfter, with_first, ended, tape_from, tape_of}
+use Rattle.tape_ports.specs.Grammar.{tape_line_of, ComesAfter, with_first, ended, tape_from, tape_of}
 use Rattle.tape_ports.specs.Ports.{IsPort}
 use Rattle.tape_ports.specs.Tape.{TapeValue}
 
@@ -41,7 +42,7 @@ ended-some line end (first ∷ lines) some = refl
 module _ (text : List ℕ) (entries : List TapeEntry) (line before : ℕ) (rest first after : List ℕ) (so_far : ReadSoFar text entries line before rest)
     (parted : lines_of rest ≡ first ∷ lines_of after) (shorter : length after < length rest) where
   -- a good entry line more
-  ReadSoFar-push : (entry : TapeEntry) → Ok (Entry entry) ≡ line_of before (words_of first) → ComesAfter before (Entry entry)
+  ReadSoFar-push : (entry : TapeEntry) → Ok (Entry entry) ≡ tape_line_of before (words_of first) → ComesAfter before (Entry entry)
       → ReadSoFar text (entries ++ entry ∷ []) (line + 1) entry.clock after
   unfolding tape_from
   ReadSoFar-push entry said good = record {
@@ -56,12 +57,12 @@ module _ (text : List ℕ) (entries : List TapeEntry) (line before : ℕ) (rest 
     ports = All-push (λ e. IsPort e.port) entries entry so_far.ports good.2;
   }
 
-  pub ReadSoFar-entry : (entry : TapeEntry) (more : List TapeEntry) → Ok (Entry entry) ≡ line_of before (words_of first) → ComesAfter before (Entry entry)
+  pub ReadSoFar-entry : (entry : TapeEntry) (more : List TapeEntry) → Ok (Entry entry) ≡ tape_line_of before (words_of first) → ComesAfter before (Entry entry)
       → more ≡ entries ++ entry ∷ [] → ReadSoFar text more (line + 1) entry.clock after
   ReadSoFar-entry entry more said good pushed = rw pushed (ReadSoFar-push entry said good)
 
   -- an END line with nothing after it
-  pub tape_of-end : (end : ℕ) → Ok (End end) ≡ line_of before (words_of first) → after ≡ []
+  pub tape_of-end : (end : ℕ) → Ok (End end) ≡ tape_line_of before (words_of first) → after ≡ []
       → tape_of text ≡ Ok (record { entries = entries; end = end })
   unfolding lines_of tape_from
   tape_of-end end said none =
@@ -69,7 +70,7 @@ module _ (text : List ℕ) (entries : List TapeEntry) (line before : ℕ) (rest 
       sym so_far.tape ∙ ap (with_front entries) step ∙ ap (λ es. Ok (record { entries = es; end = end })) (append-nil entries)
 
   -- an END line with something after it
-  pub tape_of-after_end : (end : ℕ) → Ok (End end) ≡ line_of before (words_of first) → 0 < length after
+  pub tape_of-after_end : (end : ℕ) → Ok (End end) ≡ tape_line_of before (words_of first) → 0 < length after
       → tape_of text ≡ Err (line + 1, cause.AfterEnd)
   unfolding lines_of tape_from
   tape_of-after_end end said some =
@@ -78,7 +79,7 @@ module _ (text : List ℕ) (entries : List TapeEntry) (line before : ℕ) (rest 
       sym so_far.tape ∙ ap (with_front entries) step
 
   -- a bad line
-  pub tape_of-bad : (fault : LineCause) → Err fault ≡ line_of before (words_of first) → tape_of text ≡ Err (line, fault)
+  pub tape_of-bad : (fault : LineCause) → Err fault ≡ tape_line_of before (words_of first) → tape_of text ≡ Err (line, fault)
   unfolding tape_from
   tape_of-bad fault said =
       let step : tape_from line before (lines_of rest) ≡ Err (line, fault) = rw (parted, ← said) refl in

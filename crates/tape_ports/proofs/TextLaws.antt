@@ -12,7 +12,9 @@ use Rattle.tape_ports.specs.declared.fault.LineCause.{LineCause}
 use Rattle.tape_ports.specs.declared.fault.LineCause.TheVariants as cause
 use Rattle.tape_ports.specs.declared.line.Line.{Line}
 use Rattle.tape_ports.specs.declared.line.Line.TheVariants.{Entry, End}
-use Rattle.tape_ports.specs.Grammar.{lines_of, words_of, clock_of, value_of, ◌>>=◌, clock_after, end_line, entry_line, line_of, with_first, ended, told, tape_from, tape_of}
+use Rattle.plain_text.specs.Lines.{lines_of, words_of}
+use Rattle.plain_text.specs.Numbers.{decimal_of, value_of}
+use Rattle.tape_ports.specs.Grammar.{◌>>=◌, clock_after, end_line, entry_line, tape_line_of, with_first, ended, told, tape_from, tape_of}
 use Rattle.tape_ports.specs.Ports.{port_of}
 use Rattle.tape_ports.specs.Tape.{TapeValue}
 use Rattle.tape_ports.specs.TapeText.{IsEntryLine, IsEndLine, AreEntryLines, clocks_of, AreTapeLines, IsTapeText}
@@ -132,33 +134,33 @@ no_entry_told before entry true (Some clock) said = none (clock_after before clo
     none (Ok at) said = cc
 
 -- a line that tells an entry is its entry line, and its clock isn't below the one before
-is_entry_line : (before : ℕ) (line : List ℕ) (entry : TapeEntry) (words : List (List ℕ)) → words_of line ≡ words → line_of before words ≡ Ok (Entry entry)
+is_entry_line : (before : ℕ) (line : List ℕ) (entry : TapeEntry) (words : List (List ℕ)) → words_of line ≡ words → tape_line_of before words ≡ Ok (Entry entry)
     → IsEntryLine line entry × (before ≤ entry.clock)
 unfolding entry_line end_line
 is_entry_line before line entry [] parted said = absurd (cc)
 is_entry_line before line entry (first ∷ []) parted said = absurd (cc)
-is_entry_line before line entry (first ∷ second ∷ []) parted said = absurd (no_entry_told before entry (bytes_eq second (codes "END")) (clock_of first) said)
+is_entry_line before line entry (first ∷ second ∷ []) parted said = absurd (no_entry_told before entry (bytes_eq second (codes "END")) (decimal_of first) said)
 is_entry_line before line entry (first ∷ second ∷ third ∷ []) parted said =
-    let told = entry_told before entry (bytes_eq second (codes "END")) (clock_of first) (value_of third) (port_of second) said in (
+    let told = entry_told before entry (bytes_eq second (codes "END")) (decimal_of first) (value_of third) (port_of second) said in (
       record { first = first; second = second; third = third; words = parted; clock = told.its_clock; range = told.range; port = told.its_port; value = told.its_value },
       told.later,
     )
 is_entry_line before line entry (first ∷ second ∷ third ∷ fourth ∷ more) parted said = absurd (cc)
 
 -- a line that tells an END clock is the END line
-is_end_line : (before : ℕ) (line : List ℕ) (end : ℕ) (words : List (List ℕ)) → words_of line ≡ words → line_of before words ≡ Ok (End end)
+is_end_line : (before : ℕ) (line : List ℕ) (end : ℕ) (words : List (List ℕ)) → words_of line ≡ words → tape_line_of before words ≡ Ok (End end)
     → IsEndLine line end × (before ≤ end)
 unfolding entry_line end_line
 is_end_line before line end [] parted said = absurd (cc)
 is_end_line before line end (first ∷ []) parted said = absurd (cc)
 is_end_line before line end (first ∷ second ∷ []) parted said =
-    let told = end_told before end (bytes_eq second (codes "END")) (clock_of first) said in
+    let told = end_told before end (bytes_eq second (codes "END")) (decimal_of first) said in
     let word : second ≡ codes "END" = (bytes_eq-Decides second (codes "END")).0 told.its_word in (
       record { first = first; words = parted ∙ ap (λ (w : List ℕ). first ∷ w ∷ []) word; clock = told.its_clock; range = told.range },
       told.later,
     )
 is_end_line before line end (first ∷ second ∷ third ∷ []) parted said =
-    absurd (no_end_told before end (bytes_eq second (codes "END")) (clock_of first) (value_of third) (port_of second) said)
+    absurd (no_end_told before end (bytes_eq second (codes "END")) (decimal_of first) (value_of third) (port_of second) said)
 is_end_line before line end (first ∷ second ∷ third ∷ fourth ∷ more) parted said = absurd (cc)
 
 -- END names no port
@@ -170,13 +172,13 @@ end_is_no_port word port named = false_from_ne_true (bytes_eq word (codes "END")
     absurd (cc))
 
 -- an entry line tells its entry
-tells_entry : (before : ℕ) (line : List ℕ) (entry : TapeEntry) → IsEntryLine line entry → before ≤ entry.clock → line_of before (words_of line) ≡ Ok (Entry entry)
+tells_entry : (before : ℕ) (line : List ℕ) (entry : TapeEntry) → IsEntryLine line entry → before ≤ entry.clock → tape_line_of before (words_of line) ≡ Ok (Entry entry)
 unfolding entry_line
 tells_entry before line entry is later =
     rw (is.words, end_is_no_port is.second entry.port is.port, is.clock, is.value, is.port, clock_lets before entry.clock later is.range) refl
 
 -- the END line tells its clock
-tells_end : (before : ℕ) (line : List ℕ) (end : ℕ) → IsEndLine line end → before ≤ end → line_of before (words_of line) ≡ Ok (End end)
+tells_end : (before : ℕ) (line : List ℕ) (end : ℕ) → IsEndLine line end → before ≤ end → tape_line_of before (words_of line) ≡ Ok (End end)
 unfolding end_line
 tells_end before line end is later = rw (is.words, is.clock, clock_lets before end later is.range) refl
 
@@ -218,12 +220,12 @@ reads_on : (number before : ℕ) (lines : List (List ℕ)) (tape : TapeValue) �
 unfolding tape_from
 reads_on number before [] tape said = absurd (cc)
 reads_on number before (line ∷ lines) tape said =
-    by_line (λ entry later. reads_on (number + 1) entry.clock lines later) (line_of before (words_of line)) refl said
+    by_line (λ entry later. reads_on (number + 1) entry.clock lines later) (tape_line_of before (words_of line)) refl said
   where
     Others : Type 0
     Others = (entry : TapeEntry) (later : TapeValue) → tape_from (number + 1) entry.clock lines ≡ Ok later → FollowOn entry.clock lines later
 
-    more : Others → (entry : TapeEntry) (rest : Result TapeValue (ℕ × LineCause)) → line_of before (words_of line) ≡ Ok (Entry entry)
+    more : Others → (entry : TapeEntry) (rest : Result TapeValue (ℕ × LineCause)) → tape_line_of before (words_of line) ≡ Ok (Entry entry)
         → tape_from (number + 1) entry.clock lines ≡ rest → with_first entry rest ≡ Ok tape → FollowOn before (line ∷ lines) tape
     more others entry (Err fault) is rest said = absurd (cc)
     more others entry (Ok later) is rest said =
@@ -232,7 +234,7 @@ reads_on number before (line ∷ lines) tape said =
         let P : TapeValue → Type 0 = λ t. FollowOn before (line ∷ lines) t in
         subst P whole (one_line_more before line lines entry later entry_line rises (others entry later rest))
 
-    last : (end : ℕ) (rest : List (List ℕ)) → line_of before (words_of line) ≡ Ok (End end) → ended number end rest ≡ Ok tape → FollowOn before (line ∷ rest) tape
+    last : (end : ℕ) (rest : List (List ℕ)) → tape_line_of before (words_of line) ≡ Ok (End end) → ended number end rest ≡ Ok tape → FollowOn before (line ∷ rest) tape
     last end [] is said =
         let (end_line, rises) = is_end_line before line end (words_of line) refl is in
         let whole : ◌≡◌ {A = TapeValue} (record { entries = []; end = end }) tape = cc in
@@ -240,7 +242,7 @@ reads_on number before (line ∷ lines) tape said =
         subst P whole (end_line_alone before line end end_line rises)
     last end (other ∷ rest) is said = absurd (cc)
 
-    by_line : Others → (read : Result Line LineCause) → line_of before (words_of line) ≡ read
+    by_line : Others → (read : Result Line LineCause) → tape_line_of before (words_of line) ≡ read
         → told number read (λ entry. with_first entry (tape_from (number + 1) entry.clock lines)) (λ end. ended number end lines) ≡ Ok tape
         → FollowOn before (line ∷ lines) tape
     by_line others (Err fault) is said = absurd (cc)

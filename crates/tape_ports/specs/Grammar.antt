@@ -1,8 +1,7 @@
 -- How the text of a tape is read. This project's own profile.
-use Rattle.std.specs.Prelude.{◌≡◌, ℕ, ◌+◌, ◌*◌, ◌<◌, ◌≤◌, ◌==◌, ◌&&◌, List, [], ◌∷◌, length, Option, Some, None, Result, Ok, Err, nat_lt, nat_le, ok_or, option_and_then, option_map, bytes_eq, codes, if◌then◌else◌}
-use Rattle.std.specs.List.{list_all, onto_first, slice_split}
-use Rattle.std.specs.Char.{digit_value, is_ascii_digit, is_digit}
-use Rattle.std.specs.Str.Parse.{digits_value}
+use Rattle.std.specs.Prelude.{◌≡◌, ℕ, ◌+◌, ◌<◌, ◌≤◌, List, [], ◌∷◌, length, Result, Ok, Err, nat_lt, ok_or, bytes_eq, codes, if◌then◌else◌}
+use Rattle.plain_text.specs.Lines.{lines_of, words_of}
+use Rattle.plain_text.specs.Numbers.{decimal_of, value_of}
 use Rattle.board_base.specs.declared.board.TheConstants.{CLOCK_LIMIT}
 use Rattle.tape_ports.specs.declared.tape.TheConstants.{TAPE_LIMIT}
 use Rattle.tape_ports.specs.declared.entry.TapeEntry.{TapeEntry}
@@ -14,29 +13,6 @@ use Rattle.tape_ports.specs.declared.line.Line.{Line}
 use Rattle.tape_ports.specs.declared.line.Line.TheVariants.{Entry, End}
 use Rattle.tape_ports.specs.Ports.{IsPort, port_of}
 use Rattle.tape_ports.specs.Tape.{TapeValue}
-
--- the lines of a text: LF ends each, and may be missing after the last
-unfoldable pub lines_of : List ℕ → List (List ℕ)
-lines_of [] = []
-lines_of (byte ∷ text) = if byte == 10 then [] ∷ lines_of text else onto_first byte (lines_of text)
-
--- the words of a line are what stands between its spaces: beside a second space there is a word without a byte
-abbrev pub words_of : List ℕ → List (List ℕ)
-words_of line = slice_split (λ byte. byte == 32) line
-
--- a clock is 1 to 15 decimal digits
-abbrev pub clock_of : List ℕ → Option ℕ
-clock_of word =
-    if nat_le 1 (length word) && nat_le (length word) 15 && list_all is_ascii_digit word then Some (digits_value 10 word) else None
-
--- a hexadecimal digit of either case
-abbrev pub digit_of : ℕ → Option ℕ
-digit_of byte = if is_digit byte 16 then Some (digit_value byte) else None
-
--- a value is two hexadecimal digits
-abbrev pub value_of : List ℕ → Option ℕ
-value_of (high ∷ low ∷ []) = option_and_then (λ h. option_map (λ l. 16 * h + l) (digit_of low)) (digit_of high)
-value_of _ = None
 
 infixl 10 ◌>>=◌
 -- the first fault, or what comes of the answer
@@ -54,7 +30,7 @@ unfoldable pub end_line : ℕ → List ℕ → List ℕ → Result Line LineCaus
 end_line before clock word =
     if bytes_eq word (codes "END")
     then (do
-      given ← ok_or (clock_of clock) cause.Form
+      given ← ok_or (decimal_of clock) cause.Form
       end ← clock_after before given
       Ok (End end))
     else Err cause.Form
@@ -65,17 +41,17 @@ entry_line before clock name value =
     if bytes_eq name (codes "END")
     then Err cause.Form
     else (do
-      given ← ok_or (clock_of clock) cause.Form
+      given ← ok_or (decimal_of clock) cause.Form
       byte ← ok_or (value_of value) cause.Form
       port ← ok_or (port_of name) cause.Port
       at ← clock_after before given
       Ok (Entry (record { clock = at; port = port; value = byte })))
 
 -- what a line tells, by its words and the clock of the line before, or its first fault
-abbrev pub line_of : ℕ → List (List ℕ) → Result Line LineCause
-line_of before (clock ∷ word ∷ []) = end_line before clock word
-line_of before (clock ∷ name ∷ value ∷ []) = entry_line before clock name value
-line_of before _ = Err cause.Form
+abbrev pub tape_line_of : ℕ → List (List ℕ) → Result Line LineCause
+tape_line_of before (clock ∷ word ∷ []) = end_line before clock word
+tape_line_of before (clock ∷ name ∷ value ∷ []) = entry_line before clock name value
+tape_line_of before _ = Err cause.Form
 
 -- a good line's clock is at most the limit and not below that of the line before, and its port is one
 abbrev pub ComesAfter : ℕ → Line → Type 0
@@ -102,7 +78,7 @@ told number (Err fault) more last = Err (number, fault)
 unfoldable pub tape_from : ℕ → ℕ → List (List ℕ) → Result TapeValue (ℕ × LineCause)
 tape_from number before [] = Err (number, cause.NoEnd)
 tape_from number before (line ∷ lines) =
-    told number (line_of before (words_of line)) (λ entry. with_first entry (tape_from (number + 1) entry.clock lines)) (λ end. ended number end lines)
+    told number (tape_line_of before (words_of line)) (λ entry. with_first entry (tape_from (number + 1) entry.clock lines)) (λ end. ended number end lines)
 
 -- the one tape of a text, or its one fault with the number of its line, counted from 1
 abbrev pub tape_of : List ℕ → Result TapeValue (ℕ × LineCause)

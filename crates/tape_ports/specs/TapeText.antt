@@ -2,7 +2,8 @@
 use Rattle.std.specs.Prelude.{◌≡◌, ℕ, ◌≤◌, List, [], ◌∷◌, ◌++◌, map, Some, AllPairs, codes}
 use Rattle.board_base.specs.declared.board.TheConstants.{CLOCK_LIMIT}
 use Rattle.tape_ports.specs.declared.entry.TapeEntry.{TapeEntry}
-use Rattle.tape_ports.specs.Grammar.{lines_of, words_of, clock_of, value_of}
+use Rattle.plain_text.specs.Lines.{lines_of, words_of}
+use Rattle.plain_text.specs.Numbers.{decimal_of, value_of}
 use Rattle.tape_ports.specs.Ports.{port_of}
 use Rattle.tape_ports.specs.Tape.{TapeValue}
 
@@ -12,7 +13,7 @@ pub record IsEntryLine (line : List ℕ) (entry : TapeEntry) : Type 0 where
   pub second : List ℕ
   pub third : List ℕ
   pub words : words_of line ≡ first ∷ second ∷ third ∷ []
-  pub clock : clock_of first ≡ Some entry.clock
+  pub clock : decimal_of first ≡ Some entry.clock
   pub range : entry.clock ≤ CLOCK_LIMIT
   pub port : port_of second ≡ Some entry.port
   pub value : value_of third ≡ Some entry.value
@@ -21,7 +22,7 @@ pub record IsEntryLine (line : List ℕ) (entry : TapeEntry) : Type 0 where
 pub record IsEndLine (line : List ℕ) (end : ℕ) : Type 0 where
   pub first : List ℕ
   pub words : words_of line ≡ first ∷ codes "END" ∷ []
-  pub clock : clock_of first ≡ Some end
+  pub clock : decimal_of first ≡ Some end
   pub range : end ≤ CLOCK_LIMIT
 
 -- each line is the line of its entry

@@ -1,13 +1,17 @@
 /// What a tape sets: one of the board's three input ports, or the target of a pot.
 ///
-/// `Pot1` is a pot of POKEY 1 and `Pot2` one of POKEY 2, with the pot's number 0 to 7 (POKEY C012294
-/// data sheet, POT0 to POT7).
+/// A pot's number is 0 to 7 (POKEY C012294 data sheet, POT0 to POT7).
 #[derive(Clone, Copy, Debug, PartialEq, Eq)]
 pub enum Port {
+    /// The input port at 7800, of which a tape sets bits 0 to 5.
     In0,
+    /// The input port at 8000.
     In3,
+    /// The input port at 8800.
     In4,
+    /// A pot of POKEY 1, by its number.
     Pot1(u8),
+    /// A pot of POKEY 2, by its number.
     Pot2(u8),
 }
 

@@ -1,11 +1,11 @@
-use std::error::Error;
 use std::fmt;
+use thiserror::Error;
 
 /// What is wrong with a line of a tape.
 ///
 /// On one line `AfterEnd` is looked at first, and then the others in this order. `NoEnd` is told of
 /// the line after the last.
-#[derive(Clone, Copy, Debug, PartialEq, Eq)]
+#[derive(Clone, Copy, Debug, PartialEq, Eq, Error)]
 pub enum LineCause {
     /// It isn't a clock, a port and a value, nor a clock and `END`.
     Form,
@@ -23,9 +23,9 @@ pub enum LineCause {
 
 impl fmt::Display for LineCause {
     ghost use Rattle.std.specs.Prelude.{Some};
-    ghost use Rattle.tape_ports.specs.Texts.{cause_text};
+    ghost use Rattle.tape_ports.specs.Texts.{line_cause_text};
 
-    ghost output = { λ cause. Some (cause_text cause) };
+    ghost output = { λ cause. Some (line_cause_text cause) };
 
     fn fmt<W: fmt::Write>(&self, f: &mut fmt::Formatter<W>) -> fmt::Result {
         f.write_str(match self {
@@ -39,23 +39,22 @@ impl fmt::Display for LineCause {
     }
 }
 
-impl Error for LineCause {}
-
 /// Why a text is no tape.
-#[derive(Clone, Copy, Debug, PartialEq, Eq)]
+#[derive(Clone, Copy, Debug, PartialEq, Eq, Error)]
 pub enum TapeFault {
     /// More than `TAPE_LIMIT` bytes, which comes before all else.
     TooLong,
     /// The first bad line, counted from 1, and what is wrong with it.
     BadLine { line: u64, cause: LineCause },
+    /// No memory for the entries.
     OutOfMemory,
 }
 
 impl fmt::Display for TapeFault {
     ghost use Rattle.std.specs.Prelude.{Some};
-    ghost use Rattle.tape_ports.specs.Texts.{fault_text};
+    ghost use Rattle.tape_ports.specs.Texts.{tape_fault_text};
 
-    ghost output = { λ fault. Some (fault_text fault) };
+    ghost output = { λ fault. Some (tape_fault_text fault) };
 
     fn fmt<W: fmt::Write>(&self, f: &mut fmt::Formatter<W>) -> fmt::Result {
         match self {
@@ -65,5 +64,3 @@ impl fmt::Display for TapeFault {
         }
     }
 }
-
-impl Error for TapeFault {}

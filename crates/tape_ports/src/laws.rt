@@ -7,6 +7,8 @@ ghost use Rattle.tape_ports.specs.Tape.{TapeValue};
 ghost use Rattle.tape_ports.specs.TapeText.{IsTapeText};
 ghost use Rattle.tape_ports.specs.declared.entry.TapeEntry.{TapeEntry};
 
+use crate::tape::TAPE_LIMIT;
+
 /// The entries of a clock stand next to one another, from its place up to that of the next clock.
 #[tactic(auto, using(crate::proofs::DueLaws::entries_together))]
 pub fn entries_of_a_clock()
@@ -17,4 +19,9 @@ pub fn entries_of_a_clock()
 /// and the clocks don't fall.
 pub fn tape_by_its_lines()
     ensures { (text : List ℕ) (tape : TapeValue) → (tape_of text ≡ Ok tape) ↔ IsTapeText text tape }
+{}
+
+/// The most bytes of a tape's text: 16,777,216, which is 16 MiB.
+pub fn tape_limits()
+    ensures bytes { TAPE_LIMIT ≡ 16777216 }
 {}

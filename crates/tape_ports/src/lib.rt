@@ -9,8 +9,7 @@ pub mod tape;
 
 pub use entry::{Port, TapeEntry};
 pub use fault::{LineCause, TapeFault};
-pub use laws::{entries_of_a_clock, tape_by_its_lines};
-pub use line::{read_line, read_value, read_word};
+pub use laws::{entries_of_a_clock, tape_by_its_lines, tape_limits};
 pub use tape::{TAPE_LIMIT, Tape};
 
 #[cfg(test)]

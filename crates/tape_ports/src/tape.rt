@@ -2,8 +2,9 @@ ghost use Rattle.std.specs.Prelude.{◌≡◌, ◌<◌, ◌≤◌, All, IfOk, dr
 
 use crate::entry::TapeEntry;
 use crate::fault::{LineCause, TapeFault};
-use crate::line::{Line, parse_line, read_line};
+use crate::line::{Line, parse_line};
 use board_base::{CLOCK_LIMIT, OutOfMemory};
+use plain_text::read_line;
 use std::alloc::Global;
 use std::marker::Model;
 

@@ -39,10 +39,6 @@ drop-draws_of zero m number = ap (λ count. draws_of number count) (zero-add m)
 drop-draws_of (Prim.Native.Nat.suc n) m number =
     ap (λ count. drop (Prim.Native.Nat.suc n) (draws_of number count)) (suc-add n m) ∙ drop-draws_of n m (next_of number)
 
-pub number_after-none : (number : ℕ) → number_after number 0 ≡ number
-unfolding number_after
-number_after-none number = refl
-
 pub number_after-two : (number : ℕ) → number_after number 2 ≡ next_of (next_of number)
 unfolding number_after
 number_after-two number = refl

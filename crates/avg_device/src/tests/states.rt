@@ -1,8 +1,8 @@
-ghost use Rattle.std.specs.Prelude.{◌≡◌, ◌≢◌, ◌+◌, ◌≤◌, ◌^◌};
+ghost use Rattle.std.specs.Prelude.{◌≡◌, ◌≢◌, ◌+◌, ◌≤◌};
 
 use super::memory_of;
 use crate::{FastVg, PlainVg, VectorUnit};
-use board_base::{Trail, VectorMemory, VgState};
+use board_base::{CLOCK_END, Trail, VectorMemory, VgState};
 use std::alloc::Global;
 use std::process::Abort;
 use std::test::Fail;
@@ -112,7 +112,7 @@ fn both_move(
     n: u64,
 ) -> Result<(), Fail>
     requires few { n ≤ 300 }
-    requires clocks { from + n ≤ 2 ^ 49 }
+    requires clocks { from + n ≤ CLOCK_END }
 {
     let mut strokes = Trail::new(rt.alloc(), 300)?;
     let mut fast_strokes = Trail::new(rt.alloc(), 300)?;

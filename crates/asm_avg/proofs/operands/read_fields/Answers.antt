@@ -26,12 +26,12 @@ places-preserved c =
     let after = fields_of c.args.origin (drop (c.places.place-index + 1) c.args.places.now) rest in
     record {
       fields =
-          ap (λ all. option_map (λ more. all ++ more) after) c.in_ok-push.ensures
+          ap (λ all. option_map (λ more. all ++ more) after) c.in_ok-push.ensures.ok
           ∙ sym (onto-over c.places.fields _ after)
           ∙ ap (λ fields. option_map (λ more. c.places.fields ++ more) fields)
           (sym (fields-next c.args.origin c.args.places.now c.places.place-index _ c.split_item.result.0.now rest c.in-Some-2.expression c.places-test.true good))
           ∙ before;
-      places = rw c.in_ok-push.ensures (grind (arith, common_steps, c.places.invariant.places));
+      places = rw c.in_ok-push.ensures.ok (grind (arith, common_steps, c.places.invariant.places));
     }
 
 pub returns-in-Some-list-clause-fields : goal.returns-in-Some-list-clause-fields

@@ -1,5 +1,5 @@
 use Rattle.std.proofs.Common.{◌≡◌, ◌+◌, ◌≤◌, length}
-use Rattle.asm_text.specs.Lines.{lines_of}
+use Rattle.asm_text.specs.Lines.{lines_with_ends}
 use Rattle.asm_core.specs.FirstRound.{IsRound, known_of}
 use Rattle.asm_core.specs.Images.{at_the_start}
 use Rattle.asm_core.specs.Rounds.{first_round}
@@ -7,7 +7,7 @@ use Rattle.asm_core.proofs.assembly.look_at_lines.Given as goal
 
 abbrev pub invariant-lines : goal.invariant-lines
 invariant-lines g l = record {
-  known : first_round g.D.Dialect.language l.rom l.number (known_of l.round) (lines_of l.rest) ≡ first_round g.D.Dialect.language l.rom 1 at_the_start (lines_of l.text);
+  known : first_round g.D.Dialect.language l.rom l.number (known_of l.round) (lines_with_ends l.rest) ≡ first_round g.D.Dialect.language l.rom 1 at_the_start (lines_with_ends l.text);
   round : IsRound l.rom l.round;
   number : l.number + length l.rest ≤ 1 + length l.text;
 }

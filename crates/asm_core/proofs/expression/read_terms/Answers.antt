@@ -15,7 +15,7 @@ returns-in_default c =
 pub returns-then-at-words : goal.returns-then-at-words
 returns-then-at-words c =
     let good : Some c.in-Some.operand ≡ operand_of c.index-words-at.result = cc in
-    ap (λ terms. Some terms) c.in_ok-push.ensures
+    ap (λ terms. Some terms) c.in_ok-push.ensures.ok
     ∙ ap (λ rest. option_map (λ terms. c.terms.terms ++ terms) rest)
     (sym (terms-last c.terms.negative c.args.words.now c.terms.at c.index-words-at.result c.in-Some.operand c.if-at-words.true c.index-words-at.is good))
     ∙ c.terms.invariant
@@ -33,7 +33,7 @@ terms-preserved c =
     let good : Some c.in-Some.operand ≡ operand_of c.index-words-at.result = cc in
     let sign : Some c.in-Some-minus.next ≡ minus_of c.index-words-at-in-terms.result = cc in
     let more : c.terms.at + 1 < length c.args.words.now = omega arith in
-    ap (λ all. option_map (λ terms. all ++ terms) (terms_of c.in-Some-minus.next (drop (c.terms.at + 2) c.args.words.now))) c.in_ok-push.ensures
+    ap (λ all. option_map (λ terms. all ++ terms) (terms_of c.in-Some-minus.next (drop (c.terms.at + 2) c.args.words.now))) c.in_ok-push.ensures.ok
     ∙ sym (onto-over c.terms.terms _ (terms_of c.in-Some-minus.next (drop (c.terms.at + 2) c.args.words.now)))
     ∙ ap (λ rest. option_map (λ terms. c.terms.terms ++ terms) rest)
     (sym (terms-next c.terms.negative c.args.words.now c.terms.at c.index-words-at.result c.index-words-at-in-terms.result c.in-Some.operand c.in-Some-minus.next more c.index-words-at.is c.index-words-at-in-terms.is good sign))

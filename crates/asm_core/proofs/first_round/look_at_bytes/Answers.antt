@@ -7,4 +7,4 @@ pub returns-clause-round : goal.returns-clause-round
 returns-clause-round c =
     let size : c.in_ok-size.size ≡ size_of c.args.cells = c.in_ok-size.ensures.some ∙ ap (λ cells. size_of cells) c.items.ensures in
     round-next c.args.rom c.args.round.now c.args.line c.args.cells c.give.new.taken c.push.new.self c.in_ok-size.size
-    c.requires.rom c.requires.round c.requires.cells size c.in_ok-size.ensures.low c.in_ok-size.ensures.high c.give.ensures c.in-Ok.ensures
+    c.requires.rom c.requires.round c.requires.cells size c.in_ok-size.ensures.low c.in_ok-size.ensures.high c.give.ensures c.in-Ok.ensures.ok

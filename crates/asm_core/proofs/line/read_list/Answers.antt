@@ -21,12 +21,12 @@ items-preserved c =
     let before = rw (c.in-Some.is, c.split_item.ensures.items) at c.items.invariant.list in
     record {
       list =
-          ap (λ all. option_map (λ cells. all ++ cells) (cells_of c.args.place c.args.size rest)) (c.in_ok-push.ensures ∙ ap (λ cell. c.items.cells ++ cell ∷ []) c.in_ok-cell.ensures.value)
+          ap (λ all. option_map (λ cells. all ++ cells) (cells_of c.args.place c.args.size rest)) (c.in_ok-push.ensures.ok ∙ ap (λ cell. c.items.cells ++ cell ∷ []) c.in_ok-cell.ensures.value)
           ∙ sym (onto-over c.items.cells (value_cell c.args.place c.args.size c.in-Some-2.expression) (cells_of c.args.place c.args.size rest))
           ∙ ap (λ cells. option_map (λ more. c.items.cells ++ more) cells) (sym (cells-next c.args.place c.args.size c.split_item.result.0.now rest c.in-Some-2.expression good))
           ∙ before;
-      each = rw c.in_ok-push.ensures (All-push IsCell c.items.cells c.in_ok-cell.cell c.items.invariant.each c.in_ok-cell.ensures.cell);
-      some = if_none-any c.split_item.result.1 _ (rw c.in_ok-push.ensures (grind (arith, common_steps)));
+      each = rw c.in_ok-push.ensures.ok (All-push IsCell c.items.cells c.in_ok-cell.cell c.items.invariant.each c.in_ok-cell.ensures.cell);
+      some = if_none-any c.split_item.result.1 _ (rw c.in_ok-push.ensures.ok (grind (arith, common_steps)));
     }
 
 pub returns-clause-list : goal.returns-clause-list

@@ -1,5 +1,5 @@
 use Rattle.std.proofs.Common.{◌≡◌, ◌+◌, ◌++◌, ◌∷◌, ◌∙◌, ap, unwrap_or}
-use Rattle.log_text.specs.Lines.{hex_byte}
+use Rattle.text_line.specs.Words.{hex_byte}
 use Rattle.rom_image.specs.Addresses.{byte_of}
 use Rattle.asm_listing.proofs.Bytes.{bytes-more}
 use Rattle.asm_listing.proofs.listing_text.push_bytes.Goals as goal

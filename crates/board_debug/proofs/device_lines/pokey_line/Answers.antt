@@ -1,7 +1,7 @@
 use Rattle.std.proofs.Common.{◌++◌, ◌∷◌, ap, sym, ◌∙◌}
 use Rattle.board_base.specs.Pokey.{PokeyValue}
 use Rattle.pokey_chip.specs.Registers.{register_read}
-use Rattle.log_text.specs.Lines.{hex_byte}
+use Rattle.text_line.specs.Words.{hex_byte}
 use Rattle.board_debug.specs.BoardText.{pokey_text}
 use Rattle.board_debug.proofs.TextLaws.{first-said, line-said, said}
 use Rattle.board_debug.proofs.device_lines.pokey_line.Goals as goal

@@ -1,7 +1,7 @@
 use Rattle.std.proofs.Common.{◌++◌, ◌∷◌, take, map, arith, ap, ◌∙◌}
 use Rattle.std.specs.Prelude.{codes}
 use Rattle.std.proofs.lemmas.List.{length-take-le}
-use Rattle.log_text.specs.Lines.{hex_byte, line}
+use Rattle.text_line.specs.Words.{hex_byte, line}
 use Rattle.board_debug.specs.BoardText.{mid_text, sequence_name}
 use Rattle.board_debug.proofs.TextLaws.{spaced, spaced-line, spaced-more, spaced-none}
 use Rattle.board_debug.proofs.processor_lines.mid_line.Goals as goal

@@ -1,9 +1,9 @@
 -- The runs keep the order of the records.
-use Rattle.catchup_engine.proofs.InOrder.{run-made, to_boundary-made, to_cut-made}
+use Rattle.catchup_engine.proofs.InOrder.{to_clock-made, to_boundary-made, to_cut-made}
 use Rattle.catchup_engine.proofs.laws.one_record_of_each_part.Goals as goal
 
-pub returns-clause-run : goal.returns-clause-run
-returns-clause-run c = run-made
+pub returns-clause-clock : goal.returns-clause-clock
+returns-clause-clock c = to_clock-made
 
 pub returns-clause-boundary : goal.returns-clause-boundary
 returns-clause-boundary c = to_boundary-made

@@ -12,7 +12,7 @@ use Rattle.catchup_engine.proofs.run.run_quietly.Goals as goal
 
 pub loop-cpu-init : goal.loop-cpu-init
 loop-cpu-init g c = record {
-  on = turns-start c.args.tape.now.entries c.args.limit c.args.addresses.now c.args.cpu c.args.bus.now c.requires.level c.requires.boundary c.requires.range;
+  on = turns-start c.args.tape.now.entries c.args.limit c.args.addresses.now c.args.cpu c.args.bus.now c.requires.between c.requires.boundary c.requires.range;
   fits = c.requires.fits;
 }
 
@@ -26,7 +26,7 @@ turned : (g : Given.Over) (c : goal.After-perform_quietly g)
     → TurnedBus c.args.tape.now.entries 7 c.loop-cpu.cpu c.loop-cpu.bus c.perform_quietly.new.bus c.perform_quietly.new.cpu
 turned g c =
     opcode-turn c.args.tape.now c.loop-cpu.cpu c.loop-cpu.bus c.perform_quietly.new.bus c.perform_quietly.new.cpu
-    (c.reads_opcode.ensures.reads c.if-reads_opcode.true) c.loop-cpu.invariant.on.run.goes.level c.loop-cpu.invariant.fits c.perform_quietly.ensures.runs
+    (c.reads_opcode.ensures.reads c.if-reads_opcode.true) c.loop-cpu.invariant.on.run.goes.between c.loop-cpu.invariant.fits c.perform_quietly.ensures.runs
     c.perform_quietly.ensures.boundary
 
 pub loop-cpu-smaller : goal.loop-cpu-smaller

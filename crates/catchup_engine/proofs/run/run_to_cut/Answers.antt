@@ -7,7 +7,7 @@ use Rattle.catchup_engine.proofs.run.run_to_cut.Goals as goal
 
 pub loop-bus-init : goal.loop-bus-init
 loop-bus-init g c = record {
-  at = cut-starts c.args.tape.now.entries c.args.cut c.args.wrap c.args.cpu c.args.bus.now c.requires.level c.requires.range;
+  at = cut-starts c.args.tape.now.entries c.args.cut c.args.wrap c.args.cpu c.args.bus.now c.requires.between c.requires.range;
   fits = c.requires.fits;
 }
 

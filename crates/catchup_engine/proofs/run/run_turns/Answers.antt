@@ -7,7 +7,7 @@ use Rattle.catchup_engine.proofs.run.run_turns.Goals as goal
 
 pub loop-cpu-init : goal.loop-cpu-init
 loop-cpu-init g c = record {
-  on = turns-start c.args.tape.now.entries c.args.limit c.args.addresses.now c.args.cpu c.args.bus.now c.requires.level c.requires.boundary c.requires.range;
+  on = turns-start c.args.tape.now.entries c.args.limit c.args.addresses.now c.args.cpu c.args.bus.now c.requires.between c.requires.boundary c.requires.range;
   fits = c.requires.fits;
 }
 

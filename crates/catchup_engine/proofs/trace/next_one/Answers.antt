@@ -9,7 +9,7 @@ returns-clause-turned g c =
     let inside : c.args.cpu.now.mid ≡ Some c.in-Some.mid = ap (λ (k : CpuValue). k.mid) (sym state) ∙ c.in-Some.is in
     let six : length c.in-Some.mid.bytes ≡ 6 = ap (λ (m : MidValue). length m.bytes) (sym c.mid.view_is) ∙ c.mid.invariant.bytes in
     (resumed c.args.tape.now.entries c.args.cpu.now c.in-Some.mid c.args.bus.now c.resume_one.new.bus c.resume_one.new.cpu c.resume_one.result
-    inside (rw c.state.ensures.value at c.state.ensures.place) six c.requires.level c.resume_one.ensures.makes).turned
+    inside (rw c.state.ensures.value at c.state.ensures.place) six c.requires.between c.resume_one.ensures.makes).turned
 
 pub returns-clause-access : goal.returns-clause-access
 returns-clause-access g c =
@@ -17,7 +17,7 @@ returns-clause-access g c =
     let inside : c.args.cpu.now.mid ≡ Some c.in-Some.mid = ap (λ (k : CpuValue). k.mid) (sym state) ∙ c.in-Some.is in
     let six : length c.in-Some.mid.bytes ≡ 6 = ap (λ (m : MidValue). length m.bytes) (sym c.mid.view_is) ∙ c.mid.invariant.bytes in
     (resumed c.args.tape.now.entries c.args.cpu.now c.in-Some.mid c.args.bus.now c.resume_one.new.bus c.resume_one.new.cpu c.resume_one.result
-    inside (rw c.state.ensures.value at c.state.ensures.place) six c.requires.level c.resume_one.ensures.makes).access
+    inside (rw c.state.ensures.value at c.state.ensures.place) six c.requires.between c.resume_one.ensures.makes).access
 
 pub returns-clause-counts : goal.returns-clause-counts
 returns-clause-counts g c =

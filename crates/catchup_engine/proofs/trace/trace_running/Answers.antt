@@ -8,7 +8,7 @@ use Rattle.catchup_engine.proofs.trace.trace_running.Goals as goal
 pub loop-cpu-init : goal.loop-cpu-init
 loop-cpu-init g c = record {
   at =
-      trace-starts c.args.tape.now.entries c.args.cpu.now c.args.bus.now c.begin_trace-trace.new.bus c.begin_trace-trace.new.cpu c.begin_trace-trace.result c.requires.running c.requires.level
+      trace-starts c.args.tape.now.entries c.args.cpu.now c.args.bus.now c.begin_trace-trace.new.bus c.begin_trace-trace.new.cpu c.begin_trace-trace.result c.requires.running c.requires.between
       c.begin_trace-trace.ensures.turned c.begin_trace-trace.ensures.trace c.begin_trace-trace.ensures.access c.begin_trace-trace.ensures.counts;
   fits = c.begin_trace-trace.ensures.fits;
 }

@@ -5,7 +5,7 @@ use Rattle.gravitar_commands.proofs.assembling.perform_asm.Goals as goal
 
 pub returns-in-Err-clause-outcome : goal.returns-in-Err-clause-outcome
 returns-in-Err-clause-outcome g c =
-    asm-stopped (g.S.Shelf.files c.args.shelf.now) c.args.words.now c.in-Err.stop _ _ _ _ c.in-Err.ensures.content refl c.load_asm.ensures.stores
+    asm-stopped (g.S.Shelf.files c.args.shelf.now) c.args.words.now c.in-Err.failure _ _ _ _ c.in-Err.ensures.content refl c.load_asm.ensures.stores
 
 pub returns-in_default-write-clause-outcome : goal.returns-in_default-write-clause-outcome
 returns-in_default-write-clause-outcome g c =

@@ -5,13 +5,13 @@ use Rattle.gravitar_commands.proofs.debugging.debug_run.Goals as goal
 
 pub returns-in-Err-clause-outcome : goal.returns-in-Err-clause-outcome
 returns-in-Err-clause-outcome g c =
-    debug-stopped (g.S.Shelf.files c.args.shelf.now) (record { run = c.args.run.now; script = c.args.name.now }) c.args.run.now c.in-Err.stop _ _ _ _ refl
+    debug-stopped (g.S.Shelf.files c.args.shelf.now) (record { run = c.args.run.now; script = c.args.name.now }) c.args.run.now c.in-Err.failure _ _ _ _ refl
     c.in-Err.ensures.content refl c.load_run.ensures.stores
 
 pub returns-in-Err-load_script-clause-outcome : goal.returns-in-Err-load_script-clause-outcome
 returns-in-Err-load_script-clause-outcome g c =
     debug-unread (g.S.Shelf.files c.args.shelf.now) (g.S.Shelf.files c.load_run.new.shelf) (record { run = c.args.run.now; script = c.args.name.now })
-    c.args.run.now c.args.name.now c.in-Ok.parts c.in-Err-load_script.stop _ _ _ _ refl refl c.load_run.ensures.files c.in-Ok.ensures.content
+    c.args.run.now c.args.name.now c.in-Ok.parts c.in-Err-load_script.failure _ _ _ _ refl refl c.load_run.ensures.files c.in-Ok.ensures.content
     c.in-Err-load_script.ensures.content refl (c.load_script.ensures.stores ∙ c.load_run.ensures.stores)
 
 pub returns-clause-outcome : goal.returns-clause-outcome

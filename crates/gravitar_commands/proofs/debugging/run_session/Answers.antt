@@ -1,6 +1,6 @@
 use Rattle.std.proofs.Common.{Err, subst}
-use Rattle.board_debug.specs.declared.script.DebugFault.{DebugFault}
-use Rattle.board_debug.specs.declared.script.DebugFault.TheVariants.{BadCommand, SinkFault}
+use Rattle.board_debug.specs.declared.fault.DebugFault.{DebugFault}
+use Rattle.board_debug.specs.declared.fault.DebugFault.TheVariants.{BadCommand, SinkFault}
 use Rattle.board_debug.specs.Debugged.{Debugs}
 use Rattle.gravitar_commands.proofs.StageLaws.{session-bad, session-cut, session-done}
 use Rattle.gravitar_commands.proofs.debugging.run_session.Goals as goal

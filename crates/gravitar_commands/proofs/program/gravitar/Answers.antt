@@ -1,6 +1,8 @@
-use Rattle.std.proofs.Common.{refl}
+use Rattle.std.proofs.Common.{ap, refl, subst}
+use Rattle.std.specs.Prelude.{Ok}
+use Rattle.gravitar_commands.specs.Outcome.{IsRun}
 use Rattle.command_line.specs.CommandWords.{command_value}
-use Rattle.gravitar_commands.proofs.StageLaws.{ending-contained, fault-note, memory-note, noted, stop-note, stop-outcome, stop-status, usage-note, usage-outcome, usage-status}
+use Rattle.gravitar_commands.proofs.StageLaws.{done-note, done-outcome, ending-contained, failure-stopped, fault-note, jam-ending, jam-failure, memory-note, noted, failure-note, failure-outcome, failure-status, usage-note, usage-outcome, usage-status}
 use Rattle.gravitar_commands.proofs.program.gravitar.Goals as goal
 
 pub returns-in_default-clause-outcome : goal.returns-in_default-clause-outcome
@@ -18,28 +20,51 @@ returns-in_default-clause-note g c = λ not6 not7.
     (noted _ _ _ _ _ c.write.result c.write.ensures.taken c.write.ensures.cause)
 
 pub returns-in-Err-clause-statuses : goal.returns-in-Err-clause-statuses
-returns-in-Err-clause-statuses g c = stop-status c.in-Err.stop c.status.result c.status.ensures
+returns-in-Err-clause-statuses g c = failure-status c.in-Err.failure c.status.result c.status.ensures
 
 pub returns-in-Err-clause-fault_note : goal.returns-in-Err-clause-fault_note
 returns-in-Err-clause-fault_note g c = λ six.
-    fault-note c.in-Err.stop c.status.result _ _ _ _ c.status.ensures
+    fault-note c.in-Err.failure c.status.result _ _ _ _ c.status.ensures
     (noted _ _ _ _ _ c.write-in-Err.result (rw c.note.ensures at c.write-in-Err.ensures.taken) c.write-in-Err.ensures.cause) six
 
 pub returns-in-Err-clause-memory_note : goal.returns-in-Err-clause-memory_note
 returns-in-Err-clause-memory_note g c = λ seven.
-    memory-note c.in-Err.stop c.status.result _ _ _ _ c.status.ensures
+    memory-note c.in-Err.failure c.status.result _ _ _ _ c.status.ensures
     (noted _ _ _ _ _ c.write-in-Err.result (rw c.note.ensures at c.write-in-Err.ensures.taken) c.write-in-Err.ensures.cause) seven
 
 pub returns-in-Err-clause-outcome : goal.returns-in-Err-clause-outcome
 returns-in-Err-clause-outcome g c =
-    stop-outcome (g.S.Shelf.files c.args.shelf.now) c.args.words.now (command_value c.in-Some.command) c.in-Err.stop c.status.result _ _ _ _
+    failure-outcome (g.S.Shelf.files c.args.shelf.now) c.args.words.now (command_value c.in-Some.command) c.in-Err.failure c.status.result _ _ _ _
     c.in-Some.ensures.command c.status.ensures c.in-Err.ensures.outcome c.in-Err.ensures.quiet
 
 pub returns-in-Err-clause-note : goal.returns-in-Err-clause-note
 returns-in-Err-clause-note g c =
-    stop-note (g.S.Shelf.files c.args.shelf.now) c.args.words.now (command_value c.in-Some.command) c.in-Err.stop c.status.result _ _ _ _
+    failure-note (g.S.Shelf.files c.args.shelf.now) c.args.words.now (command_value c.in-Some.command) c.in-Err.failure c.status.result _ _ _ _
     c.in-Some.ensures.command c.status.ensures c.in-Err.ensures.outcome _ _ _ _
     (noted _ _ _ _ _ c.write-in-Err.result (rw c.note.ensures at c.write-in-Err.ensures.taken) c.write-in-Err.ensures.cause)
 
 pub returns-in-Ok-clause-statuses : goal.returns-in-Ok-clause-statuses
 returns-in-Ok-clause-statuses g c = ending-contained _ c.ending_status.result c.ending_status.ensures
+
+pub returns-in-Err-clause-jam : goal.returns-in-Err-clause-jam
+returns-in-Err-clause-jam g c = λ three. absurd (jam-failure c.in-Err.failure c.status.result c.status.ensures three)
+
+pub returns-in-Ok-clause-jam : goal.returns-in-Ok-clause-jam
+returns-in-Ok-clause-jam g c = λ three.
+    subst IsRun c.in-Some.ensures.command
+    (c.in-Ok.ensures.jam (ap Ok (jam-ending _ c.ending_status.result c.ending_status.ensures three)))
+
+pub returns-in-Ok-clause-outcome : goal.returns-in-Ok-clause-outcome
+returns-in-Ok-clause-outcome g c = λ not6 not7.
+    done-outcome (g.S.Shelf.files c.args.shelf.now) c.args.words.now (command_value c.in-Some.command) c.in-Ok.ending c.ending_status.result _ _ _ _
+    c.in-Some.ensures.command c.ending_status.ensures c.in-Ok.ensures.outcome
+
+pub returns-in-Ok-clause-note : goal.returns-in-Ok-clause-note
+returns-in-Ok-clause-note g c = λ not6 not7.
+    done-note (g.S.Shelf.files c.args.shelf.now) c.args.words.now (command_value c.in-Some.command) c.in-Ok.ending _ _ _ _ _ _
+    c.in-Some.ensures.command c.in-Ok.ensures.outcome
+
+pub returns-in-Err-clause-stopped : goal.returns-in-Err-clause-stopped
+returns-in-Err-clause-stopped g c = λ six.
+    failure-stopped (g.S.Shelf.files c.args.shelf.now) c.args.words.now (command_value c.in-Some.command) c.in-Err.failure c.status.result _ _ _ _
+    c.in-Some.ensures.command c.status.ensures c.in-Err.ensures.outcome six

@@ -5,7 +5,7 @@ use Rattle.gravitar_commands.proofs.program.perform_run.Goals as goal
 
 pub returns-in-Err-clause-outcome : goal.returns-in-Err-clause-outcome
 returns-in-Err-clause-outcome g c =
-    run-stopped (g.S.Shelf.files c.args.shelf.now) c.args.words.now c.in-Err.stop _ _ _ _ c.in-Err.ensures.content refl c.load_run.ensures.stores
+    run-stopped (g.S.Shelf.files c.args.shelf.now) c.args.words.now c.in-Err.failure _ _ _ _ c.in-Err.ensures.content refl c.load_run.ensures.stores
 
 pub returns-in-Ok-clause-outcome : goal.returns-in-Ok-clause-outcome
 returns-in-Ok-clause-outcome g c =

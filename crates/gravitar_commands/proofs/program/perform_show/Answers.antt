@@ -5,7 +5,7 @@ use Rattle.gravitar_commands.proofs.program.perform_show.Goals as goal
 
 pub returns-in-Err-clause-outcome : goal.returns-in-Err-clause-outcome
 returns-in-Err-clause-outcome g c =
-    show-stopped (g.S.Shelf.files c.args.shelf.now) c.args.name.now c.in-Err.stop _ _ _ _ c.in-Err.ensures.content refl c.load_state.ensures.stores
+    show-stopped (g.S.Shelf.files c.args.shelf.now) c.args.name.now c.in-Err.failure _ _ _ _ c.in-Err.ensures.content refl c.load_state.ensures.stores
 
 pub returns-in-Ok-write_board-clause-outcome : goal.returns-in-Ok-write_board-clause-outcome
 returns-in-Ok-write_board-clause-outcome g c =

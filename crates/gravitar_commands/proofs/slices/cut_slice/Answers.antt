@@ -1,7 +1,7 @@
 use Rattle.std.proofs.Common.{refl, ap, ◌∙◌}
 use Rattle.std.specs.Option.{option_map}
 use Rattle.catchup_engine.specs.EngineValue.{EngineValue}
-use Rattle.catchup_engine.specs.Run.{run}
+use Rattle.catchup_engine.specs.Run.{to_clock}
 use Rattle.gravitar_commands.specs.declared.until.Until.TheVariants.{Clock}
 use Rattle.gravitar_commands.specs.Events.{sending}
 use Rattle.gravitar_commands.specs.Slice.{slice_text}
@@ -14,7 +14,7 @@ pub returns-in_default-clause-stopped : goal.returns-in_default-clause-stopped
 unfolding cut_events
 returns-in_default-clause-stopped g c =
     let lines = slice_text c.args.tape.now.entries (Clock c.args.cut) c.args.engine.now.board in
-    let store = storing (option_map (λ name. name.now) c.args.save) (saved_bytes (run c.args.tape.now.entries c.args.cut c.args.engine.now.board)) in
+    let store = storing (option_map (λ name. name.now) c.args.save) (saved_bytes (to_clock c.args.tape.now.entries c.args.cut c.args.engine.now.board)) in
     let out0 = g.O.Sink.taken c.args.out.now in
     let out1 = g.O.Sink.taken c.run_slice.new.out in
     let stores = g.S.Shelf.stores c.args.shelf.now in
@@ -24,7 +24,7 @@ pub returns-in_default-store_under-clause-stopped : goal.returns-in_default-stor
 unfolding cut_events
 returns-in_default-store_under-clause-stopped g c =
     let lines = slice_text c.args.tape.now.entries (Clock c.args.cut) c.args.engine.now.board in
-    let store = storing (option_map (λ name. name.now) c.args.save) (saved_bytes (run c.args.tape.now.entries c.args.cut c.args.engine.now.board)) in
+    let store = storing (option_map (λ name. name.now) c.args.save) (saved_bytes (to_clock c.args.tape.now.entries c.args.cut c.args.engine.now.board)) in
     let out0 = g.O.Sink.taken c.args.out.now in
     let out1 = g.O.Sink.taken c.run_slice.new.out in
     let stores0 = g.S.Shelf.stores c.args.shelf.now in
@@ -36,7 +36,7 @@ returns-in_default-store_under-clause-stopped g c =
 pub returns-clause-done : goal.returns-clause-done
 unfolding cut_events
 returns-clause-done g c =
-    let last = run c.args.tape.now.entries c.args.cut c.args.engine.now.board in
+    let last = to_clock c.args.tape.now.entries c.args.cut c.args.engine.now.board in
     let lines = slice_text c.args.tape.now.entries (Clock c.args.cut) c.args.engine.now.board in
     let name = option_map (λ name. name.now) c.args.save in
     let out0 = g.O.Sink.taken c.args.out.now in

@@ -1,4 +1,4 @@
-use Rattle.std.proofs.Common.{◌⊎◌, inl, inr, arith}
+use Rattle.std.proofs.Common.{Some, ◌⊎◌, inl, inr, arith}
 use Rattle.command_line.specs.CommandLine.{command_of}
 use Rattle.outside_io.specs.Causes.{Rose}
 use Rattle.outside_io.specs.Content.{content_of}
@@ -13,4 +13,4 @@ no_rise (inr rose) = absurd (omega arith)
 pub returns-clause-defined : goal.returns-clause-defined
 returns-clause-defined g c = λ unchanged not7.
     let defined = c.gravitar.ensures.outcome (λ six. no_rise (c.gravitar.ensures.fault six)) not7 in
-    comes-map _ _ (command_of c.args.words.now) (content_of c.args.shelf.now.files) (λ outcome both. both.0) (rw unchanged at defined)
+    comes-map _ _ (command_of c.args.words.now) (Some (content_of c.args.shelf.now.files)) (λ outcome both. both.0) (rw unchanged at defined)

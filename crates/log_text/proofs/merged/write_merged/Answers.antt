@@ -14,14 +14,14 @@ loop-part-init g c = let made = c.into_iter-part-iterator.ensures.into_iter_give
 pub loop-part-preserved : goal.loop-part-preserved
 loop-part-preserved g c = record {
   split = one_more _ c.loop-part.yielded _ _ _ c.loop-part.invariant.split c.in-Some.ensures.steps;
-  gathered = line_gathered c.loop-part.yielded _ _ _ _ _ _ _ _ _ c.bytes.ensures c.record_line-line.ensures.text c.loop-part.invariant.gathered c.in_ok-push.ensures.taken;
+  gathered = line_gathered c.loop-part.yielded _ _ _ _ _ _ _ _ _ c.bytes.ensures c.set_line.ensures.text c.loop-part.invariant.gathered c.in_ok-push.ensures.taken;
   faults = c.in_ok-push.ensures.cause ∙ c.loop-part.invariant.faults;
 }
 
 pub returns-in_err-push-clause-taken : goal.returns-in_err-push-clause-taken
 unfolding merged_text
 returns-in_err-push-clause-taken g c =
-    line_cut _ c.loop-part.yielded _ _ _ _ _ _ _ _ _ _ _ c.loop-part.invariant.split c.in-Some.ensures.steps c.bytes.ensures c.record_line-line.ensures.text c.loop-part.invariant.gathered
+    line_cut _ c.loop-part.yielded _ _ _ _ _ _ _ _ _ _ _ c.loop-part.invariant.split c.in-Some.ensures.steps c.bytes.ensures c.set_line.ensures.text c.loop-part.invariant.gathered
     c.from_residual.ensures.0 c.in_err-push.ensures.taken
 
 pub returns-clause-taken : goal.returns-clause-taken

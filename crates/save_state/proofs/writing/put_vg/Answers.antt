@@ -6,4 +6,4 @@ use Rattle.save_state.proofs.Signed.{signed_back}
 use Rattle.save_state.proofs.writing.put_vg.Goals as goal
 
 pub returns-clause-bytes : goal.returns-clause-bytes
-returns-clause-bytes c = subst (λ (v : VgValue). take c.put_word.result c.put_word.new.out ≡ take c.args.at c.args.out.now ++ concat (vg_pieces v)) c.vg.view_is (rw (c.put_word.ensures.bytes, c.put_signed-at-4.ensures.bytes, c.put_signed-at-3.ensures.bytes, c.put_signed-at-2.ensures.bytes, c.put_signed-at.ensures.bytes, c.put_word-at-5.ensures.bytes, c.put_word-at-4.ensures.bytes, c.put_word-at-3.ensures.bytes, c.put_word-at-2.ensures.bytes, c.put-at-3.ensures.bytes, c.put-at-2.ensures.bytes, c.put_word-at.ensures.bytes, c.put-at.ensures.bytes) (simp (append_assoc, c.from.ensures, signed_back (2 ^ 30) c.vg.inside.x (omega arith) c.vg.invariant.x, signed_back (2 ^ 30) c.vg.inside.y (omega arith) c.vg.invariant.y, signed_back (2 ^ 27) c.vg.inside.dx (omega arith) c.vg.invariant.dx, signed_back (2 ^ 27) c.vg.inside.dy (omega arith) c.vg.invariant.dy)))
+returns-clause-bytes c = subst (λ (v : VgValue). take c.put_u16.result c.put_u16.new.out ≡ take c.args.at c.args.out.now ++ concat (vg_pieces v)) c.vg.view_is (rw (c.put_u16.ensures.bytes, c.put_i32-at-4.ensures.bytes, c.put_i32-at-3.ensures.bytes, c.put_i32-at-2.ensures.bytes, c.put_i32-at.ensures.bytes, c.put_u16-at-5.ensures.bytes, c.put_u16-at-4.ensures.bytes, c.put_u16-at-3.ensures.bytes, c.put_u16-at-2.ensures.bytes, c.put-at-3.ensures.bytes, c.put-at-2.ensures.bytes, c.put_u16-at.ensures.bytes, c.put-at.ensures.bytes) (simp (append_assoc, c.from.ensures, signed_back (2 ^ 30) c.vg.inside.x (omega arith) c.vg.invariant.x, signed_back (2 ^ 30) c.vg.inside.y (omega arith) c.vg.invariant.y, signed_back (2 ^ 27) c.vg.inside.dx (omega arith) c.vg.invariant.dx, signed_back (2 ^ 27) c.vg.inside.dy (omega arith) c.vg.invariant.dy)))

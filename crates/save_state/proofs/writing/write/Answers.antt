@@ -7,7 +7,7 @@ use Rattle.save_state.specs.StateBytes.{state_bytes}
 use Rattle.save_state.proofs.writing.write.Goals as goal
 
 whole : (n : ℕ) (out bytes : List ℕ) → length out ≤ n → take n out ≡ bytes → out ≡ bytes
-whole n out bytes long e = sym (take_all n out long) ∙ e
+whole n out bytes u64_bytes e = sym (take_all n out u64_bytes) ∙ e
 
 pub returns-clause-bytes : goal.returns-clause-bytes
 returns-clause-bytes c =

@@ -6,8 +6,8 @@ use Rattle.asm_core.specs.Rounds.{with_name}
 use Rattle.asm_core.proofs.NameLaws.{define_in_entries, value_in_entries}
 use Rattle.asm_core.proofs.names.Names.define.Goals as goal
 
-pub returns : goal.returns
-returns c =
+pub returns-clause-ok : goal.returns-clause-ok
+returns-clause-ok c =
     let absent = value_in_entries c.self.inside.values.entries c.args.name.now
     ∙ ap (λ names. value_of_name names c.args.name.now) c.self.view_is ∙ c.requires in
     ap (λ entries. map (λ entry. (entry.0.now, entry.1)) entries) c.in_ok-insert.ensures.entries

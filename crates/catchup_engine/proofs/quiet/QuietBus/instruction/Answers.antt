@@ -6,7 +6,7 @@ use Rattle.catchup_engine.proofs.quiet.QuietBus.instruction.Goals as goal
 
 pub instruction-fetched-requires-clause-fits : goal.instruction-fetched-requires-clause-fits
 instruction-fetched-requires-clause-fits g c =
-    counted-start c.args.tape.now c.args.self.now.made c.args.self.now.bus.now c.requires.none c.requires.fits c.requires.level c.requires.quiet c.requires.room
+    counted-start c.args.tape.now c.args.self.now.made c.args.self.now.bus.now c.requires.none c.requires.fits c.requires.between c.requires.quiet c.requires.room
 
 pub instruction-fetched-requires-clause-room : goal.instruction-fetched-requires-clause-room
 instruction-fetched-requires-clause-room g c = room-start c.args.self.now.made c.args.self.now.bus.now c.requires.none c.requires.quiet c.requires.room

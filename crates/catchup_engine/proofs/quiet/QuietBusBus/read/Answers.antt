@@ -26,5 +26,5 @@ pub returns-else-addr : goal.returns-else-addr
 returns-else-addr g c =
     let is =
     device-reads c.args._tape.now c.args.self.now.made c.tell.new.self.made c.args.addr c.byte.result c.args.self.now.bus.now c.tell.new.self.bus.now c.byte.new.self
-    c.requires.fits c.requires.room c.tell.ensures.told c.tell.ensures.none c.byte.ensures.does c.byte.ensures.byte in
+    c.requires.fits c.requires.room c.tell.ensures.told c.tell.ensures.none c.byte.ensures.does c.byte.ensures.byte c.byte.ensures.current in
     record { step = (c.tell.ensures.same_reference, is.step); fits = is.fits; room = is.room }
