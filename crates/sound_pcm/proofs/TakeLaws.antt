@@ -1,0 +1,66 @@
+-- A mixer's samples as they are gathered, a record at a time.
+use Rattle.std.proofs.Common.{◌≡◌, ℕ, ◌+◌, ◌-◌, List, [], ◌++◌, Option, Some, Result, Ok, Err, OnOk, take, replicate, ap, append-nil, sym, ◌∙◌}
+use Rattle.std.specs.List.{sum}
+use Rattle.board_base.specs.declared.part.Part.{Part}
+use Rattle.board_base.specs.declared.record.Record.{Record}
+use Rattle.board_base.specs.Records.{clock_of}
+use Rattle.outside_io.specs.Known.{grown}
+use Rattle.sound_pcm.specs.Gathering.{IsGathered}
+use Rattle.sound_pcm.specs.Samples.{samples, bytes_of}
+use Rattle.sound_pcm.specs.Mixing.{MixerValue, samples_of, mixed, held, changed}
+use Rattle.sound_pcm.specs.Sooner.{TakesSooner}
+use Rattle.sound_pcm.proofs.GatherLaws.{gathered-as, gathered-then, gathered-cut}
+use Rattle.sound_pcm.proofs.MixLaws.{MayTake, IsStep, step, still-samples, still-mixed}
+
+-- the samples of the clocks before one, with the levels that are held
+abbrev pub holding : MixerValue → ℕ → List ℕ
+holding m at = samples m.per m.sum m.count (replicate (at - m.clock) (sum m.sound1 + sum m.sound2))
+
+module _ (out0 out1 out2 : Option (List ℕ)) (all block : List ℕ) (m : MixerValue) (sound1 sound2 left1 left2 : List Record) (part : Part)
+    (made : Record) (upto at : ℕ) (is : at ≡ clock_of made) (may : MayTake m sound1 sound2 upto)
+    (takes : TakesSooner sound1 sound2 left1 left2 (Some (part, made)))
+    (first : IsGathered out0 out1 all (block ++ samples_of m sound1 sound2 upto)) where
+  one : IsStep m sound1 sound2 left1 left2 part made upto
+  one = step m sound1 sound2 left1 left2 part made upto may takes
+
+  split : IsGathered out0 out1 all (block ++ (holding m at ++ samples_of (changed (held m at) part made) left1 left2 upto))
+  split = rw is (gathered-as out0 out1 all _ _ first (ap (λ (l : List ℕ). block ++ l) one.samples))
+
+  -- the clocks up to a record were done, and it was taken on
+  pub step-gathered : (now : List ℕ) → IsGathered out1 out2 (block ++ holding m at) now
+      → IsGathered out0 out2 all (now ++ samples_of (changed (held m at) part made) left1 left2 upto)
+  step-gathered now second = gathered-then out0 out1 out2 all block (holding m at) _ now split second
+
+  pub step-may : MayTake (changed (held m at) part made) left1 left2 upto
+  step-may = rw is one.rest
+
+  pub step-mixed : mixed m sound1 sound2 upto ≡ mixed (changed (held m at) part made) left1 left2 upto
+  step-mixed = rw is one.state
+
+  -- a fault came before
+  pub step-cut : (k : ℕ) × (out2 ≡ grown out1 (take k (bytes_of (block ++ holding m at)))) → (k : ℕ) × (out2 ≡ grown out0 (take k (bytes_of all)))
+  step-cut cut = gathered-cut out0 out1 out2 all block (holding m at) _ split cut
+
+-- no record is left
+module _ (out0 out1 out2 : Option (List ℕ)) (all block : List ℕ) (m : MixerValue) (sound1 sound2 : List Record) (upto : ℕ) (none1 : sound1 ≡ [])
+    (none2 : sound2 ≡ []) (first : IsGathered out0 out1 all (block ++ samples_of m sound1 sound2 upto)) where
+  rest : samples_of m sound1 sound2 upto ≡ holding m upto ++ []
+  rest = rw (none1, none2) (still-samples m upto ∙ sym (append-nil (holding m upto)))
+
+  over : IsGathered out0 out1 all (block ++ (holding m upto ++ []))
+  over = gathered-as out0 out1 all _ _ first (ap (λ (l : List ℕ). block ++ l) rest)
+
+  pub last-gathered : (now : List ℕ) → IsGathered out1 out2 (block ++ holding m upto) now → IsGathered out0 out2 all now
+  last-gathered now second =
+      gathered-as out0 out2 all _ _ (gathered-then out0 out1 out2 all block (holding m upto) [] now over second) (append-nil now)
+
+  pub last-cut : (k : ℕ) × (out2 ≡ grown out1 (take k (bytes_of (block ++ holding m upto)))) → (k : ℕ) × (out2 ≡ grown out0 (take k (bytes_of all)))
+  last-cut cut = gathered-cut out0 out1 out2 all block (holding m upto) [] over cut
+
+pub last-mixed : (m : MixerValue) (sound1 sound2 : List Record) (upto : ℕ) → sound1 ≡ [] → sound2 ≡ [] → mixed m sound1 sound2 upto ≡ held m upto
+last-mixed m sound1 sound2 upto none1 none2 = rw (none1, none2) (still-mixed m upto)
+
+-- what holds after all holds after an Ok
+pub on-ok : {T E A : Type 0} (result : Result T E) → A → OnOk result A
+on-ok (Ok v) fact = fact
+on-ok (Err e) fact = tt

@@ -1,0 +1,63 @@
+use Rattle.std.proofs.Common.{◌≡◌, refl, ap, sym, ◌∙◌}
+use Rattle.sound_pcm.specs.Mixing.{held, changed}
+use Rattle.sound_pcm.proofs.GatherLaws.{nothing_sent, gathered-end, takes-err}
+use Rattle.sound_pcm.proofs.TakeLaws.{step-gathered, step-may, step-mixed, step-cut, last-gathered, last-cut, last-mixed, on-ok}
+use Rattle.sound_pcm.proofs.mixer.Mixer.take.Goals as goal
+
+pub loop-part-init : goal.loop-part-init
+loop-part-init g c =
+    rw (c.records-sound1.ensures.records, c.records-sound2.ensures.records, c.new-block.ensures)
+    record {
+      may = record {
+        from = c.requires.from;
+        made1 = c.requires.made1;
+        made2 = c.requires.made2;
+        levels1 = c.requires.levels1;
+        levels2 = c.requires.levels2;
+      };
+      gathered = nothing_sent _ _ _ refl;
+      state = refl;
+      faults = refl;
+    }
+
+pub returns-in_err-hold-clause-taken : goal.returns-in_err-hold-clause-taken
+returns-in_err-hold-clause-taken g c =
+    let so_far = c.loop-part.invariant in
+    takes-err _ _ _ _ c.from_residual.ensures.0
+    (step-cut _ _ _ _ _ c.loop-part.self _ _ _ _ c.in-Some.part c.in-Some.made c.args.upto c.clock.result c.clock.ensures so_far.may c.in-Some.ensures
+    so_far.gathered c.in_err-hold.ensures.taken)
+
+pub loop-part-preserved : goal.loop-part-preserved
+loop-part-preserved g c =
+    let so_far = c.loop-part.invariant in
+    let next : c.change.new.self ≡ changed (held c.loop-part.self c.clock.result) c.in-Some.part c.in-Some.made =
+    c.change.ensures ∙ ap (λ m. changed m c.in-Some.part c.in-Some.made) c.in_ok-hold.ensures.next in
+    rw next
+    record {
+      may = step-may _ _ (g.O.Sink.taken c.hold.new.out) _ _ c.loop-part.self _ _ _ _ c.in-Some.part c.in-Some.made c.args.upto c.clock.result c.clock.ensures
+          so_far.may c.in-Some.ensures so_far.gathered;
+      gathered = step-gathered _ _ _ _ _ c.loop-part.self _ _ _ _ c.in-Some.part c.in-Some.made c.args.upto c.clock.result c.clock.ensures
+          so_far.may c.in-Some.ensures so_far.gathered _ c.in_ok-hold.ensures.taken;
+      state = so_far.state ∙ step-mixed _ _ (g.O.Sink.taken c.hold.new.out) _ _ c.loop-part.self _ _ _ _ c.in-Some.part c.in-Some.made c.args.upto
+          c.clock.result c.clock.ensures so_far.may c.in-Some.ensures so_far.gathered;
+      faults = c.in_ok-hold.ensures.cause ∙ so_far.faults;
+    }
+
+pub returns-in_err-hold-2-clause-taken : goal.returns-in_err-hold-2-clause-taken
+returns-in_err-hold-2-clause-taken g c =
+    takes-err _ _ _ _ c.from_residual-in_err-hold-2.ensures.0
+    (last-cut _ _ _ _ _ c.loop-part.self _ _ c.args.upto c.in_default.ensures.0 c.in_default.ensures.1 c.loop-part.invariant.gathered
+    c.in_err-hold-2.ensures.taken)
+
+pub returns-clause-taken : goal.returns-clause-taken
+returns-clause-taken g c =
+    gathered-end _ _ _ _ _ c.flush.result
+    (last-gathered _ _ _ _ _ c.loop-part.self _ _ c.args.upto c.in_default.ensures.0 c.in_default.ensures.1 c.loop-part.invariant.gathered _
+    c.in_ok-hold-2.ensures.taken)
+    c.flush.ensures.taken
+
+pub returns-clause-next : goal.returns-clause-next
+returns-clause-next g c =
+    on-ok c.flush.result
+    (c.in_ok-hold-2.ensures.next ∙ sym (c.loop-part.invariant.state
+    ∙ last-mixed c.loop-part.self c.loop-part.sound1.now c.loop-part.sound2.now c.args.upto c.in_default.ensures.0 c.in_default.ensures.1))

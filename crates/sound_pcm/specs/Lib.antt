@@ -1,0 +1,6 @@
+pub mod Gathering
+pub mod Grouping
+pub mod Mixing
+pub mod Samples
+pub mod Sooner
+pub mod WholeRun

@@ -1,0 +1,15 @@
+//! Samples of the sound, to listen to: the levels of both POKEYs, summed over groups of clocks. They
+//! are this project's own: unsigned numbers of 32 bits, the lowest byte first.
+#![tactic(auto)]
+
+mod block;
+mod group;
+mod laws;
+mod mixer;
+mod sooner;
+
+pub use laws::{in_parts, mixer_numbers, whole_groups};
+pub use mixer::Mixer;
+
+#[cfg(test)]
+mod tests;
