@@ -1,0 +1,3 @@
+mod FrameLaws
+mod TakeLaws
+mod WholeLaws
