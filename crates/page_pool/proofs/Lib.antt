@@ -1,0 +1,3 @@
+pub mod FreeLaws
+pub mod SlotLaws
+pub mod CallLaws
