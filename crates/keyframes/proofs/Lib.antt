@@ -1,0 +1,10 @@
+pub mod HolderLaws
+pub mod CopyLaws
+pub mod ThinLaws
+pub mod FillLaws
+pub mod KeepLaws
+pub mod LiveLaws
+pub mod NearestLaws
+pub mod RoomLaws
+pub mod BoardLaws
+pub mod KeysLaws

@@ -1,0 +1,5 @@
+pub mod Frames
+pub mod Keys
+pub mod Holders
+pub mod Store
+pub mod Inside

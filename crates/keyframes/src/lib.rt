@@ -1,0 +1,16 @@
+//! Boards kept along a run, in pages that they share where they are equal.
+#![tactic(auto)]
+
+mod frame;
+pub mod keyframes;
+pub mod laws;
+mod pages;
+mod store;
+
+pub use keyframes::{FRAMES_MIN, Keyframes, PAGES_MIN};
+pub use laws::keyframe_numbers;
+pub use pages::BOARD_PAGES;
+pub use store::FRAMES_LIMIT;
+
+#[cfg(test)]
+mod tests;
