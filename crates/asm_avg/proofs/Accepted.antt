@@ -7,7 +7,7 @@ use Rattle.avg_decode.specs.declared.word.VgWord.TheVariants as vg
 use Rattle.asm_avg.specs.declared.mnemonic.Mnemonic.{Mnemonic}
 use Rattle.asm_avg.specs.declared.mnemonic.Mnemonic.TheVariants.{Vctr, Svec, Stat, Scal, Cntr, Halt, Jsrl, Rtsl, Jmpl}
 use Rattle.asm_avg.specs.ReadBack.{FitsWords, Said, said_by, word_at}
-use Rattle.asm_avg.specs.Statements.{origin_of, places_of, target}
+use Rattle.asm_avg.specs.Statements.{mnemonic_origin, places_of, target}
 use Rattle.asm_avg.proofs.Taken.{long_taken, number_taken, short_taken, target_taken}
 use Rattle.asm_avg.proofs.Values.{option_cases, taken}
 
@@ -28,7 +28,7 @@ jump_taken address said jump fit says fits = elim (option_cases (word_at address
 
 -- what fits its words is taken
 pub accepted : (mnemonic : Mnemonic) (vs : List ℤ) (said : Said) → said_by mnemonic (map (λ v. Some v) vs) ≡ Some said → FitsWords said
-    → taken (origin_of mnemonic) (places_of mnemonic) vs ≡ true
+    → taken (mnemonic_origin mnemonic) (places_of mnemonic) vs ≡ true
 accepted Vctr (dx ∷ dy ∷ pos z ∷ []) said says fits =
     let is : said ≡ (vg.Vctr dy, Some (dx, z)) = cc in
     let f = subst (λ s. FitsWords s) is fits in

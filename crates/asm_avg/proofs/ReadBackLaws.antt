@@ -13,7 +13,7 @@ use Rattle.asm_core.specs.Cells.{held, low_bytes, takes}
 use Rattle.asm_avg.specs.declared.mnemonic.Mnemonic.{Mnemonic}
 use Rattle.asm_avg.specs.declared.mnemonic.Mnemonic.TheVariants.{Vctr, Svec, Stat, Scal, Cntr, Halt, Jsrl, Rtsl, Jmpl}
 use Rattle.asm_avg.specs.ReadBack.{IsReadBack, IsSpelling, said_by, word_at}
-use Rattle.asm_avg.specs.Statements.{base_of, long_distance, number, origin_of, places_of, short_distance, mnemonic_size, target}
+use Rattle.asm_avg.specs.Statements.{base_of, long_distance, number, mnemonic_origin, places_of, short_distance, mnemonic_size, target}
 use Rattle.asm_avg.proofs.Taken.{first_word, from_zero, held_number, held_target, long_below, long_range, number_range, one_word, second_word, short_below, short_range, target_range}
 use Rattle.asm_avg.proofs.Values.{added, both, taken}
 
@@ -30,7 +30,7 @@ one_read mnemonic values word n says fits below is =
 
 -- the bytes of a statement with these values
 abbrev pub bytes_with : Mnemonic → List ℤ → List ℕ
-bytes_with mnemonic vs = low_bytes (mnemonic_size mnemonic) (base_of mnemonic + added (origin_of mnemonic) (places_of mnemonic) vs)
+bytes_with mnemonic vs = low_bytes (mnemonic_size mnemonic) (base_of mnemonic + added (mnemonic_origin mnemonic) (places_of mnemonic) vs)
 
 -- as many values as places
 none_taken : (origin : ℕ) (vs : List ℤ) → taken origin [] vs ≡ true → vs ≡ []
@@ -166,7 +166,7 @@ jmpl_back a ha =
     (one_read Jmpl (Some (pos (0x2000 + 2 * to)) ∷ []) (vg.Jmpl to) (0xE000 + (to + 0)) (rw (word_at_its to) refl) below (omega arith) (omega arith))
 
 -- values that the places take are read back from the bytes
-pub read_back : (mnemonic : Mnemonic) (vs : List ℤ) → taken (origin_of mnemonic) (places_of mnemonic) vs ≡ true
+pub read_back : (mnemonic : Mnemonic) (vs : List ℤ) → taken (mnemonic_origin mnemonic) (places_of mnemonic) vs ≡ true
     → IsReadBack mnemonic (map (λ v. Some v) vs) (bytes_with mnemonic vs)
 unfolding spelling_of
 read_back Vctr vs h =

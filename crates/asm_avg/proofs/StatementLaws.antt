@@ -11,7 +11,7 @@ use Rattle.asm_avg.specs.declared.mnemonic.Mnemonic.{Mnemonic}
 use Rattle.asm_avg.specs.Language.{cell_of, statement_of}
 use Rattle.asm_avg.specs.Operands.{fields_of, operands_of}
 use Rattle.asm_avg.specs.ReadBack.{FitsWords, IsReadBack, Said, said_by, values_of}
-use Rattle.asm_avg.specs.Statements.{base_of, origin_of, places_of, mnemonic_size}
+use Rattle.asm_avg.specs.Statements.{base_of, mnemonic_origin, places_of, mnemonic_size}
 use Rattle.asm_avg.proofs.Accepted.{accepted}
 use Rattle.asm_avg.proofs.ReadBackLaws.{read_back}
 use Rattle.asm_avg.proofs.Values.{added, both, option_cases, taken, valued}
@@ -19,11 +19,11 @@ use Rattle.asm_avg.proofs.Values.{added, both, option_cases, taken, valued}
 -- the fields of a statement that gives bytes
 pub record Fields (mnemonic : Mnemonic) (rest : List Word) (cells : List Cell) : Type 0 where
   pub fields : List Field
-  pub are : fields_of (origin_of mnemonic) (places_of mnemonic) (operands_of rest) ≡ Some fields
+  pub are : fields_of (mnemonic_origin mnemonic) (places_of mnemonic) (operands_of rest) ≡ Some fields
   pub cells_are : cells ≡ cell_of mnemonic fields ∷ []
 
 fields_in : (mnemonic : Mnemonic) (rest : List Word) (cells : List Cell) → statement_of mnemonic rest ≡ form.Gives cells → Fields mnemonic rest cells
-fields_in mnemonic rest cells gives = elim (option_cases (fields_of (origin_of mnemonic) (places_of mnemonic) (operands_of rest))) [
+fields_in mnemonic rest cells gives = elim (option_cases (fields_of (mnemonic_origin mnemonic) (places_of mnemonic) (operands_of rest))) [
   | inl none ↦ let no : form.NoSuchForm ≡ form.Gives cells = rw none at gives in cc
   | inr (fields, are) ↦
       let same : form.Gives (cell_of mnemonic fields ∷ []) ≡ form.Gives cells = rw are at gives in
@@ -38,8 +38,8 @@ all_of_one false = refl
 pub record Worth (names : NameValues) (mnemonic : Mnemonic) (rest : List Word) (cells : List Cell) : Type 0 where
   pub values : List ℤ
   pub values_are : values_of names rest ≡ map (λ v. Some v) values
-  pub fine : all_fine names cells ≡ taken (origin_of mnemonic) (places_of mnemonic) values
-  pub bytes : cells_bytes names cells ≡ low_bytes (mnemonic_size mnemonic) (base_of mnemonic + added (origin_of mnemonic) (places_of mnemonic) values)
+  pub fine : all_fine names cells ≡ taken (mnemonic_origin mnemonic) (places_of mnemonic) values
+  pub bytes : cells_bytes names cells ≡ low_bytes (mnemonic_size mnemonic) (base_of mnemonic + added (mnemonic_origin mnemonic) (places_of mnemonic) values)
 
 worth_of : (names : NameValues) (mnemonic : Mnemonic) (rest : List Word) (cells : List Cell) → statement_of mnemonic rest ≡ form.Gives cells → all_known names cells ≡ true
     → Worth names mnemonic rest cells
@@ -47,7 +47,7 @@ worth_of names mnemonic rest cells gives known =
     let f = fields_in mnemonic rest cells gives in
     let all : (list_all (λ field. is_known names field) f.fields && true) ≡ true = rw f.cells_are at known in
     let each = (both (list_all (λ field. is_known names field) f.fields) true all).0 in
-    let v = valued names (origin_of mnemonic) (places_of mnemonic) (operands_of rest) f.fields f.are each in
+    let v = valued names (mnemonic_origin mnemonic) (places_of mnemonic) (operands_of rest) f.fields f.are each in
     record {
       values = v.values;
       values_are = v.items_are;

@@ -9,7 +9,7 @@ use Rattle.asm_core.specs.declared.word.Word.{Word}
 use Rattle.asm_core.specs.Lines.{Language}
 use Rattle.asm_avg.specs.declared.mnemonic.Mnemonic.{Mnemonic}
 use Rattle.asm_avg.specs.Operands.{fields_of, operands_of}
-use Rattle.asm_avg.specs.Statements.{base_of, mnemonic_of, origin_of, places_of, mnemonic_size}
+use Rattle.asm_avg.specs.Statements.{base_of, mnemonic_of, mnemonic_origin, places_of, mnemonic_size}
 
 -- the one cell of a statement that has these fields
 abbrev pub cell_of : Mnemonic → List Field → Cell
@@ -18,7 +18,7 @@ cell_of mnemonic fields = record { size = mnemonic_size mnemonic; base = base_of
 -- the form of a statement that begins with a word of the generator's
 abbrev pub statement_of : Mnemonic → List Word → Form
 statement_of mnemonic ws =
-    option_map_or (λ fields. form.Gives (cell_of mnemonic fields ∷ [])) (fields_of (origin_of mnemonic) (places_of mnemonic) (operands_of ws)) form.NoSuchForm
+    option_map_or (λ fields. form.Gives (cell_of mnemonic fields ∷ [])) (fields_of (mnemonic_origin mnemonic) (places_of mnemonic) (operands_of ws)) form.NoSuchForm
 
 -- the form of a statement, whose first word may be none of the generator's
 abbrev pub form_of : Option Mnemonic → List Word → Form

@@ -54,16 +54,16 @@ places_of Rtsl = []
 places_of Jmpl = target ∷ []
 
 -- addresses are counted from the start of the generator's memory
-abbrev pub origin_of : Mnemonic → ℕ
-origin_of Vctr = 0
-origin_of Svec = 0
-origin_of Stat = 0
-origin_of Scal = 0
-origin_of Cntr = 0
-origin_of Halt = 0
-origin_of Jsrl = 0x2000
-origin_of Rtsl = 0
-origin_of Jmpl = 0x2000
+abbrev pub mnemonic_origin : Mnemonic → ℕ
+mnemonic_origin Vctr = 0
+mnemonic_origin Svec = 0
+mnemonic_origin Stat = 0
+mnemonic_origin Scal = 0
+mnemonic_origin Cntr = 0
+mnemonic_origin Halt = 0
+mnemonic_origin Jsrl = 0x2000
+mnemonic_origin Rtsl = 0
+mnemonic_origin Jmpl = 0x2000
 
 -- the number of a statement whose fields are all 0
 abbrev pub base_of : Mnemonic → ℕ

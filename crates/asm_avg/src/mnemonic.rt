@@ -1,5 +1,5 @@
 ghost use Rattle.std.specs.Prelude.{◌≡◌};
-ghost use Rattle.asm_avg.specs.Statements.{base_of, mnemonic_of, origin_of, places_of, mnemonic_size, text_of};
+ghost use Rattle.asm_avg.specs.Statements.{base_of, mnemonic_of, mnemonic_origin, places_of, mnemonic_size, text_of};
 
 use crate::layout::{
     BINARY_SCALE, COLOUR, INTENSITY, LINEAR_SCALE, LONG_X, LONG_Y, LONG_Z, SHORT_X, SHORT_Y,
@@ -100,7 +100,7 @@ impl Mnemonic {
 
     /// What the values of a statement are counted from.
     pub(crate) fn origin(self) -> u32
-        ensures { result ≡ origin_of self }
+        ensures { result ≡ mnemonic_origin self }
     {
         match self {
             Mnemonic::Jsrl | Mnemonic::Jmpl => 0x2000,

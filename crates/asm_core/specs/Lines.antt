@@ -63,5 +63,5 @@ body_of form_of (word.Name name ∷ ws) = named_body_of form_of name ws
 body_of form_of ws = None
 
 -- a line: a label, which may be missing, and a statement
-abbrev pub line_of : (List ℕ → List Word → Form) → List Word → Option Line
-line_of form_of ws = option_map (λ body. record { label = label_of ws; body = body }) (body_of form_of (after_label ws))
+abbrev pub line_of_words : (List ℕ → List Word → Form) → List Word → Option Line
+line_of_words form_of ws = option_map (λ body. record { label = label_of ws; body = body }) (body_of form_of (after_label ws))

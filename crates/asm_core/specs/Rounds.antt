@@ -15,7 +15,7 @@ use Rattle.asm_core.specs.declared.line.Line.{Line}
 use Rattle.asm_core.specs.declared.placed.Placed.{Placed}
 use Rattle.asm_core.specs.Cells.{all_fine, all_known, cells_bytes, is_in_range, size_of}
 use Rattle.asm_core.specs.Expressions.{NameValues, value_of, value_of_name}
-use Rattle.asm_core.specs.Lines.{Language, line_of}
+use Rattle.asm_core.specs.Lines.{Language, line_of_words}
 use Rattle.asm_core.specs.Words.{words_of}
 
 -- what comes after an answer, or its fault
@@ -36,7 +36,7 @@ pub record Known : Type 0 where
 -- a line, as its language reads it
 abbrev pub line_read : Language → ℕ → Known → List ℕ → Result Line AsmFault
 line_read language number known text =
-    then_on (λ tokens. ok_or (line_of (language known.names known.at) (words_of text tokens)) (fault.Line number NoSuchForm)) (line_tokens number 0 text)
+    then_on (λ tokens. ok_or (line_of_words (language known.names known.at) (words_of text tokens)) (fault.Line number NoSuchForm)) (line_tokens number 0 text)
 
 -- the name has a value
 abbrev pub is_named : NameValues → List ℕ → Bool

@@ -1,7 +1,7 @@
 ghost use Rattle.std.specs.Prelude.{◌≡◌, ◌≤◌, IfOk, IfSome, OnOk, ok_or};
 ghost use Rattle.asm_core.specs.Cells.{IsCell, IsFieldPlace};
 ghost use Rattle.asm_core.specs.Forms.{AreCells, IsBody};
-ghost use Rattle.asm_core.specs.Lines.{body_of, body_of_form, cells_of, equals_of, label_of, line_of, named_body_of, value_cell};
+ghost use Rattle.asm_core.specs.Lines.{body_of, body_of_form, cells_of, equals_of, label_of, line_of_words, named_body_of, value_cell};
 ghost use Rattle.asm_core.specs.Words.{items_of};
 
 use crate::{
@@ -175,7 +175,7 @@ pub(crate) fn read_line<'a, D: Dialect>(
     at: u32,
 ) -> Result<Option<Line<'a>>, OutOfMemory>
     requires at { at ≤ 65536 }
-    ensures line { IfOk result (λ read. read ≡ line_of (D.language names.now at) words.now) }
+    ensures line { IfOk result (λ read. read ≡ line_of_words (D.language names.now at) words.now) }
     ensures cells { IfOk result (λ read. IfSome read (λ line. IsBody line.body)) }
 {
     let label = read_label(words);

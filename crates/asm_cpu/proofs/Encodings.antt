@@ -19,7 +19,7 @@ use Rattle.cpu_table.specs.Decoding.{decoded, decoded_row, length_of, little_end
 use Rattle.cpu_table.specs.Opcodes.{opcode_of, row_of}
 use Rattle.cpu_table.proofs.Rows.{opcode_is_byte, opcode_of_row, row_of_opcode}
 use Rattle.asm_cpu.specs.Encodings.{AloneEncodes, Encodes, HasOneEncoding, operand_number}
-use Rattle.asm_cpu.specs.Modes.{mode_of, origin_of}
+use Rattle.asm_cpu.specs.Modes.{mode_of, operand_origin}
 use Rattle.asm_cpu.specs.Statements.{bare_form, cell_form, instruction_of, mode_form, opcode_cell, operand_cell, operand_form, shape_form}
 use Rattle.asm_cpu.specs.declared.operand.Shape.{Shape}
 use Rattle.asm_cpu.specs.Operands.{is_register, shape_of}
@@ -222,7 +222,7 @@ operand-encodes names op at opcode e value Indirect found known = operand-three 
 operand-encodes names op at opcode e value IndirectX found known = operand-two names op IndirectX opcode 0 e value (pos 0) (pos 255) found known refl
 operand-encodes names op at opcode e value IndirectY found known = operand-two names op IndirectY opcode 0 e value (pos 0) (pos 255) found known refl
 operand-encodes names op at opcode e value Relative found known =
-    operand-two names op Relative opcode (origin_of Relative at) e value (neg_ℤ (pos 128)) (pos 127) found known refl
+    operand-two names op Relative opcode (operand_origin Relative at) e value (neg_ℤ (pos 128)) (pos 127) found known refl
 
 -- the bytes of a statement of one cell
 one-cell : (names : NameValues) (cell : Cell) (cells : List Cell) → form.Gives (cell ∷ []) ≡ form.Gives cells → cells_bytes names cells ≡ cell_bytes names cell

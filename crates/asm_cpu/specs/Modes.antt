@@ -66,6 +66,6 @@ place_of IndirectY = zero_page_place
 place_of Relative = branch_place
 
 -- what the operand counts from: a branch from the next instruction's address
-abbrev pub origin_of : Mode → ℕ → ℕ
-origin_of Relative at = at + 2
-origin_of _ at = 0
+abbrev pub operand_origin : Mode → ℕ → ℕ
+operand_origin Relative at = at + 2
+operand_origin _ at = 0

@@ -18,7 +18,7 @@ use Rattle.cpu_table.specs.Decoding.{length_of}
 use Rattle.cpu_table.specs.Opcodes.{opcode_of}
 use Rattle.asm_cpu.specs.declared.operand.Shape.{Shape}
 use Rattle.asm_cpu.specs.Mnemonics.{op_of}
-use Rattle.asm_cpu.specs.Modes.{mode_of, origin_of, place_of}
+use Rattle.asm_cpu.specs.Modes.{mode_of, operand_origin, place_of}
 use Rattle.asm_cpu.specs.Operands.{is_register, shape_of}
 
 -- an opcode alone
@@ -28,7 +28,7 @@ opcode_cell opcode = record { size = 1; base = opcode; fields = [] }
 -- an opcode at an address, and its operand behind it
 abbrev pub operand_cell : ℕ → Mode → Expression → ℕ → Cell
 operand_cell at mode e opcode =
-    record { size = length_of mode; base = opcode; fields = record { expression = e; origin = origin_of mode at; place = place_of mode } ∷ [] }
+    record { size = length_of mode; base = opcode; fields = record { expression = e; origin = operand_origin mode at; place = place_of mode } ∷ [] }
 
 -- a statement of this one cell, where there is one
 abbrev pub cell_form : Option Cell → Form

@@ -1,6 +1,6 @@
 ghost use Rattle.std.specs.Prelude.{◌≡◌, ◌≤◌};
 ghost use Rattle.asm_core.specs.Cells.{IsFieldPlace};
-ghost use Rattle.asm_cpu.specs.Modes.{by_length, has_mode, is_short, mode_of, origin_of, place_of};
+ghost use Rattle.asm_cpu.specs.Modes.{by_length, has_mode, is_short, mode_of, operand_origin, place_of};
 
 use crate::operand::Shape;
 use asm_core::{Expression, Names, Place, value};
@@ -105,7 +105,7 @@ pub(crate) fn place(mode: Mode) -> Place
 /// What the operand counts from: a branch from the address behind it.
 pub(crate) fn origin(mode: Mode, at: u32) -> u32
     requires { at ≤ 65536 }
-    ensures { result ≡ origin_of mode at }
+    ensures { result ≡ operand_origin mode at }
 {
     match mode {
         Mode::Relative => at + 2,

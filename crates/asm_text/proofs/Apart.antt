@@ -15,7 +15,7 @@ use Rattle.asm_text.specs.declared.token.Token.{Token}
 use Rattle.asm_text.specs.Lines.{code_of, line_feeds, lines_with_ends}
 use Rattle.asm_text.specs.Pieces.{is_one_of, is_word_byte, joins, kind_of, pieces_of}
 use Rattle.asm_text.specs.Spans.{EndsWord, IsInComment, IsSliceOf, IsTokenOf}
-use Rattle.asm_text.specs.Tokens.{joined, line_tokens, piece_tokens, told, tokens_from}
+use Rattle.asm_text.specs.Tokens.{joined, line_tokens, piece_tokens, with_token, tokens_from}
 use Rattle.asm_text.proofs.Numbering.{AreLines, IsLine, feeds_in_line, lines_are, feeds-append, feeds-other}
 use Rattle.asm_text.proofs.Parting.{bool_cases}
 use Rattle.asm_text.proofs.Covering.{byte_at}
@@ -73,7 +73,7 @@ pieces_end text place (byte ∷ next ∷ code) after here ends =
 apart_told : (text : List ℕ) (line place : ℕ) (piece after : List ℕ) (told_kind : Result (Option Kind) AsmCause) (rest : Result (List Token) AsmFault) (tokens : List Token)
     → drop place text ≡ piece ++ after → place ≤ length text → kind_of piece ≡ told_kind → Ends text (place + length piece) → (0 < length piece → ¬ IsInComment text place)
     → ((later : List Token) → Ok later ≡ rest → All (IsTokenOf text) later)
-    → Ok tokens ≡ told line place (place + length piece) told_kind rest → All (IsTokenOf text) tokens
+    → Ok tokens ≡ with_token line place (place + length piece) told_kind rest → All (IsTokenOf text) tokens
 apart_told text line place piece after (Err cause) rest tokens here inside said ends outside more given = absurd (cc)
 apart_told text line place piece after (Ok None) rest tokens here inside said ends outside more given = more tokens given
 apart_told text line place piece after (Ok (Some kind)) (Err fault) tokens here inside said ends outside more given = absurd (cc)

@@ -16,7 +16,7 @@ use Rattle.asm_text.specs.Lines.{code_of, line_feeds, lines_with_ends}
 use Rattle.asm_text.specs.Numbers.{number_of}
 use Rattle.asm_text.specs.Pieces.{is_blank, is_dotted_name, is_mark, is_name, is_number_start, is_one_of, kind_of, pieces_of}
 use Rattle.asm_text.specs.Spans.{IsAccounted}
-use Rattle.asm_text.specs.Tokens.{joined, line_tokens, piece_tokens, told, tokens_from}
+use Rattle.asm_text.specs.Tokens.{joined, line_tokens, piece_tokens, with_token, tokens_from}
 use Rattle.asm_text.proofs.Numbering.{AreLines, IsLine, feeds_in_line, lines_are}
 use Rattle.asm_text.proofs.Parting.{bool_cases}
 use Rattle.asm_text.proofs.Standing.{concat-lines, concat-pieces, part_after}
@@ -86,7 +86,7 @@ byte_at text place k part after here low high =
 read_told : (text : List ℕ) (line place k : ℕ) (piece after : List ℕ) (told_kind : Result (Option Kind) AsmCause) (rest : Result (List Token) AsmFault) (tokens : List Token)
     → drop place text ≡ piece ++ after → kind_of piece ≡ told_kind → place ≤ k
     → ((later : List Token) → Ok later ≡ rest → place + length piece ≤ k → Takes later k ⊎ HasBlank text k)
-    → Ok tokens ≡ told line place (place + length piece) told_kind rest → Takes tokens k ⊎ HasBlank text k
+    → Ok tokens ≡ with_token line place (place + length piece) told_kind rest → Takes tokens k ⊎ HasBlank text k
 read_told text line place k piece after (Err cause) rest tokens here said low more given = absurd (cc)
 read_told text line place k piece after (Ok None) rest tokens here said low more given = elim (cases_lt k (place + length piece)) [
   | inl high ↦ inr (rw (byte_at text place k piece after here low high) (all_blank piece (k - place) (blank_piece piece said) (omega arith)))

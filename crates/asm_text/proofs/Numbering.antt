@@ -12,7 +12,7 @@ use Rattle.asm_text.specs.declared.token.Token.{Token}
 use Rattle.asm_text.specs.Lines.{code_of, line_feeds, lines_with_ends}
 use Rattle.asm_text.specs.Pieces.{kind_of, pieces_of}
 use Rattle.asm_text.specs.Spans.{IsNumbered, StandIn}
-use Rattle.asm_text.specs.Tokens.{joined, line_tokens, piece_tokens, told, tokens_from}
+use Rattle.asm_text.specs.Tokens.{joined, line_tokens, piece_tokens, with_token, tokens_from}
 use Rattle.asm_text.proofs.Parting.{bool_cases}
 use Rattle.asm_text.proofs.Standing.{concat-lines, line_spans, part_after, part_within}
 
@@ -92,7 +92,7 @@ numbered_in_line text line place from bytes after (token ∷ tokens) here is_lin
 
 line_told : (line start end : ℕ) (told_kind : Result (Option Kind) AsmCause) (rest : Result (List Token) AsmFault) (tokens : List Token)
     → ((later : List Token) → Ok later ≡ rest → All (λ token. token.line ≡ line) later)
-    → Ok tokens ≡ told line start end told_kind rest → All (λ token. token.line ≡ line) tokens
+    → Ok tokens ≡ with_token line start end told_kind rest → All (λ token. token.line ≡ line) tokens
 line_told line start end (Err cause) rest tokens more given = absurd (cc)
 line_told line start end (Ok None) rest tokens more given = more tokens given
 line_told line start end (Ok (Some kind)) (Err fault) tokens more given = absurd (cc)

@@ -14,7 +14,7 @@ use Rattle.asm_text.specs.declared.token.Token.{Token}
 use Rattle.asm_text.specs.Lines.{code_of, line_feeds, lines_with_ends}
 use Rattle.asm_text.specs.Pieces.{joins, kind_of, pieces_of}
 use Rattle.asm_text.specs.Spans.{EndsWord, IsAccounted, IsInComment, IsTokenOf, StandIn, Refused}
-use Rattle.asm_text.specs.Tokens.{joined, line_tokens, piece_tokens, told, tokens_from}
+use Rattle.asm_text.specs.Tokens.{joined, line_tokens, piece_tokens, with_token, tokens_from}
 use Rattle.asm_text.proofs.Numbering.{AreLines, IsLine, feeds_in_line, lines_are}
 use Rattle.asm_text.proofs.Covering.{Takes-front, Takes-back, code_read, line_read}
 use Rattle.asm_text.proofs.Standing.{StandIn-append, concat-lines, concat-pieces, line_spans, part_after, part_slice, part_within, piece_spans}
@@ -91,7 +91,7 @@ pieces_some (byte ∷ next ∷ code) =
 
 -- one good piece accounts for itself
 piece_covers : (text : List ℕ) (line place : ℕ) (piece after : List ℕ) (tokens : List Token) → drop place text ≡ piece ++ after → place ≤ length text → Ends text (place + length piece)
-    → ((k : ℕ) → place ≤ k → k < place + length piece → ¬ IsInComment text k) → Ok tokens ≡ told line place (place + length piece) (kind_of piece) (Ok [])
+    → ((k : ℕ) → place ≤ k → k < place + length piece → ¬ IsInComment text k) → Ok tokens ≡ with_token line place (place + length piece) (kind_of piece) (Ok [])
     → Covers text place (place + length piece) tokens
 unfolding piece_tokens AllEnd
 piece_covers text line place piece after tokens here inside ends outside given =
@@ -113,7 +113,7 @@ bad_told : (text : List ℕ) (line place : ℕ) (piece after : List ℕ) (told_k
     → drop place text ≡ piece ++ after → place ≤ length text → kind_of piece ≡ told_kind → 0 < length piece → Ends text (place + length piece)
     → ((k : ℕ) → place ≤ k → k < place + length piece → ¬ IsInComment text k) → line ≡ 1 + line_feeds (take place text)
     → (Err (Line l cause) ≡ rest → IsBadFrom text (place + length piece) l cause)
-    → Err (Line l cause) ≡ told line place (place + length piece) told_kind rest → IsBadFrom text place l cause
+    → Err (Line l cause) ≡ with_token line place (place + length piece) told_kind rest → IsBadFrom text place l cause
 bad_told text line place piece after (Err bad) rest l cause here inside said some ends outside number more given =
     let same_line : line ≡ l = cc in
     let same_cause : bad ≡ cause = cc in

@@ -12,7 +12,7 @@ use Rattle.asm_text.specs.declared.token.Token.{Token}
 use Rattle.asm_text.specs.Lines.{code_of, lines_with_ends}
 use Rattle.asm_text.specs.Pieces.{joins, kind_of, pieces_of}
 use Rattle.asm_text.specs.Spans.{EndsBy, IsSliceOf, StandIn}
-use Rattle.asm_text.specs.Tokens.{joined, line_tokens, piece_tokens, told, tokens_from}
+use Rattle.asm_text.specs.Tokens.{joined, line_tokens, piece_tokens, with_token, tokens_from}
 
 concat-onto_first : (byte : ℕ) (parts : List (List ℕ)) → concat (onto_first byte parts) ≡ byte ∷ concat parts
 concat-onto_first byte [] = refl
@@ -81,7 +81,7 @@ module _ (text : List ℕ) (place : ℕ) (part after : List ℕ) (here : drop pl
 spans_told : (text : List ℕ) (line place to : ℕ) (piece after : List ℕ) (told_kind : Result (Option Kind) AsmCause) (rest : Result (List Token) AsmFault) (tokens : List Token)
     → drop place text ≡ piece ++ after → place ≤ length text → kind_of piece ≡ told_kind
     → ((later : List Token) → Ok later ≡ rest → StandIn text (place + length piece) to later)
-    → Ok tokens ≡ told line place (place + length piece) told_kind rest → StandIn text place to tokens
+    → Ok tokens ≡ with_token line place (place + length piece) told_kind rest → StandIn text place to tokens
 spans_told text line place to piece after (Err cause) rest tokens here inside said more given = absurd (cc)
 spans_told text line place to piece after (Ok None) rest tokens here inside said more given = StandIn-from text place (place + length piece) to tokens (omega arith) (more tokens given)
 spans_told text line place to piece after (Ok (Some kind)) (Err fault) tokens here inside said more given = absurd (cc)

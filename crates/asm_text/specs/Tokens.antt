@@ -15,16 +15,16 @@ onto first (Ok rest) = Ok (first ++ rest)
 onto first (Err fault) = Err fault
 
 -- what comes of a piece of this kind: its token before the rest, the rest, or its fault
-abbrev pub told : ℕ → ℕ → ℕ → Result (Option Kind) AsmCause → Result (List Token) AsmFault → Result (List Token) AsmFault
-told line start end (Ok None) rest = rest
-told line start end (Ok (Some kind)) rest = onto (record { kind = kind; start = start; end = end; line = line } ∷ []) rest
-told line start end (Err cause) rest = Err (Line line cause)
+abbrev pub with_token : ℕ → ℕ → ℕ → Result (Option Kind) AsmCause → Result (List Token) AsmFault → Result (List Token) AsmFault
+with_token line start end (Ok None) rest = rest
+with_token line start end (Ok (Some kind)) rest = onto (record { kind = kind; start = start; end = end; line = line } ∷ []) rest
+with_token line start end (Err cause) rest = Err (Line line cause)
 
 -- the tokens of a line's pieces, the first of which begins at this place, or the first fault
 unfoldable pub piece_tokens : ℕ → ℕ → List (List ℕ) → Result (List Token) AsmFault
 piece_tokens line place [] = Ok []
 piece_tokens line place (piece ∷ pieces) =
-    told line place (place + length piece) (kind_of piece) (piece_tokens line (place + length piece) pieces)
+    with_token line place (place + length piece) (kind_of piece) (piece_tokens line (place + length piece) pieces)
 
 -- the tokens of a line, which begins at this place, or its first fault
 abbrev pub line_tokens : ℕ → ℕ → List ℕ → Result (List Token) AsmFault

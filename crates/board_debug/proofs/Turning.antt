@@ -20,7 +20,7 @@ use Rattle.debug_script.specs.Stops.{StopsValue}
 use Rattle.board_debug.specs.declared.found.Found.{Found}
 use Rattle.board_debug.specs.declared.found.Found.TheVariants.{Jam, End, Step, Until}
 use Rattle.board_debug.specs.Looks.{break_look, first_of, jam_look, look_after, look_before, look_until}
-use Rattle.board_debug.specs.Session.{Reached, go_from, moved, step_from, turning, unless_found, until_from}
+use Rattle.board_debug.specs.Session.{Reached, go_from, turn_done, step_from, turning, unless_found, until_from}
 
 -- a look that finds nothing stands before its limit, and isn't jammed
 pub record Opens (limit : ℕ) (b : Board) : Type 0 where
@@ -89,31 +89,31 @@ module _ (entries : List TapeEntry) where
   -- the board after so many turns, each of whose records are forgotten
   unfoldable pub moves : ℕ → Board → Board
   moves zero b = b
-  moves (suc n) b = moves n (moved entries b)
+  moves (suc n) b = moves n (turn_done entries b)
 
   cleared-turned : (n : ℕ) (b : Board) → cleared (turned entries n b) ≡ moves n (cleared b)
-  unfolding turned moves moved
+  unfolding turned moves turn_done
   cleared-turned zero b = refl
   cleared-turned (suc n) b = cleared-turned n (turn entries b) ∙ ap (moves n) (sym (turn-cleared b))
 
   pub moves-are : (n : ℕ) (b c : Board) → HasNoRecords b → c ≡ cleared (turned entries n b) → c ≡ moves n b
   moves-are n b c none is = is ∙ cleared-turned n b ∙ ap (moves n) (cleared-empty b none)
 
-  pub moved-later : (b : Board) → b.cpu.jam ≡ None → b.wires.clock < (moved entries b).wires.clock
-  unfolding moved
+  pub moved-later : (b : Board) → b.cpu.jam ≡ None → b.wires.clock < (turn_done entries b).wires.clock
+  unfolding turn_done
   moved-later b running = turn-later entries b running
 
-  moves-next : (n : ℕ) (b : Board) → moves (suc n) b ≡ moved entries (moves n b)
+  moves-next : (n : ℕ) (b : Board) → moves (suc n) b ≡ turn_done entries (moves n b)
   unfolding moves
   moves-next zero b = refl
-  moves-next (suc n) b = moves-next n (moved entries b)
+  moves-next (suc n) b = moves-next n (turn_done entries b)
 
   module _ (before : Board → Option Found) (after : Board → Board → Option Found) where
     -- a turn between its looks, and what comes of it
     abbrev then_on : Board → Reached → Reached
-    then_on b more = unless_found (before b) b (unless_found (after b (moved entries b)) (moved entries b) more)
+    then_on b more = unless_found (before b) b (unless_found (after b (turn_done entries b)) (turn_done entries b) more)
 
-    turning-next : (most : ℕ) (b : Board) → turning entries before after (suc most) b ≡ then_on b (turning entries before after most (moved entries b))
+    turning-next : (most : ℕ) (b : Board) → turning entries before after (suc most) b ≡ then_on b (turning entries before after most (turn_done entries b))
     unfolding turning
     turning-next most b = refl
 
@@ -124,7 +124,7 @@ module _ (entries : List TapeEntry) where
         by_look (Some found) is = rw is refl
         by_look None is = ap (then_on b) (same is)
 
-    then_on-none : (b : Board) (r : Reached) → before b ≡ None → after b (moved entries b) ≡ None → then_on b r ≡ r
+    then_on-none : (b : Board) (r : Reached) → before b ≡ None → after b (turn_done entries b) ≡ None → then_on b r ≡ r
     then_on-none b r first last = rw (first, last) refl
 
     -- turns that no look finds anything at
@@ -138,8 +138,8 @@ module _ (entries : List TapeEntry) where
         let same : most ≡ suc (n + f) = omega arith in
         ap (λ m. turning entries before after m b) same
         ∙ turning-next (n + f) b
-        ∙ then_on-none b (turning entries before after (n + f) (moved entries b)) first.0 first.1
-        ∙ passes n f (n + f) (moved entries b) refl (λ k inside. quiet (suc k) (omega arith))
+        ∙ then_on-none b (turning entries before after (n + f) (turn_done entries b)) first.0 first.1
+        ∙ passes n f (n + f) (turn_done entries b) refl (λ k inside. quiet (suc k) (omega arith))
 
     module _ (limit : ℕ) (opens : (b : Board) → before b ≡ None → Opens limit b) where
       -- more turns than there are clocks up to the limit make no difference
@@ -158,7 +158,7 @@ module _ (entries : List TapeEntry) where
           turning-next (suc f) b
           ∙ then_on-same b _ _ (λ none.
           let later = moved-later b (opens b none).running in
-          enough f g (moved entries b) (omega arith) (omega arith))
+          enough f g (turn_done entries b) (omega arith) (omega arith))
           ∙ sym (turning-next (suc g) b)
 
       -- and so many turns that no look finds anything at come to the same
@@ -174,10 +174,10 @@ module _ (entries : List TapeEntry) where
       -- one turn, and then the looks after it
       pub turns-on : (b : Board) → before b ≡ None
           → turning entries before after (suc (limit - b.wires.clock)) b
-          ≡ unless_found (after b (moved entries b)) (moved entries b)
-          (turning entries before after (suc (limit - (moved entries b).wires.clock)) (moved entries b))
+          ≡ unless_found (after b (turn_done entries b)) (turn_done entries b)
+          (turning entries before after (suc (limit - (turn_done entries b).wires.clock)) (turn_done entries b))
       turns-on b none =
-          let next = moved entries b in
+          let next = turn_done entries b in
           enough (limit - b.wires.clock) (suc limit) b (omega arith) (omega arith)
           ∙ turning-next (suc limit) b
           ∙ ap (λ look. unless_found look b (unless_found (after b next) next (turning entries before after (suc limit) next))) none
@@ -265,7 +265,7 @@ module _ (entries : List TapeEntry) (b : Board) (stands : Stands b) where
         by_count (suc m) e =
             let d = moves entries m b in
             let whole : c0 ≡ turned entries (suc m) b = run.board ∙ ap (λ n. turned entries n b) e in
-            let there : moved entries d ≡ c = sym (moves-are entries (suc m) b c stands.empty (is ∙ ap cleared whole) ∙ moves-next entries m b) in
+            let there : turn_done entries d ≡ c = sym (moves-are entries (suc m) b c stands.empty (is ∙ ap cleared whole) ∙ moves-next entries m b) in
             let up = passes-on entries (look_before end) after end (before-opens end) m b (λ k inside. (still k (omega arith), passed k (omega arith))) in
             let on = turns-on entries (look_before end) after end (before-opens end) d (still m (omega arith)) in
             rw (these, last)
@@ -349,17 +349,17 @@ unfolding step_from
 step-found tape zero end b found some last is = absurd (omega arith)
 step-found tape (suc n) end b found some last is =
     let at : Some found ≡ look_before tape.end b = rw (← last) is in
-    ap (λ look. unless_found look b (step_from tape n (moved tape.entries b))) at
+    ap (λ look. unless_found look b (step_from tape n (turn_done tape.entries b))) at
 
 pub step-next : (tape : TapeValue) (n m end : ℕ) (b : Board) → n ≡ suc m → end ≡ tape.end → None ≡ look_before end b
-    → step_from tape n b ≡ step_from tape m (moved tape.entries b)
+    → step_from tape n b ≡ step_from tape m (turn_done tape.entries b)
 unfolding step_from
 step-next tape n m end b is last none = ap (λ k. step_from tape k b) is ∙ first
   where
-    first : step_from tape (suc m) b ≡ step_from tape m (moved tape.entries b)
+    first : step_from tape (suc m) b ≡ step_from tape m (turn_done tape.entries b)
     first =
         let at : None ≡ look_before tape.end b = rw (← last) none in
-        sym (ap (λ look. unless_found look b (step_from tape m (moved tape.entries b))) at)
+        sym (ap (λ look. unless_found look b (step_from tape m (turn_done tape.entries b))) at)
 
 pub step-last : (tape : TapeValue) (n : ℕ) (b : Board) → n ≡ 0 → record { found = unwrap_or (jam_look b) Step; board = b } ≡ step_from tape n b
 unfolding step_from
@@ -370,7 +370,7 @@ step-last tape n b is = rw is (by_jam (jam_look b))
     by_jam (Some found) = refl
 
 -- a turn of `go` by itself
-pub go-turn : (tape : TapeValue) (stops : StopsValue) (end : ℕ) (b c : Board) → end ≡ tape.end → None ≡ look_before end b → c ≡ moved tape.entries b
+pub go-turn : (tape : TapeValue) (stops : StopsValue) (end : ℕ) (b c : Board) → end ≡ tape.end → None ≡ look_before end b → c ≡ turn_done tape.entries b
     → go_from tape stops b ≡ unless_found (look_after end stops b c) c (go_from tape stops c)
 go-turn tape stops end b c last found is =
     let none : look_before tape.end b ≡ None = rw (← last) (sym found) in

@@ -20,8 +20,8 @@ use Rattle.board_debug.specs.Looks.{jam_look, look_after, look_before, look_unti
 
 -- a turn: what is left of the sequence under way, or else one instruction or sequence. A debugger shows no records, and
 -- forgets them.
-unfoldable pub moved : List TapeEntry → Board → Board
-moved entries b = cleared (turn entries b)
+unfoldable pub turn_done : List TapeEntry → Board → Board
+turn_done entries b = cleared (turn entries b)
 
 -- where a command stopped, and why
 pub record Reached : Type 0 where
@@ -37,7 +37,7 @@ unless_found None b more = more
 unfoldable pub turning : List TapeEntry → (Board → Option Found) → (Board → Board → Option Found) → ℕ → Board → Reached
 turning entries before after zero b = record { found = End; board = b }
 turning entries before after (suc most) b =
-    let next = moved entries b in
+    let next = turn_done entries b in
     unless_found (before b) b (unless_found (after b next) next (turning entries before after most next))
 
 -- each turn takes a clock, so that there are no more of them than clocks up to the last
@@ -50,7 +50,7 @@ until_from tape clock b = turning tape.entries (look_until tape.end clock) (λ b
 -- so many turns, and then a look at a jam alone
 unfoldable pub step_from : TapeValue → ℕ → Board → Reached
 step_from tape zero b = unless_found (jam_look b) b (record { found = Step; board = b })
-step_from tape (suc count) b = unless_found (look_before tape.end b) b (step_from tape count (moved tape.entries b))
+step_from tape (suc count) b = unless_found (look_before tape.end b) b (step_from tape count (turn_done tape.entries b))
 
 -- where a command that makes turns stops
 abbrev pub reached_by : TapeValue → StopsValue → Command → Board → Option Reached

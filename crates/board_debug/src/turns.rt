@@ -6,7 +6,7 @@ ghost use Rattle.catchup_engine.specs.Lockstep as lockstep;
 ghost use Rattle.catchup_engine.specs.Run.{to_boundary, window_limit};
 ghost use Rattle.board_debug.specs.Looks.{look_after, look_before};
 ghost use Rattle.board_debug.specs.Ready.{IsReady};
-ghost use Rattle.board_debug.specs.Session.{go_from, moved, step_from, turning, until_from};
+ghost use Rattle.board_debug.specs.Session.{go_from, turn_done, step_from, turning, until_from};
 
 use crate::found::Found;
 use crate::looks::{Before, look_after, look_at_breaks, look_at_last, look_before, look_until};
@@ -20,14 +20,14 @@ use pokey_chip::SoundUnit;
 use tape_ports::Tape;
 
 /// Makes one turn, and forgets its records.
-#[tactic(auto, unfolding(crate::specs::Session::moved))]
+#[tactic(auto, unfolding(crate::specs::Session::turn_done))]
 fn make_turn<V: VectorUnit, P: SoundUnit, C: CellUnit, D: DividerUnit>(
     engine: &mut Engine<V, P, C, D>,
     tape: &Tape,
 )
     requires clock { engine.old.board.wires.clock < CLOCK_LIMIT }
     requires ready { IsReady engine.old }
-    ensures board { engine.new.board ≡ moved tape.now.entries engine.old.board }
+    ensures board { engine.new.board ≡ turn_done tape.now.entries engine.old.board }
     ensures later { engine.old.board.cpu.jam ≡ None → engine.old.board.wires.clock < engine.new.board.wires.clock }
     ensures ready { IsReady engine.new }
 {

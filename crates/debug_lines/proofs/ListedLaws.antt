@@ -9,13 +9,13 @@ use Rattle.cpu_table.specs.declared.instruction.Op.{Op}
 use Rattle.cpu_table.specs.declared.instruction.Mode.{Mode}
 use Rattle.cpu_table.specs.Decoding.{length_of}
 use Rattle.debug_lines.specs.Columns.{listed}
-use Rattle.debug_lines.specs.Instructions.{bytes_text, line_of, operand_text, target_of}
+use Rattle.debug_lines.specs.Instructions.{bytes_text, instruction_line, operand_text, target_of}
 use Rattle.debug_lines.specs.Listed.{ReadsAs}
 
 pub reads : (address operand : ℕ) (bytes : List ℕ) (op : Op) (mode : Mode) → Encodes bytes op mode operand → ReadsAs address bytes op mode operand
 reads address operand bytes op mode encodes = record {
   line =
-      ap (line_of address bytes) encodes.says
+      ap (instruction_line address bytes) encodes.says
       ∙ ap (λ shown. listed address 9 (bytes_text shown) (name_of op ++ operand_text address mode operand))
       (take_all (length_of mode) bytes (omega (arith, encodes.whole)));
   size = ap (λ said. option_map_or (λ (i : Op × Mode × ℕ). length_of i.1) said 1) encodes.says ∙ sym encodes.whole;

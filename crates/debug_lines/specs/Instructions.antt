@@ -41,13 +41,13 @@ first_text [] = codes "-- "
 first_text (byte ∷ bytes) = hex_byte byte ++ 32 ∷ []
 
 -- the line of what some bytes at an address are decoded to: an instruction with its bytes, or else one byte
-abbrev pub line_of : ℕ → List ℕ → Option (Op × Mode × ℕ) → List ℕ
-line_of address bytes None = listed address 9 (first_text bytes) (codes "???")
-line_of address bytes (Some (op, mode, n)) =
+abbrev pub instruction_line : ℕ → List ℕ → Option (Op × Mode × ℕ) → List ℕ
+instruction_line address bytes None = listed address 9 (first_text bytes) (codes "???")
+instruction_line address bytes (Some (op, mode, n)) =
     listed address 9 (bytes_text (take (length_of mode) bytes)) (name_of op ++ operand_text address mode n)
 
 abbrev pub dis_line : ℕ → List ℕ → List ℕ
-dis_line address bytes = line_of address bytes (decoded bytes)
+dis_line address bytes = instruction_line address bytes (decoded bytes)
 
 -- how many bytes it shows
 abbrev pub dis_size : List ℕ → ℕ

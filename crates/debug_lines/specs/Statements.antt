@@ -43,9 +43,9 @@ abbrev pub vdis_line : ℕ → ℕ → ℕ → List ℕ
 vdis_line address word second = listed address 10 (words_text (word_of word) word second) (statement_text (word_of word) second)
 
 -- how many bytes an instruction has
-abbrev pub size_of : VgWord → ℕ
-size_of (Vctr dy) = 4
-size_of _ = 2
+abbrev pub statement_size : VgWord → ℕ
+statement_size (Vctr dy) = 4
+statement_size _ = 2
 
 -- the address so many bytes further in the generator's memory, whose first comes after its last
 abbrev pub vg_further : ℕ → ℕ → ℕ
@@ -60,4 +60,4 @@ unfoldable pub vdis_text : Seen → ℕ → ℕ → List ℕ
 vdis_text seen address zero = []
 vdis_text seen address (suc count) =
     let word = word_seen seen address in
-    vdis_line address word (word_seen seen (vg_further address 2)) ++ vdis_text seen (vg_further address (size_of (word_of word))) count
+    vdis_line address word (word_seen seen (vg_further address 2)) ++ vdis_text seen (vg_further address (statement_size (word_of word))) count

@@ -1,7 +1,7 @@
 ghost use Rattle.std.specs.Prelude.{◌≡◌, ◌++◌, ◌∷◌, length};
 ghost use Rattle.avg_decode.specs.Word.{word_of};
 ghost use Rattle.debug_lines.specs.Columns.{address_head, column};
-ghost use Rattle.debug_lines.specs.Statements.{size_of, vdis_line, words_text};
+ghost use Rattle.debug_lines.specs.Statements.{statement_size, vdis_line, words_text};
 
 use crate::columns::{HEAD, address_line};
 use crate::operand::with_word;
@@ -27,7 +27,7 @@ fn words_line(address: u16, kind: VgWord, word: u16, second: u16) -> Line
 
 /// How many bytes an instruction has.
 fn size(kind: VgWord) -> u8
-    ensures { result ≡ size_of kind }
+    ensures { result ≡ statement_size kind }
 {
     match kind {
         VgWord::Vctr { .. } => 4,
@@ -39,7 +39,7 @@ fn size(kind: VgWord) -> u8
 /// how many bytes it has.
 pub fn vdis_line(address: u16, word: u16, second: u16) -> (Line, u8)
     ensures line { result.0 ≡ vdis_line address word second }
-    ensures size { result.1 ≡ size_of (word_of word) }
+    ensures size { result.1 ≡ statement_size (word_of word) }
 {
     let kind = word_kind(word);
     let line = words_line(address, kind, word, second).text(b" ");

@@ -3,7 +3,7 @@ use Rattle.std.proofs.Common.{◌≡◌, ℕ, ◌+◌, ◌<◌, ◌≤◌, true,
 use Rattle.std.proofs.lemmas.List.{append_assoc, append-nil, nil_from_length}
 use Rattle.plain_text.specs.Lines.{lines_of}
 use Rattle.debug_script.specs.declared.command.Command.{Command}
-use Rattle.debug_script.specs.Script.{next_command, script_from, script_of, told, with_first}
+use Rattle.debug_script.specs.Script.{next_command, script_from, script_of, with_command, with_first}
 use Rattle.debug_script.specs.Stops.{Fit, StopsValue, are_few, no_stops, stops_after}
 
 -- commands in front of the others, or the number of the first line of no form
@@ -39,7 +39,7 @@ module _ (text : List ℕ) (commands : List Command) (stops : StopsValue) (numbe
 
   some_line-told : (bytes : List ℕ) → bytes ≡ line → 0 < length bytes
       → script_from (number + 1) stops (lines_of rest)
-      ≡ told (number + 1) (next_command stops line) (λ command. script_from ((number + 1) + 1) (stops_after command stops) (lines_of after))
+      ≡ with_command (number + 1) (next_command stops line) (λ command. script_from ((number + 1) + 1) (stops_after command stops) (lines_of after))
   unfolding script_from
   some_line-told [] is some = absurd (omega arith)
   some_line-told (byte ∷ bytes) is some = rw (parted, ← is) refl

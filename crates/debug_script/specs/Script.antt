@@ -18,9 +18,9 @@ with_first command (Ok commands) = Ok (command ∷ commands)
 with_first command (Err number) = Err number
 
 -- the line with this number is of no form, or its command comes before those of the others
-abbrev pub told : ℕ → Option Command → (Command → Result (List Command) ℕ) → Result (List Command) ℕ
-told number None more = Err number
-told number (Some command) more = with_first command (more command)
+abbrev pub with_command : ℕ → Option Command → (Command → Result (List Command) ℕ) → Result (List Command) ℕ
+with_command number None more = Err number
+with_command number (Some command) more = with_first command (more command)
 
 -- the commands of the lines from this number on, where these stops stand, or the number of the first line of no form; an
 -- empty line does nothing
@@ -28,7 +28,7 @@ unfoldable pub script_from : ℕ → StopsValue → List (List ℕ) → Result (
 script_from number stops [] = Ok []
 script_from number stops ([] ∷ lines) = script_from (number + 1) stops lines
 script_from number stops ((byte ∷ line) ∷ lines) =
-    told number (next_command stops (byte ∷ line)) (λ command. script_from (number + 1) (stops_after command stops) lines)
+    with_command number (next_command stops (byte ∷ line)) (λ command. script_from (number + 1) (stops_after command stops) lines)
 
 -- the commands of a text, or the number of its first line of no form, counted from 1
 abbrev pub script_of : List ℕ → Result (List Command) ℕ

@@ -12,7 +12,7 @@ use Rattle.cpu_core.specs.Places.{IsMiddle}
 use Rattle.save_state.specs.Fields.{Field, Range, Row, Fits, fields_of, pieces_of}
 use Rattle.save_state.specs.StateBytes.{processor_of, facts_of}
 use Rattle.save_state.specs.Sections.{port_fields, divider_fields}
-use Rattle.save_state.specs.Walk.{◌>>=◌, next, is_fit, told, field_at, read_all}
+use Rattle.save_state.specs.Walk.{◌>>=◌, next, is_fit, inside_for, field_at, read_all}
 use Rattle.save_state.specs.Reading.{Holds, IsFirstBroken}
 use Rattle.save_state.proofs.RangeTests.{decides_fit}
 
@@ -47,7 +47,7 @@ step inside fs gs (Err e) ih = refl
 pub read_append : (inside : Bool) (fs gs : List Field) (bytes : List ℕ) → next (read_all inside fs bytes) (read_all inside gs) ≡ read_all inside (fs ++ gs) bytes
 unfolding read_all
 read_append inside [] gs bytes = ok_again (read_all inside gs bytes)
-read_append inside (f ∷ fs) gs bytes = step inside fs gs (field_at (told inside f.range) f bytes) (read_append inside fs gs)
+read_append inside (f ∷ fs) gs bytes = step inside fs gs (field_at (inside_for inside f.range) f bytes) (read_append inside fs gs)
 
 -- the same where what is read after them goes by the bytes that are left
 next_same : (r : Read) (k l : List ℕ → Read) → ((ps : List (List ℕ)) (rest : List ℕ) → r ≡ Ok (ps, rest) → k rest ≡ l rest) → next r k ≡ next r l
@@ -99,9 +99,9 @@ read_spelled inside [] bytes ps rest e =
     let h = pairs_same _ _ (ok_same ([], bytes) (ps, rest) e) in
     h.1 ∙ ap (λ (ps : List (List ℕ)). concat ps ++ rest) h.0
 read_spelled inside (f ∷ fs) bytes ps rest e =
-    let a = bind_ok (field_at (told inside f.range) f bytes) (λ first. read_all inside fs first.1 >>= λ others. Ok (first.0 ∷ others.0, others.1)) (ps, rest) e in
+    let a = bind_ok (field_at (inside_for inside f.range) f bytes) (λ first. read_all inside fs first.1 >>= λ others. Ok (first.0 ∷ others.0, others.1)) (ps, rest) e in
     let b = bind_ok (read_all inside fs a.0.1) (λ others. Ok (a.0.0 ∷ others.0, others.1)) (ps, rest) a.2 in
-    let g = pairs_same _ _ (chosen (is_fit (told inside f.range) f.range (take f.width bytes)) (take f.width bytes, drop f.width bytes) a.0 (4356 - length bytes) a.1).1 in
+    let g = pairs_same _ _ (chosen (is_fit (inside_for inside f.range) f.range (take f.width bytes)) (take f.width bytes, drop f.width bytes) a.0 (4356 - length bytes) a.1).1 in
     let h = pairs_same _ _ (ok_same (a.0.0 ∷ b.0.0, b.0.1) (ps, rest) b.2) in
     let more : a.0.1 ≡ concat b.0.0 ++ b.0.1 = read_spelled inside fs a.0.1 b.0.0 b.0.1 b.1 in
     let front : bytes ≡ a.0.0 ++ a.0.1 = sym (take-append-drop f.width bytes) ∙ ap (λ (x : List ℕ). x ++ drop f.width bytes) g.0 ∙ ap (λ (x : List ℕ). a.0.0 ++ x) g.1 in
@@ -117,9 +117,9 @@ pub read_rest : (inside : Bool) (fs : List Field) (bytes : List ℕ) (ps : List 
 unfolding read_all field_at widths
 read_rest inside [] bytes ps rest e = sym (pairs_same _ _ (ok_same ([], bytes) (ps, rest) e)).1
 read_rest inside (f ∷ fs) bytes ps rest e =
-    let a = bind_ok (field_at (told inside f.range) f bytes) (λ first. read_all inside fs first.1 >>= λ others. Ok (first.0 ∷ others.0, others.1)) (ps, rest) e in
+    let a = bind_ok (field_at (inside_for inside f.range) f bytes) (λ first. read_all inside fs first.1 >>= λ others. Ok (first.0 ∷ others.0, others.1)) (ps, rest) e in
     let b = bind_ok (read_all inside fs a.0.1) (λ others. Ok (a.0.0 ∷ others.0, others.1)) (ps, rest) a.2 in
-    let g = pairs_same _ _ (chosen (is_fit (told inside f.range) f.range (take f.width bytes)) (take f.width bytes, drop f.width bytes) a.0 (4356 - length bytes) a.1).1 in
+    let g = pairs_same _ _ (chosen (is_fit (inside_for inside f.range) f.range (take f.width bytes)) (take f.width bytes, drop f.width bytes) a.0 (4356 - length bytes) a.1).1 in
     let h = pairs_same _ _ (ok_same (a.0.0 ∷ b.0.0, b.0.1) (ps, rest) b.2) in
     sym h.1 ∙ read_rest inside fs a.0.1 b.0.0 b.0.1 b.1 ∙ ap (λ (x : List ℕ). drop (widths fs) x) (sym g.1) ∙ drop-drop (widths fs) f.width bytes
 
@@ -185,11 +185,11 @@ read_broken version inside file d len (r ∷ rs) from o h e =
     let left : length (drop from file) ≡ length file - from = length-drop from file in
     let here : 4356 - length (drop from file) ≡ r.at = omega (arith, at, short, left, len) in
     let piece : List ℕ = take r.width (drop from file) in
-    let decides : Decides (is_fit (told inside (r.range (facts_of version file))) (r.range (facts_of version file)) piece) (Holds version file r) =
-    subst (λ (n : ℕ). Decides (is_fit (told inside (r.range (facts_of version file))) (r.range (facts_of version file)) piece) (Fits (processor_of file) (r.range (facts_of version file)) (take r.width (drop n file)))) (sym at)
+    let decides : Decides (is_fit (inside_for inside (r.range (facts_of version file))) (r.range (facts_of version file)) piece) (Holds version file r) =
+    subst (λ (n : ℕ). Decides (is_fit (inside_for inside (r.range (facts_of version file))) (r.range (facts_of version file)) piece) (Fits (processor_of file) (r.range (facts_of version file)) (take r.width (drop n file)))) (sym at)
     (decides_fit (processor_of file) inside d (r.range (facts_of version file)) piece) in
     broken_on version inside file r rs piece (drop r.width (drop from file)) (4356 - length (drop from file)) o
-    (is_fit (told inside (r.range (facts_of version file))) (r.range (facts_of version file)) piece) decides here e
+    (is_fit (inside_for inside (r.range (facts_of version file))) (r.range (facts_of version file)) piece) decides here e
     (λ (h2 : read_all inside (fields_of (facts_of version file) rs) (drop r.width (drop from file)) ≡ Err o).
     read_broken version inside file d len rs (from + r.width) o two.1 (subst (λ (x : List ℕ). read_all inside (fields_of (facts_of version file) rs) x ≡ Err o) (drop-drop r.width from file) h2))
 
@@ -213,9 +213,9 @@ read_stand version inside file b d (r ∷ rs) from rest h e =
     let at : r.at ≡ from = eqb-true r.at from two.0 in
     let fs : List Field = fields_of (facts_of version file) rs in
     let piece : List ℕ = take r.width (drop from file) in
-    let one = bind_ok (field_at (told inside range) (record { width = r.width; range = range }) (drop from file)) (λ first. read_all inside fs first.1 >>= λ others. Ok (first.0 ∷ others.0, others.1)) (r.spelled b ∷ pieces_of rs b, rest) e in
+    let one = bind_ok (field_at (inside_for inside range) (record { width = r.width; range = range }) (drop from file)) (λ first. read_all inside fs first.1 >>= λ others. Ok (first.0 ∷ others.0, others.1)) (r.spelled b ∷ pieces_of rs b, rest) e in
     let more = bind_ok (read_all inside fs one.0.1) (λ others. Ok (one.0.0 ∷ others.0, others.1)) (r.spelled b ∷ pieces_of rs b, rest) one.2 in
-    let fit = chosen (is_fit (told inside range) range piece) (piece, drop r.width (drop from file)) one.0 (4356 - length (drop from file)) one.1 in
+    let fit = chosen (is_fit (inside_for inside range) range piece) (piece, drop r.width (drop from file)) one.0 (4356 - length (drop from file)) one.1 in
     let g = pairs_same (piece, drop r.width (drop from file)) one.0 fit.1 in
     let k = pairs_same (one.0.0 ∷ more.0.0, more.0.1) (r.spelled b ∷ pieces_of rs b, rest) (ok_same (one.0.0 ∷ more.0.0, more.0.1) (r.spelled b ∷ pieces_of rs b, rest) more.2) in
     let l = same_first one.0.0 (r.spelled b) more.0.0 (pieces_of rs b) k.0 in

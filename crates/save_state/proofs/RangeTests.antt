@@ -14,7 +14,7 @@ use Rattle.board_base.specs.Ranges.{IsWithin}
 use Rattle.cpu_table.specs.Opcodes.{row_of}
 use Rattle.cpu_core.specs.Places.{IsMiddle}
 use Rattle.save_state.specs.Fields.{Range, anything, byte_at_most, byte_from_1, number_at_most, number_from_1, signed_within, letters, six_zeros, flags, undocumented_opcode, place, Fits}
-use Rattle.save_state.specs.Walk.{is_fit, told}
+use Rattle.save_state.specs.Walk.{is_fit, inside_for}
 
 decides_le : (a b : ℕ) → Decides (nat_le a b) (a ≤ b)
 decides_le a b = (leb-true a b, le-leb a b)
@@ -54,8 +54,8 @@ within n z =
     (λ (h : IsWithin n z). (h.above, h.below))
     (Decides-and (le_z (neg_ℤ (pos n)) z) (le_z z (pos n)) (decides_le_z (neg_ℤ (pos n)) z) (decides_le_z z (pos n)))
 
--- the test of a range decides whether bytes are in it, where it was told whether the processor stands inside a sequence
-pub decides_fit : (cpu : CpuValue) (inside : Bool) → Decides inside (IsMiddle cpu) → (r : Range) (piece : List ℕ) → Decides (is_fit (told inside r) r piece) (Fits cpu r piece)
+-- the test of a range decides whether bytes are in it, where it was inside_for whether the processor stands inside a sequence
+pub decides_fit : (cpu : CpuValue) (inside : Bool) → Decides inside (IsMiddle cpu) → (r : Range) (piece : List ℕ) → Decides (is_fit (inside_for inside r) r piece) (Fits cpu r piece)
 decides_fit cpu inside d anything piece = ((λ e. tt), (λ h. refl))
 decides_fit cpu inside d (byte_at_most greatest) piece = decides_le (slice_index piece 0) greatest
 decides_fit cpu inside d (byte_from_1 greatest) piece = decides_between 1 greatest (slice_index piece 0)

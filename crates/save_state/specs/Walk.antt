@@ -27,9 +27,9 @@ is_fit inside undocumented_opcode piece = is_none (row_of (slice_index piece 0))
 is_fit inside place piece = inside
 
 -- only a place goes by what was told
-abbrev pub told : Bool → Range → Bool
-told inside place = inside
-told inside _ = false
+abbrev pub inside_for : Bool → Range → Bool
+inside_for inside place = inside
+inside_for inside _ = false
 
 -- one thing after another, up to the first fault
 infixl 10 ◌>>=◌
@@ -51,7 +51,7 @@ field_at inside f bytes =
 unfoldable pub read_all : Bool → List Field → List ℕ → Result (List (List ℕ) × List ℕ) ℕ
 read_all inside [] bytes = Ok ([], bytes)
 read_all inside (f ∷ fs) bytes = do
-  first ← field_at (told inside f.range) f bytes
+  first ← field_at (inside_for inside f.range) f bytes
   others ← read_all inside fs first.1
   Ok (first.0 ∷ others.0, others.1)
 

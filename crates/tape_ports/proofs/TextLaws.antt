@@ -14,7 +14,7 @@ use Rattle.tape_ports.specs.declared.line.Line.{Line}
 use Rattle.tape_ports.specs.declared.line.Line.TheVariants.{Entry, End}
 use Rattle.plain_text.specs.Lines.{lines_of, words_of}
 use Rattle.plain_text.specs.Numbers.{decimal_of, value_of}
-use Rattle.tape_ports.specs.Grammar.{◌>>=◌, clock_after, end_line, entry_line, tape_line_of, with_first, ended, told, tape_from, tape_of}
+use Rattle.tape_ports.specs.Grammar.{◌>>=◌, clock_after, end_line, entry_line, tape_line_of, with_first, ended, with_line, tape_from, tape_of}
 use Rattle.tape_ports.specs.Ports.{port_of}
 use Rattle.tape_ports.specs.Tape.{TapeValue}
 use Rattle.tape_ports.specs.TapeText.{IsEntryLine, IsEndLine, AreEntryLines, clocks_of, AreTapeLines, IsTapeText}
@@ -243,7 +243,7 @@ reads_on number before (line ∷ lines) tape said =
     last end (other ∷ rest) is said = absurd (cc)
 
     by_line : Others → (read : Result Line LineCause) → tape_line_of before (words_of line) ≡ read
-        → told number read (λ entry. with_first entry (tape_from (number + 1) entry.clock lines)) (λ end. ended number end lines) ≡ Ok tape
+        → with_line number read (λ entry. with_first entry (tape_from (number + 1) entry.clock lines)) (λ end. ended number end lines) ≡ Ok tape
         → FollowOn before (line ∷ lines) tape
     by_line others (Err fault) is said = absurd (cc)
     by_line others (Ok (Entry entry)) is said = more others entry (tape_from (number + 1) entry.clock lines) is refl said

@@ -69,16 +69,16 @@ ended number end [] = Ok (record { entries = []; end = end })
 ended number end (_ ∷ _) = Err (number + 1, cause.AfterEnd)
 
 -- what comes of a line with this number that tells an entry, an END clock, or its fault
-abbrev pub told : ℕ → Result Line LineCause → (TapeEntry → Result TapeValue (ℕ × LineCause)) → (ℕ → Result TapeValue (ℕ × LineCause)) → Result TapeValue (ℕ × LineCause)
-told number (Ok (Entry entry)) more last = more entry
-told number (Ok (End end)) more last = last end
-told number (Err fault) more last = Err (number, fault)
+abbrev pub with_line : ℕ → Result Line LineCause → (TapeEntry → Result TapeValue (ℕ × LineCause)) → (ℕ → Result TapeValue (ℕ × LineCause)) → Result TapeValue (ℕ × LineCause)
+with_line number (Ok (Entry entry)) more last = more entry
+with_line number (Ok (End end)) more last = last end
+with_line number (Err fault) more last = Err (number, fault)
 
 -- the tape of the lines from this number on, after a line with the clock before, or the first fault with its line
 unfoldable pub tape_from : ℕ → ℕ → List (List ℕ) → Result TapeValue (ℕ × LineCause)
 tape_from number before [] = Err (number, cause.NoEnd)
 tape_from number before (line ∷ lines) =
-    told number (tape_line_of before (words_of line)) (λ entry. with_first entry (tape_from (number + 1) entry.clock lines)) (λ end. ended number end lines)
+    with_line number (tape_line_of before (words_of line)) (λ entry. with_first entry (tape_from (number + 1) entry.clock lines)) (λ end. ended number end lines)
 
 -- the one tape of a text, or its one fault with the number of its line, counted from 1
 abbrev pub tape_of : List ℕ → Result TapeValue (ℕ × LineCause)
