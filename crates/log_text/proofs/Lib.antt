@@ -3,5 +3,6 @@ pub mod GatherLaws
 mod LineLaws
 pub mod LogLaws
 mod NextLaws
+pub mod PartLaws
 mod SortLaws
 mod WriteLaws

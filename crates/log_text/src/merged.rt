@@ -1,5 +1,6 @@
-ghost use Rattle.std.specs.Prelude.{List};
-ghost use Rattle.board_base.specs.Records.{IsTrailOf};
+ghost use Rattle.std.specs.Prelude.{◌≡◌, ℕ, List, ◌++◌};
+ghost use Rattle.board_base.specs.Records.{IsTrailOf, MadeBetween};
+ghost use Rattle.board_base.specs.declared.record.Record.{Record as record_value};
 ghost use Rattle.log_text.specs.LogText.{PartRecord, IsInOrder, MergedIsOneLog, merged_text};
 ghost use Rattle.outside_io.specs.Causes.{HasCause};
 ghost use Rattle.outside_io.specs.Sink.{Takes};
@@ -44,4 +45,15 @@ pub fn write_merged<O: Sink>(trails: &Trails<'_>, out: &mut O) -> Result<(), Sin
 #[tactic(auto, using(crate::proofs::LogLaws::merged_is_one_log))]
 pub fn one_log()
     ensures { (records : List PartRecord) → IsInOrder records → MergedIsOneLog records }
+{}
+
+/// The log of the records up to a clock, and then that of the records from it on up to a later one, is
+/// the log of all of them. It tells a law, and does nothing.
+pub fn logs_join()
+    ensures { (from at upto : ℕ) → (v1 v2 a1 a2 b1 b2 w1 w2 : List record_value)
+        → MadeBetween Part.Generator from v1 at → MadeBetween Part.Generator at v2 upto
+        → MadeBetween Part.Pokey1 from a1 at → MadeBetween Part.Pokey1 at a2 upto
+        → MadeBetween Part.Pokey2 from b1 at → MadeBetween Part.Pokey2 at b2 upto
+        → MadeBetween Part.Board from w1 at → MadeBetween Part.Board at w2 upto
+        → merged_text (v1 ++ v2) (a1 ++ a2) (b1 ++ b2) (w1 ++ w2) ≡ merged_text v1 a1 b1 w1 ++ merged_text v2 a2 b2 w2 }
 {}

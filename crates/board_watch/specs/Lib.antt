@@ -1,0 +1,4 @@
+pub mod Rest
+pub mod Rested
+pub mod Watch
+pub mod Windows

@@ -1,0 +1,17 @@
+ghost use Rattle.std.specs.Prelude.{None};
+
+use outside_io::{Sink, SinkFault};
+
+/// A sink for a watcher that tells nothing. It keeps no byte, and never fails.
+#[derive(Clone, Copy, Debug, PartialEq, Eq)]
+pub struct Nowhere;
+
+impl Sink for Nowhere {
+    ghost taken = { λ _. None };
+
+    ghost faults = { λ _. 0 };
+
+    fn write(&mut self, _bytes: &[u8]) -> Result<(), SinkFault> {
+        Ok(())
+    }
+}
