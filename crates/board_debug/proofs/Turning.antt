@@ -375,3 +375,8 @@ pub go-turn : (tape : TapeValue) (stops : StopsValue) (end : ℕ) (b c : Board) 
 go-turn tape stops end b c last found is =
     let none : look_before tape.end b ≡ None = rw (← last) (sym found) in
     rw (is, last) (turns-on tape.entries (look_before tape.end) (look_after tape.end stops) tape.end (before-opens tape.end) b none)
+
+-- the board after a turn whose records are forgotten
+pub done-turn : (entries : List TapeEntry) (b c : Board) → c ≡ cleared (turn entries b) → c ≡ turn_done entries b
+unfolding turn_done
+done-turn entries b c is = is

@@ -1,12 +1,13 @@
 //! What a session looks at between two turns.
 ghost use Rattle.std.specs.Prelude.{◌≡◌, ◌==◌, find, map, length, true, unwrap_or};
 ghost use Rattle.catchup_engine.specs.Lockstep as lockstep;
+ghost use Rattle.board_watch.specs.Rested.{engine_of};
 ghost use Rattle.board_debug.specs.Looks.{IsBefore, break_look, end_look, first_of, jam_look, look_after, look_before, look_until, until_look, vg_look, watch_look, watched_byte};
 
 use crate::found::Found;
 use arrayvec::ArrayVec;
 use avg_device::VectorUnit;
-use catchup_engine::Engine;
+use board_watch::Rested;
 use debug_script::{STOPS, Stops};
 use earom_cells::CellUnit;
 use irq_watchdog::DividerUnit;
@@ -14,11 +15,11 @@ use pokey_chip::SoundUnit;
 
 /// Whether the board is jammed.
 fn look_at_jam<V: VectorUnit, P: SoundUnit, C: CellUnit, D: DividerUnit>(
-    engine: &Engine<V, P, C, D>,
+    rested: &Rested<'_, V, P, C, D>,
 ) -> Option<Found>
-    ensures { result ≡ jam_look engine.now.board }
+    ensures { result ≡ jam_look (engine_of rested.now).board }
 {
-    match engine.cpu().jam {
+    match rested.engine().cpu().jam {
         Some(opcode) => Some(Found::Jam(opcode)),
         None => None,
     }
@@ -26,40 +27,40 @@ fn look_at_jam<V: VectorUnit, P: SoundUnit, C: CellUnit, D: DividerUnit>(
 
 /// Whether the board is jammed, or else the tape has ended.
 pub fn look_before<V: VectorUnit, P: SoundUnit, C: CellUnit, D: DividerUnit>(
-    engine: &Engine<V, P, C, D>,
+    rested: &Rested<'_, V, P, C, D>,
     end: u64,
 ) -> Option<Found>
-    ensures { result ≡ look_before end engine.now.board }
+    ensures { result ≡ look_before end (engine_of rested.now).board }
 {
-    match look_at_jam(engine) {
+    match look_at_jam(rested) {
         Some(found) => Some(found),
-        None if end <= engine.clock() => Some(Found::End),
+        None if end <= rested.engine().clock() => Some(Found::End),
         None => None,
     }
 }
 
 /// The same, and then whether a clock has come.
 pub fn look_until<V: VectorUnit, P: SoundUnit, C: CellUnit, D: DividerUnit>(
-    engine: &Engine<V, P, C, D>,
+    rested: &Rested<'_, V, P, C, D>,
     end: u64,
     clock: u64,
 ) -> Option<Found>
-    ensures { result ≡ look_until end clock engine.now.board }
+    ensures { result ≡ look_until end clock (engine_of rested.now).board }
 {
-    match look_before(engine, end) {
+    match look_before(rested, end) {
         Some(found) => Some(found),
-        None if clock <= engine.clock() => Some(Found::Until),
+        None if clock <= rested.engine().clock() => Some(Found::Until),
         None => None,
     }
 }
 
 /// How turns that are all made have ended: with a jam, or else as asked.
 pub fn look_at_last<V: VectorUnit, P: SoundUnit, C: CellUnit, D: DividerUnit>(
-    engine: &Engine<V, P, C, D>,
+    rested: &Rested<'_, V, P, C, D>,
 ) -> Found
-    ensures { result ≡ unwrap_or (jam_look engine.now.board) Found.Step }
+    ensures { result ≡ unwrap_or (jam_look (engine_of rested.now).board) Found.Step }
 {
-    look_at_jam(engine).unwrap_or(Found::Step)
+    look_at_jam(rested).unwrap_or(Found::Step)
 }
 
 /// The first of some addresses that is this one.
@@ -71,12 +72,12 @@ fn first_at(addresses: &[u16], pc: u16) -> Option<u16>
 
 /// Whether pc is one of these.
 pub fn look_at_breaks<V: VectorUnit, P: SoundUnit, C: CellUnit, D: DividerUnit>(
-    engine: &Engine<V, P, C, D>,
+    rested: &Rested<'_, V, P, C, D>,
     breaks: &[u16],
 ) -> Option<Found>
-    ensures { result ≡ break_look breaks.now engine.now.board }
+    ensures { result ≡ break_look breaks.now (engine_of rested.now).board }
 {
-    match first_at(breaks, engine.cpu().pc) {
+    match first_at(breaks, rested.engine().cpu().pc) {
         Some(address) => Some(Found::Break(address)),
         None => None,
     }
@@ -84,12 +85,12 @@ pub fn look_at_breaks<V: VectorUnit, P: SoundUnit, C: CellUnit, D: DividerUnit>(
 
 /// A byte of the RAM or of the vector RAM.
 fn watched_byte<V: VectorUnit, P: SoundUnit, C: CellUnit, D: DividerUnit>(
-    engine: &Engine<V, P, C, D>,
+    rested: &Rested<'_, V, P, C, D>,
     address: u16,
 ) -> u8
-    ensures { result ≡ watched_byte engine.now.board address }
+    ensures { result ≡ watched_byte (engine_of rested.now).board address }
 {
-    engine.byte_at(address).unwrap_or(0)
+    rested.engine().byte_at(address).unwrap_or(0)
 }
 
 /// What a look after a turn compares with: the watched bytes before it, and whether the generator
@@ -103,34 +104,33 @@ pub struct Before {
 impl Before {
     /// Looks at a board before a turn.
     pub fn of<V: VectorUnit, P: SoundUnit, C: CellUnit, D: DividerUnit>(
-        engine: &Engine<V, P, C, D>,
+        rested: &Rested<'_, V, P, C, D>,
         stops: &Stops,
     ) -> Before
-        requires settled { engine.now.lagging ≡ 0 }
-        ensures { IsBefore stops.now engine.now.board result }
+            ensures { IsBefore stops.now (engine_of rested.now).board result }
     {
         let mut bytes = ArrayVec::new();
         'watches: for address in stops.watches() {
-            bytes.push(watched_byte(engine, *address));
+            bytes.push(watched_byte(rested, *address));
         }
         Before {
             bytes,
-            halted: engine.is_halted(),
+            halted: rested.engine().is_halted(),
         }
     }
 
     /// Whether a watched byte has changed since.
     fn look_at_watches<V: VectorUnit, P: SoundUnit, C: CellUnit, D: DividerUnit>(
         &self,
-        engine: &Engine<V, P, C, D>,
+        rested: &Rested<'_, V, P, C, D>,
         watches: &[u16],
     ) -> Option<Found>
         requires { length watches.now ≡ length self.now.bytes.items }
         ensures { (before : lockstep.Board) → self.now.bytes.items ≡ map (watched_byte before) watches.now
-            → result ≡ watch_look watches.now before engine.now.board }
+            → result ≡ watch_look watches.now before (engine_of rested.now).board }
     {
         'watches: for i in 0..watches.len() {
-            if watched_byte(engine, watches[i]) != self.bytes[i] {
+            if watched_byte(rested, watches[i]) != self.bytes[i] {
                 return Some(Found::Watch(watches[i]));
             }
         }
@@ -140,12 +140,11 @@ impl Before {
     /// Whether the generator has halted since.
     fn look_at_vg<V: VectorUnit, P: SoundUnit, C: CellUnit, D: DividerUnit>(
         &self,
-        engine: &Engine<V, P, C, D>,
+        rested: &Rested<'_, V, P, C, D>,
     ) -> Option<Found>
-        requires settled { engine.now.lagging ≡ 0 }
-        ensures { (before : lockstep.Board) → self.now.halted ≡ before.wires.vg.halted → result ≡ vg_look true before engine.now.board }
+            ensures { (before : lockstep.Board) → self.now.halted ≡ before.wires.vg.halted → result ≡ vg_look true before (engine_of rested.now).board }
     {
-        if engine.is_halted() && !self.halted {
+        if rested.engine().is_halted() && !self.halted {
             Some(Found::Vg)
         } else {
             None
@@ -156,26 +155,25 @@ impl Before {
 /// What `go` looks at after a turn, in order: a jam, the tape's END, the breaks, the watches, and the
 /// generator.
 pub fn look_after<V: VectorUnit, P: SoundUnit, C: CellUnit, D: DividerUnit>(
-    engine: &Engine<V, P, C, D>,
+    rested: &Rested<'_, V, P, C, D>,
     end: u64,
     stops: &Stops,
     before: &Before,
 ) -> Option<Found>
-    requires settled { engine.now.lagging ≡ 0 }
     requires watched { length before.now.bytes.items ≡ length stops.now.watches }
-    ensures { (b : lockstep.Board) → IsBefore stops.now b before.now → result ≡ look_after end stops.now b engine.now.board }
+    ensures { (b : lockstep.Board) → IsBefore stops.now b before.now → result ≡ look_after end stops.now b (engine_of rested.now).board }
 {
-    if let Some(found) = look_before(engine, end) {
+    if let Some(found) = look_before(rested, end) {
         return Some(found);
     }
-    if let Some(found) = look_at_breaks(engine, stops.breaks()) {
+    if let Some(found) = look_at_breaks(rested, stops.breaks()) {
         return Some(found);
     }
-    if let Some(found) = before.look_at_watches(engine, stops.watches()) {
+    if let Some(found) = before.look_at_watches(rested, stops.watches()) {
         return Some(found);
     }
     if stops.vg() {
-        before.look_at_vg(engine)
+        before.look_at_vg(rested)
     } else {
         None
     }

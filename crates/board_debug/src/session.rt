@@ -3,10 +3,9 @@ ghost use Rattle.std.specs.Prelude.{◌≡◌, OnOk};
 ghost use Rattle.std.specs.Option.{option_map};
 ghost use Rattle.outside_io.specs.Causes.{HasCause};
 ghost use Rattle.outside_io.specs.Sink.{Takes};
-ghost use Rattle.catchup_engine.specs.Run.{IsPlaced};
 ghost use Rattle.catchup_engine.specs.Wires.{board_of};
 ghost use Rattle.debug_script.specs.Stops.{Fit, no_stops};
-ghost use Rattle.board_debug.specs.Ready.{IsReady};
+ghost use Rattle.board_watch.specs.Rested.{engine_of, loan_of};
 ghost use Rattle.board_debug.specs.Session.{board_after, command_text, reached_by, session_board, session_text, shown_text};
 
 use crate::board_text::{write_devices, write_registers};
@@ -16,6 +15,7 @@ use crate::stop_line::write_stop;
 use crate::turns::{go, step, until};
 use avg_device::VectorUnit;
 use board_base::BoardState;
+use board_watch::Rested;
 use catchup_engine::Engine;
 use debug_script::{Command, Stops};
 use earom_cells::CellUnit;
@@ -26,37 +26,32 @@ use tape_ports::Tape;
 
 /// Makes the turns of a command that makes some.
 fn make_turns<V: VectorUnit, P: SoundUnit, C: CellUnit, D: DividerUnit>(
-    engine: &mut Engine<V, P, C, D>,
+    rested: &mut Rested<'_, V, P, C, D>,
     tape: &Tape,
     stops: &Stops,
     command: Command,
 ) -> Option<Found>
-    requires ready { IsReady engine.old }
-    ensures reached { option_map (λ found. record { found = found; board = engine.new.board }) result ≡ reached_by tape.now stops.now command engine.old.board }
-    ensures board { engine.new.board ≡ board_after tape.now stops.now command engine.old.board }
-    ensures ready { IsReady engine.new }
+    ensures same { loan_of rested.new ≡ loan_of rested.old }
+    ensures reached { option_map (λ found. record { found = found; board = (engine_of rested.new).board }) result ≡ reached_by tape.now stops.now command (engine_of rested.old).board }
+    ensures board { (engine_of rested.new).board ≡ board_after tape.now stops.now command (engine_of rested.old).board }
 {
     match command {
-        Command::Go => Some(go(engine, tape, stops)),
-        Command::Step(count) => Some(step(engine, tape, count)),
-        Command::Until(clock) => Some(until(engine, tape, clock)),
+        Command::Go => Some(go(rested, tape, stops)),
+        Command::Step(count) => Some(step(rested, tape, count)),
+        Command::Until(clock) => Some(until(rested, tape, clock)),
         _ => None,
     }
 }
 
 /// The board that an engine stands for.
-pub fn state_of<V: VectorUnit, P: SoundUnit, C: CellUnit, D: DividerUnit>(
+fn state_of<V: VectorUnit, P: SoundUnit, C: CellUnit, D: DividerUnit>(
     engine: &Engine<V, P, C, D>,
 ) -> BoardState
     requires settled { engine.now.lagging ≡ 0 }
-    ensures board { result ≡ board_of engine.now.board.cpu engine.now.board.wires }
-    ensures placed { IsPlaced engine.now.board }
+    ensures { result ≡ board_of engine.now.board.cpu engine.now.board.wires }
 {
     let mut state = BoardState::power_on();
     engine.state(&mut state);
-    if let Some(mid) = state.cpu.mid {
-        let _count = mid.count; // opens the model
-    }
     state
 }
 
@@ -82,41 +77,39 @@ fn show<V: VectorUnit, P: SoundUnit, C: CellUnit, D: DividerUnit, O: Sink>(
 
 /// Does a command, and writes what it prints.
 fn perform<V: VectorUnit, P: SoundUnit, C: CellUnit, D: DividerUnit, O: Sink>(
-    engine: &mut Engine<V, P, C, D>,
+    rested: &mut Rested<'_, V, P, C, D>,
     tape: &Tape,
     stops: &Stops,
     command: Command,
     out: &mut O,
 ) -> Result<(), SinkFault>
-    requires ready { IsReady engine.old }
-    ensures taken { Takes (O.taken out.old) (O.taken out.new) (command_text tape.now stops.now command engine.old.board) result }
+    ensures same { loan_of rested.new ≡ loan_of rested.old }
+    ensures taken { Takes (O.taken out.old) (O.taken out.new) (command_text tape.now stops.now command (engine_of rested.old).board) result }
     ensures cause { HasCause (O.faults out.old) (O.faults out.new) result }
-    ensures board { engine.new.board ≡ board_after tape.now stops.now command engine.old.board }
-    ensures ready { IsReady engine.new }
+    ensures board { (engine_of rested.new).board ≡ board_after tape.now stops.now command (engine_of rested.old).board }
 {
-    match make_turns(engine, tape, stops, command) {
-        Some(found) => write_stop(engine, found, out),
-        None => show(engine, command, out),
+    match make_turns(rested, tape, stops, command) {
+        Some(found) => write_stop(rested.engine(), found, out),
+        None => show(rested.engine(), command, out),
     }
 }
 
 /// Does the commands of a script, one after another.
 pub fn run_commands<V: VectorUnit, P: SoundUnit, C: CellUnit, D: DividerUnit, O: Sink>(
-    engine: &mut Engine<V, P, C, D>,
+    rested: &mut Rested<'_, V, P, C, D>,
     tape: &Tape,
     commands: &[Command],
     out: &mut O,
 ) -> Result<(), SinkFault>
     requires fit { Fit no_stops commands.now }
-    requires ready { IsReady engine.old }
-    ensures taken { Takes (O.taken out.old) (O.taken out.new) (session_text tape.now no_stops commands.now engine.old.board) result }
+    ensures same { loan_of rested.new ≡ loan_of rested.old }
+    ensures taken { Takes (O.taken out.old) (O.taken out.new) (session_text tape.now no_stops commands.now (engine_of rested.old).board) result }
     ensures cause { HasCause (O.faults out.old) (O.faults out.new) result }
-    ensures board { OnOk result (engine.new.board ≡ session_board tape.now no_stops commands.now engine.old.board) }
-    ensures ready { IsReady engine.new }
+    ensures board { OnOk result ((engine_of rested.new).board ≡ session_board tape.now no_stops commands.now (engine_of rested.old).board) }
 {
     let mut stops = Stops::new();
     for command in commands {
-        let Ok(()) = perform(engine, tape, &stops, *command, out) else {
+        let Ok(()) = perform(rested, tape, &stops, *command, out) else {
             return Err(SinkFault);
         };
         stops.note(*command);

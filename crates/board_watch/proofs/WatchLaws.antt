@@ -26,7 +26,7 @@ use Rattle.board_watch.specs.Watch.{AreParts, IsTakenInParts, TakesInParts, join
 use Rattle.board_watch.specs.Windows.{EndsSo, IsFirstWindow, clock_in, end_of, price_to, steps_to, window_end, window_price, window_steps}
 
 -- what doesn't look at records is the same of a board whose records are forgotten
-from-behind : {X : Type 0} (f : Board → X) → ((l : Recorded) (b : Board) → f (behind l b) ≡ f b) → (b : Board) → f (cleared b) ≡ f b
+pub from-behind : {X : Type 0} (f : Board → X) → ((l : Recorded) (b : Board) → f (behind l b) ≡ f b) → (b : Board) → f (cleared b) ≡ f b
 from-behind f law b = sym (law (records_of b) (cleared b)) ∙ ap f (behind-cleared b)
 
 no_records : Recorded
@@ -50,7 +50,7 @@ module _ (entries : List TapeEntry) where
   steps-behind (Clock cut) l b = clock_steps-behind entries cut l b
   steps-behind (Boundary limit) l b = boundary_steps-behind entries limit l b
 
-  steps-cleared : (until : Until) (b : Board) → steps_to entries until (cleared b) ≡ steps_to entries until b
+  pub steps-cleared : (until : Until) (b : Board) → steps_to entries until (cleared b) ≡ steps_to entries until b
   steps-cleared until = from-behind (steps_to entries until) (steps-behind until)
 
   price-behind : (n : ℕ) (l : Recorded) (b : Board) → window_price entries n (behind l b) ≡ window_price entries n b
@@ -59,10 +59,10 @@ module _ (entries : List TapeEntry) where
       let wrapped = counted-behind entries (λ c. wraps c.wires) (λ m c. refl) n l b in
       omega arith
 
-  price-cleared : (n : ℕ) (b : Board) → window_price entries n (cleared b) ≡ window_price entries n b
+  pub price-cleared : (n : ℕ) (b : Board) → window_price entries n (cleared b) ≡ window_price entries n b
   price-cleared n = from-behind (window_price entries n) (price-behind n)
 
-  price-add : (n m : ℕ) (b : Board) → window_price entries (n + m) b ≡ window_price entries n b + window_price entries m (stepped entries n b)
+  pub price-add : (n m : ℕ) (b : Board) → window_price entries (n + m) b ≡ window_price entries n b + window_price entries m (stepped entries n b)
   price-add n m b =
       let calls = budget-add entries n m b in
       let wrapped = counted-add entries (λ c. wraps c.wires) n m b in
@@ -161,20 +161,20 @@ module _ (entries : List TapeEntry) where
 
   pub ruleset window_laws = (first-window, run-made)
 
-module _ {W : Type 0} (can_take : W → Recorded → ℕ → Type 0) (tells : W → Recorded → ℕ → List ℕ) (next : W → Recorded → ℕ → W) where
+module _ {W : Type 0} (can_take : W → ℕ → Recorded → ℕ → Type 0) (tells : W → Recorded → ℕ → List ℕ) (next : W → Recorded → ℕ → W) where
   -- a watcher has taken a first part of a run, and the rest of it is still to come
-  pub record Watched (whole rest : Board) (w0 w : W) (taken0 taken : Option (List ℕ)) (faults0 faults : ℕ) : Type 0 where
+  pub record Watched (from : ℕ) (whole rest : Board) (w0 w : W) (taken0 taken : Option (List ℕ)) (faults0 faults : ℕ) : Type 0 where
     pub sent : List ℕ
     pub took : taken ≡ grown taken0 sent
     pub sound : faults ≡ faults0
     pub text : tells w0 (records_of whole) whole.wires.clock ≡ sent ++ tells w (records_of rest) rest.wires.clock
     pub state : next w0 (records_of whole) whole.wires.clock ≡ next w (records_of rest) rest.wires.clock
-    pub room : can_take w (records_of rest) rest.wires.clock
+    pub room : can_take w from (records_of rest) rest.wires.clock
     pub board : cleared whole ≡ cleared rest
 
-  pub watched-start : (whole : Board) (w : W) (taken : Option (List ℕ)) (faults : ℕ) → can_take w (records_of whole) whole.wires.clock
-      → Watched whole whole w w taken taken faults faults
-  watched-start whole w taken faults room = record {
+  pub watched-start : (from : ℕ) (whole : Board) (w : W) (taken : Option (List ℕ)) (faults : ℕ) → can_take w from (records_of whole) whole.wires.clock
+      → Watched from whole whole w w taken taken faults faults
+  watched-start from whole w taken faults room = record {
     sent = [];
     took = sym (grown-nothing taken);
     sound = refl;
@@ -185,7 +185,7 @@ module _ {W : Type 0} (can_take : W → Recorded → ℕ → Type 0) (tells : W 
   }
 
   module _ (law : TakesInParts can_take tells next) (entries : List TapeEntry) (until : Until) (whole b : Board) (w0 w : W) (taken0 taken : Option (List ℕ))
-      (faults0 faults : ℕ) (so_far : Watched whole (end_of entries until b) w0 w taken0 taken faults0 faults) (placed : IsPlaced b) (none : HasNoRecords b) where
+      (faults0 faults : ℕ) (so_far : Watched b.wires.clock whole (end_of entries until b) w0 w taken0 taken faults0 faults) (placed : IsPlaced b) (none : HasNoRecords b) where
     abbrev there : Board
     there = window_end entries until b
 
@@ -193,7 +193,7 @@ module _ {W : Type 0} (can_take : W → Recorded → ℕ → Type 0) (tells : W 
     after = end_of entries until (cleared there)
 
     -- the next window is a first part of what is still to come
-    in_two : IsTakenInParts can_take tells next w (records_of there) there.wires.clock (records_of after) after.wires.clock
+    in_two : IsTakenInParts can_take tells next w b.wires.clock (records_of there) there.wires.clock (records_of after) after.wires.clock
     in_two =
         let first = first-window entries until b placed none in
         law w b.wires.clock (records_of there) there.wires.clock (records_of after) after.wires.clock first.parts
@@ -207,13 +207,13 @@ module _ {W : Type 0} (can_take : W → Recorded → ℕ → Type 0) (tells : W 
         so_far.text ∙ ap (λ (l : List ℕ). so_far.sent ++ l) (rw (first.made, first.clock) in_two.text)
 
     -- so there is room for it
-    pub room-window : can_take w (records_of there) there.wires.clock
+    pub room-window : can_take w b.wires.clock (records_of there) there.wires.clock
     room-window = in_two.room_first
 
     -- it is taken
     pub watched-window : (now : Board) (v : W) (more : Option (List ℕ)) (faults' : ℕ) → now ≡ cleared there
         → v ≡ next w (records_of there) there.wires.clock → more ≡ grown taken (tells w (records_of there) there.wires.clock) → faults' ≡ faults
-        → Watched whole (end_of entries until now) w0 v taken0 more faults0 faults'
+        → Watched now.wires.clock whole (end_of entries until now) w0 v taken0 more faults0 faults'
     watched-window now v more faults' is next_is took sound =
         let first = first-window entries until b placed none in
         rw (is, next_is) (record {
@@ -237,8 +237,8 @@ module _ {W : Type 0} (can_take : W → Recorded → ℕ → Type 0) (tells : W 
         (took_first taken now (tells w (records_of there) there.wires.clock) _ cut))
 
   -- the last window is what is still to come
-  module _ (whole rest there : Board) (w0 w : W) (taken0 taken : Option (List ℕ)) (faults0 faults : ℕ)
-      (so_far : Watched whole rest w0 w taken0 taken faults0 faults) (last : there ≡ rest) where
+  module _ (from : ℕ) (whole rest there : Board) (w0 w : W) (taken0 taken : Option (List ℕ)) (faults0 faults : ℕ)
+      (so_far : Watched from whole rest w0 w taken0 taken faults0 faults) (last : there ≡ rest) where
     pub took-last : (now : Option (List ℕ)) → now ≡ grown taken (tells w (records_of there) there.wires.clock)
         → now ≡ grown taken0 (tells w0 (records_of whole) whole.wires.clock)
     took-last now took =

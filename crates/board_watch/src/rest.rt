@@ -133,7 +133,7 @@ impl<'a, V: VectorUnit, P: SoundUnit, C: CellUnit, D: DividerUnit> Rested<'a, V,
     ) -> Result<Stop, SinkFault>
         requires limit { clock_in until ≤ CLOCK_LIMIT }
         requires room { let there = window_end tape.now.entries until (engine_of self.old).board in
-            W.can_take watcher.old (records_of there) there.wires.clock }
+            W.can_take watcher.old (engine_of self.old).board.wires.clock (records_of there) there.wires.clock }
         ensures same { loan_of self.new ≡ loan_of self.old }
         ensures taken { let there = window_end tape.now.entries until (engine_of self.old).board in
             Takes (O.taken out.old) (O.taken out.new) (W.tells watcher.old (records_of there) there.wires.clock) result }
@@ -173,7 +173,7 @@ impl<'a, V: VectorUnit, P: SoundUnit, C: CellUnit, D: DividerUnit> Rested<'a, V,
     ) -> Result<Stop, SinkFault>
         requires limit { clock_in until ≤ CLOCK_LIMIT }
         requires room { let last = end_of tape.now.entries until (engine_of self.old).board in
-            W.can_take watcher.old (records_of last) last.wires.clock }
+            W.can_take watcher.old (engine_of self.old).board.wires.clock (records_of last) last.wires.clock }
         ensures same { loan_of self.new ≡ loan_of self.old }
         ensures taken { let last = end_of tape.now.entries until (engine_of self.old).board in
             Takes (O.taken out.old) (O.taken out.new) (W.tells watcher.old (records_of last) last.wires.clock) result }

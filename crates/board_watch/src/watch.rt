@@ -9,8 +9,8 @@ use outside_io::{Sink, SinkFault};
 
 /// A watcher of the records of a run, which takes them window by window.
 pub trait Watch {
-    /// It can take these records, and the clocks before one.
-    ghost can_take: { Self → Recorded → ℕ → Type 0 };
+    /// It can take these records, which are those of the clocks from one up to another.
+    ghost can_take: { Self → ℕ → Recorded → ℕ → Type 0 };
 
     /// The bytes that it tells of these records, and of the clocks before one.
     ghost tells: { Self → Recorded → ℕ → List ℕ };
@@ -26,7 +26,7 @@ pub trait Watch {
         upto: u64,
         out: &mut O,
     ) -> Result<(), SinkFault>
-        requires room { can_take self.old (recorded trails.now.vector.now.records trails.now.sound1.now.records
+        requires room { (from : ℕ) × can_take self.old from (recorded trails.now.vector.now.records trails.now.sound1.now.records
             trails.now.sound2.now.records trails.now.board.now.records) upto }
         ensures taken { Takes (O.taken out.old) (O.taken out.new) (tells self.old (recorded trails.now.vector.now.records trails.now.sound1.now.records
             trails.now.sound2.now.records trails.now.board.now.records) upto) result }

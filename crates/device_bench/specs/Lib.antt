@@ -1,3 +1,4 @@
+pub mod BoardLaws
 pub mod Boards
 pub mod Report
 pub mod Tally

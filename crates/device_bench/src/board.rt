@@ -1,16 +1,19 @@
-ghost use Rattle.std.specs.Prelude.{◌≡◌, ◌≤◌, ◌<◌, None, IfOk, fold};
+ghost use Rattle.std.specs.Prelude.{◌≡◌, ◌≤◌, [], ⊤};
 ghost use Rattle.catchup_engine.specs.EngineValue.{HasNoRecords, cleared};
 ghost use Rattle.catchup_engine.specs.Order.{records_of};
-ghost use Rattle.catchup_engine.specs.Run.{cause_of, to_boundary, window_limit};
+ghost use Rattle.catchup_engine.specs.Run.{to_boundary};
+ghost use Rattle.board_watch.specs.Rested.{engine_of, loan_of};
 ghost use Rattle.device_bench.specs.Boards.{empty_tallies, tallies_of, with_records};
-ghost use Rattle.device_bench.specs.Tally.{with_record};
+ghost use Rattle.device_bench.specs.BoardLaws.{tallied_in_parts};
 
 use crate::tally::Tally;
 use avg_device::VectorUnit;
 use board_base::{CLOCK_LIMIT, Trails};
-use catchup_engine::{Engine, Stop};
+use board_watch::{Nowhere, Rested, Until, Watch};
+use catchup_engine::Engine;
 use earom_cells::CellUnit;
 use irq_watchdog::DividerUnit;
+use outside_io::{Sink, SinkFault};
 use pokey_chip::SoundUnit;
 use tape_ports::Tape;
 
@@ -36,44 +39,47 @@ impl BoardTally {
             written: Tally::new(),
         }
     }
+}
 
-    /// Counts these records too.
-    fn take(&mut self, trails: &Trails<'_>)
-        ensures strokes { self.new.strokes ≡ fold with_record self.old.strokes trails.now.vector.now.records }
-        ensures levels1 { self.new.levels1 ≡ fold with_record self.old.levels1 trails.now.sound1.now.records }
-        ensures levels2 { self.new.levels2 ≡ fold with_record self.old.levels2 trails.now.sound2.now.records }
-        ensures written { self.new.written ≡ fold with_record self.old.written trails.now.board.now.records }
-    {
+impl Watch for BoardTally {
+    ghost can_take = { λ _ _ _ _. ⊤ };
+
+    ghost tells = { λ _ _ _. [] };
+
+    ghost next = { λ t records _. with_records t records };
+
+    ghost in_parts = { tallied_in_parts };
+
+    fn take<O: Sink>(
+        &mut self,
+        trails: &Trails<'_>,
+        _upto: u64,
+        _out: &mut O,
+    ) -> Result<(), SinkFault> {
         self.strokes.take(trails.vector.records());
         self.levels1.take(trails.sound1.records());
         self.levels2.take(trails.sound2.records());
         self.written.take(trails.board.records());
+        Ok(())
     }
 }
 
-/// Runs an engine up to the end of a window, counts its records and forgets them.
-fn run_window<V: VectorUnit, P: SoundUnit, C: CellUnit, D: DividerUnit>(
-    engine: &mut Engine<V, P, C, D>,
+/// Runs an engine at rest to the limit, and tells what records there were.
+fn run_rested<V: VectorUnit, P: SoundUnit, C: CellUnit, D: DividerUnit>(
+    rested: &mut Rested<'_, V, P, C, D>,
     tape: &Tape,
     limit: u64,
-    tally: &mut BoardTally,
-) -> Stop
+) -> BoardTally
     requires limit { limit ≤ CLOCK_LIMIT }
-    requires settled { engine.old.lagging ≡ 0 }
-    requires empty { HasNoRecords engine.old.board }
-    ensures board { engine.new.board ≡ cleared (to_boundary tape.now.entries (window_limit limit engine.old.board) engine.old.board) }
-    ensures tally { tally.new ≡ with_records tally.old (records_of (to_boundary tape.now.entries (window_limit limit engine.old.board) engine.old.board)) }
-    ensures settled { engine.new.lagging ≡ 0 }
-    ensures boundary { (to_boundary tape.now.entries (window_limit limit engine.old.board) engine.old.board).cpu.mid ≡ None }
-    ensures stop { result ≡ cause_of limit (to_boundary tape.now.entries (window_limit limit engine.old.board) engine.old.board) }
-    ensures later { result ≡ Stop.Window → engine.old.board.wires.clock < engine.new.board.wires.clock }
-    ensures before { result ≡ Stop.Window → engine.new.board.wires.clock < limit }
+    ensures same { loan_of rested.new ≡ loan_of rested.old }
+    ensures board { (engine_of rested.new).board ≡ cleared (to_boundary tape.now.entries limit (engine_of rested.old).board) }
+    ensures tally { result ≡ tallies_of (records_of (to_boundary tape.now.entries limit (engine_of rested.old).board)) }
 {
-    let stop = engine.run(tape, limit);
-    engine.settle();
-    tally.take(&engine.trails());
-    engine.clear_trails();
-    stop
+    let mut tally = BoardTally::new();
+    let Ok(_stop) = rested.watch(tape, Until::Boundary(limit), &mut tally, &mut Nowhere) else {
+        unreachable!();
+    };
+    tally
 }
 
 /// Runs an engine to the limit, window by window, and tells what records there were.
@@ -85,15 +91,8 @@ pub fn run_windows<V: VectorUnit, P: SoundUnit, C: CellUnit, D: DividerUnit>(
     requires limit { limit ≤ CLOCK_LIMIT }
     requires settled { engine.old.lagging ≡ 0 }
     requires empty { HasNoRecords engine.old.board }
-    requires boundary { engine.old.board.cpu.mid ≡ None }
     ensures board { engine.new.board ≡ cleared (to_boundary tape.now.entries limit engine.old.board) }
     ensures tally { result ≡ tallies_of (records_of (to_boundary tape.now.entries limit engine.old.board)) }
 {
-    let mut tally = BoardTally::new();
-    'windows: loop {
-        match run_window(engine, tape, limit, &mut tally) {
-            Stop::Window => {}
-            _ => return tally,
-        }
-    }
+    run_rested(&mut Rested::of(engine), tape, limit)
 }

@@ -128,7 +128,6 @@ pub fn timed_running<T: CpuClock, V: VectorUnit, P: SoundUnit, C: CellUnit, D: D
     requires limit { limit ≤ CLOCK_LIMIT }
     requires settled { engine.old.lagging ≡ 0 }
     requires empty { HasNoRecords engine.old.board }
-    requires boundary { engine.old.board.cpu.mid ≡ None }
 {
     let start = clock.thread_cpu_time()?;
     let outcome = run_windows(engine, tape, limit);

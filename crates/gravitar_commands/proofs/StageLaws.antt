@@ -33,14 +33,14 @@ use Rattle.gravitar_commands.specs.declared.failure.Ending.{Ending}
 use Rattle.gravitar_commands.specs.declared.failure.Ending.TheVariants.{Done, Jammed}
 use Rattle.gravitar_commands.specs.declared.failure.Failure.{Failure}
 use Rattle.gravitar_commands.specs.declared.failure.Failure.TheVariants.{Bad, Absent, Outside, NoMemory}
-use Rattle.gravitar_commands.specs.Events.{Did, DidFirst, sending, text_of, stores_of}
-use Rattle.gravitar_commands.specs.LastLine.{ending_by, status_of_ending}
+use Rattle.sliced_run.specs.Events.{Did, DidFirst, sending, text_of, stores_of}
+use Rattle.gravitar_commands.specs.Endings.{ending_by, status_of_ending}
 use Rattle.gravitar_commands.specs.Outcome.{Comes, ComesOf, ComesOver, IsRun, asm_files, asm_outcome, CommandComes, FitsRun, ForReading, Outcome, and_then, command_outcome, debug_files, debug_outcome, outside_text, finished, first_board, limit_of, memory_text, refused, read_as, run_files, run_outcome, script_file, script_read, show_outcome, soak_outcome, state_file, usage_text, wanted_by, note_text, workload_of}
-use Rattle.gravitar_commands.specs.Slices.{FitsCalls, StopsIn, Wanted, last_board, run_events, storing}
+use Rattle.sliced_run.specs.Slices.{FitsCalls, StopsIn, Wanted, last_board, run_events, storing}
 use Rattle.gravitar_commands.specs.Sources.{both_listings}
 use Rattle.gravitar_commands.specs.Stages.{status_of, note_of, Ends, IsBadOrMemory, Noted, Refuses, RunComes, StageAbsences, FailureEnds, FailureWroteNothing, session_outcome}
-use Rattle.gravitar_commands.proofs.CutLaws.{fits-least}
-use Rattle.gravitar_commands.proofs.EventLaws.{did-first-of, did-first-sending, did-nothing, did-sending, did-storing, did-then, did-then-first}
+use Rattle.sliced_run.proofs.CutLaws.{fits-least}
+use Rattle.sliced_run.proofs.EventLaws.{did-first-of, did-first-sending, did-nothing, did-sending, did-storing, did-then, did-then-first}
 
 -- one write of a note
 pub noted : {T E : Type 0} (notes0 notes1 : Option (List ℕ)) (faults0 faults1 : ℕ) (text : List ℕ) (result : Result T E)

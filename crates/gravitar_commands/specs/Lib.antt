@@ -1,10 +1,5 @@
 pub mod Causes
-pub mod Events
-pub mod Fresh
-pub mod LastLine
-pub mod OneList
+pub mod Endings
 pub mod Outcome
-pub mod Slice
-pub mod Slices
 pub mod Sources
 pub mod Stages

@@ -37,9 +37,9 @@ use Rattle.gravitar_commands.specs.declared.parts.Parts.{Parts}
 use Rattle.gravitar_commands.specs.declared.cause.Cause.{Cause}
 use Rattle.gravitar_commands.specs.declared.cause.Cause.TheVariants.{Absent, Image, Tape, State, Cells, Script}
 use Rattle.gravitar_commands.specs.Causes.{cause_text}
-use Rattle.gravitar_commands.specs.Events.{Event, sending}
-use Rattle.gravitar_commands.specs.LastLine.{ending_by, status_of_ending}
-use Rattle.gravitar_commands.specs.Slices.{FitsCalls, Wanted, last_board, run_events, storing}
+use Rattle.sliced_run.specs.Events.{Event, sending}
+use Rattle.gravitar_commands.specs.Endings.{ending_by, status_of_ending}
+use Rattle.sliced_run.specs.Slices.{FitsCalls, Wanted, last_board, run_events, storing}
 use Rattle.gravitar_commands.specs.Sources.{assembled_in, both_listings, source_read}
 
 pub record Outcome : Type 0 where

@@ -8,10 +8,8 @@ use Rattle.gravitar_commands.specs.declared.parts.Parts.{Parts}
 use Rattle.gravitar_commands.specs.declared.failure.Failure.{Failure}
 use Rattle.gravitar_commands.specs.declared.failure.Failure.TheVariants.{Bad, Absent, Outside, NoMemory}
 use Rattle.gravitar_commands.specs.declared.failure.Ending.{Ending}
-use Rattle.gravitar_commands.specs.declared.failure.OutsideFault.{OutsideFault}
-use Rattle.gravitar_commands.specs.declared.failure.OutsideFault.TheVariants.{Shelf, Out}
-use Rattle.gravitar_commands.specs.Events.{Did, DidFirst}
-use Rattle.gravitar_commands.specs.LastLine.{status_of_ending}
+use Rattle.sliced_run.specs.Events.{Did, DidFirst}
+use Rattle.gravitar_commands.specs.Endings.{status_of_ending}
 use Rattle.gravitar_commands.specs.Outcome.{Outcome, FitsRun, debug_outcome, outside_text, finished, memory_text, read_as, refused, run_outcome, script_file, script_read}
 
 -- the status of a command that stopped
@@ -109,9 +107,3 @@ pub record RunComes (said : SettingsValue) (parts : Parts) (holds : Outcome → 
   pub calls : ℕ
   pub fits : FitsRun said parts calls
   pub of_outcome : holds (run_outcome said parts calls)
-
--- the part that writes and stores: each fault comes where its own count rose
-abbrev pub SliceFaults : {A : Type 0} → ℕ → ℕ → ℕ → ℕ → Result A OutsideFault → Type 0
-SliceFaults shelf0 shelf1 out0 out1 (Ok _) = (shelf1 ≡ shelf0) × (out1 ≡ out0)
-SliceFaults shelf0 shelf1 out0 out1 (Err Shelf) = Raised shelf0 shelf1 × (out1 ≡ out0)
-SliceFaults shelf0 shelf1 out0 out1 (Err Out) = (shelf1 ≡ shelf0) × Raised out0 out1

@@ -1,5 +1,5 @@
 ghost use Rattle.std.specs.Prelude.{◌≡◌};
-ghost use Rattle.gravitar_commands.specs.LastLine.{status_of_ending};
+ghost use Rattle.gravitar_commands.specs.Endings.{status_of_ending};
 ghost use Rattle.gravitar_commands.specs.Stages.{status_of, note_of};
 
 use crate::failure::{Ending, Failure};

@@ -9,7 +9,6 @@ use crate::assembled::{Assembled, Language, assemble};
 use crate::cause::Cause;
 use crate::failure::{Ending, Failure};
 use crate::load::{bad, fetch};
-use crate::slices::store_under;
 use asm_core::Listing;
 use asm_listing::{Text, push_listing};
 use asm_text::{AsmFault, TEXT_LIMIT};
@@ -17,6 +16,7 @@ use board_base::OutOfMemory;
 use command_line::AsmWords;
 use outside_io::{Shelf, Sink};
 use rom_image::Image;
+use sliced_run::store_under;
 use std::alloc::Global;
 
 /// What these bytes give as a source, put into an image.

@@ -7,7 +7,6 @@ mod answer;
 mod asm_tests;
 mod assembled;
 mod assembling;
-mod board_bytes;
 mod board_devices;
 mod cause;
 mod cause_text;
@@ -25,7 +24,6 @@ mod fault_tests;
 mod file_tests;
 #[cfg(test)]
 mod fixtures;
-mod laws;
 mod load;
 #[cfg(test)]
 mod option_tests;
@@ -37,21 +35,16 @@ mod programs;
 mod rows;
 #[cfg(test)]
 mod show_tests;
-mod slice;
-mod slices;
 #[cfg(test)]
 mod soak_tests;
 mod soaking;
 mod steady;
 #[cfg(test)]
 mod tests;
-mod until;
 mod words;
 
 pub use answer::NO_MEMORY;
-pub use failure::OutsideFault;
-pub use laws::{cuts_leave_the_run, log_is_one_list};
 pub use program::{USAGE, gravitar};
-pub use slices::run_slices;
+pub use sliced_run::{OutsideFault, run_slices};
 pub use steady::steady_status;
 pub use words::Words;

@@ -4,8 +4,8 @@ ghost use Rattle.command_line.specs.CommandValue.{run_of, show_of};
 ghost use Rattle.command_line.specs.CommandWords.{command_value};
 ghost use Rattle.cpu_core.specs.Places.{IsProcessor};
 ghost use Rattle.outside_io.specs.Causes.{Rose};
-ghost use Rattle.gravitar_commands.specs.Events.{Did, DidFirst};
-ghost use Rattle.gravitar_commands.specs.LastLine.{ending_by};
+ghost use Rattle.sliced_run.specs.Events.{Did, DidFirst};
+ghost use Rattle.gravitar_commands.specs.Endings.{ending_by};
 ghost use Rattle.gravitar_commands.specs.Outcome.{Comes, ComesOf, CommandComes, ForReading, IsRun, limit_of, usage_text, outside_text, memory_text};
 ghost use Rattle.gravitar_commands.specs.Stages.{Ends, EndFaults, WroteNothing, Noted, RunComes, StageAbsences};
 
@@ -16,7 +16,6 @@ use crate::debugging::perform_debug;
 use crate::failure::{Ending, Failure};
 use crate::load::{load_run, load_state};
 use crate::parts::Parts;
-use crate::slices::run_slices;
 use crate::soaking::perform_soak;
 use crate::words::Words;
 use board_base::CpuState;
@@ -24,6 +23,7 @@ use board_debug::write_board;
 use catchup_engine::Engine;
 use command_line::{Command, RunWords, Settings};
 use outside_io::{Shelf, Sink};
+use sliced_run::run_slices;
 use std::alloc::Global;
 
 /// The note on words of no form.

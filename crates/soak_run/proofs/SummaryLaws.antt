@@ -9,8 +9,9 @@ use Rattle.board_base.specs.declared.record.Record.TheVariants.{Stroke, Levels, 
 use Rattle.catchup_engine.specs.Order.{Recorded}
 use Rattle.soak_run.specs.declared.summary.Summary.{Summary}
 use Rattle.soak_run.specs.declared.summary.Tally.{Tally}
+use Rattle.soak_run.specs.CounterLaws.{summary, summary-same}
 use Rattle.soak_run.specs.Sizes.{IsSmall, IsSmallTally}
-use Rattle.soak_run.specs.Summary.{is_latch, is_levels, is_reset, is_stroke, strength_of, summary_of, tally_of, together}
+use Rattle.soak_run.specs.Summary.{is_latch, is_levels, is_reset, is_stroke, no_records, strength_of, summary_of, tally_of, together}
 
 -- five numbers of a tally
 abbrev tally : ℕ → ℕ → ℕ → ℕ → ℕ → Tally
@@ -106,20 +107,6 @@ tallied-more records i d t u inside so_far tallied small = record {
   small = small i so_far.small;
 }
 
--- six numbers of a summary
-abbrev summary : ℕ → ℕ → ℕ → ℕ → ℕ → ℕ → Summary
-summary strokes levels1 levels2 latches resets sum = record {
-  strokes = strokes;
-  levels1 = levels1;
-  levels2 = levels2;
-  latches = latches;
-  resets = resets;
-  sum = sum;
-}
-
-summary-same : (a b c d e f u v w x y z : ℕ) → a ≡ u → b ≡ v → c ≡ w → d ≡ x → e ≡ y → f ≡ z → summary a b c d e f ≡ summary u v w x y z
-summary-same a b c d e f u v w x y z ea eb ec ed ee ef = rw (ea, eb, ec, ed, ee, ef) refl
-
 -- the tallies of four lists
 pub summary-tallied : (l : Recorded) (strokes levels1 levels2 written : Tally) → strokes ≡ tally_of l.strokes → levels1 ≡ tally_of l.levels1
     → levels2 ≡ tally_of l.levels2 → written ≡ tally_of l.written
@@ -127,29 +114,10 @@ pub summary-tallied : (l : Recorded) (strokes levels1 levels2 written : Tally) �
 unfolding tally_of summary_of
 summary-tallied l strokes levels1 levels2 written e f g h = rw (e, f, g, h) refl
 
--- each part's records, one after another
-abbrev pub joined : Recorded → Recorded → Recorded
-joined l m = record {
-  strokes = l.strokes ++ m.strokes;
-  levels1 = l.levels1 ++ m.levels1;
-  levels2 = l.levels2 ++ m.levels2;
-  written = l.written ++ m.written;
-}
-
--- the summary of both
-pub summary-joined : (l m : Recorded) → summary_of (joined l m) ≡ together (summary_of l) (summary_of m)
-unfolding summary_of
-summary-joined l m =
-    let strokes = sum_by-append strength_of l.strokes m.strokes in
-    let levels1 = sum_by-append strength_of l.levels1 m.levels1 in
-    let levels2 = sum_by-append strength_of l.levels2 m.levels2 in
-    summary-same _ _ _ _ _ _ _ _ _ _ _ _
-    (sum_by-append (λ x. cond (is_stroke x) 1 0) l.strokes m.strokes)
-    (sum_by-append (λ x. cond (is_levels x) 1 0) l.levels1 m.levels1)
-    (sum_by-append (λ x. cond (is_levels x) 1 0) l.levels2 m.levels2)
-    (sum_by-append (λ x. cond (is_latch x) 1 0) l.written m.written)
-    (sum_by-append (λ x. cond (is_reset x) 1 0) l.written m.written)
-    (omega (arith, strokes, levels1, levels2))
+-- the summary of no records adds nothing to another
+pub together-none : (a : Summary) → together (summary_of no_records) a ≡ a
+unfolding summary_of no_records
+together-none a = summary-same _ _ _ _ _ _ _ _ _ _ _ _ (omega arith) (omega arith) (omega arith) (omega arith) (omega arith) (omega arith)
 
 pub small-later : (n m : ℕ) (s : Summary) → n ≤ m → IsSmall n s → IsSmall m s
 small-later n m s h small = record {

@@ -9,6 +9,10 @@ use Rattle.soak_run.specs.declared.summary.Tally.{Tally}
 abbrev pub most_clocks : ℕ
 most_clocks = 2 * CLOCK_LIMIT
 
+-- and more records of all parts
+abbrev pub most_records : ℕ
+most_records = 4 * most_clocks
+
 -- each part made n records at most
 pub record AreFew (n : ℕ) (l : Recorded) : Type 0 where
   pub strokes : length l.strokes ≤ n

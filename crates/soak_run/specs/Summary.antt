@@ -4,6 +4,7 @@ use Rattle.std.specs.List.{count_by, sum_by}
 use Rattle.board_base.specs.declared.record.Record.{Record}
 use Rattle.board_base.specs.declared.record.Record.TheVariants.{Stroke, Levels, Latch, WatchdogReset}
 use Rattle.catchup_engine.specs.Order.{Recorded}
+use Rattle.board_watch.specs.Watch.{recorded}
 use Rattle.soak_run.specs.declared.summary.Summary.{Summary}
 use Rattle.soak_run.specs.declared.summary.Tally.{Tally}
 
@@ -50,10 +51,7 @@ summary_of l = record {
   sum = sum_by strength_of l.strokes + sum_by strength_of l.levels1 + sum_by strength_of l.levels2;
 }
 
--- the records of four lists, and of none
-abbrev pub recorded : List Record → List Record → List Record → List Record → Recorded
-recorded strokes levels1 levels2 written = record { strokes = strokes; levels1 = levels1; levels2 = levels2; written = written }
-
+-- no records
 abbrev pub no_records : Recorded
 no_records = recorded [] [] [] []
 

@@ -1,6 +1,7 @@
 //! A large run told by seven numbers: the records are counted window by window, and no log is kept.
 #![tactic(auto)]
 
+mod counter;
 mod soak;
 pub mod summary;
 mod text;

@@ -1,7 +1,8 @@
 ghost use Rattle.std.specs.Prelude.{◌≡◌, ℕ, ◌+◌, List, [], ◌∷◌, ◌++◌, length, ◌≤◌};
 ghost use Rattle.board_base.specs.declared.record.Record as declared_record;
-ghost use Rattle.soak_run.specs.Sizes.{AreFew, IsSmall, IsSmallTally, most_clocks};
-ghost use Rattle.soak_run.specs.Summary.{no_records, recorded, summary_of, tally_of, together};
+ghost use Rattle.soak_run.specs.Sizes.{AreFew, IsSmall, IsSmallTally, most_records};
+ghost use Rattle.board_watch.specs.Watch.{recorded};
+ghost use Rattle.soak_run.specs.Summary.{no_records, summary_of, tally_of, together};
 
 use board_base::{Record, Trails};
 
@@ -45,7 +46,7 @@ impl Tally {
 
     /// One record more.
     fn with(self, made: &Record) -> Tally
-        requires room { IsSmallTally most_clocks self }
+        requires room { IsSmallTally most_records self }
         ensures tally { (before : List declared_record.Record) → self ≡ tally_of before → result ≡ tally_of (before ++ made.now ∷ []) }
         ensures small { (n : ℕ) → IsSmallTally n self → IsSmallTally (n + 1) result }
     {
@@ -73,7 +74,7 @@ impl Tally {
 
     /// The tally of a trail's records.
     fn of(records: &[Record]) -> Tally
-        requires few { length records.now ≤ most_clocks }
+        requires few { length records.now ≤ most_records }
         ensures tally { result ≡ tally_of records.now }
         ensures small { IsSmallTally (length records.now) result }
     {
@@ -104,7 +105,7 @@ impl Summary {
 
     /// The summary of the records of four trails.
     pub(crate) fn of(trails: &Trails<'_>) -> Summary
-        requires few { AreFew most_clocks (recorded trails.now.vector.now.records trails.now.sound1.now.records
+        requires few { AreFew most_records (recorded trails.now.vector.now.records trails.now.sound1.now.records
             trails.now.sound2.now.records trails.now.board.now.records) }
         ensures summary { result ≡ summary_of (recorded trails.now.vector.now.records trails.now.sound1.now.records
             trails.now.sound2.now.records trails.now.board.now.records) }
@@ -127,8 +128,8 @@ impl Summary {
 
     /// Both summaries in one.
     pub(crate) fn with(self, more: Summary) -> Summary
-        requires first { IsSmall most_clocks self }
-        requires more { IsSmall most_clocks more }
+        requires first { IsSmall most_records self }
+        requires more { IsSmall most_records more }
         ensures { result ≡ together self more }
     {
         Summary {

@@ -1,8 +1,8 @@
 mod AddLaws
-mod GatherLaws
+pub mod GatherLaws
 mod GroupLaws
-mod LevelLaws
-mod MixLaws
+pub mod LevelLaws
+pub mod MixLaws
 pub mod PartLaws
 pub mod RunLaws
 mod TakeLaws

@@ -9,7 +9,7 @@ mod mixer;
 mod sooner;
 
 pub use laws::{in_parts, mixer_numbers, whole_groups};
-pub use mixer::Mixer;
+pub use mixer::{MAX_LEVEL, MAX_PER, Mixer};
 
 #[cfg(test)]
 mod tests;

@@ -15,10 +15,10 @@ use outside_io::{Sink, SinkFault};
 use std::marker::Model;
 
 /// The greatest level of a POKEY's channel.
-pub(crate) const MAX_LEVEL: u8 = 15;
+pub const MAX_LEVEL: u8 = 15;
 
 /// The clocks of a group at most.
-pub(crate) const MAX_PER: u32 = 65_535;
+pub const MAX_PER: u32 = 65_535;
 
 /// Makes samples of the levels of both POKEYs. A sample is the sum of the eight levels over a group of
 /// clocks, each clock with the levels after its records. It takes no memory. After a fault it is only

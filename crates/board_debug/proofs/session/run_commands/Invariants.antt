@@ -1,17 +1,16 @@
 use Rattle.std.proofs.Common.{◌≡◌, drop}
 use Rattle.debug_script.specs.Stops.{Fit, no_stops}
-use Rattle.board_debug.specs.Ready.{IsReady}
 use Rattle.board_debug.specs.Session.{session_board, session_text}
 use Rattle.board_debug.proofs.ListingLaws.{TakenUpTo}
 use Rattle.board_debug.proofs.session.run_commands.Given as goal
 
 abbrev pub invariant-loop-command : goal.invariant-loop-command
 invariant-loop-command g l = record {
-  text : TakenUpTo (session_text l.fn.tape no_stops l.fn.commands l.fn.engine.board)
-      (session_text l.fn.tape l.stops (drop l.command-index l.fn.commands) l.engine.board) (g.O.Sink.taken l.fn.out) (g.O.Sink.taken l.out);
-  board : session_board l.fn.tape no_stops l.fn.commands l.fn.engine.board
-      ≡ session_board l.fn.tape l.stops (drop l.command-index l.fn.commands) l.engine.board;
+  text : TakenUpTo (session_text l.fn.tape no_stops l.fn.commands l.fn.rested.engine.now.board)
+      (session_text l.fn.tape l.stops (drop l.command-index l.fn.commands) l.rested.engine.now.board) (g.O.Sink.taken l.fn.out) (g.O.Sink.taken l.out);
+  board : session_board l.fn.tape no_stops l.fn.commands l.fn.rested.engine.now.board
+      ≡ session_board l.fn.tape l.stops (drop l.command-index l.fn.commands) l.rested.engine.now.board;
   faults : g.O.Sink.faults l.out ≡ g.O.Sink.faults l.fn.out;
   fit : Fit l.stops (drop l.command-index l.fn.commands);
-  ready : IsReady l.engine;
+  loan : l.rested.engine.ghost_name ≡ l.fn.rested.engine.ghost_name;
 }

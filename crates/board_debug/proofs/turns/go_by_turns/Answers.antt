@@ -1,47 +1,38 @@
 use Rattle.std.proofs.Common.{refl, sym, ◌∙◌, arith}
 use Rattle.board_debug.specs.Looks.{look_after}
-use Rattle.board_debug.proofs.Turning.{before-opens, go-found, go-turn, goes-on, stops-at}
+use Rattle.board_debug.proofs.Turning.{done-turn, before-opens, go-found, go-turn, goes-on, stops-at}
 use Rattle.board_debug.proofs.turns.go_by_turns.Goals as goal
 
 pub turns-init : goal.turns-init
-turns-init g c = record { ready = c.requires.ready; same = refl }
+turns-init g c = record { loan = refl; same = refl }
 
 pub returns-in-Some-clause-reached : goal.returns-in-Some-clause-reached
 returns-in-Some-clause-reached g c =
-    go-found c.args.tape.now c.args.stops.now c.end-end.result c.turns.engine.board c.in-Some.found c.end-end.ensures.end (sym c.in-Some.is ∙ c.look_before.ensures)
+    go-found c.args.tape.now c.args.stops.now c.end-end.result c.turns.rested.engine.now.board c.in-Some.found c.end-end.ensures.end (sym c.in-Some.is ∙ c.look_before.ensures)
     ∙ sym c.turns.invariant.same
-
-pub returns-in-Some-clause-ready : goal.returns-in-Some-clause-ready
-returns-in-Some-clause-ready g c = c.turns.invariant.ready
-
-pub of-before-requires : goal.of-before-requires
-of-before-requires g c = record { settled = c.turns.invariant.ready.settled }
-
-pub make_turn-requires-clause-ready : goal.make_turn-requires-clause-ready
-make_turn-requires-clause-ready g c = c.turns.invariant.ready
 
 pub returns-in-Some-look_after-clause-reached : goal.returns-in-Some-look_after-clause-reached
 returns-in-Some-look_after-clause-reached g c =
-    stops-at (look_after c.end-end.result c.args.stops.now c.turns.engine.board c.make_turn.new.engine.board) c.make_turn.new.engine.board c.in-Some-look_after.found _ _
-    (go-turn c.args.tape.now c.args.stops.now c.end-end.result c.turns.engine.board c.make_turn.new.engine.board c.end-end.ensures.end
-    (sym c.in_default.is ∙ c.look_before.ensures) c.make_turn.ensures.board)
-    (sym (c.look_after.ensures c.turns.engine.board c.of-before.ensures) ∙ c.in-Some-look_after.is)
+    stops-at (look_after c.end-end.result c.args.stops.now c.turns.rested.engine.now.board c.turn.new.self.engine.now.board) c.turn.new.self.engine.now.board c.in-Some-look_after.found _ _
+    (go-turn c.args.tape.now c.args.stops.now c.end-end.result c.turns.rested.engine.now.board c.turn.new.self.engine.now.board c.end-end.ensures.end
+    (sym c.in_default.is ∙ c.look_before.ensures) (done-turn _ _ _ c.turn.ensures.board))
+    (sym (c.look_after.ensures c.turns.rested.engine.now.board c.of-before.ensures) ∙ c.in-Some-look_after.is)
     ∙ sym c.turns.invariant.same
 
 pub turns-smaller : goal.turns-smaller
 turns-smaller g c =
-    let opens = before-opens c.end-end.result c.turns.engine.board (sym (sym c.in_default.is ∙ c.look_before.ensures)) in
+    let opens = before-opens c.end-end.result c.turns.rested.engine.now.board (sym (sym c.in_default.is ∙ c.look_before.ensures)) in
     let early = opens.clock in
-    let later = c.make_turn.ensures.later opens.running in
+    let later = c.turn.ensures.later opens.running in
     omega arith
 
 pub turns-preserved : goal.turns-preserved
 turns-preserved g c = record {
-  ready = c.make_turn.ensures.ready;
+  loan = c.turn.ensures.same ∙ c.turns.invariant.loan;
   same =
       c.turns.invariant.same
-      ∙ goes-on (look_after c.end-end.result c.args.stops.now c.turns.engine.board c.make_turn.new.engine.board) c.make_turn.new.engine.board _ _
-      (go-turn c.args.tape.now c.args.stops.now c.end-end.result c.turns.engine.board c.make_turn.new.engine.board c.end-end.ensures.end
-      (sym c.in_default.is ∙ c.look_before.ensures) c.make_turn.ensures.board)
-      (sym (c.look_after.ensures c.turns.engine.board c.of-before.ensures) ∙ c.in_default-look_after.is);
+      ∙ goes-on (look_after c.end-end.result c.args.stops.now c.turns.rested.engine.now.board c.turn.new.self.engine.now.board) c.turn.new.self.engine.now.board _ _
+      (go-turn c.args.tape.now c.args.stops.now c.end-end.result c.turns.rested.engine.now.board c.turn.new.self.engine.now.board c.end-end.ensures.end
+      (sym c.in_default.is ∙ c.look_before.ensures) (done-turn _ _ _ c.turn.ensures.board))
+      (sym (c.look_after.ensures c.turns.rested.engine.now.board c.of-before.ensures) ∙ c.in_default-look_after.is);
 }

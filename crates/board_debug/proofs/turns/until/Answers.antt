@@ -4,20 +4,17 @@ use Rattle.board_debug.proofs.Turning.{left-less, until-found, until-waits, unti
 use Rattle.board_debug.proofs.turns.until.Goals as goal
 
 pub windows-init : goal.windows-init
-windows-init g c = record { ready = c.requires.ready; same = refl }
+windows-init g c = record { loan = refl; same = refl }
 
 pub returns-in-Some-clause-reached : goal.returns-in-Some-clause-reached
 returns-in-Some-clause-reached g c =
-    until-found c.args.tape.now c.end.result c.args.clock c.windows.engine.board c.in-Some.found c.end.ensures.end
+    until-found c.args.tape.now c.end.result c.args.clock c.windows.rested.engine.now.board c.in-Some.found c.end.ensures.end
     (sym c.in-Some.is ∙ c.look_until.ensures)
     ∙ sym c.windows.invariant.same
 
-pub returns-in-Some-clause-ready : goal.returns-in-Some-clause-ready
-returns-in-Some-clause-ready g c = c.windows.invariant.ready
-
-pub run_window-requires-clause-before : goal.run_window-requires-clause-before
-run_window-requires-clause-before g c =
-    let waits = until-waits c.end.result c.args.clock c.windows.engine.board (sym c.in_default.is ∙ c.look_until.ensures) in
+pub turns-requires-clause-before : goal.turns-requires-clause-before
+turns-requires-clause-before g c =
+    let waits = until-waits c.end.result c.args.clock c.windows.rested.engine.now.board (sym c.in_default.is ∙ c.look_until.ensures) in
     let early = waits.early in
     let before = waits.before in
     let first = c.end.ensures.end in
@@ -25,25 +22,22 @@ run_window-requires-clause-before g c =
     let least = c.min.ensures in
     omega arith
 
-pub run_window-requires-clause-ready : goal.run_window-requires-clause-ready
-run_window-requires-clause-ready g c = c.windows.invariant.ready
-
 pub windows-smaller : goal.windows-smaller
 windows-smaller g c =
-    left-less c.end.result c.args.clock c.windows.engine.board c.run_window.new.engine.board
-    (until-waits c.end.result c.args.clock c.windows.engine.board (sym c.in_default.is ∙ c.look_until.ensures)) c.run_window.ensures.later
+    left-less c.end.result c.args.clock c.windows.rested.engine.now.board c.turns.new.self.engine.now.board
+    (until-waits c.end.result c.args.clock c.windows.rested.engine.now.board (sym c.in_default.is ∙ c.look_until.ensures)) c.turns.ensures.later
 
 pub windows-preserved : goal.windows-preserved
 windows-preserved g c =
-    let ready = c.windows.invariant.ready in
+    let ready = c.windows.rested.rest in
     let first = c.end.ensures.end in
     let again = c.end-in-windows.ensures.end in
     let least = c.min.ensures in
     record {
-      ready = c.run_window.ensures.ready;
+      loan = c.turns.ensures.same ∙ c.windows.invariant.loan;
       same =
           c.windows.invariant.same
-          ∙ until-window c.args.tape.now.entries c.windows.engine.board (record { placed = ready.placed; empty = ready.empty }) c.args.tape.now
-          c.end.result c.args.clock (window_limit c.min.result c.windows.engine.board) c.run_window.new.engine.board refl first (omega arith) (omega arith)
-          (sym c.in_default.is ∙ c.look_until.ensures) c.run_window.ensures.board;
+          ∙ until-window c.args.tape.now.entries c.windows.rested.engine.now.board (record { placed = ready.placed; empty = ready.empty }) c.args.tape.now
+          c.end.result c.args.clock (window_limit c.min.result c.windows.rested.engine.now.board) c.turns.new.self.engine.now.board refl first (omega arith) (omega arith)
+          (sym c.in_default.is ∙ c.look_until.ensures) c.turns.ensures.board;
     }

@@ -1,5 +1,5 @@
 use Rattle.std.proofs.Common.{refl}
-use Rattle.gravitar_commands.proofs.EventLaws.{did-sending, did-first-sending}
+use Rattle.sliced_run.proofs.EventLaws.{did-sending, did-first-sending}
 use Rattle.gravitar_commands.proofs.StageLaws.{show-comes, show-stopped}
 use Rattle.gravitar_commands.proofs.program.perform_show.Goals as goal
 

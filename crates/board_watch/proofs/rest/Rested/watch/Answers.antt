@@ -7,7 +7,7 @@ use Rattle.board_watch.proofs.rest.Rested.watch.Goals as goal
 pub windows-init : goal.windows-init
 windows-init g c = record {
   same = refl;
-  watched = watched-start g.W.Watch.can_take g.W.Watch.tells g.W.Watch.next _ _ _ _ c.requires.room;
+  watched = watched-start g.W.Watch.can_take g.W.Watch.tells g.W.Watch.next _ _ _ _ _ c.requires.room;
   paid = omega arith;
   more = omega arith;
 }
@@ -59,10 +59,10 @@ returns-in_default-stop g c =
     (λ w. c.in_default-stop.not-Window (◌∙◌ {b = cause_of (clock_in c.args.until) c.window.new.self.engine.now.board} c.in-Ok.ensures.stop w)) in
     record {
       same = c.window.ensures.same ∙ c.windows.invariant.same;
-      taken = took-last _ _ _ _ _ _ _ _ _ _ _ _ c.windows.invariant.watched last _ c.in-Ok.ensures.taken;
+      taken = took-last _ _ _ _ _ _ _ _ _ _ _ _ _ c.windows.invariant.watched last _ c.in-Ok.ensures.taken;
       cause = c.in-Ok.ensures.cause ∙ c.windows.invariant.watched.sound;
-      next = state-last _ _ _ _ _ _ _ _ _ _ _ _ c.windows.invariant.watched last _ c.in-Ok.ensures.next;
-      board = board-last _ _ _ _ _ _ _ _ _ _ _ _ c.windows.invariant.watched last _ c.window.ensures.board;
+      next = state-last _ _ _ _ _ _ _ _ _ _ _ _ _ c.windows.invariant.watched last _ c.in-Ok.ensures.next;
+      board = board-last _ _ _ _ _ _ _ _ _ _ _ _ _ c.windows.invariant.watched last _ c.window.ensures.board;
       stop = c.in-Ok.ensures.stop;
       calls = omega arith;
       more = omega arith;

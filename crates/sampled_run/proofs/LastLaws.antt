@@ -1,0 +1,232 @@
+-- The levels that a POKEY puts out are those of its last record.
+use Rattle.std.proofs.Common.{◌≡◌, ℕ, ◌+◌, ◌≤◌, ◌<◌, Bool, true, false, nat_eq, nat_lt, ◌==◌, ◌%◌, if◌then◌else◌, List, [], ◌∷◌, ◌++◌, slice_index, Option, Some, None, zero, suc, refl, sym, ap, ◌∙◌, arith, append-nil}
+use Rattle.std.specs.Cmp.Lexicographic.{pointwise, same_text}
+use Rattle.std.specs.Prelude.{All}
+use Rattle.std.proofs.lemmas.List.Elements.{All-nil, All-cons}
+use Rattle.board_base.specs.declared.cpu.Sequence.{Sequence}
+use Rattle.board_base.specs.declared.cpu.Sequence.TheVariants.{Opcode, Interrupt, Reset}
+use Rattle.board_base.specs.declared.divider.Pending.{Pending}
+use Rattle.board_base.specs.declared.divider.Pending.TheVariants.{Nothing, Power, Watchdog}
+use Rattle.board_base.specs.declared.record.Record.{Record}
+use Rattle.board_base.specs.declared.record.Record.TheVariants.{Levels}
+use Rattle.board_base.specs.Cpu.{CpuValue, MidValue}
+use Rattle.board_base.specs.Pokey.{PokeyValue}
+use Rattle.board_map.specs.declared.map.Region.{Region}
+use Rattle.board_map.specs.declared.map.Region.TheVariants as region
+use Rattle.board_map.specs.Map.{region_of}
+use Rattle.pokey_chip.specs.Tick.{change, level_of, levels_of, pokey_gives, pokey_tick}
+use Rattle.pokey_chip.specs.Registers.{channel_written, register_written, requests_enabled, timers_started}
+use Rattle.cpu_core.specs.declared.replay.Next.{Next}
+use Rattle.cpu_core.specs.declared.replay.Next.TheVariants.{Read, Write, End}
+use Rattle.cpu_core.specs.Registers.{RegistersValue, registers_of}
+use Rattle.cpu_core.specs.Sequences.{next_of, start_of}
+use Rattle.cpu_core.specs.Places.{given_by}
+use Rattle.tape_ports.specs.declared.entry.Port.{Port}
+use Rattle.tape_ports.specs.declared.entry.Port.TheVariants as port
+use Rattle.tape_ports.specs.declared.entry.TapeEntry.{TapeEntry}
+use Rattle.tape_ports.specs.Due.{due_at}
+use Rattle.catchup_engine.specs.Wires.{Wires, applied, port_set, devices_ticked, ticked, put_in, byte_put, reset_by, reset_begun}
+use Rattle.catchup_engine.specs.Lockstep.{Board, accessed, accessed_by, sequence_due, begun, at_fetch, after_access, step}
+use Rattle.catchup_engine.specs.Run.{stepped}
+use Rattle.catchup_engine.specs.EngineValue.{HasNoRecords}
+use Rattle.sound_pcm.specs.declared.mixer.TheConstants.{MAX_LEVEL}
+use Rattle.sound_pcm.specs.Mixing.{HoldsLevels}
+use Rattle.sound_pcm.specs.Samples as samples
+use Rattle.sound_pcm.proofs.LevelLaws.{after-append, first-of, others-of}
+
+-- the levels that both POKEYs put out, and the records of their changes, stay
+record KeepsLast (w v : Wires) : Type 0 where
+  last1 : v.sound1.last ≡ w.sound1.last
+  last2 : v.sound2.last ≡ w.sound2.last
+  levels1 : v.levels1 ≡ w.levels1
+  levels2 : v.levels2 ≡ w.levels2
+
+keeps : (w : Wires) → KeepsLast w w
+keeps w = record { last1 = refl; last2 = refl; levels1 = refl; levels2 = refl }
+
+keeps-then : (u v w : Wires) → KeepsLast u v → KeepsLast v w → KeepsLast u w
+keeps-then u v w a b = record {
+  last1 = b.last1 ∙ a.last1;
+  last2 = b.last2 ∙ a.last2;
+  levels1 = b.levels1 ∙ a.levels1;
+  levels2 = b.levels2 ∙ a.levels2;
+}
+
+port_set-keeps : (p : Port) (value : ℕ) (w : Wires) → KeepsLast w (port_set p value w)
+port_set-keeps port.In0 value w = keeps w
+port_set-keeps port.In3 value w = keeps w
+port_set-keeps port.In4 value w = keeps w
+port_set-keeps (port.Pot1 which) value w = record { last1 = refl; last2 = refl; levels1 = refl; levels2 = refl }
+port_set-keeps (port.Pot2 which) value w = record { last1 = refl; last2 = refl; levels1 = refl; levels2 = refl }
+
+applied-keeps : (entries : List TapeEntry) (w : Wires) → KeepsLast w (applied entries w)
+unfolding applied
+applied-keeps [] w = keeps w
+applied-keeps (entry ∷ entries) w =
+    let next = port_set entry.port entry.value w in
+    keeps-then w next (applied entries next) (port_set-keeps entry.port entry.value w) (applied-keeps entries next)
+
+chosen-last : (test : Bool) (a b p : PokeyValue) → a.last ≡ p.last → b.last ≡ p.last → (if test then a else b).last ≡ p.last
+chosen-last true a b p e f = e
+chosen-last false a b p e f = f
+
+-- writing a register changes no level at once
+channel-last : (reg value : ℕ) (p : PokeyValue) → (channel_written reg value p).last ≡ p.last
+unfolding channel_written
+channel-last reg value p = chosen-last (reg % 2 == 0) _ _ p refl refl
+
+written-last : (reg value : ℕ) (p : PokeyValue) → (register_written reg value p).last ≡ p.last
+unfolding register_written requests_enabled timers_started
+written-last reg value p =
+    chosen-last _ _ _ p (channel-last reg value p)
+    (chosen-last _ _ _ p refl
+    (chosen-last _ _ _ p refl
+    (chosen-last _ _ _ p refl
+    (chosen-last _ _ _ p refl
+    (chosen-last _ _ _ p refl refl)))))
+
+put_in-keeps : (r : Region) (value : ℕ) (w : Wires) → KeepsLast w (put_in r value w)
+put_in-keeps (region.Sound1 reg) value w = record { last1 = written-last reg value w.sound1; last2 = refl; levels1 = refl; levels2 = refl }
+put_in-keeps (region.Sound2 reg) value w = record { last1 = refl; last2 = written-last reg value w.sound2; levels1 = refl; levels2 = refl }
+put_in-keeps _ value w = record { last1 = refl; last2 = refl; levels1 = refl; levels2 = refl }
+
+accessed_by-keeps : (next : Next) (r : RegistersValue) (q : Sequence) (bytes : List ℕ) (w : Wires) → KeepsLast w (accessed_by next r q bytes w).wires
+unfolding byte_put
+accessed_by-keeps (Read a) r q bytes w = keeps w
+accessed_by-keeps (Write a v) r q bytes w = put_in-keeps (region_of a) v w
+accessed_by-keeps (End e) r q bytes w = keeps w
+
+accessed-keeps : (r : RegistersValue) (q : Sequence) (bytes : List ℕ) (w : Wires) → KeepsLast w (accessed r q bytes w).wires
+unfolding accessed
+accessed-keeps r q bytes w = accessed_by-keeps (next_of r q bytes) r q bytes w
+
+reset_by-keeps : (p : Pending) (w : Wires) → KeepsLast w (reset_by p w)
+reset_by-keeps Nothing w = record { last1 = refl; last2 = refl; levels1 = refl; levels2 = refl }
+reset_by-keeps Power w = record { last1 = refl; last2 = refl; levels1 = refl; levels2 = refl }
+reset_by-keeps Watchdog w = record { last1 = refl; last2 = refl; levels1 = refl; levels2 = refl }
+
+begun-keeps : (q : Sequence) (b : Board) → KeepsLast b.wires (begun q b).wires
+unfolding reset_begun
+begun-keeps Opcode b = keeps b.wires
+begun-keeps Interrupt b = keeps b.wires
+begun-keeps Reset b = reset_by-keeps b.wires.divider.pending b.wires
+
+after_access-keeps : (mid : Option MidValue) (c : CpuValue) (w : Wires) → KeepsLast w (after_access mid c w).wires
+unfolding at_fetch
+after_access-keeps None c w =
+    let q = sequence_due c w in
+    let b = accessed (start_of q c) q [] w in
+    keeps-then w b.wires (begun q b).wires (accessed-keeps (start_of q c) q [] w) (begun-keeps q b)
+after_access-keeps (Some mid) c w = accessed-keeps (registers_of c) mid.sequence (given_by mid) w
+
+-- the levels after a record of a change are those that it tells
+change-after : (clock a b c d : ℕ) (before : List ℕ)
+    → samples.levels_after before (change clock before (a ∷ b ∷ c ∷ d ∷ [])) ≡ a ∷ b ∷ c ∷ d ∷ []
+unfolding change samples.levels_after
+change-after clock a b c d before = by_test (pointwise nat_eq (a ∷ b ∷ c ∷ d ∷ []) before) refl
+  where
+    by_test : (test : Bool) → pointwise nat_eq (a ∷ b ∷ c ∷ d ∷ []) before ≡ test
+        → samples.levels_after before (if test then [] else (Levels clock a b c d ∷ [])) ≡ a ∷ b ∷ c ∷ d ∷ []
+    by_test true e = sym (same_text (a ∷ b ∷ c ∷ d ∷ []) before (sym e))
+    by_test false e = refl
+
+gives-after : (clock : ℕ) (p : PokeyValue) → samples.levels_after p.last (pokey_gives clock p) ≡ (pokey_tick p).last
+unfolding pokey_gives pokey_tick levels_of
+gives-after clock p = change-after clock _ _ _ _ p.last
+
+-- and each is at most 15
+level-low : (audc : ℕ) (on : Bool) → level_of audc on ≤ MAX_LEVEL
+level-low audc on = chosen-low audc _
+  where
+    chosen-low : (n : ℕ) (test : Bool) → (if test then n % 16 else 0) ≤ MAX_LEVEL
+    chosen-low n true = omega arith
+    chosen-low n false = omega arith
+
+change-holds : (clock a b c d : ℕ) (before : List ℕ) → a ≤ MAX_LEVEL → b ≤ MAX_LEVEL → c ≤ MAX_LEVEL → d ≤ MAX_LEVEL
+    → All HoldsLevels (change clock before (a ∷ b ∷ c ∷ d ∷ []))
+unfolding change
+change-holds clock a b c d before la lb lc ld = by_test (pointwise nat_eq (a ∷ b ∷ c ∷ d ∷ []) before)
+  where
+    by_test : (test : Bool) → All HoldsLevels (if test then [] else (Levels clock a b c d ∷ []))
+    by_test true = All-nil HoldsLevels
+    by_test false = All-cons HoldsLevels (Levels clock a b c d) [] (la, lb, lc, ld) (All-nil HoldsLevels)
+
+gives-holds : (clock : ℕ) (p : PokeyValue) → All HoldsLevels (pokey_gives clock p)
+unfolding pokey_gives pokey_tick levels_of
+gives-holds clock p = change-holds clock _ _ _ _ p.last (level-low _ _) (level-low _ _) (level-low _ _) (level-low _ _)
+
+-- what a step does to a POKEY's levels and records
+record StepsLast (before now : List ℕ) (records after : List Record) : Type 0 where
+  added : List Record
+  after_is : after ≡ records ++ added
+  levels : samples.levels_after before added ≡ now
+  holds : All HoldsLevels added
+
+steps-last : (clock : ℕ) (p q now : PokeyValue) (records held after : List Record) → p.last ≡ q.last → held ≡ records → now.last ≡ (pokey_tick p).last
+    → after ≡ held ++ pokey_gives clock p → StepsLast q.last now.last records after
+steps-last clock p q now records held after same kept ticked_is after_is = record {
+  added = pokey_gives clock p;
+  after_is = after_is ∙ ap (λ l. l ++ pokey_gives clock p) kept;
+  levels = ap (λ l. samples.levels_after l (pokey_gives clock p)) (sym same) ∙ gives-after clock p ∙ sym ticked_is;
+  holds = gives-holds clock p;
+}
+
+module _ (entries : List TapeEntry) where
+  step-last : (b : Board) → StepsLast b.wires.sound1.last (step entries b).wires.sound1.last b.wires.levels1 (step entries b).wires.levels1
+      × StepsLast b.wires.sound2.last (step entries b).wires.sound2.last b.wires.levels2 (step entries b).wires.levels2
+  unfolding step ticked devices_ticked
+  step-last b =
+      let w = applied (due_at b.wires.clock entries) b.wires in
+      let before = applied-keeps (due_at b.wires.clock entries) b.wires in
+      let after = after_access-keeps b.cpu.mid b.cpu (devices_ticked w) in (
+        steps-last w.clock w.sound1 b.wires.sound1 _ b.wires.levels1 w.levels1 _ before.last1 before.levels1 after.last1 after.levels1,
+        steps-last w.clock w.sound2 b.wires.sound2 _ b.wires.levels2 w.levels2 _ before.last2 before.levels2 after.last2 after.levels2,
+      )
+
+  -- the levels that both POKEYs put out are those after their records, and each record holds levels
+  pub record Told (before1 before2 : List ℕ) (b : Board) : Type 0 where
+    pub last1 : samples.levels_after before1 b.wires.levels1 ≡ b.wires.sound1.last
+    pub last2 : samples.levels_after before2 b.wires.levels2 ≡ b.wires.sound2.last
+    pub holds1 : All HoldsLevels b.wires.levels1
+    pub holds2 : All HoldsLevels b.wires.levels2
+
+  all-append : (P : Record → Type 0) (xs ys : List Record) → All P xs → All P ys → All P (xs ++ ys)
+  all-append P [] ys a b = b
+  all-append P (x ∷ xs) ys a b = All-cons P x (xs ++ ys) (first-of P x xs a) (all-append P xs ys (others-of P x xs a) b)
+
+  told-on : (before last now : List ℕ) (records after : List Record) → samples.levels_after before records ≡ last → StepsLast last now records after
+      → samples.levels_after before after ≡ now
+  told-on before last now records after is steps =
+      ap (samples.levels_after before) steps.after_is
+      ∙ after-append before records steps.added
+      ∙ ap (λ l. samples.levels_after l steps.added) is
+      ∙ steps.levels
+
+  holds-on : (last now : List ℕ) (records after : List Record) → All HoldsLevels records → StepsLast last now records after → All HoldsLevels after
+  holds-on last now records after all steps = rw steps.after_is (all-append HoldsLevels records steps.added all steps.holds)
+
+  told-step : (before1 before2 : List ℕ) (b : Board) → Told before1 before2 b → Told before1 before2 (step entries b)
+  told-step before1 before2 b t =
+      let one = step-last b in
+      record {
+        last1 = told-on before1 _ _ _ _ t.last1 one.0;
+        last2 = told-on before2 _ _ _ _ t.last2 one.1;
+        holds1 = holds-on _ _ _ _ t.holds1 one.0;
+        holds2 = holds-on _ _ _ _ t.holds2 one.1;
+      }
+
+  told-stepped : (n : ℕ) (before1 before2 : List ℕ) (b : Board) → Told before1 before2 b → Told before1 before2 (stepped entries n b)
+  unfolding stepped
+  told-stepped zero before1 before2 b t = t
+  told-stepped (suc n) before1 before2 b t = told-stepped n before1 before2 (step entries b) (told-step before1 before2 b t)
+
+  -- from a board without records
+  pub told-run : (n : ℕ) (b : Board) → HasNoRecords b → Told b.wires.sound1.last b.wires.sound2.last (stepped entries n b)
+  unfolding samples.levels_after
+  told-run n b none =
+      told-stepped n b.wires.sound1.last b.wires.sound2.last b (record {
+        last1 = ap (samples.levels_after b.wires.sound1.last) none.levels1;
+        last2 = ap (samples.levels_after b.wires.sound2.last) none.levels2;
+        holds1 = rw none.levels1 (All-nil HoldsLevels);
+        holds2 = rw none.levels2 (All-nil HoldsLevels);
+      })

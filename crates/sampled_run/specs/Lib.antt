@@ -1,0 +1,2 @@
+pub mod BoardSamples
+pub mod Sampling

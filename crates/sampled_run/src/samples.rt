@@ -1,0 +1,109 @@
+ghost use Rattle.std.specs.Prelude.{◌≡◌, ◌≤◌, OnOk};
+ghost use Rattle.outside_io.specs.Causes.{HasCause};
+ghost use Rattle.outside_io.specs.Sink.{Takes};
+ghost use Rattle.catchup_engine.specs.EngineValue.{HasNoRecords, cleared};
+ghost use Rattle.catchup_engine.specs.Run.{to_boundary};
+ghost use Rattle.board_watch.specs.Rested.{engine_of, loan_of};
+ghost use Rattle.sound_pcm.specs.declared.mixer.TheConstants.{MAX_PER};
+ghost use Rattle.sampled_run.specs.BoardSamples.{sampled_bytes, IsMixerOf};
+ghost use Rattle.sampled_run.specs.Sampling.{CanMix, sampled_in_parts, sampler_after, samples_in};
+
+use avg_device::VectorUnit;
+use board_base::{BoardState, CLOCK_LIMIT, Trails};
+use board_watch::{Rested, Until, Watch};
+use catchup_engine::Engine;
+use earom_cells::CellUnit;
+use irq_watchdog::DividerUnit;
+use outside_io::{Sink, SinkFault};
+use pokey_chip::SoundUnit;
+use sound_pcm::Mixer;
+use tape_ports::Tape;
+
+/// Writes the samples of a run.
+#[derive(Drop)]
+pub(crate) struct Sampler {
+    mixer: Mixer,
+}
+
+impl Watch for Sampler {
+    ghost can_take = { λ s from records upto. CanMix s.mixer from records upto };
+
+    ghost tells = { samples_in };
+
+    ghost next = { sampler_after };
+
+    ghost in_parts = { sampled_in_parts };
+
+    fn take<O: Sink>(
+        &mut self,
+        trails: &Trails<'_>,
+        upto: u64,
+        out: &mut O,
+    ) -> Result<(), SinkFault> {
+        self.mixer.take(trails, upto, out)
+    }
+}
+
+/// A mixer that stands where the board of an engine at rest stands, with its levels.
+fn mixer_at<V: VectorUnit, P: SoundUnit, C: CellUnit, D: DividerUnit>(
+    rested: &Rested<'_, V, P, C, D>,
+    per: u32,
+) -> Mixer
+    requires some { 1 ≤ per }
+    requires longest { per ≤ MAX_PER }
+    ensures { IsMixerOf (engine_of rested.now).board per result }
+{
+    let mut state = BoardState::power_on();
+    rested.engine().state(&mut state);
+    let [a1, a2, a3, a4] = state.sound1.last;
+    let [b1, b2, b3, b4] = state.sound2.last;
+    Mixer::new(state.clock, per, [a1, a2, a3, a4, b1, b2, b3, b4])
+}
+
+/// Runs the board of an engine at rest, and writes its samples.
+fn run_rested<V: VectorUnit, P: SoundUnit, C: CellUnit, D: DividerUnit, O: Sink>(
+    rested: &mut Rested<'_, V, P, C, D>,
+    tape: &Tape,
+    limit: u64,
+    per: u32,
+    out: &mut O,
+) -> Result<(), SinkFault>
+    requires limit { limit ≤ CLOCK_LIMIT }
+    requires some { 1 ≤ per }
+    requires longest { per ≤ MAX_PER }
+    ensures same { loan_of rested.new ≡ loan_of rested.old }
+    ensures taken { Takes (O.taken out.old) (O.taken out.new) (sampled_bytes tape.now.entries limit per (engine_of rested.old).board) result }
+    ensures cause { HasCause (O.faults out.old) (O.faults out.new) result }
+    ensures board { OnOk result ((engine_of rested.new).board ≡ cleared (to_boundary tape.now.entries limit (engine_of rested.old).board)) }
+{
+    let mut sampler = Sampler {
+        mixer: mixer_at(rested, per),
+    };
+    match rested.watch(tape, Until::Boundary(limit), &mut sampler, out) {
+        Ok(_) => Ok(()),
+        Err(_) => Err(SinkFault),
+    }
+}
+
+/// Runs the board over a tape to the first boundary that isn't before the limit or to an undocumented
+/// opcode, and writes its samples: each is the sum of the eight levels of the two POKEYs over `per`
+/// clocks, 1 to 65,535, as four bytes, the lowest first. The last clocks, which are no whole group,
+/// give none. After a fault the engine is only to be dropped. It takes no memory.
+pub fn run_sampled<V: VectorUnit, P: SoundUnit, C: CellUnit, D: DividerUnit, O: Sink>(
+    engine: &mut Engine<V, P, C, D>,
+    tape: &Tape,
+    limit: u64,
+    per: u32,
+    out: &mut O,
+) -> Result<(), SinkFault>
+    requires limit { limit ≤ CLOCK_LIMIT }
+    requires some { 1 ≤ per }
+    requires longest { per ≤ MAX_PER }
+    requires settled { engine.old.lagging ≡ 0 }
+    requires empty { HasNoRecords engine.old.board }
+    ensures taken { Takes (O.taken out.old) (O.taken out.new) (sampled_bytes tape.now.entries limit per engine.old.board) result }
+    ensures cause { HasCause (O.faults out.old) (O.faults out.new) result }
+    ensures board { OnOk result (engine.new.board ≡ cleared (to_boundary tape.now.entries limit engine.old.board)) }
+{
+    run_rested(&mut Rested::of(engine), tape, limit, per, out)
+}

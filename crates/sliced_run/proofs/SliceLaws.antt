@@ -1,0 +1,46 @@
+-- The log of a slice.
+use Rattle.std.proofs.Common.{◌≡◌, ℕ, ◌+◌, List, ◌++◌, refl, sym, ap, ◌∙◌, arith}
+use Rattle.board_base.specs.declared.part.Part.TheVariants.{Generator, Pokey1, Pokey2, Board}
+use Rattle.board_base.proofs.RecordLaws.{trail-made}
+use Rattle.log_text.specs.LogText.{log_text}
+use Rattle.tape_ports.specs.declared.entry.TapeEntry.{TapeEntry}
+use Rattle.catchup_engine.specs.Lockstep as lockstep
+use Rattle.catchup_engine.specs.Run.{stepped}
+use Rattle.catchup_engine.specs.EngineValue.{HasNoRecords, cleared}
+use Rattle.catchup_engine.specs.Order.{records_of}
+use Rattle.board_watch.specs.declared.until.Until.{Until}
+use Rattle.board_watch.specs.Windows.{end_of, steps_to}
+use Rattle.board_watch.proofs.WatchLaws.{run-made}
+use Rattle.sliced_run.specs.Slice.{AreTrails, slice_text, text_of_records, text_of_steps}
+use Rattle.sliced_run.specs.OneList.{one_list, text_of_lists}
+use Rattle.sliced_run.proofs.OneListLaws.{log_text-append, one_list-add, one_list-cleared, stepped-one_list}
+
+-- what doesn't look at records is the same of two boards that differ in them alone
+pub same-of : {X : Type 0} (f : lockstep.Board → X) → ((b : lockstep.Board) → f (cleared b) ≡ f b) → (a b : lockstep.Board) → cleared a ≡ cleared b
+    → f a ≡ f b
+same-of f law a b e = sym (law a) ∙ ap f e ∙ law b
+
+module _ (entries : List TapeEntry) where
+  pub text-cleared : (n : ℕ) (b : lockstep.Board) → text_of_steps entries n (cleared b) ≡ text_of_steps entries n b
+  text-cleared n b = ap log_text (one_list-cleared entries n b)
+
+  pub text-add : (n m : ℕ) (b : lockstep.Board) → text_of_steps entries (n + m) b ≡ text_of_steps entries n b ++ text_of_steps entries m (stepped entries n b)
+  text-add n m b = ap log_text (one_list-add entries n m b) ∙ log_text-append (one_list entries n b) (one_list entries m (stepped entries n b))
+
+  -- the trails of a run may be written
+  pub run-trails : (until : Until) (b : lockstep.Board) → HasNoRecords b → AreTrails (records_of (end_of entries until b))
+  run-trails until b none =
+      let after = end_of entries until b in
+      let made = run-made entries until b none in
+      record {
+        vector = trail-made Generator b.wires.clock after.wires.clock after.wires.strokes made.strokes;
+        sound1 = trail-made Pokey1 b.wires.clock after.wires.clock after.wires.levels1 made.levels1;
+        sound2 = trail-made Pokey2 b.wires.clock after.wires.clock after.wires.levels2 made.levels2;
+        board = trail-made Board b.wires.clock after.wires.clock after.wires.written made.written;
+      }
+
+  -- what is written of them
+  pub run-text : (until : Until) (b : lockstep.Board) → HasNoRecords b
+      → text_of_records (records_of (end_of entries until b)) ≡ slice_text entries until b
+  unfolding text_of_lists
+  run-text until b none = stepped-one_list entries (steps_to entries until b) b none

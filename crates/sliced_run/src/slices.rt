@@ -1,0 +1,257 @@
+ghost use Rattle.std.specs.Prelude.{◌≡◌, ◌+◌, ◌≤◌, OnOk, OnErr, length};
+ghost use Rattle.std.specs.Option.{option_map};
+ghost use Rattle.outside_io.specs.Causes.{HasCause};
+ghost use Rattle.outside_io.specs.Known.{grown};
+ghost use Rattle.outside_io.specs.Sink.{Takes};
+ghost use Rattle.catchup_engine.specs.EngineValue.{HasNoRecords, cleared, counted_on};
+ghost use Rattle.catchup_engine.specs.Run.{boundary_steps, clock_steps, to_clock, to_boundary};
+ghost use Rattle.board_watch.specs.Rested.{engine_of, loan_of};
+ghost use Rattle.sliced_run.specs.Events.{Did, DidFirst, stores_of};
+ghost use Rattle.sliced_run.specs.LastLine.{last_text};
+ghost use Rattle.board_watch.specs.Windows.{window_price};
+ghost use Rattle.sliced_run.specs.Slices.{FitsCalls, StopsIn, cost_line, cut_events, ending_text, last_board, last_events, run_events, storing, wanted_of};
+ghost use Rattle.sliced_run.specs.Faults.{SliceFaults};
+
+use crate::board_bytes::{Saved, load_saved};
+use crate::log_writer::run_slice;
+use crate::outside_fault::OutsideFault;
+use avg_device::VectorUnit;
+use board_base::{BoardState, CLOCK_LIMIT};
+use board_watch::{Rested, Until};
+use catchup_engine::Engine;
+use earom_cells::CellUnit;
+use irq_watchdog::DividerUnit;
+use log_text::{write_cost, write_end, write_jam};
+use outside_io::{Failed, Shelf, Sink, SinkFault};
+use pokey_chip::SoundUnit;
+use tape_ports::Tape;
+
+/// Stores bytes under a name, where one is given.
+#[tactic(auto, unfolding(crate::specs::Events::stores_of))]
+pub fn store_under<S: Shelf>(name: Option<&str>, bytes: &[u8], shelf: &mut S) -> Result<(), Failed>
+    ensures stored { OnOk result (S.stores shelf.new
+        ≡ grown (S.stores shelf.old) (stores_of (storing (option_map (λ name. name.now) name.entry) bytes.now))) }
+    ensures not_stored { OnErr result (S.stores shelf.new ≡ S.stores shelf.old) }
+    ensures cause { HasCause (S.faults shelf.old) (S.faults shelf.new) result }
+    ensures absences { S.absences shelf.old ≤ S.absences shelf.new }
+{
+    match name {
+        Some(name) => shelf.store(name, bytes),
+        None => Ok(()),
+    }
+}
+
+/// Runs to a cut, writes its lines, stores its board under a name where one is given, and goes on
+/// from the board that is read back. `saved` had the board of the cut before.
+fn cut_slice<V: VectorUnit, P: SoundUnit, C: CellUnit, D: DividerUnit, S: Shelf, O: Sink>(
+    rested: &mut Rested<'_, V, P, C, D>,
+    tape: &Tape,
+    cut: u64,
+    save: Option<&str>,
+    saved: &mut Saved,
+    shelf: &mut S,
+    out: &mut O,
+) -> Result<(), OutsideFault>
+    requires limit { cut ≤ CLOCK_LIMIT }
+    ensures same { loan_of rested.new ≡ loan_of rested.old }
+    ensures done { OnOk result (Did (cut_events tape.now.entries cut (option_map (λ name. name.now) save.entry) (engine_of rested.old).board)
+        (O.taken out.old) (O.taken out.new) (S.stores shelf.old) (S.stores shelf.new)) }
+    ensures stopped { OnErr result (DidFirst (cut_events tape.now.entries cut (option_map (λ name. name.now) save.entry) (engine_of rested.old).board)
+        (O.taken out.old) (O.taken out.new) (S.stores shelf.old) (S.stores shelf.new)) }
+    ensures faults { SliceFaults (S.faults shelf.old) (S.faults shelf.new) (O.faults out.old) (O.faults out.new) result }
+    ensures absences { S.absences shelf.old ≤ S.absences shelf.new }
+    ensures board { OnOk result ((engine_of rested.new).board ≡ cleared (to_clock tape.now.entries cut (engine_of rested.old).board)) }
+    ensures most { OnOk result ((engine_of rested.new).calls ≤ (engine_of rested.old).calls
+        + window_price tape.now.entries (clock_steps tape.now.entries cut (engine_of rested.old).board) (engine_of rested.old).board + 10) }
+    ensures least { OnOk result (counted_on (engine_of rested.old).calls 5 ≤ (engine_of rested.new).calls) }
+{
+    let Ok(()) = run_slice(rested, tape, Until::Clock(cut), out) else {
+        return Err(OutsideFault::Out);
+    };
+    saved.save(rested);
+    let Ok(()) = store_under(save, &saved.bytes, shelf) else {
+        return Err(OutsideFault::Shelf);
+    };
+    load_saved(rested, &saved.bytes);
+    Ok(())
+}
+
+/// Writes the last line of a run that has ended.
+fn write_last<V: VectorUnit, P: SoundUnit, C: CellUnit, D: DividerUnit, O: Sink>(
+    rested: &Rested<'_, V, P, C, D>,
+    out: &mut O,
+) -> Result<(), SinkFault>
+    ensures taken { Takes (O.taken out.old) (O.taken out.new) (last_text (engine_of rested.now).board (engine_of rested.now).board.cpu.jam) result }
+    ensures cause { HasCause (O.faults out.old) (O.faults out.new) result }
+{
+    let engine = rested.engine();
+    let cpu = engine.cpu();
+    match cpu.jam {
+        Some(opcode) => write_jam(engine.clock(), cpu.pc, opcode, out),
+        None => write_end(engine.clock(), out),
+    }
+}
+
+/// Writes the device calls of a run, where they are asked for.
+fn write_calls<O: Sink>(cost: bool, calls: u64, out: &mut O) -> Result<(), SinkFault>
+    ensures taken { Takes (O.taken out.old) (O.taken out.new) (cost_line cost calls) result }
+    ensures cause { HasCause (O.faults out.old) (O.faults out.new) result }
+{
+    if !cost {
+        return Ok(());
+    }
+    write_cost(calls, out)
+}
+
+/// Writes the last line of a run that has ended, and then its device calls where they are asked for.
+fn write_ending<V: VectorUnit, P: SoundUnit, C: CellUnit, D: DividerUnit, O: Sink>(
+    rested: &Rested<'_, V, P, C, D>,
+    cost: bool,
+    out: &mut O,
+) -> Result<(), SinkFault>
+    ensures taken { Takes (O.taken out.old) (O.taken out.new) (ending_text cost (engine_of rested.now).calls (engine_of rested.now).board) result }
+    ensures cause { HasCause (O.faults out.old) (O.faults out.new) result }
+{
+    let Ok(()) = write_last(rested, out) else {
+        return Err(SinkFault);
+    };
+    write_calls(cost, rested.engine().calls(), out)
+}
+
+/// The cells of the EAROM.
+fn cells_of<V: VectorUnit, P: SoundUnit, C: CellUnit, D: DividerUnit>(
+    rested: &Rested<'_, V, P, C, D>,
+) -> [u8; 64]
+    ensures { result ≡ (engine_of rested.now).board.wires.earom.cells }
+{
+    let mut state = BoardState::power_on();
+    rested.engine().state(&mut state);
+    state.earom.cells
+}
+
+/// Runs to the end, writes the lines, the last line and the device calls where they are asked for,
+/// and stores the board and then the cells, each where it has a name.
+fn end_slice<V: VectorUnit, P: SoundUnit, C: CellUnit, D: DividerUnit, S: Shelf, O: Sink>(
+    rested: &mut Rested<'_, V, P, C, D>,
+    tape: &Tape,
+    limit: u64,
+    save: Option<&str>,
+    earom: Option<&str>,
+    cost: bool,
+    shelf: &mut S,
+    out: &mut O,
+) -> Result<(), OutsideFault>
+    requires limit { limit ≤ CLOCK_LIMIT }
+    ensures same { loan_of rested.new ≡ loan_of rested.old }
+    ensures done { OnOk result (Did (last_events tape.now.entries limit (wanted_of save.entry earom.entry cost) (engine_of rested.new).calls (engine_of rested.old).board)
+        (O.taken out.old) (O.taken out.new) (S.stores shelf.old) (S.stores shelf.new)) }
+    ensures stopped { OnErr result (DidFirst (last_events tape.now.entries limit (wanted_of save.entry earom.entry cost) (engine_of rested.new).calls (engine_of rested.old).board)
+        (O.taken out.old) (O.taken out.new) (S.stores shelf.old) (S.stores shelf.new)) }
+    ensures faults { SliceFaults (S.faults shelf.old) (S.faults shelf.new) (O.faults out.old) (O.faults out.new) result }
+    ensures absences { S.absences shelf.old ≤ S.absences shelf.new }
+    ensures board { OnOk result ((engine_of rested.new).board ≡ cleared (to_boundary tape.now.entries limit (engine_of rested.old).board)) }
+    ensures calls { (engine_of rested.new).calls ≤ (engine_of rested.old).calls
+        + window_price tape.now.entries (boundary_steps tape.now.entries limit (engine_of rested.old).board) (engine_of rested.old).board + 5 }
+    ensures more { (engine_of rested.old).calls ≤ (engine_of rested.new).calls }
+{
+    let Ok(()) = run_slice(rested, tape, Until::Boundary(limit), out) else {
+        return Err(OutsideFault::Out);
+    };
+    let Ok(()) = write_ending(rested, cost, out) else {
+        return Err(OutsideFault::Out);
+    };
+    let Ok(()) = store_under(save, &Saved::of(rested).bytes, shelf) else {
+        return Err(OutsideFault::Shelf);
+    };
+    let Ok(()) = store_under(earom, &cells_of(rested), shelf) else {
+        return Err(OutsideFault::Shelf);
+    };
+    Ok(())
+}
+
+/// Runs the board of an engine at rest in slices.
+fn run_rested<V: VectorUnit, P: SoundUnit, C: CellUnit, D: DividerUnit, S: Shelf, O: Sink>(
+    rested: &mut Rested<'_, V, P, C, D>,
+    tape: &Tape,
+    cuts: &[u64],
+    limit: u64,
+    save: Option<&str>,
+    earom: Option<&str>,
+    cost: bool,
+    shelf: &mut S,
+    out: &mut O,
+) -> Result<(), OutsideFault>
+    requires limit { limit ≤ CLOCK_LIMIT }
+    ensures same { loan_of rested.new ≡ loan_of rested.old }
+    ensures done { OnOk result (Did (run_events tape.now.entries limit (wanted_of save.entry earom.entry cost) (engine_of rested.new).calls cuts.now (engine_of rested.old).board)
+        (O.taken out.old) (O.taken out.new) (S.stores shelf.old) (S.stores shelf.new)) }
+    ensures stopped { OnErr result (StopsIn tape.now.entries limit (wanted_of save.entry earom.entry cost) (engine_of rested.old).calls cuts.now (engine_of rested.old).board
+        (O.taken out.old) (O.taken out.new) (S.stores shelf.old) (S.stores shelf.new)) }
+    ensures faults { SliceFaults (S.faults shelf.old) (S.faults shelf.new) (O.faults out.old) (O.faults out.new) result }
+    ensures absences { S.absences shelf.old ≤ S.absences shelf.new }
+    ensures board { OnOk result ((engine_of rested.new).board ≡ cleared (last_board tape.now.entries limit cuts.now (engine_of rested.old).board)) }
+    ensures calls { OnOk result (FitsCalls tape.now.entries limit (length cuts.now) (engine_of rested.old).board (engine_of rested.old).calls (engine_of rested.new).calls) }
+{
+    let mut saved = Saved::of(rested);
+    for cut in cuts {
+        match cut_slice(
+            rested,
+            tape,
+            (*cut).min(limit),
+            save,
+            &mut saved,
+            shelf,
+            out,
+        ) {
+            Ok(()) => {}
+            Err(fault) => return Err(fault),
+        }
+    }
+    end_slice(rested, tape, limit, save, earom, cost, shelf, out)
+}
+
+/// Runs the board over a tape, in slices, to the first boundary that isn't before the limit or to an
+/// undocumented opcode, and writes its log. At each cut, and at the end, its board is stored under the
+/// name `save`, if there is one, and each slice after a cut goes on from the bytes of that board; at
+/// the end the 64 cells of the EAROM are stored under the name `earom`. With `cost` the device calls of the
+/// engine are written after the last line.
+///
+/// A cut above the limit falls on the limit, and one below the board's clock where the board stands.
+/// After a fault the first part of all this was done, and the engine is only to be dropped. It takes
+/// no memory.
+pub fn run_slices<V: VectorUnit, P: SoundUnit, C: CellUnit, D: DividerUnit, S: Shelf, O: Sink>(
+    engine: &mut Engine<V, P, C, D>,
+    tape: &Tape,
+    cuts: &[u64],
+    limit: u64,
+    save: Option<&str>,
+    earom: Option<&str>,
+    cost: bool,
+    shelf: &mut S,
+    out: &mut O,
+) -> Result<(), OutsideFault>
+    requires settled { engine.old.lagging ≡ 0 }
+    requires empty { HasNoRecords engine.old.board }
+    requires limit { limit ≤ CLOCK_LIMIT }
+    ensures done { OnOk result (Did (run_events tape.now.entries limit (wanted_of save.entry earom.entry cost) engine.new.calls cuts.now engine.old.board)
+        (O.taken out.old) (O.taken out.new) (S.stores shelf.old) (S.stores shelf.new)) }
+    ensures stopped { OnErr result (StopsIn tape.now.entries limit (wanted_of save.entry earom.entry cost) engine.old.calls cuts.now engine.old.board
+        (O.taken out.old) (O.taken out.new) (S.stores shelf.old) (S.stores shelf.new)) }
+    ensures faults { SliceFaults (S.faults shelf.old) (S.faults shelf.new) (O.faults out.old) (O.faults out.new) result }
+    ensures absences { S.absences shelf.old ≤ S.absences shelf.new }
+    ensures board { OnOk result (engine.new.board ≡ cleared (last_board tape.now.entries limit cuts.now engine.old.board)) }
+    ensures settled { OnOk result (engine.new.lagging ≡ 0) }
+    ensures calls { OnOk result (FitsCalls tape.now.entries limit (length cuts.now) engine.old.board engine.old.calls engine.new.calls) }
+{
+    run_rested(
+        &mut Rested::of(engine),
+        tape,
+        cuts,
+        limit,
+        save,
+        earom,
+        cost,
+        shelf,
+        out,
+    )
+}
