@@ -132,7 +132,7 @@ module _ (p : PokeyValue) (k at : ℕ) (vs : Voices) (later : k < at) (small : a
   pub settled-then : (times pokey_tick at p).last ≡ levels_of (times pokey_tick at p)
   settled-then = rw clock-at (tick-settled (times pokey_tick (at - suc k) (times pokey_tick k p)))
 
-  with-registers : levelled (turns_taken (vs.first.due == at) (vs.second.due == at) (vs.third.due == at) (vs.fourth.due == at)
+  pub with-registers : levelled (turns_taken (vs.first.due == at) (vs.second.due == at) (vs.third.due == at) (vs.fourth.due == at)
       (record (stood p (times pokey_tick k p)) {
         poly4 = (times pokey_tick at p).poly4;
         poly5 = (times pokey_tick at p).poly5;

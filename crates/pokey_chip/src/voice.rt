@@ -1,9 +1,12 @@
-ghost use Rattle.std.specs.Prelude.{◌≡◌, ◌+◌, ◌≤◌, All, [], ◌∷◌, min};
+ghost use Rattle.std.specs.Prelude.{◌≡◌, ◌+◌, ◌<◌, ◌==◌, ◌≤◌, All, [], ◌∷◌, min};
+ghost use Rattle.pokey_chip.specs.declared.channel.Channel.{Channel as AnyChannel};
+ghost use Rattle.pokey_chip.specs.Tones.{has, of_channel};
 ghost use Rattle.pokey_chip.specs.Moves.{due_at, step_of, IsLeft, IsPassed, IsTimed, IsVoice, left_of_voice};
 ghost use Rattle.pokey_chip.specs.Paces.{IsPace};
 
 use crate::channel::Channel;
 use crate::pace::Pace;
+use crate::tones::four_bits;
 use board_base::{CLOCK_END, LONGEST_PERIOD, PRESCALER_BASE, PRESCALER_LINE, PokeyState};
 
 /// A channel in a move: what gives it its pulses, its period in pulses and in clocks, the pulse with
@@ -121,6 +124,20 @@ impl Voices {
             third: Voice::of(state, Channel::Third),
             fourth: Voice::of(state, Channel::Fourth),
         }
+    }
+
+    /// The channels that are due in a clock, one bit for each.
+    #[inline(always)]
+    pub fn due(&self, at: u64) -> u8
+        ensures bits { (c : AnyChannel) → has result c ≡ of_channel (self.now.first.due == at) (self.now.second.due == at) (self.now.third.due == at) (self.now.fourth.due == at) c }
+        ensures fits { result < 16 }
+    {
+        four_bits(
+            self.first.due == at,
+            self.second.due == at,
+            self.third.due == at,
+            self.fourth.due == at,
+        )
     }
 
     /// The channels after the clock `at`, in which those underflow that are due.
