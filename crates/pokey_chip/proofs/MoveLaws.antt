@@ -11,7 +11,7 @@ use Rattle.pokey_chip.specs.declared.channel.Channel.{Channel}
 use Rattle.pokey_chip.specs.declared.channel.Channel.TheVariants.{First, Second, Third, Fourth}
 use Rattle.pokey_chip.specs.declared.voice.Voice.{Voice}
 use Rattle.pokey_chip.specs.declared.voice.Voices.{Voices}
-use Rattle.pokey_chip.specs.Moves.{due_at, IsLeft, IsPassed, IsVoice, left_of_voice, turns_taken}
+use Rattle.pokey_chip.specs.Moves.{due_at, IsLeft, IsPassed, IsVoice, left_of_voice, pulse_of, turns_taken}
 use Rattle.pokey_chip.specs.Pulses.{HasNoUnderflow, NoneUnderflows, rises_of}
 use Rattle.pokey_chip.specs.Tick.{base_pulses, change, channel_ticked, channels_ticked, is_held, left_of, levelled, levels_made, levels_of, pokey_gives, pokey_tick, prescaled, rolled, turned, underflows, with_left}
 use Rattle.pokey_chip.proofs.EventLaws.{event, none-between, same-between, stood}
@@ -42,8 +42,8 @@ is-later c k p v is small = by_place (cases_lt k v.due)
     by_place : (k < v.due) ⊎ (v.due ≤ k) → k < v.due
     by_place (inl h) = h
     by_place (inr h) =
-        let now : due_at v.pace v.pulse ≤ k = omega (arith, is.timed.due) in
-        absurd (omega (arith, late v.pace v.pulse k is.timed.prescaler is.timed.some small now, is.paced_by k, is.next, is.some))
+        let now : due_at v.pace (pulse_of v) ≤ k = omega (arith, is.timed.due) in
+        absurd (omega (arith, late v.pace (pulse_of v) k is.timed.prescaler is.timed.some small now, is.paced_by k, is.next, is.some))
 
 -- the registers from one clock of a move to another
 module _ (p : PokeyValue) (k at : ℕ) (within : k ≤ at) (held : Bool) (is : held ≡ is_held p.skctl) where
