@@ -1,5 +1,5 @@
 -- A channel in a move: when it is due.
-use Rattle.std.proofs.Common.{◌≡◌, ℕ, ◌+◌, ◌-◌, ◌*◌, ◌/◌, ◌^◌, ◌<◌, ◌≤◌, ◌==◌, Bool, true, false, ◌&&◌, nat_le, if◌then◌else◌, zero, suc, refl, sym, ap, ◌∙◌, arith, add-zero, add-suc, ◌⊎◌, inl, inr}
+use Rattle.std.proofs.Common.{◌≡◌, ℕ, ◌+◌, ◌-◌, ◌*◌, ◌^◌, ◌<◌, ◌≤◌, ◌==◌, Bool, true, false, ◌&&◌, nat_le, if◌then◌else◌, zero, suc, refl, sym, ap, ◌∙◌, arith, add-zero, add-suc, ◌⊎◌, inl, inr}
 use Rattle.std.proofs.lemmas.Bool.Decides.{nat_tests}
 use Rattle.std.proofs.lemmas.Bool.{cases_lt}
 use Rattle.std.specs.Int.{from_bool}
@@ -82,6 +82,36 @@ pulse-due Never pulse is some = refl
 pulse-due ChipClock pulse is some = refl
 pulse-due (By28 count) pulse is some = omega (arith, is)
 pulse-due (By114 count) pulse is some = omega (arith, is)
+
+equal-by : (a b : ℕ) → (a == b) ≡ true → a ≡ b
+equal-by a b e = grind (arith, nat_tests)
+
+passed-by : (b : Bool) (v : Voice) (at due : ℕ) → (v.due == at) ≡ b → IsTimed v → at ≤ 2 ^ 49 → due ≡ (if b then v.due + v.step else v.due) → IsPassed at v (record v { due = due })
+passed-by false v at due other timed small e = rw e (record { timed = timed; pace = refl; period = refl; pulse = rw other refl })
+passed-by true v at due now timed small e =
+    let here : v.due ≡ at = equal-by v.due at now in
+    let early : v.due ≤ 2 ^ 49 = omega arith in
+    let pulse : pulse_at v.pace (v.due + v.step) v.first ≡ pulse_of v + v.period
+    = ap (λ (s : ℕ). pulse_at v.pace (v.due + s) v.first) timed.step ∙ pulse-next v.pace v.due v.first v.period timed.due early in
+    let few : pulse_of v ≤ at = due-few v at timed small here in
+    rw e (record {
+      timed = record {
+        prescaler = timed.prescaler;
+        some = omega (arith, pulse, timed.some);
+        few = omega (arith, pulse, few, timed.high);
+        low = timed.low;
+        high = timed.high;
+        step = timed.step;
+        due = ap (λ (d : ℕ). d + v.step) here ∙ due-next v at timed small here ∙ ap (due_at v.pace) (sym pulse);
+      };
+      pace = refl;
+      period = refl;
+      pulse = rw now pulse;
+    })
+
+-- a channel after a clock
+pub passed : (v : Voice) (at due : ℕ) → IsTimed v → at ≤ 2 ^ 49 → due ≡ (if v.due == at then v.due + v.step else v.due) → IsPassed at v (record v { due = due })
+passed v at due timed small e = passed-by (v.due == at) v at due refl timed small e
 
 -- where the pulse is near, its clock is
 pub near : (pace : Pace) (due none n : ℕ) → pulse_at pace due none ≤ paced pace n + 65542 → n ≤ 2 ^ 49 → IsEarly pace due

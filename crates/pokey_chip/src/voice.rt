@@ -1,4 +1,4 @@
-ghost use Rattle.std.specs.Prelude.{◌≡◌, ◌+◌, ◌<◌, ◌==◌, ◌≤◌, All, [], ◌∷◌, min};
+ghost use Rattle.std.specs.Prelude.{◌≡◌, ◌+◌, ◌<◌, ◌==◌, ◌≤◌, All, [], ◌∷◌, if◌then◌else◌, min};
 ghost use Rattle.pokey_chip.specs.declared.channel.Channel.{Channel as AnyChannel};
 ghost use Rattle.pokey_chip.specs.Tones.{has, of_channel};
 ghost use Rattle.pokey_chip.specs.Moves.{due_at, pulse_at, step_of, IsEarly, IsLeft, IsPassed, IsTimed, IsVoice, left_of_voice};
@@ -83,19 +83,30 @@ impl Voice {
         }
     }
 
-    /// The channel after the clock `at`, in which it underflows where it is due.
+    /// The clock of its next underflow after the clock `at`, in which it underflows where it is due.
     #[inline(always)]
     #[tactic(auto, using(crate::proofs::VoiceLaws::passes))]
+    fn due_after(self, at: u64) -> u64
+        requires timed { IsTimed self }
+        requires at { at ≤ CLOCK_END }
+        ensures { result ≡ (if self.due == at then self.due + self.step else self.due) }
+    {
+        if self.due == at {
+            self.due + self.step
+        } else {
+            self.due
+        }
+    }
+
+    /// The channel after the clock `at`, in which it underflows where it is due.
+    #[inline(always)]
     fn after(self, at: u64) -> Voice
         requires timed { IsTimed self }
         requires at { at ≤ CLOCK_END }
         ensures { IsPassed at self result }
     {
-        if self.due != at {
-            return self;
-        }
         Voice {
-            due: self.due + self.step,
+            due: self.due_after(at),
             ..self
         }
     }
