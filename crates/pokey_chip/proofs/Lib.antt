@@ -8,5 +8,10 @@ pub mod RegisterLaws
 pub mod UnderflowLaws
 pub mod VoiceLaws
 pub mod EventLaws
+pub mod NoiseLaws
+pub mod ToneLaws
+pub mod TurnLaws
+pub mod StepLaws
 pub mod MoveLaws
+pub mod MovedLaws
 pub mod RequestLaws

@@ -1,39 +1,29 @@
 -- The steps of a move: to the clock of the next underflow, and from the last one to the end.
-use Rattle.std.proofs.Common.{◌≡◌, ℕ, ◌+◌, ◌-◌, ◌^◌, ◌<◌, ◌≤◌, ◌==◌, Bool, ◌⊎◌, inl, inr, min, zero, suc, [], ◌∷◌, refl, sym, ap, ◌∙◌, arith}
+use Rattle.std.proofs.Common.{◌≡◌, ℕ, ◌+◌, ◌-◌, ◌^◌, ◌<◌, ◌≤◌, ◌==◌, ◌⊎◌, inl, inr, min, zero, suc, [], ◌∷◌, refl, sym, ap, ◌∙◌, arith}
 use Rattle.std.proofs.lemmas.Bool.{cases_lt}
 use Rattle.board_base.proofs.ExtendedLaws.{Extended-none}
 use Rattle.board_base.proofs.TickLaws.{times-add}
 use Rattle.board_base.specs.Pokey.{PokeyValue}
 use Rattle.board_base.specs.Ticks.{ticks, times}
 use Rattle.board_base.specs.Trail.{TrailValue, Extended}
-use Rattle.pokey_poly.specs.declared.poly.Poly.TheVariants.{Four, Five, Nine, Seventeen}
 use Rattle.pokey_chip.specs.declared.channel.Channel.{Channel}
 use Rattle.pokey_chip.specs.declared.channel.Channel.TheVariants.{First, Second, Third, Fourth}
 use Rattle.pokey_chip.specs.declared.voice.Voice.{Voice}
 use Rattle.pokey_chip.specs.declared.voice.Voices.{Voices}
-use Rattle.pokey_chip.specs.Moves.{due_at, IsLeft, IsPassed, IsVoice, left_of_voice, turns_taken}
+use Rattle.pokey_chip.specs.Moves.{due_at, IsLeft, IsPassed, IsVoice, left_of_voice, pulse_of, turns_taken}
 use Rattle.pokey_chip.specs.Pulses.{HasNoUnderflow, NoneUnderflows, rises_of}
-use Rattle.pokey_chip.specs.Tick.{base_pulses, change, channel_ticked, channels_ticked, is_held, left_of, levelled, levels_made, levels_of, pokey_gives, pokey_tick, prescaled, rolled, turned, underflows, with_left}
+use Rattle.pokey_chip.specs.Tick.{base_pulses, change, channel_ticked, channels_ticked, is_held, left_of, levelled, levels_made, levels_of, pokey_gives, pokey_tick, prescaled, turned, underflows, with_left}
 use Rattle.pokey_chip.proofs.EventLaws.{event, none-between, same-between, stood}
 use Rattle.pokey_chip.proofs.KeptLaws.{Kept, kept}
 use Rattle.pokey_chip.proofs.PulseLaws.{pot-after}
 use Rattle.pokey_chip.proofs.RecordLemmas.{extended-more, levels-zero}
-use Rattle.pokey_chip.proofs.RegisterLaws.{poly4-after, poly5-after, poly9-after, poly17-after, pre28-after-all, pre114-after-all}
+use Rattle.pokey_chip.proofs.RegisterLaws.{pre28-after-all, pre114-after-all}
 use Rattle.pokey_chip.proofs.UnderflowLaws.{Same, tick-settled}
 use Rattle.pokey_chip.proofs.VoiceLaws.{due-is, goes-on, late, none-before, passes-on}
 
 -- before the first clock
-pub begun-state : (p : PokeyValue) → p ≡ stood p (times pokey_tick 0 p)
-unfolding ticks stood
-begun-state p = refl
-
 pub begun-records : (from : ℕ) (p : PokeyValue) (t : TrailValue) → Extended t t (levels_made from 0 p)
 begun-records from p t = rw (levels-zero from p) (Extended-none t)
-
--- the levels of a POKEY that stood
-pub stood-last : (p q s : PokeyValue) → s ≡ stood p q → s.last ≡ q.last
-unfolding stood
-stood-last p q s e = ap (λ (r : PokeyValue). r.last) e
 
 -- the next underflow of a channel is later
 pub is-later : (c : Channel) (k : ℕ) (p : PokeyValue) (v : Voice) → IsVoice c k p v → k ≤ 2 ^ 49 → k < v.due
@@ -42,46 +32,8 @@ is-later c k p v is small = by_place (cases_lt k v.due)
     by_place : (k < v.due) ⊎ (v.due ≤ k) → k < v.due
     by_place (inl h) = h
     by_place (inr h) =
-        let now : due_at v.pace v.pulse ≤ k = omega (arith, is.timed.due) in
-        absurd (omega (arith, late v.pace v.pulse k is.timed.prescaler is.timed.some small now, is.paced_by k, is.next, is.some))
-
--- the registers from one clock of a move to another
-module _ (p : PokeyValue) (k at : ℕ) (within : k ≤ at) (held : Bool) (is : held ≡ is_held p.skctl) where
-  from-there : times pokey_tick at p ≡ times pokey_tick (at - k) (times pokey_tick k p)
-  from-there =
-      let whole : at ≡ k + (at - k) = omega arith in
-      ap (λ (n : ℕ). times pokey_tick n p) whole ∙ times-add pokey_tick k (at - k) p
-
-  held-there : held ≡ is_held (times pokey_tick k p).skctl
-  held-there = is ∙ ap is_held (sym (kept k p).skctl_kept)
-
-  pub four-then : (r s : ℕ) → r ≡ (times pokey_tick k p).poly4 → s ≡ times (rolled held Four) (at - k) r
-      → s ≡ (times pokey_tick at p).poly4
-  four-then r s e f =
-      f ∙ ap (times (rolled held Four) (at - k)) e
-      ∙ ap (λ (b : Bool). times (rolled b Four) (at - k) (times pokey_tick k p).poly4) held-there
-      ∙ sym (ap (λ (q : PokeyValue). q.poly4) from-there ∙ poly4-after (times pokey_tick k p) (at - k))
-
-  pub five-then : (r s : ℕ) → r ≡ (times pokey_tick k p).poly5 → s ≡ times (rolled held Five) (at - k) r
-      → s ≡ (times pokey_tick at p).poly5
-  five-then r s e f =
-      f ∙ ap (times (rolled held Five) (at - k)) e
-      ∙ ap (λ (b : Bool). times (rolled b Five) (at - k) (times pokey_tick k p).poly5) held-there
-      ∙ sym (ap (λ (q : PokeyValue). q.poly5) from-there ∙ poly5-after (times pokey_tick k p) (at - k))
-
-  pub nine-then : (r s : ℕ) → r ≡ (times pokey_tick k p).poly9 → s ≡ times (rolled held Nine) (at - k) r
-      → s ≡ (times pokey_tick at p).poly9
-  nine-then r s e f =
-      f ∙ ap (times (rolled held Nine) (at - k)) e
-      ∙ ap (λ (b : Bool). times (rolled b Nine) (at - k) (times pokey_tick k p).poly9) held-there
-      ∙ sym (ap (λ (q : PokeyValue). q.poly9) from-there ∙ poly9-after (times pokey_tick k p) (at - k))
-
-  pub seventeen-then : (r s : ℕ) → r ≡ (times pokey_tick k p).poly17 → s ≡ times (rolled held Seventeen) (at - k) r
-      → s ≡ (times pokey_tick at p).poly17
-  seventeen-then r s e f =
-      f ∙ ap (times (rolled held Seventeen) (at - k)) e
-      ∙ ap (λ (b : Bool). times (rolled b Seventeen) (at - k) (times pokey_tick k p).poly17) held-there
-      ∙ sym (ap (λ (q : PokeyValue). q.poly17) from-there ∙ poly17-after (times pokey_tick k p) (at - k))
+        let now : due_at v.pace (pulse_of v) ≤ k = omega (arith, is.timed.due) in
+        absurd (omega (arith, late v.pace (pulse_of v) k is.timed.prescaler is.timed.some small now, is.paced_by k, is.next, is.some))
 
 -- a channel comes to the clock `at`, before which it isn't due
 module _ (c : Channel) (k at : ℕ) (p : PokeyValue) (v : Voice) (is : IsVoice c k p v) (later : k < at) (small : at ≤ 2 ^ 49) (due : at ≤ v.due) where
@@ -132,7 +84,7 @@ module _ (p : PokeyValue) (k at : ℕ) (vs : Voices) (later : k < at) (small : a
   pub settled-then : (times pokey_tick at p).last ≡ levels_of (times pokey_tick at p)
   settled-then = rw clock-at (tick-settled (times pokey_tick (at - suc k) (times pokey_tick k p)))
 
-  with-registers : levelled (turns_taken (vs.first.due == at) (vs.second.due == at) (vs.third.due == at) (vs.fourth.due == at)
+  pub with-registers : levelled (turns_taken (vs.first.due == at) (vs.second.due == at) (vs.third.due == at) (vs.fourth.due == at)
       (record (stood p (times pokey_tick k p)) {
         poly4 = (times pokey_tick at p).poly4;
         poly5 = (times pokey_tick at p).poly5;
@@ -150,18 +102,6 @@ module _ (p : PokeyValue) (k at : ℕ) (vs : Voices) (later : k < at) (small : a
         clock-at,
       )
       (event p (times pokey_tick k p) (at - suc k) still-settled none)
-
-  pub state-then : (s t : PokeyValue) (poly4 poly5 poly9 poly17 : ℕ) → s ≡ stood p (times pokey_tick k p)
-      → poly4 ≡ (times pokey_tick at p).poly4 → poly5 ≡ (times pokey_tick at p).poly5 → poly9 ≡ (times pokey_tick at p).poly9
-      → poly17 ≡ (times pokey_tick at p).poly17
-      → t ≡ levelled (turns_taken (vs.first.due == at) (vs.second.due == at) (vs.third.due == at) (vs.fourth.due == at)
-      (record s { poly4 = poly4; poly5 = poly5; poly9 = poly9; poly17 = poly17 }))
-      → t ≡ stood p (times pokey_tick at p)
-  state-then s t poly4 poly5 poly9 poly17 e a b c d f =
-      f
-      ∙ ap (λ (q : PokeyValue). levelled (turns_taken (vs.first.due == at) (vs.second.due == at) (vs.third.due == at) (vs.fourth.due == at) q))
-      (rw (e, a, b, c, d) refl)
-      ∙ with-registers
 
   pub records-then : (from : ℕ) (x y z : TrailValue) → Extended x y (levels_made from k p)
       → Extended y z (change (from + (at - 1)) (times pokey_tick k p).last (times pokey_tick at p).last) → Extended x z (levels_made from at p)

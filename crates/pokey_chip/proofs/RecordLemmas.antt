@@ -1,5 +1,6 @@
 -- The records of clocks one after another.
-use Rattle.std.proofs.Common.{◌≡◌, ℕ, ◌+◌, ◌-◌, ◌≤◌, Bool, true, false, nat_eq, if◌then◌else◌, List, [], ◌∷◌, ◌++◌, length, slice_index, ap, ◌∙◌, arith}
+use Rattle.std.proofs.Common.{◌≡◌, ℕ, ◌+◌, ◌-◌, ◌≤◌, Bool, true, false, nat_eq, if◌then◌else◌, refl, List, [], ◌∷◌, ◌++◌, length, slice_index, ap, ◌∙◌, arith}
+use Rattle.std.proofs.lemmas.Cmp.{nat_list_eq_equiv}
 use Rattle.std.specs.Cmp.Lexicographic.{pointwise}
 use Rattle.board_base.proofs.ExtendedLaws.{Extended-none, Extended-more}
 use Rattle.board_base.proofs.TickLaws.{made-more, made-next, made-zero, length-made, ticks-times}
@@ -14,6 +15,16 @@ use Rattle.board_base.specs.Trail.{TrailValue, Extended}
 use Rattle.pokey_chip.specs.Tick.{change, levels_made, pokey_gives, pokey_tick}
 
 pub ruleset unchanged = Extended-none
+
+-- levels that stay give no record
+pub change-none : (clock : ℕ) (before now : List ℕ) → before ≡ now → change clock before now ≡ []
+unfolding change
+change-none clock before now e = rw (e, nat_list_eq_equiv.refl now) refl
+
+pub quiet-trail : (t : TrailValue) (clock : ℕ) (before now : List ℕ) → before ≡ now → Extended t t (change clock before now)
+quiet-trail t clock before now e = rw (change-none clock before now e) (Extended-none t)
+
+pub ruleset quiet = quiet-trail
 
 -- one clock more
 pub levels-more : (from n : ℕ) (p : PokeyValue)

@@ -12,7 +12,7 @@ use Rattle.pokey_chip.specs.declared.channel.Channel.{Channel}
 use Rattle.pokey_chip.specs.declared.pace.Pace.{Pace}
 use Rattle.pokey_chip.specs.declared.pace.Pace.TheVariants.{Never, ChipClock, By28, By114}
 use Rattle.pokey_chip.specs.declared.voice.Voice.{Voice}
-use Rattle.pokey_chip.specs.Moves.{due_at, step_of, IsPassed, IsTimed, IsVoice}
+use Rattle.pokey_chip.specs.Moves.{due_at, pulse_at, pulse_of, step_of, IsEarly, IsPassed, IsTimed, IsVoice}
 use Rattle.pokey_chip.specs.Paces.{IsPace, paced}
 use Rattle.pokey_chip.specs.Pulses.{HasNoUnderflow, has_pulse, pulses_of}
 use Rattle.pokey_chip.specs.Tick.{base_pulses, left_of, pokey_tick, underflows}
@@ -50,10 +50,10 @@ late (By28 count) pulse j is some small h = omega (arith, pulses-reached 28 coun
 late (By114 count) pulse j is some small h = omega (arith, pulses-reached 114 count pulse is some, pulses-grow 114 count (pulse * 114 - count) j h)
 
 -- where a channel is due in a clock, its pulse is no later
-pub due-few : (v : Voice) (at : ℕ) → IsTimed v → at ≤ 2 ^ 49 → v.due ≡ at → v.pulse ≤ at
+pub due-few : (v : Voice) (at : ℕ) → IsTimed v → at ≤ 2 ^ 49 → v.due ≡ at → pulse_of v ≤ at
 due-few v at timed small e =
-    let h : due_at v.pace v.pulse ≤ at = omega (arith, timed.due) in
-    omega (arith, late v.pace v.pulse at timed.prescaler timed.some small h, paced-few v.pace at)
+    let h : due_at v.pace (pulse_of v) ≤ at = omega (arith, timed.due) in
+    omega (arith, late v.pace (pulse_of v) at timed.prescaler timed.some small h, paced-few v.pace at)
 
 -- a step later it is due with the last pulse of its next period
 next-due : (pace : Pace) (pulse period : ℕ) → IsPace pace → 1 ≤ pulse → due_at pace pulse ≤ 2 ^ 49
@@ -63,10 +63,62 @@ next-due ChipClock pulse period is some small = refl
 next-due (By28 count) pulse period is some small = omega (arith, is)
 next-due (By114 count) pulse period is some small = omega (arith, is)
 
-pub due-next : (v : Voice) (at : ℕ) → IsTimed v → at ≤ 2 ^ 49 → v.due ≡ at → at + v.step ≡ due_at v.pace (v.pulse + v.period)
+pub due-next : (v : Voice) (at : ℕ) → IsTimed v → at ≤ 2 ^ 49 → v.due ≡ at → at + v.step ≡ due_at v.pace (pulse_of v + v.period)
 due-next v at timed small e =
-    let h : due_at v.pace v.pulse ≤ 2 ^ 49 = omega (arith, timed.due) in
-    omega (arith, timed.due, timed.step, next-due v.pace v.pulse v.period timed.prescaler timed.some h)
+    let h : due_at v.pace (pulse_of v) ≤ 2 ^ 49 = omega (arith, timed.due) in
+    omega (arith, timed.due, timed.step, next-due v.pace (pulse_of v) v.period timed.prescaler timed.some h)
+
+-- and that pulse comes with the clock a step later
+pub pulse-next : (pace : Pace) (due none period : ℕ) → due ≡ due_at pace (pulse_at pace due none) → due ≤ 2 ^ 49
+    → pulse_at pace (due + step_of pace period) none ≡ pulse_at pace due none + period
+pulse-next Never due none period e small = absurd (omega arith)
+pulse-next ChipClock due none period e small = refl
+pulse-next (By28 count) due none period e small = omega arith
+pulse-next (By114 count) due none period e small = omega arith
+
+-- a pulse comes with its clock
+pub pulse-due : (pace : Pace) (pulse : ℕ) → IsPace pace → 1 ≤ pulse → pulse_at pace (due_at pace pulse) pulse ≡ pulse
+pulse-due Never pulse is some = refl
+pulse-due ChipClock pulse is some = refl
+pulse-due (By28 count) pulse is some = omega (arith, is)
+pulse-due (By114 count) pulse is some = omega (arith, is)
+
+equal-by : (a b : ℕ) → (a == b) ≡ true → a ≡ b
+equal-by a b e = grind (arith, nat_tests)
+
+passed-by : (b : Bool) (v : Voice) (at due : ℕ) → (v.due == at) ≡ b → IsTimed v → at ≤ 2 ^ 49 → due ≡ (if b then v.due + v.step else v.due) → IsPassed at v (record v { due = due })
+passed-by false v at due other timed small e = rw e (record { timed = timed; pace = refl; period = refl; pulse = rw other refl })
+passed-by true v at due now timed small e =
+    let here : v.due ≡ at = equal-by v.due at now in
+    let early : v.due ≤ 2 ^ 49 = omega arith in
+    let pulse : pulse_at v.pace (v.due + v.step) v.first ≡ pulse_of v + v.period
+    = ap (λ (s : ℕ). pulse_at v.pace (v.due + s) v.first) timed.step ∙ pulse-next v.pace v.due v.first v.period timed.due early in
+    let few : pulse_of v ≤ at = due-few v at timed small here in
+    rw e (record {
+      timed = record {
+        prescaler = timed.prescaler;
+        some = omega (arith, pulse, timed.some);
+        few = omega (arith, pulse, few, timed.high);
+        low = timed.low;
+        high = timed.high;
+        step = timed.step;
+        due = ap (λ (d : ℕ). d + v.step) here ∙ due-next v at timed small here ∙ ap (due_at v.pace) (sym pulse);
+      };
+      pace = refl;
+      period = refl;
+      pulse = rw now pulse;
+    })
+
+-- a channel after a clock
+pub passed : (v : Voice) (at due : ℕ) → IsTimed v → at ≤ 2 ^ 49 → due ≡ (if v.due == at then v.due + v.step else v.due) → IsPassed at v (record v { due = due })
+passed v at due timed small e = passed-by (v.due == at) v at due refl timed small e
+
+-- where the pulse is near, its clock is
+pub near : (pace : Pace) (due none n : ℕ) → pulse_at pace due none ≤ paced pace n + 65542 → n ≤ 2 ^ 49 → IsEarly pace due
+near Never due none n few small = tt
+near ChipClock due none n few small = tt
+near (By28 count) due none n few small = omega (arith, pulses-few 28 count n)
+near (By114 count) due none n few small = omega (arith, pulses-few 114 count n)
 
 pub ruleset passes = (due-few, due-next)
 
@@ -79,7 +131,7 @@ pub begun-left : (c : Channel) (p : PokeyValue) → left_of c (times pokey_tick 
 unfolding ticks
 begun-left c p = refl
 
-pub ruleset begins = (begun, begun-left)
+pub ruleset begins = (begun, begun-left, pulse-due)
 
 -- the pulses of clocks one after another
 pub pulses_of-add : (c : Channel) (k m : ℕ) (p : PokeyValue) → pulses_of c (k + m) p ≡ pulses_of c k p + pulses_of c m (times pokey_tick k p)
@@ -91,8 +143,8 @@ module _ (c : Channel) (k : ℕ) (p : PokeyValue) (v : Voice) (is : IsVoice c k 
   -- before it is due a channel has no underflow
   pub none-before : (m : ℕ) → k + m < v.due → HasNoUnderflow (times pokey_tick k p) c m
   none-before m h =
-      let soon : k + m < due_at v.pace v.pulse = omega (arith, is.timed.due) in
-      let few : paced v.pace (k + m) < v.pulse = early v.pace v.pulse (k + m) is.timed.prescaler is.timed.some soon in
+      let soon : k + m < due_at v.pace (pulse_of v) = omega (arith, is.timed.due) in
+      let few : paced v.pace (k + m) < pulse_of v = early v.pace (pulse_of v) (k + m) is.timed.prescaler is.timed.some soon in
       omega (arith, few, pulses_of-add c k m p, is.paced_by (k + m), is.next)
 
   -- and it goes on with the same pulse
@@ -141,13 +193,13 @@ module _ (c : Channel) (j : ℕ) (p : PokeyValue) (v : Voice) (is : IsVoice c j 
     where
       by_place : (suc j < v.due) ⊎ (v.due ≤ suc j) → underflows (base_pulses (times pokey_tick j p)) (times pokey_tick j p) c ≡ (v.due == suc j)
       by_place (inl h) =
-          let later : suc j < due_at v.pace v.pulse = omega (arith, is.timed.due) in
-          let few : paced v.pace (suc j) < v.pulse = early v.pace v.pulse (suc j) is.timed.prescaler is.timed.some later in
+          let later : suc j < due_at v.pace (pulse_of v) = omega (arith, is.timed.due) in
+          let few : paced v.pace (suc j) < pulse_of v = early v.pace (pulse_of v) (suc j) is.timed.prescaler is.timed.some later in
           let sum : pulses_of c (suc j) p ≡ pulses_of c j p + from_bool (has_pulse c (times pokey_tick j p)) = refl in
           no-underflow c (times pokey_tick j p) (omega (arith, few, sum, is.paced_by (suc j), is.next)) ∙ sym (later-test v.due (suc j) h)
       by_place (inr h) =
-          let now : due_at v.pace v.pulse ≤ suc j = omega (arith, is.timed.due) in
-          let many : v.pulse ≤ paced v.pace (suc j) = late v.pace v.pulse (suc j) is.timed.prescaler is.timed.some small now in
+          let now : due_at v.pace (pulse_of v) ≤ suc j = omega (arith, is.timed.due) in
+          let many : pulse_of v ≤ paced v.pace (suc j) = late v.pace (pulse_of v) (suc j) is.timed.prescaler is.timed.some small now in
           let sum : pulses_of c (suc j) p ≡ pulses_of c j p + from_bool (has_pulse c (times pokey_tick j p)) = refl in
           underflow-is (base_pulses (times pokey_tick j p)) (times pokey_tick j p) c
           ∙ last-taken (has_pulse c (times pokey_tick j p)) (left_of c (times pokey_tick j p)) is.some (omega (arith, many, sum, is.paced_by (suc j), is.next))
@@ -169,14 +221,14 @@ module _ (c : Channel) (j : ℕ) (p : PokeyValue) (v : Voice) (is : IsVoice c j 
       × ((if has_pulse c (times pokey_tick j p) then (if nat_le (left_of c (times pokey_tick j p)) 1 then v.period else left_of c (times pokey_tick j p) - 1) else left_of c (times pokey_tick j p)) ≤ 65542)
       = counted-range (has_pulse c (times pokey_tick j p)) (left_of c (times pokey_tick j p)) v.period is.some is.most is.timed.low is.timed.high in
       let sum : left_of c (times pokey_tick (suc j) p) + (pulses_of c j p + from_bool (has_pulse c (times pokey_tick j p)))
-      ≡ (if underflows (base_pulses (times pokey_tick j p)) (times pokey_tick j p) c then v.pulse + v.period else v.pulse)
+      ≡ (if underflows (base_pulses (times pokey_tick j p)) (times pokey_tick j p) c then pulse_of v + v.period else pulse_of v)
       = rw (left-then, underflow-is (base_pulses (times pokey_tick j p)) (times pokey_tick j p) c)
-      (counted-next (has_pulse c (times pokey_tick j p)) (left_of c (times pokey_tick j p)) v.period (pulses_of c j p) v.pulse is.next is.some) in
+      (counted-next (has_pulse c (times pokey_tick j p)) (left_of c (times pokey_tick j p)) v.period (pulses_of c j p) (pulse_of v) is.next is.some) in
       record {
         timed = passed.timed;
         paced_by = λ n. is.paced_by n ∙ ap (λ (pace : Pace). paced pace n) (sym passed.pace);
         period = passed.period ∙ is.period;
-        next = sum ∙ ap (λ (b : Bool). if b then v.pulse + v.period else v.pulse) due-is ∙ sym passed.pulse;
+        next = sum ∙ ap (λ (b : Bool). if b then pulse_of v + v.period else pulse_of v) due-is ∙ sym passed.pulse;
         some = rw left-then range.0;
         most = rw left-then range.1;
       }

@@ -6,3 +6,5 @@ pub mod Quiet
 pub mod Registers
 pub mod Tick
 pub mod Unit
+pub mod Noise
+pub mod Tones

@@ -1,16 +1,16 @@
-ghost use Rattle.std.specs.Prelude.{◌≡◌, ◌+◌, ◌==◌, ◌≤◌};
+ghost use Rattle.std.specs.Prelude.{◌≡◌, ◌+◌, ◌≤◌, IfSome};
 ghost use Rattle.board_base.specs.Pokey.{pokey_at_power_on};
 ghost use Rattle.board_base.specs.Ticks.{times};
 ghost use Rattle.board_base.specs.Trail.{Extended};
-ghost use Rattle.pokey_chip.specs.Moves.{turns_taken};
-ghost use Rattle.pokey_chip.specs.Tick.{levelled, levels_made, pokey_tick};
+ghost use Rattle.pokey_chip.specs.Tick.{change, levels_made, pokey_tick};
+ghost use Rattle.pokey_chip.specs.Tones.{levels_on};
 
-use crate::channel::Channel;
 use crate::counts::put_counts;
-use crate::poly_registers::PolyRegisters;
+use crate::noise::Noise;
 use crate::quiet::quiet_clocks;
 use crate::registers::{read_register, write_register};
-use crate::tick::{is_held, levels, record_change, turn};
+use crate::tick::record_change;
+use crate::tones::{Tones, Tuning, levels_on, put_tones};
 use crate::unit::SoundUnit;
 use crate::voice::Voices;
 use board_base::{CLOCK_END, CallCount, Clocked, PokeyState, Trail};
@@ -53,17 +53,32 @@ impl Clocked for FastPokey {
     }
 }
 
-/// The turns of the channels that are due in the clock `at` of a move, and the levels.
+/// Records the levels of a clock where other channels are on than were `heard`, or nothing is known of
+/// those, and the levels changed.
 #[inline(always)]
-#[tactic(auto, unfolding(crate::specs::Moves::turns_taken))]
-fn take_turns(state: &mut PokeyState, voices: &Voices, at: u64)
-    ensures { state.new ≡ levelled (turns_taken (voices.now.first.due == at) (voices.now.second.due == at) (voices.now.third.due == at) (voices.now.fourth.due == at) state.old) }
+#[tactic(auto, using(crate::proofs::RecordLemmas::quiet))]
+fn record_levels(
+    heard: Option<u8>,
+    on: u8,
+    last: &mut [u8; 4],
+    audc: &[u8; 4],
+    clock: u64,
+    trail: &mut Trail,
+)
+    requires room { 1 ≤ trail.old.spare }
+    requires heard { IfSome heard (λ before. last.old ≡ levels_on before audc.now) }
+    ensures last { last.new ≡ levels_on on audc.now }
+    ensures records { Extended trail.old trail.new (change clock last.old (levels_on on audc.now)) }
+    ensures few { trail.old.spare ≤ trail.new.spare + 1 }
 {
-    turn(state, voices.first.due == at, Channel::First);
-    turn(state, voices.second.due == at, Channel::Second);
-    turn(state, voices.third.due == at, Channel::Third);
-    turn(state, voices.fourth.due == at, Channel::Fourth);
-    state.last = levels(state);
+    if let Some(before) = heard {
+        if before == on {
+            return;
+        }
+    }
+    let levels = levels_on(on, audc);
+    record_change(last, &levels, clock, trail);
+    *last = levels;
 }
 
 /// Does `n` clocks, from one underflow to the next. The first clock is looked at always, since a state
@@ -78,22 +93,24 @@ fn advance_by_underflows(state: &mut PokeyState, from: u64, n: u64, trail: &mut 
         return;
     }
     let start = *state;
-    let held = is_held(start.skctl);
+    let tuning = Tuning::of(&start);
     let mut voices = Voices::of(&start);
-    let mut registers = PolyRegisters::of(&start);
-    let mut done = 0;
+    let mut noise = Noise::of(&start);
+    let mut tones = Tones::of(&start);
+    let mut last = start.last;
+    let mut heard = None;
     let mut at = 1;
     while at <= n {
-        registers = registers.rolled(held, at - done);
-        registers.put(state);
-        let before = state.last;
-        take_turns(state, &voices, at);
-        record_change(&before, &state.last, from + (at - 1), trail);
+        noise = noise.reaching(&start, at);
+        tones = tones.after(&tuning, noise.outputs(&start, at), voices.due(at));
+        let on = tones.on(&tuning);
+        record_levels(heard, on, &mut last, &start.audc, from + (at - 1), trail);
+        heard = Some(on);
         voices = voices.after(at);
-        done = at;
         at = voices.soonest();
     }
-    registers.rolled(held, n - done).put(state);
+    noise.put(state, n);
+    put_tones(state, tones, last);
     put_counts(state, &start, &voices, n);
 }
 

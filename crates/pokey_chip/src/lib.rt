@@ -10,12 +10,13 @@ mod control;
 mod counts;
 pub mod fast;
 pub mod laws;
+mod noise;
 mod pace;
 pub mod plain;
-mod poly_registers;
 mod quiet;
 mod registers;
 mod tick;
+mod tones;
 pub mod unit;
 mod voice;
 

@@ -24,7 +24,8 @@ pub(crate) fn is_held(skctl: u8) -> bool
 }
 
 /// The register with all its bits set.
-fn all_ones(poly: Poly) -> u32
+#[inline(always)]
+pub(crate) fn all_ones(poly: Poly) -> u32
     ensures { result ≡ 2 ^ width_of poly - 1 }
 {
     match poly {

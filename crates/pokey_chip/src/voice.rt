@@ -1,19 +1,22 @@
-ghost use Rattle.std.specs.Prelude.{◌≡◌, ◌+◌, ◌≤◌, All, [], ◌∷◌, min};
-ghost use Rattle.pokey_chip.specs.Moves.{due_at, step_of, IsLeft, IsPassed, IsTimed, IsVoice, left_of_voice};
+ghost use Rattle.std.specs.Prelude.{◌≡◌, ◌+◌, ◌<◌, ◌==◌, ◌≤◌, All, [], ◌∷◌, if◌then◌else◌, min};
+ghost use Rattle.pokey_chip.specs.declared.channel.Channel.{Channel as AnyChannel};
+ghost use Rattle.pokey_chip.specs.Tones.{has, of_channel};
+ghost use Rattle.pokey_chip.specs.Moves.{due_at, pulse_at, step_of, IsEarly, IsLeft, IsPassed, IsTimed, IsVoice, left_of_voice};
 ghost use Rattle.pokey_chip.specs.Paces.{IsPace};
 
 use crate::channel::Channel;
 use crate::pace::Pace;
+use crate::tones::four_bits;
 use board_base::{CLOCK_END, LONGEST_PERIOD, PRESCALER_BASE, PRESCALER_LINE, PokeyState};
 
-/// A channel in a move: what gives it its pulses, its period in pulses and in clocks, the pulse with
-/// which it underflows next and the clock of that pulse, both counted from the start of the move.
+/// A channel in a move: what gives it its pulses, the pulse with which it underflows first, its period
+/// in pulses and in clocks, and the clock of its next underflow, counted from the start of the move.
 #[derive(Clone, Copy)]
 pub struct Voice {
     pub pace: Pace,
+    pub first: u64,
     pub period: u32,
     pub step: u64,
-    pub pulse: u64,
     pub due: u64,
 }
 
@@ -30,6 +33,20 @@ fn clock_of(pace: Pace, pulse: u64) -> u64
         Pace::ChipClock => pulse,
         Pace::By28 { count } => pulse * u64::from(PRESCALER_BASE) - u64::from(count),
         Pace::By114 { count } => pulse * u64::from(PRESCALER_LINE) - u64::from(count),
+    }
+}
+
+/// The pulse that comes with a clock; another number where none comes.
+#[inline(always)]
+fn pulse_at(pace: Pace, due: u64, none: u64) -> u64
+    requires { IsEarly pace due }
+    ensures { result ≡ pulse_at pace due none }
+{
+    match pace {
+        Pace::Never => none,
+        Pace::ChipClock => due,
+        Pace::By28 { count } => (due + u64::from(count)) / u64::from(PRESCALER_BASE),
+        Pace::By114 { count } => (due + u64::from(count)) / u64::from(PRESCALER_LINE),
     }
 }
 
@@ -56,30 +73,40 @@ impl Voice {
     {
         let pace = Pace::of(state, channel);
         let period = channel.period(&state.audf, state.audctl);
-        let pulse = u64::from(state.left[channel.index()]);
+        let first = u64::from(state.left[channel.index()]);
         Voice {
             pace,
+            first,
             period,
             step: clocks_between(pace, period),
-            pulse,
-            due: clock_of(pace, pulse),
+            due: clock_of(pace, first),
+        }
+    }
+
+    /// The clock of its next underflow after the clock `at`, in which it underflows where it is due.
+    #[inline(always)]
+    #[tactic(auto, using(crate::proofs::VoiceLaws::passes))]
+    fn due_after(self, at: u64) -> u64
+        requires timed { IsTimed self }
+        requires at { at ≤ CLOCK_END }
+        ensures { result ≡ (if self.due == at then self.due + self.step else self.due) }
+    {
+        if self.due == at {
+            self.due + self.step
+        } else {
+            self.due
         }
     }
 
     /// The channel after the clock `at`, in which it underflows where it is due.
     #[inline(always)]
-    #[tactic(auto, using(crate::proofs::VoiceLaws::passes))]
     fn after(self, at: u64) -> Voice
         requires timed { IsTimed self }
         requires at { at ≤ CLOCK_END }
         ensures { IsPassed at self result }
     {
-        if self.due != at {
-            return self;
-        }
         Voice {
-            pulse: self.pulse + u64::from(self.period),
-            due: self.due + self.step,
+            due: self.due_after(at),
             ..self
         }
     }
@@ -93,7 +120,7 @@ impl Voice {
         ensures low { 1 ≤ result }
         ensures high { result ≤ LONGEST_PERIOD }
     {
-        (self.pulse - self.pace.pulses(n)) as u32
+        (pulse_at(self.pace, self.due, self.first) - self.pace.pulses(n)) as u32
     }
 }
 
@@ -121,6 +148,20 @@ impl Voices {
             third: Voice::of(state, Channel::Third),
             fourth: Voice::of(state, Channel::Fourth),
         }
+    }
+
+    /// The channels that are due in a clock, one bit for each.
+    #[inline(always)]
+    pub fn due(&self, at: u64) -> u8
+        ensures bits { (c : AnyChannel) → has result c ≡ of_channel (self.now.first.due == at) (self.now.second.due == at) (self.now.third.due == at) (self.now.fourth.due == at) c }
+        ensures fits { result < 16 }
+    {
+        four_bits(
+            self.first.due == at,
+            self.second.due == at,
+            self.third.due == at,
+            self.fourth.due == at,
+        )
     }
 
     /// The channels after the clock `at`, in which those underflow that are due.

@@ -1,9 +1,10 @@
 -- Many shifts at once: a register is a window on the bits that leave it from a value on.
-use Rattle.std.proofs.Common.{◌≡◌, ℕ, ◌+◌, ◌*◌, ◌-◌, ◌/◌, ◌%◌, ◌^◌, ◌<◌, ◌≤◌, ◌⊎◌, inl, inr, zero, suc, bit_and, arith, add-one, pow_pos, sym, ap, ◌∙◌}
+use Rattle.std.proofs.Common.{◌≡◌, ℕ, ◌+◌, ◌*◌, ◌-◌, ◌/◌, ◌%◌, ◌^◌, ◌<◌, ◌≤◌, ◌==◌, ◌⊎◌, inl, inr, zero, suc, bit_and, arith, add-one, pow_pos, sym, ap, ◌∙◌}
 use Rattle.std.proofs.lemmas.Bool.{cases_lt}
 use Rattle.std.proofs.lemmas.Nat.{and_mask, pow_below}
 use Rattle.std.proofs.lemmas.Nat.Bits.{same_from_bits_below}
 use Rattle.std.specs.Int.{bit_at}
+use Rattle.bit_words.specs.Bits.{is_bit}
 use Rattle.board_base.specs.Ticks.{times}
 use Rattle.board_base.proofs.TickLaws.{times-add, times-more, times-zero}
 use Rattle.pokey_poly.specs.declared.poly.Poly.{Poly}
@@ -156,6 +157,28 @@ width-few Five = omega arith
 width-few Nine = omega arith
 width-few Seventeen = omega arith
 
+width-some : (poly : Poly) → 1 ≤ width_of poly
+width-some Four = omega arith
+width-some Five = omega arith
+width-some Nine = omega arith
+width-some Seventeen = omega arith
+
+-- a word of the bits that leave a register begins with it
+pub ahead-start : (poly : Poly) (r word known : ℕ) → r < 2 ^ width_of poly → width_of poly ≤ known → IsAhead poly r known word → word % 2 ^ width_of poly ≡ r
+ahead-start poly r word known small enough ahead =
+    let whole : word / 2 ^ 0 ≡ word = omega arith in
+    ap (λ (n : ℕ). n % 2 ^ width_of poly) (sym whole)
+    ∙ poly-window poly r word known 0 small ahead (omega arith)
+    ∙ times-zero (shifted poly) r
+
+-- a bit of it is the output after as many shifts
+pub output-code : (poly : Poly) (r word n : ℕ) → n ≤ 47 → IsAhead poly r (47 + width_of poly) word
+    → (bit_and (word / 2 ^ n) 1 == 1) ≡ is_bit (times (shifted poly) n r) 0
+output-code poly r word n few ahead =
+    ap (λ (d : ℕ). d == 1) (and_mask (word / 2 ^ n) 1 ∙ ahead.bit n (omega (arith, width-some poly)))
+
+pub ruleset outputs = output-code
+
 -- a move, as the code computes it
 pub move-code : (poly : Poly) (r word n : ℕ) → r < 2 ^ width_of poly → n ≤ 47 → IsAhead poly r (47 + width_of poly) word
     → bit_and (word / 2 ^ n) (1 * 2 ^ width_of poly % 2 ^ 64 - 1) ≡ times (shifted poly) n r
@@ -164,7 +187,15 @@ move-code poly r word n small few ahead =
     rw (mask, and_mask (word / 2 ^ n) (width_of poly))
     (poly-window poly r word (47 + width_of poly) n small ahead (omega arith))
 
-pub ruleset windows = (move-code, poly-after-lt)
+-- of a word that begins with its register
+pub window-code : (poly : Poly) (word n : ℕ) → n ≤ 47 → IsAhead poly (word % 2 ^ width_of poly) (47 + width_of poly) word
+    → bit_and (word / 2 ^ n) (1 * 2 ^ width_of poly % 2 ^ 64 - 1) ≡ times (shifted poly) n (word % 2 ^ width_of poly)
+window-code poly word n few ahead = move-code poly (word % 2 ^ width_of poly) word n (omega (arith, pow_pos (width_of poly))) few ahead
+
+pub window-lt : (poly : Poly) (word n : ℕ) → times (shifted poly) n (word % 2 ^ width_of poly) < 2 ^ width_of poly
+window-lt poly word n = poly-after-lt poly n (word % 2 ^ width_of poly) (omega (arith, pow_pos (width_of poly)))
+
+pub ruleset windows = (window-code, window-lt, poly-after-lt)
 
 -- a move less is left to make
 pub move-done : (tick : ℕ → ℕ) (left k now start : ℕ) → k ≤ left → times tick left now ≡ start → times tick (left - k) (times tick k now) ≡ start

@@ -1,5 +1,6 @@
 pub mod BitLaws
 pub mod LeapLaws
+pub mod PeriodLaws
 pub mod Moves
 pub mod TableLaws
 pub mod WordLaws

@@ -3,7 +3,7 @@
 
 mod poly;
 
-pub use poly::Poly;
+pub use poly::{Poly, REACH};
 
 #[cfg(test)]
 mod tests;

@@ -18,7 +18,7 @@ pub enum Poly {
 }
 
 /// How many shifts one move makes at most: with the bits of the longest register, as many as a word has.
-const REACH: u64 = 47;
+pub const REACH: u64 = 47;
 
 /// The next 64 bits that leave the 4-bit register from each value on, the lowest first.
 const FOUR_ON: [u64; 16] = [
@@ -104,7 +104,7 @@ impl Poly {
         ensures fits { result < 2 ^ width_of self }
     {
         let mut now = r;
-        let mut left = n;
+        let mut left = self.wrapped(n);
         while left > REACH {
             now = self.after(now, REACH);
             left -= REACH;
@@ -112,18 +112,52 @@ impl Poly {
         self.after(now, left)
     }
 
-    /// The register after a move: as it is a window on the bits that leave it, the word of these bits
-    /// moves down.
+    /// Fewer shifts that come to the same: the 9-bit register is back at each value after 511.
     #[inline(always)]
-    #[tactic(auto, using(crate::proofs::LeapLaws::windows))]
+    #[tactic(auto, using(crate::proofs::PeriodLaws::periods))]
+    fn wrapped(self, n: u64) -> u64
+        ensures { (r : ℕ) → r < 2 ^ width_of self → times (shifted self) result r ≡ times (shifted self) n r }
+    {
+        match self {
+            Poly::Nine => n % 511,
+            Poly::Four | Poly::Five | Poly::Seventeen => n,
+        }
+    }
+
+    /// The register after a move.
+    #[inline(always)]
     fn after(self, r: u32, n: u64) -> u32
         requires fits { r < 2 ^ width_of self }
         requires reach { n ≤ REACH }
         ensures value { result ≡ times (shifted self) n r }
         ensures fits { result < 2 ^ width_of self }
     {
+        self.window(self.ahead(r), n)
+    }
+
+    /// The register so many shifts after the one from which a word of bits leaves it: as it is a window
+    /// on these bits, the word moves down.
+    #[inline(always)]
+    #[tactic(auto, using(crate::proofs::LeapLaws::windows))]
+    pub fn window(self, ahead: u64, n: u64) -> u32
+        requires ahead { IsAhead self (ahead % 2 ^ width_of self) (REACH + width_of self) ahead }
+        requires reach { n ≤ REACH }
+        ensures value { result ≡ times (shifted self) n (ahead % 2 ^ width_of self) }
+        ensures fits { result < 2 ^ width_of self }
+    {
         let low = (1 << self.width()) - 1;
-        ((self.ahead(r) >> n) & low) as u32
+        ((ahead >> n) & low) as u32
+    }
+
+    /// The bit that leaves the register at one of the shifts of a word.
+    #[inline(always)]
+    #[tactic(auto, using(crate::proofs::LeapLaws::outputs))]
+    pub fn output(self, ahead: u64, n: u64) -> bool
+        requires ahead { IsAhead self (ahead % 2 ^ width_of self) (REACH + width_of self) ahead }
+        requires reach { n ≤ REACH }
+        ensures { result ≡ is_bit (times (shifted self) n (ahead % 2 ^ width_of self)) 0 }
+    {
+        (ahead >> n) & 1 == 1
     }
 
     /// How many bits the register has.
@@ -139,12 +173,13 @@ impl Poly {
         }
     }
 
-    /// The bits that leave the register from a value on, the lowest first.
+    /// The bits that leave the register from a value on, the lowest first; so the lowest are the value.
     #[inline(always)]
     #[tactic(auto, using(crate::proofs::TableLaws::tables))]
-    fn ahead(self, r: u32) -> u64
+    pub fn ahead(self, r: u32) -> u64
         requires fits { r < 2 ^ width_of self }
         ensures ahead { IsAhead self r (REACH + width_of self) result }
+        ensures start { result % 2 ^ width_of self ≡ r }
     {
         match self {
             Poly::Four => FOUR_ON[r as usize],

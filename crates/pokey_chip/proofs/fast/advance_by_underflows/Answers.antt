@@ -1,12 +1,11 @@
-use Rattle.std.proofs.Common.{◌≡◌, ◌^◌, ◌<◌, ◌≤◌, ap, sym, ◌∙◌, arith}
-use Rattle.board_base.proofs.TickLaws.{times-still, times-zero}
+use Rattle.std.proofs.Common.{◌≡◌, ◌<◌, ◌≤◌, refl, ap, sym, ◌∙◌, arith}
+use Rattle.board_base.proofs.TickLaws.{times-still}
 use Rattle.board_base.specs.Pokey.{PokeyValue}
-use Rattle.board_base.specs.Ticks.{times}
 use Rattle.pokey_chip.specs.declared.channel.Channel.TheVariants.{First, Second, Third, Fourth}
-use Rattle.pokey_chip.specs.Moves.{IsVoice}
-use Rattle.pokey_chip.specs.Tick.{is_held, pokey_tick}
-use Rattle.pokey_chip.proofs.EventLaws.{stood}
-use Rattle.pokey_chip.proofs.MoveLaws.{begun-records, begun-state, comes-on, five-then, four-then, is-later, is-left, nine-then, records-end, records-then, settled-then, seventeen-then, stood-last, state-end, state-then}
+use Rattle.pokey_chip.specs.Tick.{pokey_tick}
+use Rattle.pokey_chip.specs.Tones.{levels_on}
+use Rattle.pokey_chip.proofs.MoveLaws.{begun-records, is-left}
+use Rattle.pokey_chip.proofs.MovedLaws.{begun, moved, moved-records, moved-state, next-later}
 use Rattle.pokey_chip.proofs.fast.advance_by_underflows.Goals as goal
 
 pub returns-then-n-eq0-clause-state : goal.returns-then-n-eq0-clause-state
@@ -17,166 +16,76 @@ returns-then-n-eq0-clause-records c =
     let none : c.args.n ≡ 0 = omega arith in
     rw none (begun-records c.args.from c.args.state.now c.args.trail.now)
 
--- the channels at the start
-first-begun : (c : goal.After-of-registers) → IsVoice First 0 c.args.state.now c.of-voices.result.first
-first-begun c = rw c.state.view_is at c.of-voices.ensures.first
-
-second-begun : (c : goal.After-of-registers) → IsVoice Second 0 c.args.state.now c.of-voices.result.second
-second-begun c = rw c.state.view_is at c.of-voices.ensures.second
-
-third-begun : (c : goal.After-of-registers) → IsVoice Third 0 c.args.state.now c.of-voices.result.third
-third-begun c = rw c.state.view_is at c.of-voices.ensures.third
-
-fourth-begun : (c : goal.After-of-registers) → IsVoice Fourth 0 c.args.state.now c.of-voices.result.fourth
-fourth-begun c = rw c.state.view_is at c.of-voices.ensures.fourth
-
 pub loop-at-init : goal.loop-at-init
-loop-at-init c =
-    let start_is = c.state.view_is ∙ sym (times-zero pokey_tick c.args.state.now) in
-    record {
-      within = omega arith;
-      later = omega arith;
-      start = c.state.view_is;
-      held = c.is_held-held.ensures ∙ ap (λ (q : PokeyValue). is_held q.skctl) c.state.view_is;
-      state = begun-state c.args.state.now;
-      settled = λ h. absurd (omega arith);
-      four = c.of-registers.ensures.four ∙ ap (λ (q : PokeyValue). q.poly4) start_is;
-      five = c.of-registers.ensures.five ∙ ap (λ (q : PokeyValue). q.poly5) start_is;
-      nine = c.of-registers.ensures.nine ∙ ap (λ (q : PokeyValue). q.poly9) start_is;
-      seventeen = c.of-registers.ensures.seventeen ∙ ap (λ (q : PokeyValue). q.poly17) start_is;
-      first = first-begun c;
-      second = second-begun c;
-      third = third-begun c;
-      fourth = fourth-begun c;
-      first_due = is-later First 0 c.args.state.now c.of-voices.result.first (first-begun c) (omega arith);
-      second_due = is-later Second 0 c.args.state.now c.of-voices.result.second (second-begun c) (omega arith);
-      third_due = is-later Third 0 c.args.state.now c.of-voices.result.third (third-begun c) (omega arith);
-      fourth_due = is-later Fourth 0 c.args.state.now c.of-voices.result.fourth (fourth-begun c) (omega arith);
-      records = begun-records c.args.from c.args.state.now c.args.trail.now;
-      room = omega arith;
-    }
+loop-at-init c = (
+  0,
+  begun c.args.state.now c.args.from c.args.n c.args.trail.now c.of-voices.result c.of-noise.result c.of-tones.result c.start.inside.last (omega arith) c.requires.room
+      c.of-noise.ensures.noise c.of-noise.ensures.since
+      c.of-tones.ensures.tone
+      c.of-tones.ensures.pass
+      c.of-tones.ensures.turned
+      (omega (arith, ap (λ (q : PokeyValue). q.irqst) c.start.view_is, c.start.invariant.irqst))
+      (ap (λ (q : PokeyValue). q.last) c.start.view_is)
+      c.start.invariant.levels
+      c.of-voices.ensures.first
+      c.of-voices.ensures.second
+      c.of-voices.ensures.third
+      c.of-voices.ensures.fourth,
+)
 
--- the channels after an underflow
-first-then : (c : goal.After-soonest-at) → IsVoice First c.loop-at.at c.args.state.now c.after-voices.result.first
-first-then c =
-    comes-on First c.loop-at.done c.loop-at.at c.args.state.now c.loop-at.voices.first c.loop-at.invariant.first (omega arith) (omega arith)
-    c.loop-at.invariant.first_due c.after-voices.result.first c.after-voices.ensures.first
-
-second-then : (c : goal.After-soonest-at) → IsVoice Second c.loop-at.at c.args.state.now c.after-voices.result.second
-second-then c =
-    comes-on Second c.loop-at.done c.loop-at.at c.args.state.now c.loop-at.voices.second c.loop-at.invariant.second (omega arith) (omega arith)
-    c.loop-at.invariant.second_due c.after-voices.result.second c.after-voices.ensures.second
-
-third-then : (c : goal.After-soonest-at) → IsVoice Third c.loop-at.at c.args.state.now c.after-voices.result.third
-third-then c =
-    comes-on Third c.loop-at.done c.loop-at.at c.args.state.now c.loop-at.voices.third c.loop-at.invariant.third (omega arith) (omega arith)
-    c.loop-at.invariant.third_due c.after-voices.result.third c.after-voices.ensures.third
-
-fourth-then : (c : goal.After-soonest-at) → IsVoice Fourth c.loop-at.at c.args.state.now c.after-voices.result.fourth
-fourth-then c =
-    comes-on Fourth c.loop-at.done c.loop-at.at c.args.state.now c.loop-at.voices.fourth c.loop-at.invariant.fourth (omega arith) (omega arith)
-    c.loop-at.invariant.fourth_due c.after-voices.result.fourth c.after-voices.ensures.fourth
-
--- none of them is due before the next clock
-next-later : (c : goal.After-soonest-at) → c.loop-at.at < c.soonest-at.result
-next-later c =
-    omega (
-      arith,
-      c.soonest-at.ensures,
-      is-later First c.loop-at.at c.args.state.now c.after-voices.result.first (first-then c) (omega arith),
-      is-later Second c.loop-at.at c.args.state.now c.after-voices.result.second (second-then c) (omega arith),
-      is-later Third c.loop-at.at c.args.state.now c.after-voices.result.third (third-then c) (omega arith),
-      is-later Fourth c.loop-at.at c.args.state.now c.after-voices.result.fourth (fourth-then c) (omega arith),
-    )
+later : (c : goal.After-soonest-at) → c.loop-at.at < c.soonest-at.result
+later c =
+    next-later c.args.state.now c.args.from c.args.n c.loop-at.at c.loop-at.invariant.0 c.args.trail.now c.loop-at.trail c.loop-at.voices c.loop-at.noise c.loop-at.tones c.loop-at.heard c.loop-at.last c.loop-at.invariant.1 (omega arith) (omega arith)
+    c.of-tuning.result c.outputs.result c.due.result c.on-on.result c.soonest-at.result c.record_levels.new.trail c.after-voices.result c.reaching-noise.result c.after-tones.result c.record_levels.new.last
+    c.of-tuning.ensures c.reaching-noise.ensures.noise c.reaching-noise.ensures.since
+    c.outputs.ensures.four c.outputs.ensures.five c.outputs.ensures.long
+    c.due.ensures.bits c.after-tones.ensures.tone c.after-tones.ensures.pass c.after-tones.ensures.turned c.on-on.ensures
+    (c.record_levels.ensures.last ∙ ap (λ (q : PokeyValue). levels_on c.on-on.result q.audc) c.start.view_is)
+    (rw (ap (λ (q : PokeyValue). q.audc) c.start.view_is) at c.record_levels.ensures.records) c.record_levels.ensures.few
+    c.after-voices.ensures.first c.after-voices.ensures.second c.after-voices.ensures.third c.after-voices.ensures.fourth c.soonest-at.ensures
 
 pub loop-at-smaller : goal.loop-at-smaller
-loop-at-smaller c = omega (arith, next-later c)
+loop-at-smaller c = omega (arith, later c)
 
 pub loop-at-preserved : goal.loop-at-preserved
-loop-at-preserved c =
-    let small : c.loop-at.at ≤ 2 ^ 49 = omega arith in
-    let up_to : c.loop-at.done ≤ c.loop-at.at = omega arith in
-    let four = four-then c.args.state.now c.loop-at.done c.loop-at.at up_to c.is_held-held.result c.loop-at.invariant.held _ _ c.loop-at.invariant.four c.rolled-registers.ensures.four in
-    let five = five-then c.args.state.now c.loop-at.done c.loop-at.at up_to c.is_held-held.result c.loop-at.invariant.held _ _ c.loop-at.invariant.five c.rolled-registers.ensures.five in
-    let nine = nine-then c.args.state.now c.loop-at.done c.loop-at.at up_to c.is_held-held.result c.loop-at.invariant.held _ _ c.loop-at.invariant.nine c.rolled-registers.ensures.nine in
-    let seventeen = seventeen-then c.args.state.now c.loop-at.done c.loop-at.at up_to c.is_held-held.result c.loop-at.invariant.held _ _ c.loop-at.invariant.seventeen c.rolled-registers.ensures.seventeen in
-    let state : c.take_turns.new.state ≡ stood c.args.state.now (times pokey_tick c.loop-at.at c.args.state.now)
-    = state-then c.args.state.now c.loop-at.done c.loop-at.at c.loop-at.voices c.loop-at.invariant.later small
-    c.loop-at.invariant.settled c.loop-at.invariant.first c.loop-at.invariant.second c.loop-at.invariant.third c.loop-at.invariant.fourth
-    c.loop-at.invariant.first_due c.loop-at.invariant.second_due c.loop-at.invariant.third_due c.loop-at.invariant.fourth_due
-    c.loop-at.state c.take_turns.new.state _ _ _ _ c.loop-at.invariant.state four five nine seventeen
-    (rw c.put.ensures at c.take_turns.ensures) in
-    let before_is : c.state-in-loop-at.inside.last ≡ (times pokey_tick c.loop-at.done c.args.state.now).last
-    = ap (λ (q : PokeyValue). q.last) (c.state-in-loop-at.view_is ∙ c.put.ensures)
-    ∙ stood-last c.args.state.now (times pokey_tick c.loop-at.done c.args.state.now) c.loop-at.state c.loop-at.invariant.state in
-    let now_is : c.state-in-loop-at-2.inside.last ≡ (times pokey_tick c.loop-at.at c.args.state.now).last
-    = ap (λ (q : PokeyValue). q.last) c.state-in-loop-at-2.view_is
-    ∙ stood-last c.args.state.now (times pokey_tick c.loop-at.at c.args.state.now) c.take_turns.new.state state in
-    record {
-      within = omega arith;
-      later = next-later c;
-      start = c.loop-at.invariant.start;
-      held = c.loop-at.invariant.held;
-      state = state;
-      settled = λ h. settled-then c.args.state.now c.loop-at.done c.loop-at.at c.loop-at.voices c.loop-at.invariant.later small
-          c.loop-at.invariant.settled c.loop-at.invariant.first c.loop-at.invariant.second c.loop-at.invariant.third c.loop-at.invariant.fourth
-          c.loop-at.invariant.first_due c.loop-at.invariant.second_due c.loop-at.invariant.third_due c.loop-at.invariant.fourth_due;
-      four = four;
-      five = five;
-      nine = nine;
-      seventeen = seventeen;
-      first = first-then c;
-      second = second-then c;
-      third = third-then c;
-      fourth = fourth-then c;
-      first_due = omega (arith, c.soonest-at.ensures);
-      second_due = omega (arith, c.soonest-at.ensures);
-      third_due = omega (arith, c.soonest-at.ensures);
-      fourth_due = omega (arith, c.soonest-at.ensures);
-      records = records-then c.args.state.now c.loop-at.done c.loop-at.at c.loop-at.voices c.loop-at.invariant.later small
-          c.loop-at.invariant.settled c.loop-at.invariant.first c.loop-at.invariant.second c.loop-at.invariant.third c.loop-at.invariant.fourth
-          c.loop-at.invariant.first_due c.loop-at.invariant.second_due c.loop-at.invariant.third_due c.loop-at.invariant.fourth_due
-          c.args.from c.args.trail.now c.loop-at.trail c.record_change.new.trail c.loop-at.invariant.records
-          (rw (before_is, now_is) at c.record_change.ensures.records);
-      room = omega (arith, c.record_change.ensures.few);
-    }
+loop-at-preserved c = (
+  c.loop-at.at,
+  moved c.args.state.now c.args.from c.args.n c.loop-at.at c.loop-at.invariant.0 c.args.trail.now c.loop-at.trail c.loop-at.voices c.loop-at.noise c.loop-at.tones c.loop-at.heard c.loop-at.last c.loop-at.invariant.1 (omega arith) (omega arith)
+      c.of-tuning.result c.outputs.result c.due.result c.on-on.result c.soonest-at.result c.record_levels.new.trail c.after-voices.result c.reaching-noise.result c.after-tones.result c.record_levels.new.last
+      c.of-tuning.ensures c.reaching-noise.ensures.noise c.reaching-noise.ensures.since
+      c.outputs.ensures.four c.outputs.ensures.five c.outputs.ensures.long
+      c.due.ensures.bits c.after-tones.ensures.tone c.after-tones.ensures.pass c.after-tones.ensures.turned c.on-on.ensures
+      (c.record_levels.ensures.last ∙ ap (λ (q : PokeyValue). levels_on c.on-on.result q.audc) c.start.view_is)
+      (rw (ap (λ (q : PokeyValue). q.audc) c.start.view_is) at c.record_levels.ensures.records) c.record_levels.ensures.few
+      c.after-voices.ensures.first c.after-voices.ensures.second c.after-voices.ensures.third c.after-voices.ensures.fourth c.soonest-at.ensures,
+)
 
 pub put_counts-requires-clause-first : goal.put_counts-requires-clause-first
 put_counts-requires-clause-first c =
-    is-left First c.loop-at.done c.loop-at.at c.args.n c.args.state.now c.loop-at.voices.first c.loop-at.invariant.first c.loop-at.invariant.within (omega arith) c.loop-at.invariant.first_due
+    is-left First c.loop-at.invariant.0 c.loop-at.at c.args.n c.args.state.now c.loop-at.voices.first c.loop-at.invariant.1.first c.loop-at.invariant.1.within (omega arith) c.loop-at.invariant.1.first_due
 
 pub put_counts-requires-clause-second : goal.put_counts-requires-clause-second
 put_counts-requires-clause-second c =
-    is-left Second c.loop-at.done c.loop-at.at c.args.n c.args.state.now c.loop-at.voices.second c.loop-at.invariant.second c.loop-at.invariant.within (omega arith) c.loop-at.invariant.second_due
+    is-left Second c.loop-at.invariant.0 c.loop-at.at c.args.n c.args.state.now c.loop-at.voices.second c.loop-at.invariant.1.second c.loop-at.invariant.1.within (omega arith) c.loop-at.invariant.1.second_due
 
 pub put_counts-requires-clause-third : goal.put_counts-requires-clause-third
 put_counts-requires-clause-third c =
-    is-left Third c.loop-at.done c.loop-at.at c.args.n c.args.state.now c.loop-at.voices.third c.loop-at.invariant.third c.loop-at.invariant.within (omega arith) c.loop-at.invariant.third_due
+    is-left Third c.loop-at.invariant.0 c.loop-at.at c.args.n c.args.state.now c.loop-at.voices.third c.loop-at.invariant.1.third c.loop-at.invariant.1.within (omega arith) c.loop-at.invariant.1.third_due
 
 pub put_counts-requires-clause-fourth : goal.put_counts-requires-clause-fourth
 put_counts-requires-clause-fourth c =
-    is-left Fourth c.loop-at.done c.loop-at.at c.args.n c.args.state.now c.loop-at.voices.fourth c.loop-at.invariant.fourth c.loop-at.invariant.within (omega arith) c.loop-at.invariant.fourth_due
+    is-left Fourth c.loop-at.invariant.0 c.loop-at.at c.args.n c.args.state.now c.loop-at.voices.fourth c.loop-at.invariant.1.fourth c.loop-at.invariant.1.within (omega arith) c.loop-at.invariant.1.fourth_due
 
 pub returns-clause-records : goal.returns-clause-records
-returns-clause-records c =
-    records-end c.args.state.now c.loop-at.done c.loop-at.at c.args.n c.loop-at.voices c.loop-at.invariant.within (omega arith) (omega arith)
-    c.loop-at.invariant.settled c.loop-at.invariant.first c.loop-at.invariant.second c.loop-at.invariant.third c.loop-at.invariant.fourth
-    c.loop-at.invariant.first_due c.loop-at.invariant.second_due c.loop-at.invariant.third_due c.loop-at.invariant.fourth_due
-    c.args.from c.args.trail.now c.loop-at.trail c.loop-at.invariant.records
+returns-clause-records c = moved-records c.args.state.now c.args.from c.args.n c.loop-at.at c.loop-at.invariant.0 c.args.trail.now c.loop-at.trail c.loop-at.voices c.loop-at.noise c.loop-at.tones c.loop-at.heard c.loop-at.last c.loop-at.invariant.1 (omega arith) (omega arith)
 
 small-pot : (c : goal.After-put_counts) → c.args.state.now.pot ≤ 228
 small-pot c =
-    let same : c.state.inside.pot ≡ c.args.state.now.pot = ap (λ (q : PokeyValue). q.pot) c.state.view_is in
-    omega (arith, same, c.state.invariant.pot)
+    let same : c.start.inside.pot ≡ c.args.state.now.pot = ap (λ (q : PokeyValue). q.pot) c.start.view_is in
+    omega (arith, same, c.start.invariant.pot)
 
 pub returns-clause-state : goal.returns-clause-state
 returns-clause-state c =
-    state-end c.args.state.now c.loop-at.done c.loop-at.at c.args.n c.loop-at.voices c.loop-at.invariant.within (omega arith) (omega arith)
-    c.loop-at.invariant.settled c.loop-at.invariant.first c.loop-at.invariant.second c.loop-at.invariant.third c.loop-at.invariant.fourth
-    c.loop-at.invariant.first_due c.loop-at.invariant.second_due c.loop-at.invariant.third_due c.loop-at.invariant.fourth_due
-    _ c.loop-at.state c.put-2.new.state c.put_counts.new.state _ _ _ _ (small-pot c) c.state.view_is c.loop-at.invariant.state
-    (four-then c.args.state.now c.loop-at.done c.args.n c.loop-at.invariant.within c.is_held-held.result c.loop-at.invariant.held _ _ c.loop-at.invariant.four c.rolled.ensures.four)
-    (five-then c.args.state.now c.loop-at.done c.args.n c.loop-at.invariant.within c.is_held-held.result c.loop-at.invariant.held _ _ c.loop-at.invariant.five c.rolled.ensures.five)
-    (nine-then c.args.state.now c.loop-at.done c.args.n c.loop-at.invariant.within c.is_held-held.result c.loop-at.invariant.held _ _ c.loop-at.invariant.nine c.rolled.ensures.nine)
-    (seventeen-then c.args.state.now c.loop-at.done c.args.n c.loop-at.invariant.within c.is_held-held.result c.loop-at.invariant.held _ _ c.loop-at.invariant.seventeen c.rolled.ensures.seventeen)
-    c.put-2.ensures c.put_counts.ensures
+    moved-state c.args.state.now c.args.from c.args.n c.loop-at.at c.loop-at.invariant.0 c.args.trail.now c.loop-at.trail c.loop-at.voices c.loop-at.noise c.loop-at.tones c.loop-at.heard c.loop-at.last c.loop-at.invariant.1 (omega arith) (omega arith)
+    c.args.state.now c.put_tones.new.state c.put_counts.new.state (small-pot c) refl
+    (rw c.put.ensures at c.put_tones.ensures) c.put_counts.ensures
