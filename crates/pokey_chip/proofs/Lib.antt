@@ -1,5 +1,6 @@
 pub mod BitLemmas
 pub mod CountLaws
+pub mod LastLevels
 pub mod RecordLemmas
 pub mod PotLemmas
 pub mod KeptLaws

@@ -14,8 +14,9 @@ use Rattle.board_base.specs.Pokey.{PokeyValue}
 use Rattle.board_map.specs.declared.map.Region.{Region}
 use Rattle.board_map.specs.declared.map.Region.TheVariants as region
 use Rattle.board_map.specs.Map.{region_of}
-use Rattle.pokey_chip.specs.Tick.{change, level_of, levels_of, pokey_gives, pokey_tick}
-use Rattle.pokey_chip.specs.Registers.{channel_written, register_written, requests_enabled, timers_started}
+use Rattle.pokey_chip.specs.Tick.{change, level, levels_of, channels_ticked, base_pulses, pot_counted, pots_rise, clocked, pokey_gives, pokey_tick}
+use Rattle.pokey_chip.specs.declared.channel.Channel.TheVariants.{First, Second, Third, Fourth}
+use Rattle.pokey_chip.proofs.LastLevels.{level-low, written-last}
 use Rattle.cpu_core.specs.declared.replay.Next.{Next}
 use Rattle.cpu_core.specs.declared.replay.Next.TheVariants.{Read, Write, End}
 use Rattle.cpu_core.specs.Registers.{RegistersValue, registers_of}
@@ -53,9 +54,9 @@ keeps-then u v w a b = record {
 }
 
 port_set-keeps : (p : Port) (value : ℕ) (w : Wires) → KeepsLast w (port_set p value w)
-port_set-keeps port.In0 value w = keeps w
-port_set-keeps port.In3 value w = keeps w
-port_set-keeps port.In4 value w = keeps w
+port_set-keeps port.In0 value w = record { last1 = refl; last2 = refl; levels1 = refl; levels2 = refl }
+port_set-keeps port.In3 value w = record { last1 = refl; last2 = refl; levels1 = refl; levels2 = refl }
+port_set-keeps port.In4 value w = record { last1 = refl; last2 = refl; levels1 = refl; levels2 = refl }
 port_set-keeps (port.Pot1 which) value w = record { last1 = refl; last2 = refl; levels1 = refl; levels2 = refl }
 port_set-keeps (port.Pot2 which) value w = record { last1 = refl; last2 = refl; levels1 = refl; levels2 = refl }
 
@@ -65,25 +66,6 @@ applied-keeps [] w = keeps w
 applied-keeps (entry ∷ entries) w =
     let next = port_set entry.port entry.value w in
     keeps-then w next (applied entries next) (port_set-keeps entry.port entry.value w) (applied-keeps entries next)
-
-chosen-last : (test : Bool) (a b p : PokeyValue) → a.last ≡ p.last → b.last ≡ p.last → (if test then a else b).last ≡ p.last
-chosen-last true a b p e f = e
-chosen-last false a b p e f = f
-
--- writing a register changes no level at once
-channel-last : (reg value : ℕ) (p : PokeyValue) → (channel_written reg value p).last ≡ p.last
-unfolding channel_written
-channel-last reg value p = chosen-last (reg % 2 == 0) _ _ p refl refl
-
-written-last : (reg value : ℕ) (p : PokeyValue) → (register_written reg value p).last ≡ p.last
-unfolding register_written requests_enabled timers_started
-written-last reg value p =
-    chosen-last _ _ _ p (channel-last reg value p)
-    (chosen-last _ _ _ p refl
-    (chosen-last _ _ _ p refl
-    (chosen-last _ _ _ p refl
-    (chosen-last _ _ _ p refl
-    (chosen-last _ _ _ p refl refl)))))
 
 put_in-keeps : (r : Region) (value : ℕ) (w : Wires) → KeepsLast w (put_in r value w)
 put_in-keeps (region.Sound1 reg) value w = record { last1 = written-last reg value w.sound1; last2 = refl; levels1 = refl; levels2 = refl }
@@ -132,16 +114,11 @@ change-after clock a b c d before = by_test (pointwise nat_eq (a ∷ b ∷ c ∷
 
 gives-after : (clock : ℕ) (p : PokeyValue) → samples.levels_after p.last (pokey_gives clock p) ≡ (pokey_tick p).last
 unfolding pokey_gives pokey_tick levels_of
-gives-after clock p = change-after clock _ _ _ _ p.last
+gives-after clock p =
+    let q = channels_ticked (base_pulses p) (pot_counted (pots_rise p) (clocked p)) in
+    change-after clock (level q First) (level q Second) (level q Third) (level q Fourth) p.last
 
 -- and each is at most 15
-level-low : (audc : ℕ) (on : Bool) → level_of audc on ≤ MAX_LEVEL
-level-low audc on = chosen-low audc _
-  where
-    chosen-low : (n : ℕ) (test : Bool) → (if test then n % 16 else 0) ≤ MAX_LEVEL
-    chosen-low n true = omega arith
-    chosen-low n false = omega arith
-
 change-holds : (clock a b c d : ℕ) (before : List ℕ) → a ≤ MAX_LEVEL → b ≤ MAX_LEVEL → c ≤ MAX_LEVEL → d ≤ MAX_LEVEL
     → All HoldsLevels (change clock before (a ∷ b ∷ c ∷ d ∷ []))
 unfolding change
@@ -153,7 +130,9 @@ change-holds clock a b c d before la lb lc ld = by_test (pointwise nat_eq (a ∷
 
 gives-holds : (clock : ℕ) (p : PokeyValue) → All HoldsLevels (pokey_gives clock p)
 unfolding pokey_gives pokey_tick levels_of
-gives-holds clock p = change-holds clock _ _ _ _ p.last (level-low _ _) (level-low _ _) (level-low _ _) (level-low _ _)
+gives-holds clock p =
+    let q = channels_ticked (base_pulses p) (pot_counted (pots_rise p) (clocked p)) in
+    change-holds clock (level q First) (level q Second) (level q Third) (level q Fourth) p.last (level-low _ _) (level-low _ _) (level-low _ _) (level-low _ _)
 
 -- what a step does to a POKEY's levels and records
 record StepsLast (before now : List ℕ) (records after : List Record) : Type 0 where
