@@ -14,3 +14,4 @@ pub mod Wires
 pub mod Trace
 pub mod Quiet
 pub mod Ranges
+pub mod Uses
