@@ -12,6 +12,7 @@ pub mod InOrder
 pub mod LaneLaws
 pub mod MapLaws
 pub mod MemoryLaws
+pub mod OpcodeLaws
 pub mod Places
 pub mod QueueLaws
 pub mod Runs

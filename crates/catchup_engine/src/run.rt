@@ -3,7 +3,7 @@ ghost use Rattle.std.specs.Prelude.{◌≡◌, ◌+◌, ◌≤◌, ◌<◌, ◌�
 ghost use Rattle.catchup_engine.specs.Breaks.{is_at_any};
 ghost use Rattle.catchup_engine.specs.Bus.{Fits};
 ghost use Rattle.catchup_engine.specs.Run.{is_over, is_cut};
-ghost use Rattle.catchup_engine.specs.Runs.{over_bus, BoundaryRun, BreakRunBus, CutRun, HasRoomTo, IsInRange, TurnsOn, TurnsRun};
+ghost use Rattle.catchup_engine.specs.Runs.{over_bus, BoundaryRun, BreakRunBus, CutRun, HasRoomTo, IsInRange, QuietRun, TurnsRun};
 
 use crate::bus::{BoardBus, TRAIL_ROOM, WHOLE};
 use crate::quiet::perform_quietly;
@@ -75,7 +75,7 @@ fn run_quietly<V: VectorUnit, P: SoundUnit, C: CellUnit, D: DividerUnit>(
     requires between { bus.old.begun ≡ false }
     requires room { HasRoomTo limit bus.old }
     requires fits { Fits tape.now bus.old }
-    ensures on { TurnsOn tape.now.entries limit addresses.now cpu bus.old bus.new result }
+    ensures runs { QuietRun tape.now.entries limit addresses.now cpu bus.old bus.new result }
     ensures fits { Fits tape.now bus.new }
 {
     while !is_at_break(&cpu, bus, limit, addresses) && reads_opcode(&cpu, bus) {

@@ -5,6 +5,7 @@ use Rattle.catchup_engine.specs.Run.{is_over}
 use Rattle.catchup_engine.specs.Runs.{over_bus}
 use Rattle.catchup_engine.specs.Turn.{TurnedBus}
 use Rattle.catchup_engine.proofs.BreaksOn.{turns-start, turns-go_on}
+use Rattle.catchup_engine.proofs.OpcodeLaws.{reads-opcode}
 use Rattle.catchup_engine.proofs.RunsOn.{open-before}
 use Rattle.catchup_engine.proofs.Turns.{opcode-turn}
 use Rattle.catchup_engine.proofs.run.run_quietly.Given
@@ -26,7 +27,7 @@ turned : (g : Given.Over) (c : goal.After-perform_quietly g)
     → TurnedBus c.args.tape.now.entries 7 c.loop-cpu.cpu c.loop-cpu.bus c.perform_quietly.new.bus c.perform_quietly.new.cpu
 turned g c =
     opcode-turn c.args.tape.now c.loop-cpu.cpu c.loop-cpu.bus c.perform_quietly.new.bus c.perform_quietly.new.cpu
-    (c.reads_opcode.ensures.reads c.if-reads_opcode.true) c.loop-cpu.invariant.on.run.goes.between c.loop-cpu.invariant.fits c.perform_quietly.ensures.runs
+    (reads-opcode c.loop-cpu.cpu c.loop-cpu.bus (sym c.reads_opcode.ensures ∙ c.if-reads_opcode.true)).reads c.loop-cpu.invariant.on.run.goes.between c.loop-cpu.invariant.fits c.perform_quietly.ensures.runs
     c.perform_quietly.ensures.boundary
 
 pub loop-cpu-smaller : goal.loop-cpu-smaller
@@ -44,3 +45,7 @@ loop-cpu-preserved g c = record {
       c.perform_quietly.new.cpu c.requires.limit c.loop-cpu.invariant.on (goes_on g c) (turned g c);
   fits = c.perform_quietly.ensures.fits;
 }
+
+pub perform_quietly-requires-clause-quiet : goal.perform_quietly-requires-clause-quiet
+perform_quietly-requires-clause-quiet g c =
+    (reads-opcode c.loop-cpu.cpu c.loop-cpu.bus (sym c.reads_opcode.ensures ∙ c.if-reads_opcode.true)).quiet
