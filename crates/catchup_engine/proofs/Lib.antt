@@ -2,6 +2,7 @@ pub mod AccessLaws
 pub mod Behind
 pub mod BreaksOn
 pub mod Budgets
+pub mod CalmLaws
 pub mod ClockLaws
 pub mod Clocks
 pub mod DividerLaws

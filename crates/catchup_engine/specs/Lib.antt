@@ -15,3 +15,4 @@ pub mod Trace
 pub mod Quiet
 pub mod Ranges
 pub mod Uses
+pub mod Calm

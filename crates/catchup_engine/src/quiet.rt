@@ -4,6 +4,7 @@ ghost use Rattle.board_base.specs.declared.cpu.Sequence.{Sequence};
 ghost use Rattle.cpu_core.specs.Registers.{registers_of};
 ghost use Rattle.cpu_core.specs.Sequences.{Runs};
 ghost use Rattle.catchup_engine.specs.Bus.{BusStep, Fits, room_of};
+ghost use Rattle.catchup_engine.specs.Calm.{KeepsLines};
 ghost use Rattle.catchup_engine.specs.Quiet.{passed};
 
 use crate::bus::{BoardBus, WHOLE};
@@ -45,6 +46,7 @@ impl<'a, V: VectorUnit, P: SoundUnit, C: CellUnit, D: DividerUnit> QuietBus<'a, 
         requires begun { self.old.bus.now.begun ≡ false }
         ensures same_reference { self.new.bus.ghost_name ≡ self.old.bus.ghost_name }
         ensures told { self.new.bus.now ≡ passed self.old.made self.old.bus.now }
+        ensures lines { KeepsLines self.old.bus.now self.new.bus.now }
         ensures none { self.new.made ≡ 0 }
     {
         self.bus.pass(self.made);
@@ -66,6 +68,7 @@ impl<'a, V: VectorUnit, P: SoundUnit, C: CellUnit, D: DividerUnit> QuietBus<'a, 
         ensures runs { Runs (BusStep tape.now.entries) (registers_of cpu.old) Sequence.Opcode self.old.bus.now self.new.bus.now cpu.new }
         ensures boundary { cpu.new.mid ≡ None }
         ensures fits { Fits tape.now self.new.bus.now }
+        ensures lines { KeepsLines self.old.bus.now self.new.bus.now }
     {
         let _fetched = cpu.instruction(self, tape);
         self.tell();
@@ -76,11 +79,12 @@ impl<'a, V: VectorUnit, P: SoundUnit, C: CellUnit, D: DividerUnit> Bus
     for QuietBus<'a, V, P, C, D> {
     ghost use Rattle.std.specs.Prelude.{◌≡◌, ◌-◌, false};
     ghost use Rattle.catchup_engine.specs.Bus.{BusStep, Fits, room_of};
+    ghost use Rattle.catchup_engine.specs.Calm.{KeepsLines};
     ghost use Rattle.catchup_engine.specs.Quiet.{passed, IsCounted, quiet_room};
 
     type Feed = Tape;
 
-    ghost step = { λ tape x s t. (t.bus.ghost_name ≡ s.bus.ghost_name) × BusStep tape.entries x (passed s.made s.bus.now) (passed t.made t.bus.now) };
+    ghost step = { λ tape x s t. (t.bus.ghost_name ≡ s.bus.ghost_name) × KeepsLines s.bus.now t.bus.now × BusStep tape.entries x (passed s.made s.bus.now) (passed t.made t.bus.now) };
 
     ghost fits = { λ tape s. IsCounted tape s.made s.bus.now };
 
@@ -127,6 +131,7 @@ pub(crate) fn perform_quietly<V: VectorUnit, P: SoundUnit, C: CellUnit, D: Divid
     ensures runs { Runs (BusStep tape.now.entries) (registers_of cpu.old) Sequence.Opcode bus.old bus.new cpu.new }
     ensures boundary { cpu.new.mid ≡ None }
     ensures fits { Fits tape.now bus.new }
+    ensures lines { KeepsLines bus.old bus.new }
 {
     let mut quiet = QuietBus::new(bus);
     quiet.instruction(cpu, tape);

@@ -1,6 +1,7 @@
 //! The clocks of the board: their ticks, and how far it is to what comes of itself.
 ghost use Rattle.std.specs.Prelude.{◌≡◌, ◌+◌, ◌-◌, ◌*◌, ◌≤◌, ◌<◌, true, false, nat_le};
 ghost use Rattle.catchup_engine.specs.Budget.{ticks_price, wraps};
+ghost use Rattle.catchup_engine.specs.Calm.{LeavesLines};
 ghost use Rattle.catchup_engine.specs.Quiet.{passed};
 ghost use Rattle.catchup_engine.specs.Bus.{Does, Fits, begin_price, done_clock, in_clock};
 ghost use Rattle.catchup_engine.specs.Wires.{devices_ticked, ticked};
@@ -15,11 +16,13 @@ use tape_ports::Tape;
 
 impl<V: VectorUnit, P: SoundUnit, C: CellUnit, D: DividerUnit> BoardBus<V, P, C, D> {
     /// The clocks done.
+    #[tactic(auto, using(crate::proofs::DividerLaws::lines, crate::proofs::DividerLaws::next_lines), unfolding(crate::specs::Wires::devices_ticked))]
     pub fn clock(&self) -> u64
         ensures value { result ≡ self.now.wires.clock }
         ensures last { result ≤ CLOCK_END }
         ensures rooms { (TRAIL_ROOM ≤ self.now.rooms.vector) × (TRAIL_ROOM ≤ self.now.rooms.sound1) × (TRAIL_ROOM ≤ self.now.rooms.sound2) × (TRAIL_ROOM ≤ self.now.rooms.board) }
         ensures until { result ≤ self.now.until }
+        ensures ticks { result < self.now.event_at → LeavesLines self.now.wires }
     {
         self.clock
     }
@@ -42,6 +45,16 @@ impl<V: VectorUnit, P: SoundUnit, C: CellUnit, D: DividerUnit> BoardBus<V, P, C,
         self.clock + u64::from(WHOLE) <= self.event_at
     }
 
+    /// The clock before which a whole sequence may begin in which nothing comes of itself.
+    #[inline(always)]
+    #[tactic(auto, using(crate::proofs::DividerLaws::lines, crate::proofs::DividerLaws::next_lines), unfolding(crate::specs::Wires::devices_ticked))]
+    pub fn quiet_until(&self) -> u64
+        ensures value { result ≡ self.now.event_at - 6 }
+        ensures ticks { self.now.wires.clock < self.now.event_at → LeavesLines self.now.wires }
+    {
+        self.event_at.saturating_sub(u64::from(WHOLE) - 1)
+    }
+
     /// The ticks of a clock, which counts as done then. Only a wrap moves a device.
     #[tactic(auto, using(board_base::proofs::TickLaws::next_clock, pokey_chip::proofs::RecordLemmas::lagging, crate::proofs::DividerLaws::lines), unfolding(crate::specs::Wires::devices_ticked))]
     pub(super) fn tick(&mut self)
@@ -59,13 +72,15 @@ impl<V: VectorUnit, P: SoundUnit, C: CellUnit, D: DividerUnit> BoardBus<V, P, C,
 
     /// The ticks of so many clocks in which nothing comes: no device moves.
     #[inline(always)]
-    #[tactic(auto, using(crate::proofs::QuietLaws::later_devices), unfolding(crate::specs::Quiet::later, crate::specs::Quiet::passed))]
+    #[tactic(auto, using(crate::proofs::QuietLaws::later_devices, crate::proofs::DividerLaws::lines), unfolding(crate::specs::Quiet::later, crate::specs::Quiet::passed))]
     pub fn pass(&mut self, clocks: u64)
         requires quiet { self.old.wires.clock + clocks ≤ self.old.event_at }
         requires clock { self.old.wires.clock + clocks ≤ CLOCK_END }
         requires room { self.old.wires.clock + clocks ≤ self.old.until }
         requires begun { self.old.begun ≡ false }
-        ensures { self.new ≡ passed clocks self.old }
+        ensures value { self.new ≡ passed clocks self.old }
+        ensures irq { self.new.wires.divider.irq ≡ self.old.wires.divider.irq }
+        ensures pending { self.new.wires.divider.pending ≡ self.old.wires.divider.pending }
     {
         self.clock += clocks;
     }

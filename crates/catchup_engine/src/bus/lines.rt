@@ -1,5 +1,5 @@
 //! The lines to the processor: the interrupt, and the pending reset with what its first clock does.
-ghost use Rattle.std.specs.Prelude.{◌≡◌, ◌+◌, ◌-◌, ◌≤◌, ◌<◌, ◌||◌, true, length, ◌++◌, ◌∷◌, []};
+ghost use Rattle.std.specs.Prelude.{◌≡◌, ◌&&◌, not, ◌+◌, ◌-◌, ◌≤◌, ◌<◌, ◌||◌, true, length, ◌++◌, ◌∷◌, []};
 ghost use Rattle.catchup_engine.specs.Bus.{Does, at_clock};
 ghost use Rattle.irq_watchdog.specs.Tick.{reset_taken};
 ghost use Rattle.pokey_chip.specs.Tick.{pokey_tick};
@@ -32,6 +32,15 @@ impl<V: VectorUnit, P: SoundUnit, C: CellUnit, D: DividerUnit> BoardBus<V, P, C,
         self.divider.unit.irq()
             || self.sound1.pulls_next(self.clock)
             || self.sound2.pulls_next(self.clock)
+    }
+
+    /// Whether the interrupt line is let go until something comes of itself: no POKEY is wired to it.
+    #[inline(always)]
+    #[tactic(auto, using(crate::proofs::DividerLaws::lines))]
+    pub fn is_silent(&self) -> bool
+        ensures { result ≡ (not self.now.wires.wired && not self.now.wires.divider.irq) }
+    {
+        !self.sound1.wired && !self.divider.unit.irq()
     }
 
     /// The reset that is pending.
