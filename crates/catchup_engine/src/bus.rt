@@ -22,6 +22,9 @@ use tape_ports::Tape;
 /// divider's wrap and six more, and a clock makes one record of each part at most.
 pub const TRAIL_ROOM: usize = 6160;
 
+/// The first address of the program ROM.
+pub(crate) const PROGRAM_START: u16 = 0x9000;
+
 /// The clocks that end each sequence: none has more.
 pub(crate) const WHOLE: u8 = 7;
 

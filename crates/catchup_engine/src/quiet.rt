@@ -7,7 +7,7 @@ ghost use Rattle.catchup_engine.specs.Bus.{BusStep, Fits, room_of};
 ghost use Rattle.catchup_engine.specs.Calm.{KeepsLines};
 ghost use Rattle.catchup_engine.specs.Quiet.{passed};
 
-use crate::bus::{BoardBus, WHOLE};
+use crate::bus::{BoardBus, PROGRAM_START, WHOLE};
 use avg_device::VectorUnit;
 use board_base::{CLOCK_END, RAM_LEN};
 use cpu_core::{Bus, Cpu};
@@ -15,9 +15,6 @@ use earom_cells::CellUnit;
 use irq_watchdog::DividerUnit;
 use pokey_chip::SoundUnit;
 use tape_ports::Tape;
-
-/// The first address of the program ROM.
-const PROGRAM_START: u16 = 0x9000;
 
 /// The bus in clocks in which no entry of the tape is due and the divider doesn't wrap. They are
 /// counted here, and the board hears of them where a device is reached, and at the end.
@@ -94,7 +91,7 @@ impl<'a, V: VectorUnit, P: SoundUnit, C: CellUnit, D: DividerUnit> Bus
     fn read(&mut self, _tape: &Tape, addr: u16) -> u8 {
         self.made += 1;
         if addr >= PROGRAM_START {
-            self.bus.program_byte(addr - PROGRAM_START)
+            self.bus.program_at(addr)
         } else if addr < RAM_LEN as u16 {
             self.bus.ram_byte(addr)
         } else {

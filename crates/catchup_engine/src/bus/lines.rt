@@ -79,12 +79,11 @@ impl<V: VectorUnit, P: SoundUnit, C: CellUnit, D: DividerUnit> BoardBus<V, P, C,
     }
 
     /// Tells the divider that its pending reset is being taken, and which it is.
-    #[tactic(auto, using(board_base::proofs::TickLaws::level, crate::proofs::DividerLaws::lines))]
+    #[tactic(auto, using(crate::proofs::DividerLaws::latches))]
     fn take_reset(&mut self) -> Pending
         ensures pending { result ≡ self.old.wires.divider.pending }
         ensures does { Does self.old self.new (record self.old.wires { divider = reset_taken self.old.wires.divider }) 2 }
     {
-        self.divider.level(self.clock);
         let pending = self.divider.unit.pending();
         self.divider.unit.taken();
         pending

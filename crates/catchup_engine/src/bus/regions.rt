@@ -13,7 +13,7 @@ ghost use Rattle.irq_watchdog.specs.Tick.{acknowledged, watchdog_cleared};
 ghost use Rattle.pokey_chip.specs.Registers.{register_read, register_written};
 ghost use Rattle.catchup_engine.specs.Wires.{byte_put, byte_read, in0_byte};
 
-use crate::bus::BoardBus;
+use crate::bus::{BoardBus, PROGRAM_START};
 use avg_device::VectorUnit;
 use board_base::{RAM_LEN, Record, VECTOR_RAM_LEN};
 use board_map::{Region, region};
@@ -39,6 +39,7 @@ impl<V: VectorUnit, P: SoundUnit, C: CellUnit, D: DividerUnit> BoardBus<V, P, C,
     }
 
     /// VGGO: begins a picture.
+    #[inline(never)]
     #[tactic(auto, using(board_base::proofs::TickLaws::level))]
     fn go(&mut self)
         ensures does { Does self.old self.new (record self.old.wires { vg = vg_go self.old.wires.vg }) 2 }
@@ -48,6 +49,7 @@ impl<V: VectorUnit, P: SoundUnit, C: CellUnit, D: DividerUnit> BoardBus<V, P, C,
     }
 
     /// VGRST: halts the generator.
+    #[inline(never)]
     #[tactic(auto, using(board_base::proofs::TickLaws::level))]
     pub(super) fn reset_vector(&mut self)
         ensures does { Does self.old self.new (record self.old.wires { vg = vg_reset self.old.wires.vg }) 2 }
@@ -57,6 +59,7 @@ impl<V: VectorUnit, P: SoundUnit, C: CellUnit, D: DividerUnit> BoardBus<V, P, C,
     }
 
     /// Changes a byte of the vector RAM, of which the generator has seen the old one up to now.
+    #[inline(never)]
     #[tactic(auto, using(board_base::proofs::TickLaws::level))]
     fn store(&mut self, k: u16, value: u8)
         requires { k < VECTOR_RAM_LEN }
@@ -67,6 +70,7 @@ impl<V: VectorUnit, P: SoundUnit, C: CellUnit, D: DividerUnit> BoardBus<V, P, C,
     }
 
     /// A register of POKEY 1, read.
+    #[inline(never)]
     #[tactic(auto, using(board_base::proofs::TickLaws::level, crate::proofs::SettledLaws::brought))]
     fn read_sound1(&mut self, reg: u8) -> u8
         requires { reg < 16 }
@@ -79,6 +83,7 @@ impl<V: VectorUnit, P: SoundUnit, C: CellUnit, D: DividerUnit> BoardBus<V, P, C,
     }
 
     /// A register of POKEY 1, written.
+    #[inline(never)]
     #[tactic(auto, using(board_base::proofs::TickLaws::level))]
     fn write_sound1(&mut self, reg: u8, value: u8)
         requires { reg < 16 }
@@ -88,6 +93,7 @@ impl<V: VectorUnit, P: SoundUnit, C: CellUnit, D: DividerUnit> BoardBus<V, P, C,
     }
 
     /// A register of POKEY 2, read.
+    #[inline(never)]
     #[tactic(auto, using(board_base::proofs::TickLaws::level, crate::proofs::SettledLaws::brought))]
     fn read_sound2(&mut self, reg: u8) -> u8
         requires { reg < 16 }
@@ -100,6 +106,7 @@ impl<V: VectorUnit, P: SoundUnit, C: CellUnit, D: DividerUnit> BoardBus<V, P, C,
     }
 
     /// A register of POKEY 2, written.
+    #[inline(never)]
     #[tactic(auto, using(board_base::proofs::TickLaws::level))]
     fn write_sound2(&mut self, reg: u8, value: u8)
         requires { reg < 16 }
@@ -109,6 +116,7 @@ impl<V: VectorUnit, P: SoundUnit, C: CellUnit, D: DividerUnit> BoardBus<V, P, C,
     }
 
     /// The EAROM's output latch.
+    #[inline(never)]
     #[tactic(auto, using(board_base::proofs::TickLaws::level, crate::proofs::SettledLaws::brought))]
     fn read_cell(&mut self) -> u8
         ensures byte { result ≡ self.old.wires.earom.out }
@@ -120,6 +128,7 @@ impl<V: VectorUnit, P: SoundUnit, C: CellUnit, D: DividerUnit> BoardBus<V, P, C,
     }
 
     /// The EAROM's control bits, written.
+    #[inline(never)]
     #[tactic(auto, using(board_base::proofs::TickLaws::level))]
     fn write_control(&mut self, value: u8)
         ensures does { Does self.old self.new (record self.old.wires { earom = controlled value self.old.wires.earom }) 2 }
@@ -129,6 +138,7 @@ impl<V: VectorUnit, P: SoundUnit, C: CellUnit, D: DividerUnit> BoardBus<V, P, C,
     }
 
     /// The EAROM's address and data latches, written.
+    #[inline(never)]
     #[tactic(auto, using(board_base::proofs::TickLaws::level))]
     fn write_cell(&mut self, addr: u8, value: u8)
         requires { addr < 64 }
@@ -138,25 +148,24 @@ impl<V: VectorUnit, P: SoundUnit, C: CellUnit, D: DividerUnit> BoardBus<V, P, C,
         self.cells.unit.latch(addr, value);
     }
 
-    /// Lets go of the interrupt.
-    #[tactic(auto, using(board_base::proofs::TickLaws::level, crate::proofs::DividerLaws::lines))]
+    /// Lets go of the interrupt, for which the divider needn't move: short of a wrap its ticks leave it.
+    #[tactic(auto, using(crate::proofs::DividerLaws::latches))]
     fn acknowledge(&mut self)
         ensures does { Does self.old self.new (record self.old.wires { divider = acknowledged self.old.wires.divider }) 2 }
     {
-        self.divider.level(self.clock);
         self.divider.unit.acknowledge();
     }
 
-    /// Clears the watchdog.
-    #[tactic(auto, using(board_base::proofs::TickLaws::level, crate::proofs::DividerLaws::lines))]
+    /// Clears the watchdog, whose count the ticks short of a wrap leave too.
+    #[tactic(auto, using(crate::proofs::DividerLaws::latches))]
     fn clear_watchdog(&mut self)
         ensures does { Does self.old self.new (record self.old.wires { divider = watchdog_cleared self.old.wires.divider }) 2 }
     {
-        self.divider.level(self.clock);
         self.divider.unit.clear();
     }
 
     /// Sets the output latch, and records it.
+    #[inline(never)]
     fn latch(&mut self, value: u8)
         requires room { length self.old.wires.written < self.old.rooms.board }
         requires begun { 1 ≤ self.old.wires.clock }
@@ -188,6 +197,15 @@ impl<V: VectorUnit, P: SoundUnit, C: CellUnit, D: DividerUnit> BoardBus<V, P, C,
         ensures { result ≡ slice_index self.now.wires.program k }
     {
         self.program[k as usize]
+    }
+
+    /// The byte at an address in the program ROM.
+    #[inline(always)]
+    pub fn program_at(&self, addr: u16) -> u8
+        requires { PROGRAM_START ≤ addr }
+        ensures { result ≡ slice_index self.now.wires.program (addr - PROGRAM_START) }
+    {
+        self.program[usize::from(addr) - usize::from(PROGRAM_START)]
     }
 
     /// Changes a byte of the RAM.

@@ -15,8 +15,8 @@ tell-requires-clause-room g c = (counted-more c.args._tape.now c.args.self.now.m
 pub returns-then-addr-ge-PROGRAM_START : goal.returns-then-addr-ge-PROGRAM_START
 returns-then-addr-ge-PROGRAM_START g c =
     let is =
-    program-reads c.args._tape.now c.args.self.now.made c.args.addr c.program_byte.result c.args.self.now.bus.now c.requires.fits c.requires.room
-    c.if-addr-ge-PROGRAM_START.true c.ranges.addr.fits c.program_byte.ensures in
+    program-reads c.args._tape.now c.args.self.now.made c.args.addr c.program_at.result c.args.self.now.bus.now c.requires.fits c.requires.room
+    c.if-addr-ge-PROGRAM_START.true c.ranges.addr.fits c.program_at.ensures in
     record { step = (refl, keeps-refl c.args.self.now.bus.now, is.step); fits = is.fits; room = is.room }
 
 pub returns-then-addr : goal.returns-then-addr
