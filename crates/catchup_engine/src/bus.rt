@@ -31,8 +31,9 @@ pub(crate) const WHOLE: u8 = 7;
 /// All of the board but its processor: the devices, each moved up to a clock of its own, and what
 /// they share.
 ///
-/// A device is brought to the present where it is reached, and the divider at its wraps. So in most
-/// clocks nothing moves but the number of clocks.
+/// A device is brought to the present where it is reached, and the divider where its line is read and
+/// at its wraps: its latch, its watchdog and its reset are the same before its ticks and after them.
+/// So in most clocks nothing moves but the number of clocks.
 #[derive(Drop)]
 pub(crate) struct BoardBus<V: VectorUnit, P: SoundUnit, C: CellUnit, D: DividerUnit> {
     vector: VectorLane<V>,
