@@ -5,7 +5,7 @@ ghost use Rattle.board_base.specs.Ticks.{made, ticks, times};
 ghost use Rattle.avg_device.specs.Tick.{vg_gives, vg_tick};
 ghost use Rattle.earom_cells.specs.Tick.{earom_tick};
 ghost use Rattle.irq_watchdog.specs.Tick.{divider_tick};
-ghost use Rattle.pokey_chip.specs.Registers.{pot_set, register_written};
+ghost use Rattle.pokey_chip.specs.Registers.{pot_set, register_read, register_written};
 ghost use Rattle.pokey_chip.specs.Tick.{levels_made, pokey_tick};
 ghost use Rattle.catchup_engine.specs.Lags.{lags, AsksAt};
 ghost use Rattle.catchup_engine.specs.Wires.{has_request};
@@ -155,7 +155,32 @@ impl<P: SoundUnit> SoundLane<P> {
         }
     }
 
+    /// Reads a register at a clock, up to which it is moved before.
+    #[inline(never)]
+    pub fn read(&mut self, clock: u64, reg: u8) -> u8
+        requires before { self.old.done ≤ clock }
+        requires room { clock ≤ self.old.done + self.old.trail.spare }
+        requires clocks { clock ≤ CLOCK_END }
+        requires reg { reg < 16 }
+        ensures byte { result ≡ register_read reg (times pokey_tick (clock - self.old.done) (P.device self.old.unit)) }
+        ensures done { self.new.done ≡ clock }
+        ensures state { P.device self.new.unit ≡ times pokey_tick (clock - self.old.done) (P.device self.old.unit) }
+        ensures records { self.new.trail.records ≡ self.old.trail.records
+            ++ levels_made self.old.done (clock - self.old.done) (P.device self.old.unit) }
+        ensures until { self.old.done + self.old.trail.spare ≤ self.new.done + self.new.trail.spare }
+        ensures total { self.new.trail.spare + length self.new.trail.records ≡ self.old.trail.spare + length self.old.trail.records }
+        ensures room { self.new.trail.room ≡ self.old.trail.room }
+        ensures calls { P.calls self.new.unit ≤ P.calls self.old.unit + lags self.old.done clock }
+        ensures more { min (P.calls self.old.unit) (2 ^ 64 - 1) ≤ P.calls self.new.unit }
+        ensures wired { self.new.wired ≡ self.old.wired }
+        ensures asked { AsksAt self.old.done self.old.request_at (P.device self.old.unit) → AsksAt self.new.done self.new.request_at (P.device self.new.unit) }
+    {
+        self.level(clock);
+        self.unit.read(reg)
+    }
+
     /// Writes a register at a clock, up to which it is moved before.
+    #[inline(never)]
     pub fn write(&mut self, clock: u64, reg: u8, value: u8)
         requires before { self.old.done ≤ clock }
         requires room { clock ≤ self.old.done + self.old.trail.spare }

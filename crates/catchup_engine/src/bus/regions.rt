@@ -10,7 +10,6 @@ ghost use Rattle.catchup_engine.specs.Memory.{memory_byte};
 ghost use Rattle.avg_device.specs.Tick.{vg_go, vg_reset};
 ghost use Rattle.earom_cells.specs.Tick.{controlled, latched};
 ghost use Rattle.irq_watchdog.specs.Tick.{acknowledged, watchdog_cleared};
-ghost use Rattle.pokey_chip.specs.Registers.{register_read, register_written};
 ghost use Rattle.catchup_engine.specs.Wires.{byte_put, byte_read, in0_byte};
 
 use crate::bus::{BoardBus, PROGRAM_START};
@@ -67,52 +66,6 @@ impl<V: VectorUnit, P: SoundUnit, C: CellUnit, D: DividerUnit> BoardBus<V, P, C,
     {
         self.vector.level(&self.memory, self.clock);
         self.memory.put(k, value);
-    }
-
-    /// A register of POKEY 1, read.
-    #[inline(never)]
-    #[tactic(auto, using(board_base::proofs::TickLaws::level, crate::proofs::SettledLaws::brought))]
-    fn read_sound1(&mut self, reg: u8) -> u8
-        requires { reg < 16 }
-        ensures byte { result ≡ register_read reg self.old.wires.sound1 }
-        ensures does { Does self.old self.new self.old.wires 2 }
-        ensures current { self.new.lagging.sound1 ≡ 0 }
-    {
-        self.sound1.level(self.clock);
-        self.sound1.unit.read(reg)
-    }
-
-    /// A register of POKEY 1, written.
-    #[inline(never)]
-    #[tactic(auto, using(board_base::proofs::TickLaws::level))]
-    fn write_sound1(&mut self, reg: u8, value: u8)
-        requires { reg < 16 }
-        ensures does { Does self.old self.new (record self.old.wires { sound1 = register_written reg value self.old.wires.sound1 }) 2 }
-    {
-        self.sound1.write(self.clock, reg, value);
-    }
-
-    /// A register of POKEY 2, read.
-    #[inline(never)]
-    #[tactic(auto, using(board_base::proofs::TickLaws::level, crate::proofs::SettledLaws::brought))]
-    fn read_sound2(&mut self, reg: u8) -> u8
-        requires { reg < 16 }
-        ensures byte { result ≡ register_read reg self.old.wires.sound2 }
-        ensures does { Does self.old self.new self.old.wires 2 }
-        ensures current { self.new.lagging.sound2 ≡ 0 }
-    {
-        self.sound2.level(self.clock);
-        self.sound2.unit.read(reg)
-    }
-
-    /// A register of POKEY 2, written.
-    #[inline(never)]
-    #[tactic(auto, using(board_base::proofs::TickLaws::level))]
-    fn write_sound2(&mut self, reg: u8, value: u8)
-        requires { reg < 16 }
-        ensures does { Does self.old self.new (record self.old.wires { sound2 = register_written reg value self.old.wires.sound2 }) 2 }
-    {
-        self.sound2.write(self.clock, reg, value);
     }
 
     /// The EAROM's output latch.
@@ -219,7 +172,7 @@ impl<V: VectorUnit, P: SoundUnit, C: CellUnit, D: DividerUnit> BoardBus<V, P, C,
 
     /// The byte that a read of an address gives, in the clock that counts as done.
     #[inline(never)]
-    #[tactic(auto, unfolding(crate::specs::Wires::byte_read, crate::specs::Budget::reaches_device))]
+    #[tactic(auto, using(board_base::proofs::TickLaws::level, crate::proofs::SettledLaws::brought), unfolding(crate::specs::Wires::byte_read, crate::specs::Budget::reaches_device))]
     pub fn byte(&mut self, addr: u16) -> u8
         ensures byte { result ≡ byte_read addr (at_clock (self.old.wires.clock - 1) self.old.wires) }
         ensures does { Does self.old self.new self.old.wires (2 * from_bool (reaches_device (read_of addr result))) }
@@ -229,8 +182,8 @@ impl<V: VectorUnit, P: SoundUnit, C: CellUnit, D: DividerUnit> BoardBus<V, P, C,
             Region::Ram(k) => self.ram_byte(k),
             Region::VectorRam(k) => self.memory.byte(k),
             Region::VectorRom(k) => self.memory.byte(VECTOR_RAM_LEN as u16 + k),
-            Region::Sound1(reg) => self.read_sound1(reg),
-            Region::Sound2(reg) => self.read_sound2(reg),
+            Region::Sound1(reg) => self.sound1.read(self.clock, reg),
+            Region::Sound2(reg) => self.sound2.read(self.clock, reg),
             Region::EaromOut => self.read_cell(),
             Region::In0 => self.read_in0(),
             Region::In3 => self.in3,
@@ -248,7 +201,7 @@ impl<V: VectorUnit, P: SoundUnit, C: CellUnit, D: DividerUnit> BoardBus<V, P, C,
 
     /// Writes a byte to an address, in the clock that counts as done.
     #[inline(never)]
-    #[tactic(auto, unfolding(crate::specs::Wires::byte_put, crate::specs::Budget::reaches_device))]
+    #[tactic(auto, using(board_base::proofs::TickLaws::level), unfolding(crate::specs::Wires::byte_put, crate::specs::Budget::reaches_device))]
     pub fn put(&mut self, addr: u16, value: u8)
         requires room { length self.old.wires.written < self.old.rooms.board }
         requires begun { 1 ≤ self.old.wires.clock }
@@ -258,8 +211,8 @@ impl<V: VectorUnit, P: SoundUnit, C: CellUnit, D: DividerUnit> BoardBus<V, P, C,
         match region(addr) {
             Region::Ram(k) => self.put_ram(k, value),
             Region::VectorRam(k) => self.store(k, value),
-            Region::Sound1(reg) => self.write_sound1(reg, value),
-            Region::Sound2(reg) => self.write_sound2(reg, value),
+            Region::Sound1(reg) => self.sound1.write(self.clock, reg, value),
+            Region::Sound2(reg) => self.sound2.write(self.clock, reg, value),
             Region::In4 => self.latch(value),
             Region::Go => self.go(),
             Region::VgReset => self.reset_vector(),
