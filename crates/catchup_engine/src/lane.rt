@@ -157,7 +157,7 @@ impl<P: SoundUnit> SoundLane<P> {
 
     /// Reads a register at a clock, up to which it is moved before.
     #[inline(never)]
-    pub fn read(&mut self, clock: u64, reg: u8) -> u8
+    pub fn read_register(&mut self, clock: u64, reg: u8) -> u8
         requires before { self.old.done ≤ clock }
         requires room { clock ≤ self.old.done + self.old.trail.spare }
         requires clocks { clock ≤ CLOCK_END }
@@ -181,7 +181,7 @@ impl<P: SoundUnit> SoundLane<P> {
 
     /// Writes a register at a clock, up to which it is moved before.
     #[inline(never)]
-    pub fn write(&mut self, clock: u64, reg: u8, value: u8)
+    pub fn write_register(&mut self, clock: u64, reg: u8, value: u8)
         requires before { self.old.done ≤ clock }
         requires room { clock ≤ self.old.done + self.old.trail.spare }
         requires clocks { clock ≤ CLOCK_END }
