@@ -34,8 +34,8 @@ pub(crate) fn no_calm() -> Calm
     }
 }
 
-/// The boundaries from one on whose fetch reads an opcode.
-#[inline(always)]
+/// The boundaries from one on whose fetch reads an opcode. It is asked for once between two events.
+#[inline(never)]
 #[tactic(auto, using(crate::proofs::CalmLaws::calm))]
 pub(crate) fn calm_since<V: VectorUnit, P: SoundUnit, C: CellUnit, D: DividerUnit>(
     bus: &BoardBus<V, P, C, D>,
