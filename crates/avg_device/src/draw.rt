@@ -18,12 +18,15 @@ fn beam_after(state: &VgState) -> (i32, i32)
     (move_beam(state.x, state.dx), move_beam(state.y, state.dy))
 }
 
-/// The stroke of a vector that ends in this clock.
-#[tactic(auto, using(crate::proofs::ManyTicks::passed), unfolding(crate::specs::Tick::stroke_at))]
-fn stroke(state: &VgState, clock: u64) -> Record
+/// The stroke of a vector that ends in this clock with the beam there.
+#[inline(always)]
+#[tactic(auto, unfolding(crate::specs::Tick::stroke_at))]
+fn stroke(state: &VgState, clock: u64, beam: (i32, i32)) -> Record
+    requires x { beam.0 ≡ beam_x state.now }
+    requires y { beam.1 ≡ beam_y state.now }
     ensures { result ≡ stroke_at clock state.now }
 {
-    let (x1, y1) = beam_after(state);
+    let (x1, y1) = beam;
     Record::Stroke {
         clock,
         x0: state.x,
@@ -35,36 +38,24 @@ fn stroke(state: &VgState, clock: u64) -> Record
     }
 }
 
-/// Records the stroke of a vector that ends in this clock, where it is drawn at all.
-#[tactic(auto, using(crate::proofs::ManyTicks::none), unfolding(crate::specs::Tick::strokes_at))]
-fn record_stroke(state: &VgState, clock: u64, trail: &mut Trail)
-    requires { 1 ≤ trail.old.spare }
-    ensures { Extended trail.old trail.new (strokes_at clock state.now) }
-{
-    if state.pen != 0 {
-        trail.push(stroke(state, clock));
-    }
-}
-
-/// Moves the beam by a vector that ends in this clock.
-#[tactic(auto, using(crate::proofs::ManyTicks::passed), unfolding(crate::specs::Tick::ended))]
+/// Moves the beam by a vector that ends in this clock, and records its stroke where it is drawn at
+/// all.
+#[tactic(auto, using(crate::proofs::ManyTicks::passed, crate::proofs::ManyTicks::none), unfolding(crate::specs::Tick::ended, crate::specs::Tick::strokes_at))]
 pub(crate) fn end(state: &mut VgState, clock: u64, trail: &mut Trail)
     requires { 1 ≤ trail.old.spare }
     ensures state { state.new ≡ ended state.old }
     ensures records { Extended trail.old trail.new (strokes_at clock state.old) }
 {
-    record_stroke(state, clock, trail);
-    let (x, y) = beam_after(state);
-    *state = VgState {
-        phase: LOW_BYTE,
-        x,
-        y,
-        dx: 0,
-        dy: 0,
-        pen: 0,
-        left: 0,
-        ..*state
-    };
+    let beam = beam_after(state);
+    if state.pen != 0 {
+        trail.push(stroke(state, clock, beam));
+    }
+    (state.x, state.y) = beam;
+    state.phase = LOW_BYTE;
+    state.dx = 0;
+    state.dy = 0;
+    state.pen = 0;
+    state.left = 0;
 }
 
 /// Phase 5: draws for one clock.

@@ -56,6 +56,7 @@ fn rtsl(state: &mut VgState)
 
 /// Does what a word says. A long vector has its `dx` and its `z` in `second`.
 #[tactic(auto, unfolding(crate::specs::Tick::obeyed))]
+#[inline(always)]
 pub(crate) fn obey(state: &mut VgState, word: VgWord, second: (i16, u8))
     requires phase { state.old.phase ≡ LOW_BYTE }
     requires word { IsInRange word }

@@ -1,10 +1,10 @@
 -- A divider that lags by less than the clocks to its next wrap: its phase alone moves.
-use Rattle.std.proofs.Common.{◌≡◌, ℕ, ◌+◌, ◌<◌, ◌==◌, false, zero, suc, refl, ap, ◌∙◌, arith, add-zero}
+use Rattle.std.proofs.Common.{◌≡◌, ℕ, ◌+◌, ◌<◌, ◌==◌, false, zero, suc, refl, sym, ap, ◌∙◌, arith, add-zero}
 use Rattle.std.proofs.lemmas.Bool.{ne_eqb}
 use Rattle.board_base.specs.declared.divider.TheConstants.{DIVIDER_PERIOD}
 use Rattle.board_base.specs.Divider.{DividerValue}
 use Rattle.board_base.specs.Ticks.{ticks, times}
-use Rattle.irq_watchdog.specs.Tick.{divider_tick}
+use Rattle.irq_watchdog.specs.Tick.{divider_tick, acknowledged, watchdog_cleared, reset_taken}
 
 tick-quiet : (d : DividerValue) → d.phase + 1 < DIVIDER_PERIOD → divider_tick d ≡ record d { phase = d.phase + 1 }
 unfolding divider_tick
@@ -43,3 +43,15 @@ pub pending-after : (n : ℕ) (d : DividerValue) → d.phase + n + 1 < DIVIDER_P
 pending-after n d h = ap (λ (e : DividerValue). e.pending) (times-after n d h)
 
 pub ruleset next_lines = (irq-after, pending-after)
+
+-- what is done to its interrupt, its watchdog and its reset may be done before those ticks
+pub acknowledged-before : (n : ℕ) (d : DividerValue) → d.phase + n < DIVIDER_PERIOD → times divider_tick n (acknowledged d) ≡ acknowledged (times divider_tick n d)
+acknowledged-before n d h = times-quiet n (acknowledged d) h ∙ ap acknowledged (sym (times-quiet n d h))
+
+pub cleared-before : (n : ℕ) (d : DividerValue) → d.phase + n < DIVIDER_PERIOD → times divider_tick n (watchdog_cleared d) ≡ watchdog_cleared (times divider_tick n d)
+cleared-before n d h = times-quiet n (watchdog_cleared d) h ∙ ap watchdog_cleared (sym (times-quiet n d h))
+
+pub taken-before : (n : ℕ) (d : DividerValue) → d.phase + n < DIVIDER_PERIOD → times divider_tick n (reset_taken d) ≡ reset_taken (times divider_tick n d)
+taken-before n d h = times-quiet n (reset_taken d) h ∙ ap reset_taken (sym (times-quiet n d h))
+
+pub ruleset latches = (phase-quiet, irq-quiet, pending-quiet, acknowledged-before, cleared-before, taken-before)

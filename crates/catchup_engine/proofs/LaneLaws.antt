@@ -1,5 +1,5 @@
 -- What a device's move does to what it stands for.
-use Rattle.std.proofs.Common.{◌≡◌, ℕ, ◌+◌, ◌-◌, ◌^◌, ◌≤◌, ◌<◌, Bool, true, false, not, ◌==◌, nat_le, min, Some, None, refl, sym, ap, ◌∙◌, arith}
+use Rattle.std.proofs.Common.{◌≡◌, ℕ, ◌+◌, ◌-◌, ◌^◌, ◌≤◌, ◌<◌, Bool, true, false, not, ◌&&◌, ◌==◌, nat_le, min, Some, None, refl, sym, ap, ◌∙◌, arith}
 use Rattle.std.proofs.lemmas.Bool.Decides.{nat_tests}
 use Rattle.board_base.specs.Pokey.{PokeyValue}
 use Rattle.board_base.specs.Ticks.{times}
@@ -41,15 +41,21 @@ request-after done at clock p asks h last =
     sym (ap (λ (q : PokeyValue). q.irqst == 7) (ap (λ n. times pokey_tick n p) e ∙ times-more pokey_tick (clock - done) p))
     ∙ asks (clock + 1) (omega arith) (omega arith)
 
-pub asks-after : (done at clock : ℕ) (p : PokeyValue) → AsksAt done at p → done ≤ clock → clock < 2 ^ 49
+not-again : (b : Bool) → b ≡ not (not b)
+not-again true = refl
+not-again false = refl
+
+asks-after : (done at clock : ℕ) (p : PokeyValue) → AsksAt done at p → done ≤ clock → clock < 2 ^ 49
     → nat_le at (clock + 1) ≡ has_request (pokey_tick (times pokey_tick (clock - done) p))
 asks-after done at clock p asks h last = not-again (nat_le at (clock + 1)) ∙ ap not (sym (request-after done at clock p asks h last))
-  where
-    not-again : (b : Bool) → b ≡ not (not b)
-    not-again true = refl
-    not-again false = refl
 
-pub ruleset next_requests = asks-after
+-- whether it pulls the interrupt line after the next tick, where it is wired to it
+pub pulls-next : (wired : Bool) (done at clock : ℕ) (p : PokeyValue) → wired ≡ true → (wired ≡ true → AsksAt done at p) → done ≤ clock → clock < 2 ^ 49
+    → nat_le at (clock + 1) ≡ (wired && has_request (pokey_tick (times pokey_tick (clock - done) p)))
+pulls-next true done at clock p is asks h last = asks-after done at clock p (asks refl) h last
+pulls-next false done at clock p is asks h last = cc
+
+pub ruleset next_requests = pulls-next
 
 pub ruleset generator = (level, vg_made-few)
 

@@ -2,6 +2,7 @@ pub mod AccessLaws
 pub mod Behind
 pub mod BreaksOn
 pub mod Budgets
+pub mod CalmLaws
 pub mod ClockLaws
 pub mod Clocks
 pub mod DividerLaws
@@ -12,6 +13,7 @@ pub mod InOrder
 pub mod LaneLaws
 pub mod MapLaws
 pub mod MemoryLaws
+pub mod OpcodeLaws
 pub mod Places
 pub mod QueueLaws
 pub mod Runs

@@ -18,8 +18,7 @@ use Rattle.cpu_core.specs.Sequences.{Moves, Runs}
 use Rattle.tape_ports.specs.declared.entry.TapeEntry.{TapeEntry}
 use Rattle.tape_ports.specs.Tape.{TapeValue}
 use Rattle.board_map.specs.Map.{region_of}
-use Rattle.catchup_engine.specs.declared.bus.TheConstants.{WHOLE}
-use Rattle.catchup_engine.specs.declared.quiet.TheConstants.{PROGRAM_START}
+use Rattle.catchup_engine.specs.declared.bus.TheConstants.{PROGRAM_START, WHOLE}
 use Rattle.catchup_engine.specs.Budget.{reaches_device}
 use Rattle.catchup_engine.specs.Lags.{DeviceLags, all_lag, lagging_at, lags}
 use Rattle.catchup_engine.specs.Bus.{BusStep, BusValue, Does, Fits, Stays, at_clock, begin_price, done_clock, in_clock, room_of}

@@ -7,54 +7,22 @@ use Rattle.board_base.specs.declared.cpu.Sequence.TheVariants.{Opcode, Interrupt
 use Rattle.board_base.specs.Cpu.{CpuValue, MidValue}
 use Rattle.board_base.specs.Pokey.{PokeyValue}
 use Rattle.board_map.specs.declared.map.Region.{Region}
-use Rattle.board_map.specs.declared.map.Region.TheVariants as region
 use Rattle.board_map.specs.Map.{region_of}
 use Rattle.cpu_core.specs.Course.{Access, read_of, write_of}
 use Rattle.pokey_chip.specs.Tick.{pokey_tick}
 use Rattle.tape_ports.specs.declared.entry.TapeEntry.{TapeEntry}
 use Rattle.tape_ports.specs.Due.{due_at}
+use Rattle.catchup_engine.specs.Uses.{uses_of, is_some_device}
 use Rattle.catchup_engine.specs.Wires.{Wires, applied, has_request, ticked}
 use Rattle.catchup_engine.specs.Lockstep.{Board, sequence_due, access_in, step}
 
 -- a read that reaches a device
 abbrev pub reads_device : Region → Bool
-reads_device (region.Ram k) = false
-reads_device (region.VectorRam k) = false
-reads_device (region.VectorRom k) = false
-reads_device (region.Sound1 reg) = true
-reads_device (region.Sound2 reg) = true
-reads_device region.EaromOut = true
-reads_device region.In0 = true
-reads_device region.In3 = false
-reads_device region.In4 = false
-reads_device region.Go = false
-reads_device region.VgReset = false
-reads_device region.Acknowledge = false
-reads_device region.EaromControl = false
-reads_device (region.EaromLatch cell) = false
-reads_device region.Watchdog = false
-reads_device (region.ProgramRom k) = false
-reads_device region.Nothing = false
+reads_device r = is_some_device (uses_of r).reads
 
--- a write that reaches a device: the generator sees the vector RAM
+-- a write that reaches a device
 abbrev pub writes_device : Region → Bool
-writes_device (region.Ram k) = false
-writes_device (region.VectorRam k) = true
-writes_device (region.VectorRom k) = false
-writes_device (region.Sound1 reg) = true
-writes_device (region.Sound2 reg) = true
-writes_device region.EaromOut = false
-writes_device region.In0 = false
-writes_device region.In3 = false
-writes_device region.In4 = false
-writes_device region.Go = true
-writes_device region.VgReset = true
-writes_device region.Acknowledge = true
-writes_device region.EaromControl = true
-writes_device (region.EaromLatch cell) = true
-writes_device region.Watchdog = true
-writes_device (region.ProgramRom k) = false
-writes_device region.Nothing = false
+writes_device r = is_some_device (uses_of r).writes
 
 -- an access that reaches a device
 unfoldable pub reaches_device : Access → Bool

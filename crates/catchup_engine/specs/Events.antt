@@ -1,6 +1,6 @@
 -- What comes of itself: the divider's next wrap, and the tape's next entry.
 use Rattle.std.specs.Prelude.{ℕ, min, List, Option, Some, None, replicate, slice_set}
-use Rattle.catchup_engine.specs.declared.bus.TheConstants.{WRAP, ENTRY}
+use Rattle.catchup_engine.specs.declared.bus.events.TheConstants.{WRAP, ENTRY}
 
 -- the deadlines of a wrap and of an entry, where there is one
 abbrev pub deadlines_of : ℕ → Option ℕ → List (Option ℕ)

@@ -1,11 +1,11 @@
 -- Devices that lag behind the board's clock.
-use Rattle.std.specs.Prelude.{◌≡◌, ℕ, ◌+◌, ◌-◌, ◌≤◌, not, ◌==◌, nat_lt, nat_le}
+use Rattle.std.specs.Prelude.{◌≡◌, ℕ, ◌+◌, ◌-◌, ◌≤◌, List, [], ◌∷◌, not, ◌==◌, nat_lt, nat_le}
 use Rattle.std.specs.Int.{from_bool}
 use Rattle.board_base.specs.declared.board.TheConstants.{CLOCK_END}
 use Rattle.board_base.specs.Pokey.{PokeyValue}
 use Rattle.board_map.specs.declared.map.Region.{Region}
-use Rattle.board_map.specs.declared.map.Region.TheVariants as region
 use Rattle.pokey_chip.specs.Quiet.{requests_after}
+use Rattle.catchup_engine.specs.Uses.{Device, Vector, Sound1, Sound2, Cells, Divider, uses_of}
 
 -- one for a device that was moved up to an earlier clock
 abbrev pub lags : ℕ → ℕ → ℕ
@@ -36,22 +36,19 @@ none_lags = record { vector = 0; sound1 = 0; sound2 = 0; cells = 0; divider = 0 
 abbrev pub all_lag : DeviceLags
 all_lag = record { vector = 1; sound1 = 1; sound2 = 1; cells = 1; divider = 1 }
 
+-- 1 where this device lags
+abbrev pub lag_of : Device → DeviceLags → ℕ
+lag_of Vector l = l.vector
+lag_of Sound1 l = l.sound1
+lag_of Sound2 l = l.sound2
+lag_of Cells l = l.cells
+lag_of Divider l = l.divider
+
+-- how many of these devices lag
+abbrev pub lagging_among : List Device → DeviceLags → ℕ
+lagging_among [] l = 0
+lagging_among (device ∷ devices) l = lag_of device l + lagging_among devices l
+
 -- how many of the devices lag whose byte a read of a region gives
 abbrev pub lagging_at : Region → DeviceLags → ℕ
-lagging_at (region.Ram k) l = 0
-lagging_at (region.VectorRam k) l = 0
-lagging_at (region.VectorRom k) l = 0
-lagging_at (region.Sound1 reg) l = l.sound1
-lagging_at (region.Sound2 reg) l = l.sound2
-lagging_at region.EaromOut l = l.cells
-lagging_at region.In0 l = l.vector + l.divider
-lagging_at region.In3 l = 0
-lagging_at region.In4 l = 0
-lagging_at region.Go l = 0
-lagging_at region.VgReset l = 0
-lagging_at region.Acknowledge l = 0
-lagging_at region.EaromControl l = 0
-lagging_at (region.EaromLatch cell) l = 0
-lagging_at region.Watchdog l = 0
-lagging_at (region.ProgramRom k) l = 0
-lagging_at region.Nothing l = 0
+lagging_at r l = lagging_among (uses_of r).reads l

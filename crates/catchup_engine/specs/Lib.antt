@@ -14,3 +14,5 @@ pub mod Wires
 pub mod Trace
 pub mod Quiet
 pub mod Ranges
+pub mod Uses
+pub mod Calm

@@ -1,5 +1,5 @@
 -- A run of the processor over the bus.
-use Rattle.std.specs.Prelude.{◌≡◌, ℕ, ◌+◌, ◌-◌, ◌≤◌, ◌<◌, ◌⊎◌, ◌||◌, Bool, List, length, false, true, None, IsSome, zero, suc}
+use Rattle.std.specs.Prelude.{◌≡◌, ℕ, ◌+◌, ◌-◌, ◌≤◌, ◌<◌, ◌⊎◌, ◌||◌, Bool, not, List, length, false, true, None, IsSome, zero, suc}
 use Rattle.board_base.specs.declared.board.TheConstants.{CLOCK_LIMIT}
 use Rattle.board_base.specs.Cpu.{CpuValue}
 use Rattle.tape_ports.specs.declared.entry.TapeEntry.{TapeEntry}
@@ -8,7 +8,7 @@ use Rattle.catchup_engine.specs.Run.{is_over, is_cut, to_boundary, to_cut, bound
 use Rattle.catchup_engine.specs.Breaks.{is_at_any, BreakRun}
 use Rattle.catchup_engine.specs.Budget.{budget}
 use Rattle.catchup_engine.specs.Bus.{BusValue, room_of}
-use Rattle.catchup_engine.specs.Turn.{Goes}
+use Rattle.catchup_engine.specs.Turn.{Goes, reads_opcode}
 
 -- the board that a processor and a bus stand for
 abbrev pub over_bus : CpuValue → BusValue → Board
@@ -50,6 +50,12 @@ pub record TurnsOn (entries : List TapeEntry) (limit : ℕ) (addresses : List �
   pub turns : (b : Board) → BreakRun entries limit addresses b (over_bus c s) → BreakRun entries limit addresses b (over_bus e t)
   pub boundary : e.mid ≡ None
   pub range : IsInRange e t
+
+-- and have come as far as they can: such a run is over, or stands at one of these addresses, or the next fetch reads no opcode,
+-- or something comes in the clocks of its sequence
+pub record QuietRun (entries : List TapeEntry) (limit : ℕ) (addresses : List ℕ) (c : CpuValue) (s t : BusValue) (e : CpuValue) : Type 0 where
+  pub on : TurnsOn entries limit addresses c s t e
+  pub ends : (is_over limit (over_bus e t) || is_at_any addresses (over_bus e t)) || not (reads_opcode e t) ≡ true
 
 -- and have come to where such a run is over, or to one of these addresses
 pub record TurnsRun (entries : List TapeEntry) (limit : ℕ) (addresses : List ℕ) (c : CpuValue) (s t : BusValue) (e : CpuValue) : Type 0 where

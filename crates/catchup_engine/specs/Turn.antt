@@ -1,6 +1,7 @@
 -- A turn of the lockstep board: some steps, the first from anywhere and the others from inside a sequence.
-use Rattle.std.specs.Prelude.{◌≡◌, ℕ, ◌+◌, ◌-◌, ◌<◌, ◌≤◌, List, [], ◌∷◌, length, false, None, IsSome, zero, suc}
-use Rattle.board_base.specs.declared.cpu.Sequence.TheVariants.{Opcode, Reset}
+use Rattle.std.specs.Prelude.{◌≡◌, ℕ, ◌+◌, ◌-◌, ◌<◌, ◌≤◌, List, [], ◌∷◌, length, Bool, true, false, ◌&&◌, nat_le, None, IsSome, is_none, zero, suc}
+use Rattle.board_base.specs.declared.cpu.Sequence.{Sequence}
+use Rattle.board_base.specs.declared.cpu.Sequence.TheVariants.{Opcode, Interrupt, Reset}
 use Rattle.board_base.specs.Cpu.{CpuValue}
 use Rattle.cpu_core.specs.Places.{Advances}
 use Rattle.cpu_core.specs.Sequences.{Moves, start_of}
@@ -54,6 +55,18 @@ pub record ReadsOpcode (c : CpuValue) (s : BusValue) : Type 0 where
   pub boundary : c.mid ≡ None
   pub quiet : s.wires.clock < s.event_at
   pub due : sequence_due c (devices_ticked s.wires) ≡ Opcode
+
+-- a fetch begins an instruction
+abbrev pub is_opcode : Sequence → Bool
+is_opcode Opcode = true
+is_opcode Interrupt = false
+is_opcode Reset = false
+
+-- the next fetch of a processor that isn't inside a sequence reads an opcode, and nothing comes of itself in the clocks of a
+-- whole sequence
+unfoldable pub reads_opcode : CpuValue → BusValue → Bool
+reads_opcode c s =
+    is_none c.mid && (nat_le (s.wires.clock + WHOLE) s.event_at && is_opcode (sequence_due c (devices_ticked s.wires)))
 
 -- A reset over a bus whose clock has begun: its read, then its effects in that clock, and then the rest of its accesses, in
 -- so many clocks at most.

@@ -1,8 +1,8 @@
 //! Laws of the lockstep board, over all boards and tapes. Each function tells one, and does nothing.
 ghost use Rattle.std.specs.Prelude.{◌≡◌, ℕ, ◌+◌, ◌*◌, ◌-◌, ◌≤◌, ◌<◌, List, All, true, None};
 ghost use Rattle.board_base.specs.declared.divider.TheConstants.{DIVIDER_PERIOD};
-ghost use Rattle.catchup_engine.specs.declared.bus.TheConstants.{TRAIL_ROOM, WHOLE, WRAP, ENTRY};
-ghost use Rattle.catchup_engine.specs.declared.quiet.TheConstants.{PROGRAM_START};
+ghost use Rattle.catchup_engine.specs.declared.bus.TheConstants.{PROGRAM_START, TRAIL_ROOM, WHOLE};
+ghost use Rattle.catchup_engine.specs.declared.bus.events.TheConstants.{WRAP, ENTRY};
 ghost use Rattle.tape_ports.specs.declared.entry.TapeEntry.{TapeEntry};
 ghost use Rattle.cpu_core.specs.Ranges.{IsByte};
 ghost use Rattle.catchup_engine.specs.Lockstep.{Board, step, access_in};

@@ -2,6 +2,7 @@
 #![tactic(auto)]
 
 mod bus;
+mod calm;
 pub mod devices;
 pub mod engine;
 mod lane;

@@ -4,9 +4,10 @@ ghost use Rattle.board_base.specs.declared.cpu.Sequence.{Sequence};
 ghost use Rattle.cpu_core.specs.Registers.{registers_of};
 ghost use Rattle.cpu_core.specs.Sequences.{Runs};
 ghost use Rattle.catchup_engine.specs.Bus.{BusStep, Fits, room_of};
+ghost use Rattle.catchup_engine.specs.Calm.{KeepsLines};
 ghost use Rattle.catchup_engine.specs.Quiet.{passed};
 
-use crate::bus::{BoardBus, WHOLE};
+use crate::bus::{BoardBus, PROGRAM_START, WHOLE};
 use avg_device::VectorUnit;
 use board_base::{CLOCK_END, RAM_LEN};
 use cpu_core::{Bus, Cpu};
@@ -14,9 +15,6 @@ use earom_cells::CellUnit;
 use irq_watchdog::DividerUnit;
 use pokey_chip::SoundUnit;
 use tape_ports::Tape;
-
-/// The first address of the program ROM.
-const PROGRAM_START: u16 = 0x9000;
 
 /// The bus in clocks in which no entry of the tape is due and the divider doesn't wrap. They are
 /// counted here, and the board hears of them where a device is reached, and at the end.
@@ -45,6 +43,7 @@ impl<'a, V: VectorUnit, P: SoundUnit, C: CellUnit, D: DividerUnit> QuietBus<'a, 
         requires begun { self.old.bus.now.begun ≡ false }
         ensures same_reference { self.new.bus.ghost_name ≡ self.old.bus.ghost_name }
         ensures told { self.new.bus.now ≡ passed self.old.made self.old.bus.now }
+        ensures lines { KeepsLines self.old.bus.now self.new.bus.now }
         ensures none { self.new.made ≡ 0 }
     {
         self.bus.pass(self.made);
@@ -66,6 +65,7 @@ impl<'a, V: VectorUnit, P: SoundUnit, C: CellUnit, D: DividerUnit> QuietBus<'a, 
         ensures runs { Runs (BusStep tape.now.entries) (registers_of cpu.old) Sequence.Opcode self.old.bus.now self.new.bus.now cpu.new }
         ensures boundary { cpu.new.mid ≡ None }
         ensures fits { Fits tape.now self.new.bus.now }
+        ensures lines { KeepsLines self.old.bus.now self.new.bus.now }
     {
         let _fetched = cpu.instruction(self, tape);
         self.tell();
@@ -76,11 +76,12 @@ impl<'a, V: VectorUnit, P: SoundUnit, C: CellUnit, D: DividerUnit> Bus
     for QuietBus<'a, V, P, C, D> {
     ghost use Rattle.std.specs.Prelude.{◌≡◌, ◌-◌, false};
     ghost use Rattle.catchup_engine.specs.Bus.{BusStep, Fits, room_of};
+    ghost use Rattle.catchup_engine.specs.Calm.{KeepsLines};
     ghost use Rattle.catchup_engine.specs.Quiet.{passed, IsCounted, quiet_room};
 
     type Feed = Tape;
 
-    ghost step = { λ tape x s t. (t.bus.ghost_name ≡ s.bus.ghost_name) × BusStep tape.entries x (passed s.made s.bus.now) (passed t.made t.bus.now) };
+    ghost step = { λ tape x s t. (t.bus.ghost_name ≡ s.bus.ghost_name) × KeepsLines s.bus.now t.bus.now × BusStep tape.entries x (passed s.made s.bus.now) (passed t.made t.bus.now) };
 
     ghost fits = { λ tape s. IsCounted tape s.made s.bus.now };
 
@@ -90,7 +91,7 @@ impl<'a, V: VectorUnit, P: SoundUnit, C: CellUnit, D: DividerUnit> Bus
     fn read(&mut self, _tape: &Tape, addr: u16) -> u8 {
         self.made += 1;
         if addr >= PROGRAM_START {
-            self.bus.program_byte(addr - PROGRAM_START)
+            self.bus.program_at(addr)
         } else if addr < RAM_LEN as u16 {
             self.bus.ram_byte(addr)
         } else {
@@ -127,6 +128,7 @@ pub(crate) fn perform_quietly<V: VectorUnit, P: SoundUnit, C: CellUnit, D: Divid
     ensures runs { Runs (BusStep tape.now.entries) (registers_of cpu.old) Sequence.Opcode bus.old bus.new cpu.new }
     ensures boundary { cpu.new.mid ≡ None }
     ensures fits { Fits tape.now bus.new }
+    ensures lines { KeepsLines bus.old bus.new }
 {
     let mut quiet = QuietBus::new(bus);
     quiet.instruction(cpu, tape);

@@ -1,11 +1,14 @@
 //! Runs of the processor over the bus, turn by turn.
-ghost use Rattle.std.specs.Prelude.{◌≡◌, ◌+◌, ◌≤◌, ◌<◌, ◌⊎◌, ◌||◌, [], false};
+ghost use Rattle.std.specs.Prelude.{◌≡◌, ◌+◌, ◌≤◌, ◌<◌, ◌⊎◌, ◌&&◌, ◌||◌, not, [], false, None};
 ghost use Rattle.catchup_engine.specs.Breaks.{is_at_any};
 ghost use Rattle.catchup_engine.specs.Bus.{Fits};
+ghost use Rattle.catchup_engine.specs.Calm.{IsCalm};
 ghost use Rattle.catchup_engine.specs.Run.{is_over, is_cut};
-ghost use Rattle.catchup_engine.specs.Runs.{over_bus, BoundaryRun, BreakRunBus, CutRun, HasRoomTo, IsInRange, TurnsOn, TurnsRun};
+ghost use Rattle.catchup_engine.specs.Turn.{reads_opcode};
+ghost use Rattle.catchup_engine.specs.Runs.{over_bus, BoundaryRun, BreakRunBus, CutRun, HasRoomTo, IsInRange, QuietRun, TurnsRun};
 
 use crate::bus::{BoardBus, TRAIL_ROOM, WHOLE};
+use crate::calm::{Calm, calm_since, lasts, no_calm};
 use crate::quiet::perform_quietly;
 use crate::turn::{reads_opcode, turn_slowly};
 use avg_device::VectorUnit;
@@ -56,6 +59,32 @@ fn is_at_break<V: VectorUnit, P: SoundUnit, C: CellUnit, D: DividerUnit>(
     is_done(cpu, bus, limit) || !addresses.is_empty() && addresses.contains(&pc)
 }
 
+/// Whether no run ends here, and the next fetch reads an opcode in whose clocks nothing comes of
+/// itself. In clocks that are known to be calm the clock alone is asked for.
+#[inline(always)]
+fn goes_on<V: VectorUnit, P: SoundUnit, C: CellUnit, D: DividerUnit>(
+    cpu: &Cpu,
+    bus: &BoardBus<V, P, C, D>,
+    limit: u64,
+    addresses: &[u16],
+    calm: &mut Calm,
+) -> bool
+    requires boundary { cpu.now.mid ≡ None }
+    requires range { IsInRange cpu.now bus.now }
+    requires calm { IsCalm limit addresses.now calm.old bus.now }
+    ensures value { result ≡ (not (is_over limit (over_bus cpu.now bus.now) || is_at_any addresses.now (over_bus cpu.now bus.now)) && reads_opcode cpu.now bus.now) }
+    ensures calm { IsCalm limit addresses.now calm.new bus.now }
+{
+    if lasts(calm, cpu, bus) {
+        return true;
+    }
+    if is_at_break(cpu, bus, limit, addresses) || !reads_opcode(cpu, bus) {
+        return false;
+    }
+    *calm = calm_since(bus, limit, addresses);
+    true
+}
+
 /// Does instructions in whose clocks nothing comes of itself, up to the limit or to the first of
 /// these addresses.
 ///
@@ -75,10 +104,11 @@ fn run_quietly<V: VectorUnit, P: SoundUnit, C: CellUnit, D: DividerUnit>(
     requires between { bus.old.begun ≡ false }
     requires room { HasRoomTo limit bus.old }
     requires fits { Fits tape.now bus.old }
-    ensures on { TurnsOn tape.now.entries limit addresses.now cpu bus.old bus.new result }
+    ensures runs { QuietRun tape.now.entries limit addresses.now cpu bus.old bus.new result }
     ensures fits { Fits tape.now bus.new }
 {
-    while !is_at_break(&cpu, bus, limit, addresses) && reads_opcode(&cpu, bus) {
+    let mut calm = no_calm();
+    while goes_on(&cpu, bus, limit, addresses, &mut calm) {
         perform_quietly(&mut cpu, bus, tape);
     }
     cpu

@@ -4,7 +4,7 @@ ghost use Rattle.cpu_core.specs.Places.{Advances};
 ghost use Rattle.cpu_core.specs.Sequences.{start_of, Runs};
 ghost use Rattle.catchup_engine.specs.Bus.{BusStep, Fits, room_of};
 ghost use Rattle.catchup_engine.specs.Lockstep.{sequence_due};
-ghost use Rattle.catchup_engine.specs.Turn.{ReadsOpcode, Resets, TurnedBus};
+ghost use Rattle.catchup_engine.specs.Turn.{Resets, TurnedBus, reads_opcode};
 
 use crate::bus::{BoardBus, WHOLE};
 use avg_device::VectorUnit;
@@ -182,13 +182,13 @@ pub(crate) fn turn_slowly<V: VectorUnit, P: SoundUnit, C: CellUnit, D: DividerUn
 /// Whether the next fetch reads an opcode and nothing comes of itself in its sequence's clocks, told
 /// before them.
 #[inline(always)]
+#[tactic(auto, using(crate::proofs::OpcodeLaws::opcodes), unfolding(crate::specs::Turn::reads_opcode))]
 pub(crate) fn reads_opcode<V: VectorUnit, P: SoundUnit, C: CellUnit, D: DividerUnit>(
     cpu: &Cpu,
     bus: &BoardBus<V, P, C, D>,
 ) -> bool
     requires clock { bus.now.wires.clock < CLOCK_END }
-    ensures reads { result ≡ true → ReadsOpcode cpu.now bus.now }
-    ensures quiet { result ≡ true → bus.now.wires.clock + WHOLE ≤ bus.now.event_at }
+    ensures { result ≡ reads_opcode cpu.now bus.now }
 {
     let state = cpu.state();
     state.mid.is_none()

@@ -21,7 +21,7 @@ loop-cpu-preserved g c =
           c.turn_slowly-cpu.result c.run_quietly-cpu.result
           (turns-go_on c.args.tape.now.entries c.args.limit c.args.addresses.now c.args.cpu c.args.bus.now c.loop-cpu.bus c.turn_slowly-cpu.new.bus c.loop-cpu.cpu
           c.turn_slowly-cpu.result c.requires.limit c.loop-cpu.invariant.on open_yet c.turn_slowly-cpu.ensures.turned)
-          c.run_quietly-cpu.ensures.on;
+          c.run_quietly-cpu.ensures.runs.on;
       fits = c.run_quietly-cpu.ensures.fits;
     }
 

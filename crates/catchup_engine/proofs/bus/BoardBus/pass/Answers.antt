@@ -7,9 +7,9 @@ use Rattle.catchup_engine.specs.Quiet.{later, passed}
 use Rattle.catchup_engine.proofs.QuietLaws.{lagging-later, levels-later, made-later, ticks-later, times-later}
 use Rattle.catchup_engine.proofs.bus.BoardBus.pass.Goals as goal
 
-pub returns : goal.returns
+pub returns-clause-value : goal.returns-clause-value
 unfolding passed later
-returns g c =
+returns-clause-value g c =
     let bus = c.self.inside in
     let n = c.args.clocks in
     let vector = c.self.invariant.2 in

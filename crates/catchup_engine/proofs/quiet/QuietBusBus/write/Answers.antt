@@ -1,4 +1,8 @@
-use Rattle.std.proofs.Common.{refl}
+use Rattle.std.proofs.Common.{refl, ◌*◌}
+use Rattle.std.specs.Int.{from_bool}
+use Rattle.cpu_core.specs.Course.{write_of}
+use Rattle.catchup_engine.specs.Budget.{reaches_device}
+use Rattle.catchup_engine.proofs.CalmLaws.{keeps-then, put-keeps, ram-keeps}
 use Rattle.catchup_engine.proofs.QuietLaws.{counted-more, device-writes, ram-writes, told-begun, told-room}
 use Rattle.catchup_engine.proofs.quiet.QuietBusBus.write.Goals as goal
 
@@ -19,11 +23,20 @@ returns-then-addr g c =
     let is =
     ram-writes c.args._tape.now c.args.self.now.made c.args.addr c.args.value c.args.self.now.bus.now c.put_ram.new.self c.requires.fits c.requires.room
     c.if-addr.true c.put_ram.ensures in
-    record { step = (refl, is.step); fits = is.fits; room = is.room }
+    record { step = (refl, ram-keeps c.args.self.now.bus.now c.put_ram.new.self c.args.addr c.args.value c.put_ram.ensures, is.step); fits = is.fits; room = is.room }
 
 pub returns-else-addr : goal.returns-else-addr
 returns-else-addr g c =
     let is =
     device-writes c.args._tape.now c.args.self.now.made c.tell.new.self.made c.args.addr c.args.value c.args.self.now.bus.now c.tell.new.self.bus.now c.put.new.self
     c.requires.fits c.requires.room c.tell.ensures.told c.tell.ensures.none c.put.ensures.does c.put.ensures.few in
-    record { step = (c.tell.ensures.same_reference, is.step); fits = is.fits; room = is.room }
+    record {
+      step = (
+        c.tell.ensures.same_reference,
+        keeps-then c.args.self.now.bus.now c.tell.new.self.bus.now c.put.new.self c.tell.ensures.lines
+            (put-keeps c.args.addr c.args.value c.tell.new.self.bus.now c.put.new.self (2 * from_bool (reaches_device (write_of c.args.addr c.args.value))) c.put.ensures.does),
+        is.step,
+      );
+      fits = is.fits;
+      room = is.room;
+    }

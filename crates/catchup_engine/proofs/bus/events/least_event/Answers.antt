@@ -1,5 +1,5 @@
 use Rattle.catchup_engine.proofs.QueueLaws.{sooner-found, sooner-none}
-use Rattle.catchup_engine.proofs.bus.least_event.Goals as goal
+use Rattle.catchup_engine.proofs.bus.events.least_event.Goals as goal
 
 pub returns-in-Some : goal.returns-in-Some
 returns-in-Some c =

@@ -1,6 +1,6 @@
 use Rattle.std.proofs.Common.{rules, ◌≤◌}
 use Rattle.catchup_engine.proofs.TapeLaws.{place-rises}
-use Rattle.catchup_engine.proofs.bus.due_entries.Goals as goal
+use Rattle.catchup_engine.proofs.bus.events.due_entries.Goals as goal
 
 pub slice_bounds-result-count : goal.slice_bounds-result-count
 slice_bounds-result-count c = place-rises c.args.tape.now c.args.clock c.args.next c.args.after c.requires.next c.requires.after

@@ -1,0 +1,251 @@
+-- Boundaries at which nothing but the clock has to be looked at.
+use Rattle.std.proofs.Common.{◌≡◌, ℕ, ◌+◌, ◌-◌, ◌≤◌, ◌<◌, Bool, true, false, not, ◌&&◌, ◌||◌, nat_le, nat_lt, min, is_none, is_some, List, [], ◌∷◌, ◌++◌, slice_set, Option, Some, None, refl, sym, ap, ◌∙◌, arith, if◌then◌else◌}
+use Rattle.std.proofs.lemmas.Bool.{and_parts, leb-true}
+use Rattle.std.proofs.lemmas.Bool.Decides.{nat_tests}
+use Rattle.board_base.specs.declared.divider.Pending.{Pending}
+use Rattle.board_base.specs.declared.divider.Pending.TheVariants.{Nothing, Power, Watchdog}
+use Rattle.board_base.specs.declared.cpu.Sequence.{Sequence}
+use Rattle.board_base.specs.declared.cpu.Sequence.TheVariants.{Opcode, Interrupt, Reset}
+use Rattle.board_base.specs.Cpu.{CpuValue, MidValue}
+use Rattle.board_map.specs.declared.map.Region.{Region}
+use Rattle.board_map.specs.declared.map.Region.TheVariants as region
+use Rattle.board_map.specs.Map.{region_of}
+use Rattle.cpu_alu.specs.Flags.{is_masked}
+use Rattle.cpu_core.specs.Course.{Access}
+use Rattle.cpu_core.specs.Registers.{RegistersValue}
+use Rattle.cpu_core.specs.Sequences.{Moves, Runs}
+use Rattle.catchup_engine.specs.declared.calm.Calm.{Calm}
+use Rattle.catchup_engine.specs.declared.bus.TheConstants.{WHOLE}
+use Rattle.catchup_engine.specs.Breaks.{is_at_any}
+use Rattle.catchup_engine.specs.Bus.{BusValue, Does, at_clock}
+use Rattle.catchup_engine.specs.Calm.{AreCalm, IsCalm, KeepsLines, LeavesLines}
+use Rattle.catchup_engine.specs.Lockstep.{Board, is_reset, sequence_due}
+use Rattle.catchup_engine.specs.Quiet.{later, passed}
+use Rattle.catchup_engine.specs.Run.{is_over}
+use Rattle.catchup_engine.specs.Runs.{over_bus}
+use Rattle.catchup_engine.specs.Turn.{ReadsOpcode, is_opcode, reads_opcode}
+use Rattle.catchup_engine.specs.Wires.{Wires, byte_put, devices_ticked, has_request, line_of, put_in}
+
+both-not : (a b : Bool) → (not a && not b) ≡ true → (a ≡ false) × (b ≡ false)
+both-not false false e = (refl, refl)
+both-not false true e = cc
+both-not true false e = cc
+both-not true true e = cc
+
+-- the boundaries from one on whose fetch reads an opcode
+pub calm-since : (limit : ℕ) (addresses : List ℕ) (until : ℕ) (silent : Bool) (s : BusValue) → until ≡ min limit (s.event_at - 6) → addresses ≡ []
+    → LeavesLines s.wires → (devices_ticked s.wires).divider.pending ≡ Nothing → silent ≡ (not s.wires.wired && not s.wires.divider.irq)
+    → IsCalm limit addresses (record { until = until; silent = silent }) s
+calm-since limit addresses until silent s is none leaves pending lets_go = λ early. record {
+  before = omega arith;
+  no_break = none;
+  quiet = omega arith;
+  pending = sym leaves.pending ∙ pending;
+  silent = λ e. both-not s.wires.wired s.wires.divider.irq (sym lets_go ∙ e);
+}
+
+pub ruleset calm = calm-since
+
+-- nothing is done
+pub keeps-refl : (s : BusValue) → KeepsLines s s
+keeps-refl s = record { event = refl; wired = refl; pending = refl; irq = λ e. e }
+
+pub keeps-then : (s m t : BusValue) → KeepsLines s m → KeepsLines m t → KeepsLines s t
+keeps-then s m t first later = record {
+  event = later.event ∙ first.event;
+  wired = later.wired ∙ first.wired;
+  pending = later.pending ∙ first.pending;
+  irq = λ e. later.irq (first.irq e);
+}
+
+-- clocks pass
+pub passed-keeps : (n : ℕ) (s t : BusValue) → t ≡ passed n s → t.wires.divider.irq ≡ s.wires.divider.irq → t.wires.divider.pending ≡ s.wires.divider.pending
+    → KeepsLines s t
+unfolding passed later
+passed-keeps n s t told irq pending = record {
+  event = ap (λ (b : BusValue). b.event_at) told;
+  wired = ap (λ (b : BusValue). b.wires.wired) told;
+  pending = pending;
+  irq = λ e. irq ∙ e;
+}
+
+-- a device is read
+pub read-keeps : (m t : BusValue) (most : ℕ) → Does m t m.wires most → KeepsLines m t
+read-keeps m t most does = record {
+  event = ap (λ (b : BusValue). b.event_at) does.value;
+  wired = ap (λ (b : BusValue). b.wires.wired) does.value;
+  pending = ap (λ (b : BusValue). b.wires.divider.pending) does.value;
+  irq = λ e. ap (λ (b : BusValue). b.wires.divider.irq) does.value ∙ e;
+}
+
+-- the RAM is written
+pub ram-keeps : (s t : BusValue) (a v : ℕ) → t ≡ record s { wires = record s.wires { ram = slice_set s.wires.ram a v } } → KeepsLines s t
+ram-keeps s t a v is = record {
+  event = ap (λ (b : BusValue). b.event_at) is;
+  wired = ap (λ (b : BusValue). b.wires.wired) is;
+  pending = ap (λ (b : BusValue). b.wires.divider.pending) is;
+  irq = λ e. ap (λ (b : BusValue). b.wires.divider.irq) is ∙ e;
+}
+
+put_in-wired : (r : Region) (value : ℕ) (w : Wires) → (put_in r value w).wired ≡ w.wired
+put_in-wired (region.Ram k) value w = refl
+put_in-wired _ value w = refl
+
+put_in-pending : (r : Region) (value : ℕ) (w : Wires) → (put_in r value w).divider.pending ≡ w.divider.pending
+put_in-pending (region.Ram k) value w = refl
+put_in-pending _ value w = refl
+
+put_in-irq : (r : Region) (value : ℕ) (w : Wires) → w.divider.irq ≡ false → (put_in r value w).divider.irq ≡ false
+put_in-irq region.Acknowledge value w e = refl
+put_in-irq _ value w e = e
+
+-- a region is written
+pub put-keeps : (a v : ℕ) (m t : BusValue) (most : ℕ) → Does m t (at_clock m.wires.clock (byte_put a v (at_clock (m.wires.clock - 1) m.wires))) most → KeepsLines m t
+unfolding byte_put
+put-keeps a v m t most does =
+    let w = at_clock (m.wires.clock - 1) m.wires in
+    record {
+      event = ap (λ (b : BusValue). b.event_at) does.value;
+      wired = ap (λ (b : BusValue). b.wires.wired) does.value ∙ put_in-wired (region_of a) v w;
+      pending = ap (λ (b : BusValue). b.wires.divider.pending) does.value ∙ put_in-pending (region_of a) v w;
+      irq = λ e. ap (λ (b : BusValue). b.wires.divider.irq) does.value ∙ put_in-irq (region_of a) v w e;
+    }
+
+-- so does a whole sequence
+moves-keep : {S : Type 0} {T : Access → S → S → Type 0} (bus : S → BusValue)
+    → ((x : Access) (a b : S) → T x a b → KeepsLines (bus a) (bus b))
+    → (r : RegistersValue) (q : Sequence) (bytes more : List ℕ) (s t : S) → Moves T r q bytes more s t → KeepsLines (bus s) (bus t)
+moves-keep bus keeps r q bytes [] s t same = rw same (keeps-refl (bus s))
+moves-keep bus keeps r q bytes (v ∷ more) s t (x, m, is, did, rest) =
+    keeps-then (bus s) (bus m) (bus t) (keeps x s m did) (moves-keep bus keeps r q (bytes ++ v ∷ []) more m t rest)
+
+pub runs-keep : {S : Type 0} {T : Access → S → S → Type 0} (bus : S → BusValue)
+    → ((x : Access) (a b : S) → T x a b → KeepsLines (bus a) (bus b))
+    → (r : RegistersValue) (q : Sequence) (s t : S) (e : CpuValue) → Runs T r q s t e → KeepsLines (bus s) (bus t)
+runs-keep bus keeps r q s t e runs = moves-keep bus keeps r q [] runs.bytes s t runs.moves
+
+-- an instruction in whose clocks nothing comes of itself leaves them calm
+pub calm-kept : (limit : ℕ) (addresses : List ℕ) (calm : Calm) (s t : BusValue) → s.wires.clock ≤ t.wires.clock → KeepsLines s t → IsCalm limit addresses calm s
+    → IsCalm limit addresses calm t
+calm-kept limit addresses calm s t later keeps was = λ early.
+    let now = was (omega arith) in
+    let event = keeps.event in
+    let quiet = now.quiet in
+    record {
+      before = now.before;
+      no_break = now.no_break;
+      quiet = omega arith;
+      pending = keeps.pending ∙ now.pending;
+      silent = λ e. (keeps.wired ∙ (now.silent e).0, keeps.irq (now.silent e).1);
+    }
+
+-- no line is pulled, or it is masked
+opcode-due : (pending : Pending) (line masked : Bool) → pending ≡ Nothing → line && not masked ≡ false
+    → is_opcode (if is_reset pending then Reset else (if line && not masked then Interrupt else Opcode)) ≡ true
+opcode-due Nothing line masked e f = rw f refl
+opcode-due Power line masked e f = cc
+opcode-due Watchdog line masked e f = cc
+
+masked-off : (line silent masked : Bool) → (silent ≡ true → line ≡ false) → silent || masked ≡ true → line && not masked ≡ false
+masked-off false silent masked let_go e = refl
+masked-off true silent true let_go e = refl
+masked-off true true false let_go e = let f = let_go refl in cc
+masked-off true false false let_go e = cc
+
+wired-ticked : (w : Wires) → (devices_ticked w).wired ≡ w.wired
+unfolding devices_ticked
+wired-ticked w = refl
+
+line-off : (irq wired first second : Bool) → irq ≡ false → wired ≡ false → irq || (wired && (first || second)) ≡ false
+line-off irq wired first second e f = rw (e, f) refl
+
+-- an unwired line is the divider's interrupt
+unwired : (w : Wires) → w.wired ≡ false → LeavesLines w → w.divider.irq ≡ false → line_of (devices_ticked w) ≡ false
+unfolding line_of
+unwired w off leaves let_go =
+    line-off (devices_ticked w).divider.irq (devices_ticked w).wired (has_request (devices_ticked w).sound1) (has_request (devices_ticked w).sound2)
+    (leaves.irq ∙ let_go) (wired-ticked w ∙ off)
+
+-- what is asked of a boundary where it is calm
+pub record GoesOn (limit : ℕ) (addresses : List ℕ) (c : CpuValue) (s : BusValue) : Type 0 where
+  pub open_yet : is_over limit (over_bus c s) || is_at_any addresses (over_bus c s) ≡ false
+  pub reads : reads_opcode c s ≡ true
+
+before-limit : (jam : Option ℕ) (boundary : Bool) (limit clock : ℕ) → is_none jam ≡ true → clock < limit
+    → is_some jam || (boundary && nat_le limit clock) ≡ false
+before-limit None boundary limit clock e h = grind (arith, nat_tests)
+before-limit (Some o) boundary limit clock e h = cc
+
+both-false : (a b : Bool) → a ≡ false → b ≡ false → a || b ≡ false
+both-false a b e f = rw (e, f) refl
+
+all-true : (a b c : Bool) → a ≡ true → b ≡ true → c ≡ true → (a && (b && c)) ≡ true
+all-true a b c e f h = rw (e, f, h) refl
+
+quiet-yet : (clock event : ℕ) → clock + WHOLE ≤ event → nat_le (clock + WHOLE) event ≡ true
+quiet-yet clock event h = grind (arith, nat_tests)
+
+pub calm-goes_on : (limit : ℕ) (addresses : List ℕ) (calm : Calm) (c : CpuValue) (s : BusValue) → c.mid ≡ None → s.wires.clock < calm.until
+    → AreCalm limit addresses calm s → LeavesLines s.wires → is_none c.jam ≡ true → calm.silent || is_masked c.p ≡ true → GoesOn limit addresses c s
+unfolding reads_opcode
+calm-goes_on limit addresses calm c s boundary early are leaves running quiet_line =
+    let before = are.before in
+    let quiet = are.quiet in
+    let lets_go : line_of (devices_ticked s.wires) && not (is_masked c.p) ≡ false =
+    masked-off (line_of (devices_ticked s.wires)) calm.silent (is_masked c.p)
+    (λ e. unwired s.wires (are.silent e).0 leaves (are.silent e).1) quiet_line in
+    record {
+      open_yet =
+          both-false (is_over limit (over_bus c s)) (is_at_any addresses (over_bus c s))
+          (before-limit c.jam (is_none c.mid) limit s.wires.clock running (omega arith)) (rw are.no_break refl);
+      reads =
+          all-true (is_none c.mid) (nat_le (s.wires.clock + WHOLE) s.event_at) (is_opcode (sequence_due c (devices_ticked s.wires)))
+          (rw boundary refl) (quiet-yet s.wires.clock s.event_at (omega arith))
+          (opcode-due (devices_ticked s.wires).divider.pending (line_of (devices_ticked s.wires)) (is_masked c.p) (leaves.pending ∙ are.pending) lets_go);
+    }
+
+-- that the clock and the flags tell so
+pub lasts-tells : (clock until : ℕ) (running silent masked : Bool) → (nat_lt clock until && (running && (silent || masked))) ≡ true
+    → (clock < until) × (running ≡ true) × (silent || masked ≡ true)
+lasts-tells clock until running silent masked e =
+    let both = and_parts (nat_lt clock until) (running && (silent || masked)) e in
+    let more = and_parts running (silent || masked) both.1 in
+    (grind (arith, nat_tests), more.0, more.1)
+
+-- the same from what is known of the boundaries before a clock
+pub calm-lasts : (limit : ℕ) (addresses : List ℕ) (calm : Calm) (c : CpuValue) (s : BusValue) → c.mid ≡ None → IsCalm limit addresses calm s
+    → (s.wires.clock < s.event_at → LeavesLines s.wires)
+    → (nat_lt s.wires.clock calm.until && (is_none c.jam && (calm.silent || is_masked c.p))) ≡ true → GoesOn limit addresses c s
+calm-lasts limit addresses calm c s boundary known ticks e =
+    let tells = lasts-tells s.wires.clock calm.until (is_none c.jam) calm.silent (is_masked c.p) e in
+    let early = tells.0 in
+    let are = known early in
+    let quiet = are.quiet in
+    calm-goes_on limit addresses calm c s boundary early are (ticks (omega arith)) tells.1 tells.2
+
+pub goes-on : (limit : ℕ) (addresses : List ℕ) (c : CpuValue) (s : BusValue) → GoesOn limit addresses c s
+    → true ≡ (not (is_over limit (over_bus c s) || is_at_any addresses (over_bus c s)) && reads_opcode c s)
+goes-on limit addresses c s on = sym (yes (is_over limit (over_bus c s) || is_at_any addresses (over_bus c s)) (reads_opcode c s) on.open_yet on.reads)
+  where
+    yes : (ended reads : Bool) → ended ≡ false → reads ≡ true → (not ended && reads) ≡ true
+    yes ended reads e f = rw (e, f) refl
+
+-- where it goes on, no run ends and an opcode is read
+pub goes-on-tells : (limit : ℕ) (addresses : List ℕ) (c : CpuValue) (s : BusValue)
+    → (not (is_over limit (over_bus c s) || is_at_any addresses (over_bus c s)) && reads_opcode c s) ≡ true → GoesOn limit addresses c s
+goes-on-tells limit addresses c s e =
+    let both = and_parts (not (is_over limit (over_bus c s) || is_at_any addresses (over_bus c s))) (reads_opcode c s) e in
+    record { open_yet = not-true (is_over limit (over_bus c s) || is_at_any addresses (over_bus c s)) both.0; reads = both.1 }
+  where
+    not-true : (b : Bool) → not b ≡ true → b ≡ false
+    not-true false f = refl
+    not-true true f = cc
+
+-- a fetch that reads an opcode finds no reset
+pub none-pending : (c : CpuValue) (w : Wires) → sequence_due c w ≡ Opcode → w.divider.pending ≡ Nothing
+none-pending c w e = of w.divider.pending (line_of w && not (is_masked c.p)) e
+  where
+    of : (p : Pending) (line : Bool) → (if is_reset p then Reset else (if line then Interrupt else Opcode)) ≡ Opcode → p ≡ Nothing
+    of Nothing line f = refl
+    of Power line f = cc
+    of Watchdog line f = cc

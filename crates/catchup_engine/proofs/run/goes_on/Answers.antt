@@ -1,0 +1,20 @@
+use Rattle.std.proofs.Common.{sym, ◌∙◌}
+use Rattle.catchup_engine.specs.Wires.{devices_ticked}
+use Rattle.catchup_engine.proofs.CalmLaws.{calm-lasts, goes-on, none-pending}
+use Rattle.catchup_engine.proofs.OpcodeLaws.{reads-opcode}
+use Rattle.catchup_engine.proofs.run.goes_on.Goals as goal
+
+pub returns-then-lasts-clause-value : goal.returns-then-lasts-clause-value
+returns-then-lasts-clause-value g c =
+    goes-on c.args.limit c.args.addresses.now c.args.cpu.now c.args.bus.now
+    (calm-lasts c.args.limit c.args.addresses.now c.args.calm.now c.args.cpu.now c.args.bus.now c.requires.boundary c.requires.calm c.lasts.ensures.ticks
+    (sym c.lasts.ensures.value ∙ c.if-lasts.true))
+
+pub calm_since-requires-clause-quiet : goal.calm_since-requires-clause-quiet
+calm_since-requires-clause-quiet g c =
+    (reads-opcode c.args.cpu.now c.args.bus.now (sym c.reads_opcode.ensures ∙ c.if-not-reads_opcode.false)).reads.quiet
+
+pub calm_since-requires-clause-pending : goal.calm_since-requires-clause-pending
+calm_since-requires-clause-pending g c =
+    none-pending c.args.cpu.now (devices_ticked c.args.bus.now.wires)
+    (reads-opcode c.args.cpu.now c.args.bus.now (sym c.reads_opcode.ensures ∙ c.if-not-reads_opcode.false)).reads.due

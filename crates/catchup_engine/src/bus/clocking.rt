@@ -1,0 +1,130 @@
+//! The clocks of the board: their ticks, and how far it is to what comes of itself.
+ghost use Rattle.std.specs.Prelude.{◌≡◌, ◌+◌, ◌-◌, ◌*◌, ◌≤◌, ◌<◌, true, false, nat_le};
+ghost use Rattle.catchup_engine.specs.Budget.{ticks_price, wraps};
+ghost use Rattle.catchup_engine.specs.Calm.{LeavesLines};
+ghost use Rattle.catchup_engine.specs.Quiet.{passed};
+ghost use Rattle.catchup_engine.specs.Bus.{Does, Fits, begin_price, done_clock, in_clock};
+ghost use Rattle.catchup_engine.specs.Wires.{devices_ticked, ticked};
+
+use crate::bus::{BoardBus, TRAIL_ROOM, WHOLE};
+use avg_device::VectorUnit;
+use board_base::{CLOCK_END, DIVIDER_PERIOD};
+use earom_cells::CellUnit;
+use irq_watchdog::DividerUnit;
+use pokey_chip::SoundUnit;
+use tape_ports::Tape;
+
+impl<V: VectorUnit, P: SoundUnit, C: CellUnit, D: DividerUnit> BoardBus<V, P, C, D> {
+    /// The clocks done.
+    #[tactic(auto, using(crate::proofs::DividerLaws::lines, crate::proofs::DividerLaws::next_lines), unfolding(crate::specs::Wires::devices_ticked))]
+    pub fn clock(&self) -> u64
+        ensures value { result ≡ self.now.wires.clock }
+        ensures last { result ≤ CLOCK_END }
+        ensures rooms { (TRAIL_ROOM ≤ self.now.rooms.vector) × (TRAIL_ROOM ≤ self.now.rooms.sound1) × (TRAIL_ROOM ≤ self.now.rooms.sound2) × (TRAIL_ROOM ≤ self.now.rooms.board) }
+        ensures until { result ≤ self.now.until }
+        ensures ticks { result < self.now.event_at → LeavesLines self.now.wires }
+    {
+        self.clock
+    }
+
+    /// The clock of the divider's next wrap, when it is done.
+    #[tactic(auto, using(crate::proofs::DividerLaws::lines))]
+    pub fn next_wrap(&self) -> u64
+        ensures exact { result ≡ self.now.wires.clock + (DIVIDER_PERIOD - self.now.wires.divider.phase) }
+        ensures ahead { self.now.wires.clock < result }
+    {
+        self.wrap_at
+    }
+
+    /// Whether nothing comes of itself in the clocks of a whole sequence: no entry is due, and the
+    /// divider doesn't wrap.
+    #[inline(always)]
+    pub fn is_quiet(&self) -> bool
+        ensures { result ≡ nat_le (self.now.wires.clock + WHOLE) self.now.event_at }
+    {
+        self.clock + u64::from(WHOLE) <= self.event_at
+    }
+
+    /// The clock before which a whole sequence may begin in which nothing comes of itself.
+    #[inline(always)]
+    #[tactic(auto, using(crate::proofs::DividerLaws::lines, crate::proofs::DividerLaws::next_lines), unfolding(crate::specs::Wires::devices_ticked))]
+    pub fn quiet_until(&self) -> u64
+        ensures value { result ≡ self.now.event_at - 6 }
+        ensures ticks { self.now.wires.clock < self.now.event_at → LeavesLines self.now.wires }
+    {
+        self.event_at.saturating_sub(u64::from(WHOLE) - 1)
+    }
+
+    /// The ticks of a clock, which counts as done then. Only a wrap moves a device.
+    #[tactic(auto, using(board_base::proofs::TickLaws::next_clock, pokey_chip::proofs::RecordLemmas::lagging, crate::proofs::DividerLaws::lines), unfolding(crate::specs::Wires::devices_ticked))]
+    pub(super) fn tick(&mut self)
+        requires begun { self.old.begun ≡ false }
+        requires clock { self.old.wires.clock < CLOCK_END }
+        requires room { self.old.wires.clock < self.old.until }
+        ensures does { Does self.old self.new (done_clock (devices_ticked self.old.wires)) (5 * wraps self.old.wires) }
+    {
+        self.clock += 1;
+        if self.clock == self.wrap_at {
+            self.divider.level(self.clock);
+            self.wrap_at = self.clock + self.divider.unit.quiet();
+        }
+    }
+
+    /// The ticks of so many clocks in which nothing comes: no device moves.
+    #[inline(always)]
+    #[tactic(auto, using(crate::proofs::QuietLaws::later_devices, crate::proofs::DividerLaws::lines), unfolding(crate::specs::Quiet::later, crate::specs::Quiet::passed))]
+    pub fn pass(&mut self, clocks: u64)
+        requires quiet { self.old.wires.clock + clocks ≤ self.old.event_at }
+        requires clock { self.old.wires.clock + clocks ≤ CLOCK_END }
+        requires room { self.old.wires.clock + clocks ≤ self.old.until }
+        requires begun { self.old.begun ≡ false }
+        ensures value { self.new ≡ passed clocks self.old }
+        ensures irq { self.new.wires.divider.irq ≡ self.old.wires.divider.irq }
+        ensures pending { self.new.wires.divider.pending ≡ self.old.wires.divider.pending }
+    {
+        self.clock += clocks;
+    }
+
+    /// Begins a clock before its access: its entries are applied, and the devices tick.
+    #[tactic(auto, using(crate::proofs::EventLaws::kept))]
+    pub fn begin(&mut self, tape: &Tape)
+        requires fits { Fits tape.now self.old }
+        requires begun { self.old.begun ≡ false }
+        requires clock { self.old.wires.clock < CLOCK_END }
+        requires room { self.old.wires.clock < self.old.until }
+        ensures value { self.new ≡ record self.old { wires = done_clock (ticked tape.now.entries self.old.wires); begun = true; next = self.new.next; event_at = self.new.event_at; lagging = self.new.lagging; until = self.new.until; calls = self.new.calls } }
+        ensures fits { Fits tape.now self.new }
+        ensures until { self.old.until ≤ self.new.until }
+        ensures calls { self.new.calls ≤ self.old.calls + ticks_price tape.now.entries self.old.wires }
+        ensures more { self.old.calls ≤ self.new.calls }
+        ensures one { self.new.wires.clock ≡ self.old.wires.clock + 1 }
+        ensures written { self.new.wires.written ≡ self.old.wires.written }
+    {
+        self.clock_with_events(tape);
+        self.begun = true;
+        self.event_at = 0;
+    }
+
+    /// Begins the clock of an access, unless it has begun.
+    #[tactic(auto, using(crate::proofs::ClockLaws::clocks), unfolding(crate::specs::Bus::in_clock))]
+    pub(super) fn enter(&mut self, tape: &Tape)
+        requires fits { Fits tape.now self.old }
+        requires clock { self.old.wires.clock < CLOCK_END }
+        requires room { self.old.wires.clock < self.old.until }
+        ensures value { self.new ≡ record self.old { wires = done_clock (in_clock tape.now.entries self.old.begun self.old.wires); begun = false; next = self.new.next; event_at = self.new.event_at; lagging = self.new.lagging; until = self.new.until; calls = self.new.calls } }
+        ensures fits { Fits tape.now self.new }
+        ensures until { self.old.until ≤ self.new.until }
+        ensures calls { self.new.calls ≤ self.old.calls + begin_price tape.now.entries self.old.begun self.old.wires }
+        ensures more { self.old.calls ≤ self.new.calls }
+        ensures begun { 1 ≤ self.new.wires.clock }
+    {
+        if self.begun {
+            self.begun = false;
+            self.look_ahead(tape);
+        } else if self.clock < self.event_at {
+            self.pass(1);
+        } else {
+            self.clock_with_events(tape);
+        }
+    }
+}

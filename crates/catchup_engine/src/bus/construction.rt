@@ -1,0 +1,123 @@
+//! A board over an image, and another one in its place.
+ghost use Rattle.std.specs.Prelude.{◌≡◌, ◌+◌, ◌-◌, ◌≤◌, ◌^◌, false, length, drop, take, min, IfOk, ◌++◌, []};
+ghost use Rattle.catchup_engine.specs.Lags.{lagging_of, none_lags};
+ghost use Rattle.catchup_engine.specs.Wires.{reloaded, wires_of};
+
+use crate::bus::{BoardBus, TRAIL_ROOM};
+use crate::devices::Devices;
+use crate::lane::{CellLane, DividerLane, SoundLane, VectorLane};
+use avg_device::VectorUnit;
+use board_base::{BoardState, OutOfMemory, Trail, VECTOR_ROM_LEN, VectorMemory};
+use earom_cells::CellUnit;
+use irq_watchdog::DividerUnit;
+use pokey_chip::SoundUnit;
+use rom_image::{Image, PROGRAM_ROM_LEN};
+use std::alloc::Global;
+
+/// A trail with room for the records of a window.
+fn new_trail(alloc: Global) -> Result<Trail, OutOfMemory>
+    ensures empty { IfOk result (λ trail. trail.records ≡ []) }
+    ensures room { IfOk result (λ trail. TRAIL_ROOM ≤ trail.room) }
+    ensures spare { IfOk result (λ trail. trail.spare ≡ trail.room) }
+{
+    Trail::new(alloc, TRAIL_ROOM)
+}
+
+/// The bytes of the vector memory of a board over an image.
+#[tactic(auto, using(crate::proofs::MemoryLaws::loads))]
+fn new_memory(alloc: Global, image: &Image, state: &BoardState) -> Result<VectorMemory, OutOfMemory>
+    ensures { IfOk result (λ memory. memory ≡ state.now.vram ++ take VECTOR_ROM_LEN image.now) }
+{
+    let (vector_rom, _) = image.bytes().split_at(VECTOR_ROM_LEN);
+    let mut memory = VectorMemory::new(alloc, vector_rom)?;
+    memory.load_ram(&state.vram);
+    Ok(memory)
+}
+
+/// The bytes of the program ROM of an image.
+fn new_program(alloc: Global, image: &Image) -> Result<Vec<u8>, OutOfMemory>
+    ensures bytes { IfOk result (λ program. program.items ≡ drop VECTOR_ROM_LEN image.now) }
+    ensures len { IfOk result (λ program. length program.items ≡ PROGRAM_ROM_LEN) }
+{
+    let (_, program) = image.bytes().split_at(VECTOR_ROM_LEN);
+    let program = Vec::from_slice(alloc, program)?;
+    Ok(program)
+}
+
+impl<V: VectorUnit, P: SoundUnit, C: CellUnit, D: DividerUnit> BoardBus<V, P, C, D> {
+    /// The wires of a board over an image. All the memory that the board ever needs is taken here.
+    #[tactic(auto, using(board_base::proofs::TickLaws::level, crate::proofs::SettledLaws::brought))]
+    pub fn new(
+        alloc: Global,
+        image: &Image,
+        state: &BoardState,
+        devices: Devices<V, P, C, D>,
+        wired: bool,
+    ) -> Result<BoardBus<V, P, C, D>, OutOfMemory>
+        ensures wires { IfOk result (λ bus. bus.wires ≡ wires_of image.now wired state.now) }
+        ensures between { IfOk result (λ bus. bus.begun ≡ false) }
+        ensures settled { IfOk result (λ bus. bus.lagging ≡ none_lags) }
+        ensures calls { IfOk result (λ bus. bus.calls ≡ min (V.calls devices.vector + P.calls devices.sound1 + P.calls devices.sound2
+            + C.calls devices.cells + D.calls devices.divider + 5) (2 ^ 64 - 1)) }
+    {
+        let Devices {
+            vector,
+            sound1,
+            sound2,
+            cells,
+            divider,
+        } = devices;
+        let clock = state.clock;
+        let divider = DividerLane::new(divider, &state.divider, clock);
+        let wrap_at = clock + divider.unit.quiet();
+        Ok(BoardBus {
+            vector: VectorLane::new(vector, &state.vg, clock, new_trail(alloc)?),
+            sound1: SoundLane::new(sound1, &state.sound1, clock, wired, new_trail(alloc)?),
+            sound2: SoundLane::new(sound2, &state.sound2, clock, wired, new_trail(alloc)?),
+            cells: CellLane::new(cells, &state.earom, clock),
+            divider,
+            memory: new_memory(alloc, image, state)?,
+            ram: Vec::from_slice(alloc, &state.ram)?,
+            program: new_program(alloc, image)?,
+            out: state.out,
+            in0: state.in0,
+            in3: state.in3,
+            in4: state.in4,
+            clock,
+            begun: false,
+            wrap_at,
+            next: 0,
+            event_at: 0,
+            written: new_trail(alloc)?,
+        })
+    }
+
+    /// Takes on another board over the same image.
+    #[tactic(auto, using(board_base::proofs::TickLaws::level, crate::proofs::SettledLaws::settled, crate::proofs::SettledLaws::brought, crate::proofs::MemoryLaws::loads))]
+    pub fn load(&mut self, state: &BoardState)
+        requires settled { lagging_of self.old.lagging ≡ 0 }
+        requires between { self.old.begun ≡ false }
+        requires strokes { self.old.wires.strokes ≡ [] }
+        requires levels1 { self.old.wires.levels1 ≡ [] }
+        requires levels2 { self.old.wires.levels2 ≡ [] }
+        requires written { self.old.wires.written ≡ [] }
+        ensures value { self.new ≡ record self.old { wires = reloaded self.old.wires state.now; event_at = 0; lagging = none_lags; until = self.new.until; calls = self.new.calls } }
+        ensures calls { self.new.calls ≡ min (self.old.calls + 5) (2 ^ 64 - 1) }
+    {
+        let done = state.clock;
+        self.clock = done;
+        self.event_at = 0;
+        self.vector.load(&state.vg, done);
+        self.sound1.load(&state.sound1, done);
+        self.sound2.load(&state.sound2, done);
+        self.cells.load(&state.earom, done);
+        self.divider.load(&state.divider, done);
+        self.wrap_at = done + self.divider.unit.quiet();
+        self.out = state.out;
+        self.in0 = state.in0;
+        self.in3 = state.in3;
+        self.in4 = state.in4;
+        self.ram.copy_from_slice(&state.ram);
+        self.memory.load_ram(&state.vram);
+    }
+}

@@ -1,0 +1,148 @@
+//! What comes of itself: the entries of the tape, and the next wrap of the divider.
+ghost use Rattle.std.specs.Prelude.{◌≡◌, ◌+◌, ◌*◌, ◌≤◌, ◌<◌, false, length, drop, All};
+ghost use Rattle.tape_ports.specs.Due.{due_at};
+ghost use Rattle.tape_ports.specs.Ports.{IsPort};
+ghost use Rattle.tape_ports.specs.Tape.{IsTape};
+ghost use Rattle.catchup_engine.specs.Budget.{ticks_price};
+ghost use Rattle.catchup_engine.specs.Events.{deadlines_of, next_event_of};
+ghost use Rattle.catchup_engine.specs.Bus.{ComesNext, Does, Fits, IsTapePlace, done_clock};
+ghost use Rattle.catchup_engine.specs.Wires.{applied, ticked};
+
+use crate::bus::BoardBus;
+use avg_device::VectorUnit;
+use board_base::CLOCK_END;
+use earom_cells::CellUnit;
+use event_queue::Deadlines;
+use irq_watchdog::DividerUnit;
+use pokey_chip::SoundUnit;
+use tape_ports::{Tape, TapeEntry};
+
+impl<V: VectorUnit, P: SoundUnit, C: CellUnit, D: DividerUnit> BoardBus<V, P, C, D> {
+    /// Applies entries of the tape, in their order.
+    fn apply(&mut self, entries: &[TapeEntry])
+        requires ports { All (λ entry. IsPort entry.port) entries.now }
+        ensures does { Does self.old self.new (applied entries.now self.old.wires) (5 * length entries.now) }
+    {
+        for entry in entries {
+            self.set_port(*entry);
+        }
+    }
+
+    /// Applies the entries of the present clock.
+    fn apply_due(&mut self, tape: &Tape)
+        requires fits { Fits tape.now self.old }
+        ensures value { self.new ≡ record self.old { wires = applied (due_at self.old.wires.clock tape.now.entries) self.old.wires; next = self.new.next; lagging = self.new.lagging; until = self.new.until; calls = self.new.calls } }
+        ensures next { IsTapePlace tape.now (self.old.wires.clock + 1) self.new.next }
+        ensures until { self.old.until ≤ self.new.until }
+        ensures calls { self.new.calls ≤ self.old.calls + 5 * length (due_at self.old.wires.clock tape.now.entries) }
+        ensures more { self.old.calls ≤ self.new.calls }
+    {
+        let after = tape.first_from(self.clock + 1);
+        let due = due_entries(tape, self.next, after, self.clock);
+        self.apply(due);
+        self.next = after;
+    }
+
+    /// Does a clock's entries and ticks, whether something comes in it or not.
+    #[tactic(auto, using(crate::proofs::EventLaws::events), unfolding(crate::specs::Wires::ticked, crate::specs::Budget::ticks_price))]
+    pub(super) fn clock_with_events(&mut self, tape: &Tape)
+        requires fits { Fits tape.now self.old }
+        requires begun { self.old.begun ≡ false }
+        requires clock { self.old.wires.clock < CLOCK_END }
+        requires room { self.old.wires.clock < self.old.until }
+        ensures value { self.new ≡ record self.old { wires = done_clock (ticked tape.now.entries self.old.wires); next = self.new.next; event_at = self.new.event_at; lagging = self.new.lagging; until = self.new.until; calls = self.new.calls } }
+        ensures fits { Fits tape.now self.new }
+        ensures until { self.old.until ≤ self.new.until }
+        ensures calls { self.new.calls ≤ self.old.calls + ticks_price tape.now.entries self.old.wires }
+        ensures more { self.old.calls ≤ self.new.calls }
+    {
+        self.apply_due(tape);
+        self.tick();
+        self.look_ahead(tape);
+    }
+
+    /// Looks for the next event, where the entries past are those of the clocks done.
+    pub(super) fn look_ahead(&mut self, tape: &Tape)
+        requires begun { self.old.begun ≡ false }
+        requires place { IsTapePlace tape.now self.old.wires.clock self.old.next }
+        ensures value { self.new ≡ record self.old { event_at = self.new.event_at } }
+        ensures fits { Fits tape.now self.new }
+    {
+        // opens the tape
+        let _entries = tape.entries();
+        self.event_at = next_event(tape, self.next, self.wrap_at);
+    }
+
+    /// Takes note of a tape before a run: which entries are past, and when something comes next.
+    pub fn look_at(&mut self, tape: &Tape)
+        requires begun { self.old.begun ≡ false }
+        ensures value { self.new ≡ record self.old { next = self.new.next; event_at = self.new.event_at } }
+        ensures fits { Fits tape.now self.new }
+    {
+        self.next = tape.first_from(self.clock);
+        self.look_ahead(tape);
+    }
+}
+
+/// The entries due at a clock: those from its place up to the place of the next clock.
+#[tactic(auto, using(crate::proofs::TapeLaws::due_entries))]
+fn due_entries(tape: &Tape, next: usize, after: usize, clock: u64) -> &[TapeEntry]
+    requires next { IsTapePlace tape.now clock next }
+    requires after { IsTapePlace tape.now (clock + 1) after }
+    ensures due { result.now ≡ due_at clock tape.now.entries }
+    ensures ports { All (λ entry. IsPort entry.port) result.now }
+{
+    let entries = tape.entries();
+    &entries[next..after]
+}
+
+/// The names of the deadlines: the divider's next wrap, and the tape's next entry.
+const WRAP: u8 = 0;
+
+const ENTRY: u8 = 1;
+
+/// The deadlines of a wrap and of an entry, where there is one.
+fn deadlines_of(wrap: u64, entry: Option<u64>) -> Deadlines
+    ensures { result ≡ deadlines_of wrap entry }
+{
+    let mut deadlines = Deadlines::new();
+    deadlines.set(WRAP, wrap);
+    if let Some(at) = entry {
+        deadlines.set(ENTRY, at);
+    }
+    deadlines
+}
+
+/// The sooner of a wrap and of an entry, where there is one.
+fn least_event(wrap: u64, entry: Option<u64>) -> u64
+    ensures { result ≡ next_event_of wrap entry }
+{
+    let deadlines = deadlines_of(wrap, entry);
+    match deadlines.least() {
+        Some((_, at)) => at,
+        None => wrap,
+    }
+}
+
+/// The clock of the entry at a place, where there is one.
+fn entry_at(tape: &Tape, next: usize) -> Option<u64>
+    ensures { IsTape tape.now → ComesNext tape.now next result }
+{
+    let entries = tape.entries();
+    if next < entries.len() {
+        Some(entries[next].clock)
+    } else {
+        None
+    }
+}
+
+/// The clock before which no entry is due and the divider doesn't wrap, from an entry's place and
+/// the clock at which the wrap is done.
+#[tactic(auto, using(crate::proofs::TapeLaws::comes))]
+fn next_event(tape: &Tape, next: usize, wrap_at: u64) -> u64
+    requires { 0 < wrap_at }
+    ensures wrap { result < wrap_at }
+    ensures entries { IsTape tape.now → All (λ entry. result ≤ entry.clock) (drop next tape.now.entries) }
+{
+    least_event(wrap_at - 1, entry_at(tape, next))
+}

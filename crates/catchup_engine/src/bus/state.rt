@@ -1,0 +1,186 @@
+//! The board at rest: its devices brought to the present, its state, and its records.
+ghost use Rattle.std.specs.Prelude.{◌≡◌, ◌+◌, ◌≤◌, ◌==◌, IsSome, []};
+ghost use Rattle.catchup_engine.specs.Lags.{lagging_of, none_lags};
+ghost use Rattle.catchup_engine.specs.Wires.{board_of};
+
+use crate::bus::{BoardBus, TRAIL_ROOM};
+use avg_device::VectorUnit;
+use board_base::{BoardState, CLOCK_LIMIT, CpuState, Trails};
+use earom_cells::CellUnit;
+use irq_watchdog::DividerUnit;
+use pokey_chip::SoundUnit;
+
+impl<V: VectorUnit, P: SoundUnit, C: CellUnit, D: DividerUnit> BoardBus<V, P, C, D> {
+    /// Brings the generator to the present, by one call where it lags and by none where it stands there.
+    #[tactic(auto, using(board_base::proofs::TickLaws::level, crate::proofs::SettledLaws::brought))]
+    fn bring_vector(&mut self)
+        ensures value { self.new ≡ record self.old { lagging = record self.old.lagging { vector = 0 }; until = self.new.until; calls = self.new.calls } }
+        ensures until { self.old.until ≤ self.new.until }
+        ensures calls { self.new.calls ≤ self.old.calls + self.old.lagging.vector }
+        ensures more { self.old.calls ≤ self.new.calls }
+        ensures few { self.old.lagging.vector ≤ 1 }
+    {
+        self.vector.level(&self.memory, self.clock);
+    }
+
+    /// Brings POKEY 1 to the present, by one call where it lags and by none where it stands there.
+    #[tactic(auto, using(board_base::proofs::TickLaws::level, crate::proofs::SettledLaws::brought))]
+    fn bring_sound1(&mut self)
+        ensures value { self.new ≡ record self.old { lagging = record self.old.lagging { sound1 = 0 }; until = self.new.until; calls = self.new.calls } }
+        ensures until { self.old.until ≤ self.new.until }
+        ensures calls { self.new.calls ≤ self.old.calls + self.old.lagging.sound1 }
+        ensures more { self.old.calls ≤ self.new.calls }
+        ensures few { self.old.lagging.sound1 ≤ 1 }
+    {
+        self.sound1.level(self.clock);
+    }
+
+    /// Brings POKEY 2 to the present, by one call where it lags and by none where it stands there.
+    #[tactic(auto, using(board_base::proofs::TickLaws::level, crate::proofs::SettledLaws::brought))]
+    fn bring_sound2(&mut self)
+        ensures value { self.new ≡ record self.old { lagging = record self.old.lagging { sound2 = 0 }; until = self.new.until; calls = self.new.calls } }
+        ensures until { self.old.until ≤ self.new.until }
+        ensures calls { self.new.calls ≤ self.old.calls + self.old.lagging.sound2 }
+        ensures more { self.old.calls ≤ self.new.calls }
+        ensures few { self.old.lagging.sound2 ≤ 1 }
+    {
+        self.sound2.level(self.clock);
+    }
+
+    /// Brings the EAROM to the present, by one call where it lags and by none where it stands there.
+    #[tactic(auto, using(board_base::proofs::TickLaws::level, crate::proofs::SettledLaws::brought))]
+    fn bring_cells(&mut self)
+        ensures value { self.new ≡ record self.old { lagging = record self.old.lagging { cells = 0 }; until = self.new.until; calls = self.new.calls } }
+        ensures until { self.old.until ≤ self.new.until }
+        ensures calls { self.new.calls ≤ self.old.calls + self.old.lagging.cells }
+        ensures more { self.old.calls ≤ self.new.calls }
+        ensures few { self.old.lagging.cells ≤ 1 }
+    {
+        self.cells.level(self.clock);
+    }
+
+    /// Brings the divider to the present, by one call where it lags and by none where it stands there.
+    #[tactic(auto, using(board_base::proofs::TickLaws::level, crate::proofs::DividerLaws::lines, crate::proofs::SettledLaws::brought))]
+    fn bring_divider(&mut self)
+        ensures value { self.new ≡ record self.old { lagging = record self.old.lagging { divider = 0 }; until = self.new.until; calls = self.new.calls } }
+        ensures until { self.old.until ≤ self.new.until }
+        ensures calls { self.new.calls ≤ self.old.calls + self.old.lagging.divider }
+        ensures more { self.old.calls ≤ self.new.calls }
+        ensures few { self.old.lagging.divider ≤ 1 }
+    {
+        self.divider.level(self.clock);
+    }
+
+    /// Brings each device to the present. One that stands there already isn't called.
+    pub fn settle(&mut self)
+        ensures value { self.new ≡ record self.old { lagging = none_lags; until = self.new.until; calls = self.new.calls } }
+        ensures until { self.old.until ≤ self.new.until }
+        ensures calls { self.new.calls ≤ self.old.calls + lagging_of self.old.lagging }
+        ensures more { self.old.calls ≤ self.new.calls }
+        ensures few { lagging_of self.old.lagging ≤ 5 }
+    {
+        self.bring_vector();
+        self.bring_sound1();
+        self.bring_sound2();
+        self.bring_cells();
+        self.bring_divider();
+    }
+
+    /// Whether the generator is halted.
+    #[tactic(auto, using(board_base::proofs::TickLaws::level, crate::proofs::SettledLaws::settled))]
+    pub fn is_halted(&self) -> bool
+        requires settled { lagging_of self.now.lagging ≡ 0 }
+        ensures { result ≡ self.now.wires.vg.halted }
+    {
+        self.vector.unit.halted()
+    }
+
+    /// Whether each device stands at the present.
+    pub fn is_settled(&self) -> bool
+        ensures { result ≡ (lagging_of self.now.lagging == 0) }
+    {
+        self.vector.done == self.clock
+            && self.sound1.done == self.clock
+            && self.sound2.done == self.clock
+            && self.cells.done == self.clock
+            && self.divider.done == self.clock
+    }
+
+    /// The device calls, or the greatest number of 64 bits.
+    pub fn calls(&self) -> u64
+        ensures { result ≡ self.now.calls }
+    {
+        self.vector
+            .unit
+            .calls()
+            .saturating_add(self.sound1.unit.calls())
+            .saturating_add(self.sound2.unit.calls())
+            .saturating_add(self.cells.unit.calls())
+            .saturating_add(self.divider.unit.calls())
+    }
+
+    /// Copies the board with this processor.
+    #[tactic(auto, using(board_base::proofs::TickLaws::level, crate::proofs::SettledLaws::settled))]
+    pub fn state(&self, cpu: &CpuState, into: &mut BoardState)
+        requires settled { lagging_of self.now.lagging ≡ 0 }
+        requires clock { self.now.wires.clock ≤ CLOCK_LIMIT + 16 }
+        requires middle { IsSome cpu.now.mid → self.now.wires.clock ≤ CLOCK_LIMIT }
+        ensures { into.new ≡ board_of cpu.now self.now.wires }
+    {
+        into.clock = self.clock;
+        into.cpu = *cpu;
+        into.out = self.out;
+        into.in0 = self.in0;
+        into.in3 = self.in3;
+        into.in4 = self.in4;
+        into.divider = self.divider.unit.state();
+        into.vg = self.vector.unit.state();
+        into.sound1 = self.sound1.unit.state();
+        into.sound2 = self.sound2.unit.state();
+        into.earom = self.cells.unit.state();
+        into.ram.copy_from_slice(&self.ram);
+        into.vram.copy_from_slice(self.memory.ram());
+    }
+
+    /// The records of each part since the last clearing.
+    #[tactic(auto, using(board_base::proofs::TickLaws::level, crate::proofs::SettledLaws::settled))]
+    pub fn trails(&self) -> Trails<'_>
+        ensures vector { lagging_of self.now.lagging ≡ 0 → result.vector.now.records ≡ self.now.wires.strokes }
+        ensures sound1 { lagging_of self.now.lagging ≡ 0 → result.sound1.now.records ≡ self.now.wires.levels1 }
+        ensures sound2 { lagging_of self.now.lagging ≡ 0 → result.sound2.now.records ≡ self.now.wires.levels2 }
+        ensures board { result.board.now.records ≡ self.now.wires.written }
+        ensures rooms { self.now.rooms ≡ record { vector = result.vector.now.room; sound1 = result.sound1.now.room; sound2 = result.sound2.now.room; board = result.board.now.room } }
+    {
+        Trails {
+            vector: &self.vector.trail,
+            sound1: &self.sound1.trail,
+            sound2: &self.sound2.trail,
+            board: &self.written,
+        }
+    }
+
+    /// Forgets the records.
+    #[tactic(auto, using(board_base::proofs::TickLaws::level, crate::proofs::SettledLaws::settled))]
+    pub fn clear_trails(&mut self)
+        requires settled { lagging_of self.old.lagging ≡ 0 }
+        ensures value { self.new ≡ record self.old { wires = record self.old.wires { strokes = []; levels1 = []; levels2 = []; written = [] }; until = self.new.until } }
+    {
+        self.vector.trail.clear();
+        self.sound1.trail.clear();
+        self.sound2.trail.clear();
+        self.written.clear();
+    }
+
+    /// Each trail of a device has room for the clocks of a window where it is empty. It does nothing.
+    #[tactic(auto, using(crate::proofs::SettledLaws::settled))]
+    pub fn has_room(&self)
+        requires settled { lagging_of self.now.lagging ≡ 0 }
+        requires strokes { self.now.wires.strokes ≡ [] }
+        requires levels1 { self.now.wires.levels1 ≡ [] }
+        requires levels2 { self.now.wires.levels2 ≡ [] }
+        ensures { self.now.wires.clock + TRAIL_ROOM ≤ self.now.until }
+    {
+        // opens the model
+        let _clock = self.clock;
+    }
+}
