@@ -1,12 +1,12 @@
 -- Boundaries at which nothing but the clock has to be looked at.
 use Rattle.std.proofs.Common.{◌≡◌, ℕ, ◌+◌, ◌-◌, ◌≤◌, ◌<◌, Bool, true, false, not, ◌&&◌, ◌||◌, nat_le, nat_lt, min, is_none, is_some, List, [], ◌∷◌, ◌++◌, slice_set, Option, Some, None, refl, sym, ap, ◌∙◌, arith, if◌then◌else◌}
-use Rattle.std.proofs.lemmas.Bool.{and_parts, leb-true}
+use Rattle.std.proofs.lemmas.Bool.{and_parts}
 use Rattle.std.proofs.lemmas.Bool.Decides.{nat_tests}
 use Rattle.board_base.specs.declared.divider.Pending.{Pending}
 use Rattle.board_base.specs.declared.divider.Pending.TheVariants.{Nothing, Power, Watchdog}
 use Rattle.board_base.specs.declared.cpu.Sequence.{Sequence}
 use Rattle.board_base.specs.declared.cpu.Sequence.TheVariants.{Opcode, Interrupt, Reset}
-use Rattle.board_base.specs.Cpu.{CpuValue, MidValue}
+use Rattle.board_base.specs.Cpu.{CpuValue}
 use Rattle.board_map.specs.declared.map.Region.{Region}
 use Rattle.board_map.specs.declared.map.Region.TheVariants as region
 use Rattle.board_map.specs.Map.{region_of}
@@ -19,11 +19,11 @@ use Rattle.catchup_engine.specs.declared.bus.TheConstants.{WHOLE}
 use Rattle.catchup_engine.specs.Breaks.{is_at_any}
 use Rattle.catchup_engine.specs.Bus.{BusValue, Does, at_clock}
 use Rattle.catchup_engine.specs.Calm.{AreCalm, IsCalm, KeepsLines, LeavesLines}
-use Rattle.catchup_engine.specs.Lockstep.{Board, is_reset, sequence_due}
+use Rattle.catchup_engine.specs.Lockstep.{is_reset, sequence_due}
 use Rattle.catchup_engine.specs.Quiet.{later, passed}
 use Rattle.catchup_engine.specs.Run.{is_over}
 use Rattle.catchup_engine.specs.Runs.{over_bus}
-use Rattle.catchup_engine.specs.Turn.{ReadsOpcode, is_opcode, reads_opcode}
+use Rattle.catchup_engine.specs.Turn.{is_opcode, reads_opcode}
 use Rattle.catchup_engine.specs.Wires.{Wires, byte_put, devices_ticked, has_request, line_of, put_in}
 
 both-not : (a b : Bool) → (not a && not b) ≡ true → (a ≡ false) × (b ≡ false)

@@ -1,5 +1,5 @@
 //! One turn of the board: what is left of a sequence, or the sequence that a fetch begins.
-ghost use Rattle.std.specs.Prelude.{◌≡◌, ◌≢◌, ◌+◌, ◌<◌, ◌≤◌, ℕ, [], true, false, None, IsSome};
+ghost use Rattle.std.specs.Prelude.{◌≡◌, ◌≢◌, ◌+◌, ◌<◌, ◌≤◌, ℕ, [], false, None, IsSome};
 ghost use Rattle.cpu_core.specs.Places.{Advances};
 ghost use Rattle.cpu_core.specs.Sequences.{start_of, Runs};
 ghost use Rattle.catchup_engine.specs.Bus.{BusStep, Fits, room_of};

@@ -1,9 +1,8 @@
 //! The lines to the processor: the interrupt, and the pending reset with what its first clock does.
-ghost use Rattle.std.specs.Prelude.{◌≡◌, ◌&&◌, not, ◌+◌, ◌-◌, ◌≤◌, ◌<◌, ◌||◌, true, length, ◌++◌, ◌∷◌, []};
+ghost use Rattle.std.specs.Prelude.{◌≡◌, ◌&&◌, not, ◌+◌, ◌-◌, ◌≤◌, ◌<◌, ◌||◌, length, ◌++◌, ◌∷◌, []};
 ghost use Rattle.catchup_engine.specs.Bus.{Does, at_clock};
 ghost use Rattle.irq_watchdog.specs.Tick.{reset_taken};
-ghost use Rattle.pokey_chip.specs.Tick.{pokey_tick};
-ghost use Rattle.catchup_engine.specs.Wires.{devices_ticked, has_request, line_of, reset_begun};
+ghost use Rattle.catchup_engine.specs.Wires.{devices_ticked, line_of, reset_begun};
 
 use crate::bus::BoardBus;
 use avg_device::VectorUnit;
