@@ -1,0 +1,172 @@
+//! Each call outside of a command is made to fail in turn.
+
+use crate::folder::Folder;
+use crate::report::Report;
+use crate::stopped::Stopped;
+use crate::trial::{Outside, STEADY, Trial, try_line};
+use outside_io::Stored;
+use std::alloc::Global;
+
+/// The note on a call outside that failed.
+const OUTSIDE: &[u8] = b"gravitar: outside fault\n";
+
+/// The most calls of a kind that a command of the suite makes.
+const MOST_CALLS: u64 = 10_000;
+
+/// A command that was done without a fault.
+#[derive(Clone, Copy)]
+pub struct Whole<'w> {
+    pub line: &'w str,
+    pub folder: &'w Folder,
+    pub trial: &'w Trial,
+    /// How many bytes of text stand in front of each store.
+    pub ends: &'w [usize],
+}
+
+/// Whether the stores that were made are the first of those of the whole.
+fn are_first(made: &[Stored], whole: &[Stored]) -> bool {
+    made.len() <= whole.len()
+        && made.iter().zip(whole).all(|(made, whole)| made.name() == whole.name()
+            && made.bytes() == whole.bytes())
+}
+
+impl Whole<'_> {
+    /// Whether so many stores come after the text in front of them, and so many bytes of text before
+    /// the next store.
+    fn is_in_order(&self, stores: usize, text: usize) -> bool {
+        let last = stores.checked_sub(1).and_then(|last| self.ends.get(last));
+        last.is_none_or(|end| *end <= text) && self.ends.get(stores).is_none_or(|end| text <= *end)
+    }
+
+    /// Whether a trial was ended by a fault: a first part of the whole was done, and not all of it.
+    fn is_stopped(&self, trial: &Trial, note: &[u8]) -> bool {
+        let (text, all) = (trial.out.bytes(), self.trial.out.bytes());
+        let (made, whole) = (trial.shelf.stores(), self.trial.shelf.stores());
+        trial.status == 6
+            && trial.notes.bytes() == note
+            && all.starts_with(text)
+            && are_first(made, whole)
+            && (text.len() < all.len() || made.len() < whole.len() || whole.is_empty())
+            && self.is_in_order(made.len(), text.len())
+    }
+
+    /// Whether a trial did all of the whole, but for its note.
+    fn is_all(&self, trial: &Trial) -> bool {
+        let (made, whole) = (trial.shelf.stores(), self.trial.shelf.stores());
+        trial.status == self.trial.status
+            && trial.out.bytes() == self.trial.out.bytes()
+            && made.len() == whole.len()
+            && are_first(made, whole)
+    }
+
+    /// Whether a trial did all of the whole.
+    fn is_whole(&self, trial: &Trial) -> bool {
+        self.is_all(trial) && trial.notes.bytes() == self.trial.notes.bytes()
+    }
+
+    /// Does the command with these calls outside.
+    fn again(&self, alloc: Global, outside: Outside<'_>) -> Result<Trial, Stopped> {
+        try_line(alloc, self.line, self.folder, outside)
+    }
+
+    /// Takes in that the answer to a call that failed was another one.
+    fn differs(&self, kind: &str, call: u64, report: &mut Report) -> Result<(), Stopped> {
+        report.add(self.line, kind)?;
+        report.add_numbers(self.line, "the call that fails", 0, call as usize)
+    }
+
+    /// Does the command with a call of the shelf or of the output that fails, with its note and
+    /// without, and tells whether there was such a call.
+    fn fails(
+        &self,
+        alloc: Global,
+        outside: Outside<'_>,
+        kind: &str,
+        call: u64,
+        report: &mut Report,
+    ) -> Result<bool, Stopped> {
+        let trial = self.again(alloc, outside)?;
+        if trial.status != 6 {
+            if !self.is_whole(&trial) {
+                self.differs(kind, call, report)?;
+            }
+            return Ok(false);
+        }
+        let noteless = Outside {
+            notes: &[1],
+            ..outside
+        };
+        let second = self.again(alloc, noteless)?;
+        if !self.is_stopped(&trial, OUTSIDE) || !self.is_stopped(&second, b"") {
+            self.differs(kind, call, report)?;
+        }
+        Ok(true)
+    }
+
+    /// Each call of the shelf fails in turn.
+    fn shelf(&self, alloc: Global, report: &mut Report) -> Result<(), Stopped> {
+        for call in 1..MOST_CALLS {
+            let outside = Outside {
+                shelf: &[call],
+                ..STEADY
+            };
+            if !self.fails(alloc, outside, "a call of the shelf", call, report)? {
+                return Ok(());
+            }
+        }
+        report.add(self.line, "the calls of the shelf have no end")
+    }
+
+    /// Each write of the output fails in turn.
+    fn output(&self, alloc: Global, report: &mut Report) -> Result<(), Stopped> {
+        for call in 1..MOST_CALLS {
+            let outside = Outside {
+                out: &[call],
+                ..STEADY
+            };
+            if !self.fails(alloc, outside, "a write of the output", call, report)? {
+                return Ok(());
+            }
+        }
+        report.add(self.line, "the writes have no end")
+    }
+
+    /// Each write of the notes fails in turn, which changes nothing else.
+    fn notes(&self, alloc: Global, report: &mut Report) -> Result<(), Stopped> {
+        for call in 1..MOST_CALLS {
+            let outside = Outside {
+                notes: &[call],
+                ..STEADY
+            };
+            let trial = self.again(alloc, outside)?;
+            let note = self.trial.notes.bytes();
+            if !self.is_all(&trial) || !note.starts_with(trial.notes.bytes()) {
+                self.differs("a write of the notes", call, report)?;
+            }
+            if trial.notes.bytes().len() == note.len() {
+                return Ok(());
+            }
+        }
+        report.add(self.line, "the notes have no end")
+    }
+
+    /// An output that is a byte too small is a fault.
+    fn full(&self, alloc: Global, report: &mut Report) -> Result<(), Stopped> {
+        let Some(room) = self.trial.out.bytes().len().checked_sub(1) else {
+            return Ok(());
+        };
+        let trial = self.again(alloc, Outside { room, ..STEADY })?;
+        if !self.is_stopped(&trial, OUTSIDE) {
+            report.add(self.line, "an output that is a byte too small")?;
+        }
+        Ok(())
+    }
+
+    /// Each call of the shelf, of the output and of the notes fails in turn.
+    pub fn check(&self, alloc: Global, report: &mut Report) -> Result<(), Stopped> {
+        self.shelf(alloc, report)?;
+        self.output(alloc, report)?;
+        self.notes(alloc, report)?;
+        self.full(alloc, report)
+    }
+}
