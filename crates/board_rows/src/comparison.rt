@@ -122,7 +122,7 @@ impl<'c, 'f> Comparison<'c, 'f> {
         if came == wanted {
             return Ok(());
         }
-        report.add_bytes(self.command, "the bytes of a store", wanted, came)
+        report.add_difference(self.command, "the bytes of a store", wanted, came)
     }
 
     /// The last store stays as a file.
