@@ -77,7 +77,6 @@ earlier() {
     rm -f "$work/again/$1" && mkfifo "$work/again/$1"
     cat "$work/again/$1" >"$work/all" &
     exec 4>"$work/again/$1"
-    cp "$work/text" "$work/first"
     perform again
     exec 4>&-
     wait
@@ -123,7 +122,7 @@ command_step() {
         *...) case $came in "${note%...}"*) ;; *) differ "the note $came" ;; esac ;;
         *) [ "$came" = "$note" ] || differ "the note $came" ;;
     esac
-    if grep -q '^?\|^\.\.\.$' "$work/lines"; then
+    if grep -q -e '^?' -e '^\.\.\.$' "$work/lines"; then
         awk "$fits" "$work/lines" "$work/text" || differ "the text $(head -c 300 "$work/text")"
     else
         bytes "$work/lines" | cmp -s - "$work/text" || differ "the text $(head -c 300 "$work/text")"

@@ -1,4 +1,5 @@
 //! What a command did, held against what its row wants.
+ghost use Rattle.std.specs.Prelude.{◌≡◌, ◌≢◌, [], length, OnOk};
 
 use crate::content::{after_content, content_bytes, decimal};
 use crate::folder::Folder;
@@ -170,7 +171,11 @@ impl<'c, 'f> Comparison<'c, 'f> {
     }
 
     /// All that is wanted was compared: nothing else came.
-    pub fn end(&self, report: &mut Report) -> Result<(), Stopped> {
+    pub fn end(&self, report: &mut Report) -> Result<(), Stopped>
+        ensures text { OnOk result (report.new ≡ [] → self.now.rest.now ≡ []) }
+        ensures stores { OnOk result (report.new ≡ [] → length self.now.trial.now.shelf.stores ≡ length self.now.ends.items) }
+        ensures status { OnOk result (report.new ≡ [] → self.now.trial.now.status ≡ self.now.status) }
+    {
         if !self.rest.is_empty() {
             report.add_bytes(self.command, "the end of the text", b"", self.rest)?;
         }
@@ -186,7 +191,9 @@ impl<'c, 'f> Comparison<'c, 'f> {
     }
 
     /// The note is the one that is wanted.
-    fn end_note(&self, report: &mut Report) -> Result<(), Stopped> {
+    fn end_note(&self, report: &mut Report) -> Result<(), Stopped>
+        ensures kept { OnOk result (report.new ≡ [] → report.old ≡ []) }
+    {
         let note = self.trial.notes.bytes();
         let is_wanted = match self.note {
             Some(line) => is_note(note, line),

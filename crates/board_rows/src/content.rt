@@ -3,9 +3,9 @@
 use crate::stopped::Stopped;
 use std::alloc::Global;
 
-/// A number in the base.
-fn number(digits: &str, base: u32) -> Result<u64, Stopped> {
-    u64::from_str_radix(digits, base).map_err(|_| Stopped::Form)
+/// A decimal number of a clock's size.
+fn number(digits: &str) -> Result<u64, Stopped> {
+    u64::from_str_radix(digits, 10).map_err(|_| Stopped::Form)
 }
 
 /// A decimal number.
@@ -71,7 +71,7 @@ fn read_wanted<'t>(alloc: Global, line: &'t str) -> Result<Wanted<'t>, Stopped> 
     };
     let (front, most) = pattern.rsplit_once(' ').ok_or(Stopped::Form)?;
     let (front, least) = front.rsplit_once(' ').ok_or(Stopped::Form)?;
-    Ok(Wanted::Number(front, number(least, 10)?, number(most, 10)?))
+    Ok(Wanted::Number(front, number(least)?, number(most)?))
 }
 
 /// What follows a number between two and its line's end.

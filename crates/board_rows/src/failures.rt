@@ -1,4 +1,5 @@
 //! Each call outside of a command is made to fail in turn.
+ghost use Rattle.std.specs.Prelude.{◌≡◌, ◌-◌, ◌<◌, ◌≤◌, length, IsTrue, slice_index};
 
 use crate::folder::Folder;
 use crate::report::Report;
@@ -30,16 +31,24 @@ fn are_first(made: &[Stored], whole: &[Stored]) -> bool {
             && made.bytes() == whole.bytes())
 }
 
-impl Whole<'_> {
-    /// Whether so many stores come after the text in front of them, and so many bytes of text before
-    /// the next store.
-    fn is_in_order(&self, stores: usize, text: usize) -> bool {
-        let last = stores.checked_sub(1).and_then(|last| self.ends.get(last));
-        last.is_none_or(|end| *end <= text) && self.ends.get(stores).is_none_or(|end| text <= *end)
+/// Whether so many stores come after the text in front of them, and so many bytes of text before the
+/// next store. `ends` are the bytes of text in front of each store.
+fn are_in_order(ends: &[usize], stores: usize, text: usize) -> bool
+    ensures after { IsTrue result → 0 < stores → stores ≤ length ends.now → slice_index ends.now (stores - 1) ≤ text }
+    ensures before { IsTrue result → stores < length ends.now → text ≤ slice_index ends.now stores }
+{
+    if 0 < stores && stores <= ends.len() && text < ends[stores - 1] {
+        return false;
     }
+    ends.len() <= stores || text <= ends[stores]
+}
 
+impl Whole<'_> {
     /// Whether a trial was ended by a fault: a first part of the whole was done, and not all of it.
-    fn is_stopped(&self, trial: &Trial, note: &[u8]) -> bool {
+    fn is_stopped(&self, trial: &Trial, note: &[u8]) -> bool
+        ensures status { IsTrue result → trial.now.status ≡ 6 }
+        ensures note { IsTrue result → trial.now.notes.bytes ≡ note.now }
+    {
         let (text, all) = (trial.out.bytes(), self.trial.out.bytes());
         let (made, whole) = (trial.shelf.stores(), self.trial.shelf.stores());
         trial.status == 6
@@ -47,11 +56,14 @@ impl Whole<'_> {
             && all.starts_with(text)
             && are_first(made, whole)
             && (text.len() < all.len() || made.len() < whole.len() || whole.is_empty())
-            && self.is_in_order(made.len(), text.len())
+            && are_in_order(self.ends, made.len(), text.len())
     }
 
     /// Whether a trial did all of the whole, but for its note.
-    fn is_all(&self, trial: &Trial) -> bool {
+    fn is_all(&self, trial: &Trial) -> bool
+        ensures status { IsTrue result → trial.now.status ≡ self.now.trial.now.status }
+        ensures text { IsTrue result → trial.now.out.bytes ≡ self.now.trial.now.out.bytes }
+    {
         let (made, whole) = (trial.shelf.stores(), self.trial.shelf.stores());
         trial.status == self.trial.status
             && trial.out.bytes() == self.trial.out.bytes()
@@ -60,7 +72,11 @@ impl Whole<'_> {
     }
 
     /// Whether a trial did all of the whole.
-    fn is_whole(&self, trial: &Trial) -> bool {
+    fn is_whole(&self, trial: &Trial) -> bool
+        ensures status { IsTrue result → trial.now.status ≡ self.now.trial.now.status }
+        ensures text { IsTrue result → trial.now.out.bytes ≡ self.now.trial.now.out.bytes }
+        ensures note { IsTrue result → trial.now.notes.bytes ≡ self.now.trial.now.notes.bytes }
+    {
         self.is_all(trial) && trial.notes.bytes() == self.trial.notes.bytes()
     }
 

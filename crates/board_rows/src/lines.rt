@@ -57,6 +57,19 @@ pub fn suite_lines(alloc: Global, text: &str) -> Result<Vec<&str>, Stopped> {
     Ok(lines)
 }
 
+/// Takes in a piece of some lines.
+fn push_piece<'l, 't>(
+    lines: &'l [&'t str],
+    from: usize,
+    to: usize,
+    pieces: &mut Vec<&'l [&'t str]>,
+) -> Result<(), Stopped> {
+    if let Some(piece) = lines.get(from..to) {
+        pieces.push(piece)?;
+    }
+    Ok(())
+}
+
 /// The pieces of some lines. What stands in front of the first that begins one is a piece too.
 pub fn pieces<'l, 't>(
     alloc: Global,
@@ -67,10 +80,10 @@ pub fn pieces<'l, 't>(
     let mut from = 0;
     for (i, line) in lines.iter().enumerate() {
         if from < i && level.begins(line) {
-            pieces.push(lines.get(from..i).unwrap_or(&[]))?;
+            push_piece(lines, from, i, &mut pieces)?;
             from = i;
         }
     }
-    pieces.push(lines.get(from..).unwrap_or(&[]))?;
+    push_piece(lines, from, lines.len(), &mut pieces)?;
     Ok(pieces)
 }

@@ -1,7 +1,12 @@
 //! What differs in a row.
+ghost use Rattle.std.specs.Prelude.{◌≡◌, ◌≢◌, [], OnOk};
 
 use crate::stopped::Stopped;
 use std::alloc::Global;
+use std::marker::Model;
+
+/// The most bytes that are shown of what was wanted, and of what came.
+const SHOWN: usize = 400;
 
 /// The differences that were found, as text. None where it is empty.
 #[derive(Drop)]
@@ -9,18 +14,17 @@ pub struct Report {
     text: String,
 }
 
-/// The most bytes that are shown of what was wanted, and of what came.
-const SHOWN: usize = 400;
+impl Model for Report {
+    ghost use Rattle.std.specs.Prelude.{ℕ, List, string_bytes};
 
-/// Appends the first bytes: as text, or in hexadecimal digits where they are none.
-fn push_bytes(bytes: &[u8], text: &mut String) -> Result<(), Stopped> {
-    let bytes = bytes.get(..SHOWN).unwrap_or(bytes);
-    match str::from_utf8(bytes) {
-        Ok(part) => text.push_str(part)?,
-        Err(_) => push_digits(bytes, text)?,
-    }
-    text.push_str("\n")?;
-    Ok(())
+    ghost Value = { List ℕ };
+
+    ghost view = { λ r. string_bytes r.text };
+}
+
+/// The first bytes of some.
+fn first_bytes(bytes: &[u8]) -> &[u8] {
+    bytes.get(..SHOWN).unwrap_or(bytes)
 }
 
 /// Appends bytes in hexadecimal digits.
@@ -31,59 +35,58 @@ fn push_digits(bytes: &[u8], text: &mut String) -> Result<(), Stopped> {
     Ok(())
 }
 
+/// Appends bytes: as text, or in hexadecimal digits where they are none.
+fn push_bytes(bytes: &[u8], text: &mut String) -> Result<(), Stopped> {
+    match str::from_utf8(bytes) {
+        Ok(part) => text.push_str(part)?,
+        Err(_) => push_digits(bytes, text)?,
+    }
+    Ok(())
+}
+
+/// How many bytes are the same in both, from the first on.
+fn count_same(wanted: &[u8], came: &[u8]) -> usize {
+    let mut same = 0usize;
+    for (wanted, came) in wanted.iter().zip(came) {
+        if wanted != came {
+            return same;
+        }
+        same = same.wrapping_add(1);
+    }
+    same
+}
+
 impl Report {
     /// No difference.
-    pub fn new(alloc: Global) -> Report {
+    pub fn new(alloc: Global) -> Report
+        ensures { result ≡ [] }
+    {
         Report {
             text: String::new(alloc),
         }
     }
 
     /// The differences, as lines.
-    pub fn text(&self) -> &str {
+    pub fn text(&self) -> &str
+        ensures { result.now ≡ self.now }
+    {
         &self.text
     }
 
-    /// Takes in a difference: what differs in what a command did.
-    pub fn add(&mut self, command: &str, what: &str) -> Result<(), Stopped> {
-        write!(self.text, "{command}\n  {what}\n")?;
-        Ok(())
-    }
-
-    /// Takes in a difference with the bytes that were wanted and those that came.
-    pub fn add_bytes(
-        &mut self,
-        command: &str,
-        what: &str,
-        wanted: &[u8],
-        came: &[u8],
-    ) -> Result<(), Stopped> {
-        self.add(command, what)?;
-        self.text.push_str("  wanted: ")?;
-        push_bytes(wanted, &mut self.text)?;
-        self.text.push_str("  came: ")?;
-        push_bytes(came, &mut self.text)
-    }
-
-    /// Takes in a difference of two runs of bytes, from the first that differs on.
-    pub fn add_difference(
-        &mut self,
-        command: &str,
-        what: &str,
-        wanted: &[u8],
-        came: &[u8],
-    ) -> Result<(), Stopped> {
-        let same = wanted.iter().zip(came).take_while(|(w, c)| w == c).count();
-        self.add_numbers(command, what, wanted.len(), came.len())?;
-        write!(self.text, "  the same for so many bytes: {same}\n")?;
-        let wanted = wanted.get(same..).unwrap_or(&[]);
-        let came = came.get(same..).unwrap_or(&[]);
-        self.text.push_str("  wanted: ")?;
-        push_digits(wanted.get(..SHOWN).unwrap_or(wanted), &mut self.text)?;
-        self.text.push_str("\n  came: ")?;
-        push_digits(came.get(..SHOWN).unwrap_or(came), &mut self.text)?;
+    /// Ends a line. It is then no empty report.
+    fn end_line(&mut self) -> Result<(), Stopped>
+        ensures told { OnOk result (self.new ≢ []) }
+    {
         self.text.push_str("\n")?;
         Ok(())
+    }
+
+    /// Takes in a difference: what differs in what a command did.
+    pub fn add(&mut self, command: &str, what: &str) -> Result<(), Stopped>
+        ensures told { OnOk result (self.new ≢ []) }
+    {
+        write!(self.text, "{command}\n  {what}")?;
+        self.end_line()
     }
 
     /// Takes in a difference with the numbers that were wanted and that came.
@@ -93,9 +96,50 @@ impl Report {
         what: &str,
         wanted: usize,
         came: usize,
-    ) -> Result<(), Stopped> {
+    ) -> Result<(), Stopped>
+        ensures told { OnOk result (self.new ≢ []) }
+    {
         self.add(command, what)?;
-        write!(self.text, "  wanted: {wanted}\n  came: {came}\n")?;
-        Ok(())
+        write!(self.text, "  wanted: {wanted}\n  came: {came}")?;
+        self.end_line()
+    }
+
+    /// Takes in a difference with the bytes that were wanted and those that came.
+    pub fn add_bytes(
+        &mut self,
+        command: &str,
+        what: &str,
+        wanted: &[u8],
+        came: &[u8],
+    ) -> Result<(), Stopped>
+        ensures told { OnOk result (self.new ≢ []) }
+    {
+        self.add(command, what)?;
+        self.text.push_str("  wanted: ")?;
+        push_bytes(first_bytes(wanted), &mut self.text)?;
+        self.text.push_str("\n  came: ")?;
+        push_bytes(first_bytes(came), &mut self.text)?;
+        self.end_line()
+    }
+
+    /// Takes in a difference of two runs of bytes, from the first that differs on.
+    pub fn add_difference(
+        &mut self,
+        command: &str,
+        what: &str,
+        wanted: &[u8],
+        came: &[u8],
+    ) -> Result<(), Stopped>
+        ensures told { OnOk result (self.new ≢ []) }
+    {
+        let same = count_same(wanted, came);
+        self.add_numbers(command, what, wanted.len(), came.len())?;
+        write!(self.text, "  the same: {same}\n  wanted then: ")?;
+        let wanted = wanted.get(same..).unwrap_or(&[]);
+        push_digits(first_bytes(wanted), &mut self.text)?;
+        self.text.push_str("\n  came then: ")?;
+        let came = came.get(same..).unwrap_or(&[]);
+        push_digits(first_bytes(came), &mut self.text)?;
+        self.end_line()
     }
 }
