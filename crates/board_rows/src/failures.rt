@@ -85,12 +85,6 @@ impl Whole<'_> {
         try_line(alloc, self.line, self.folder, outside)
     }
 
-    /// Takes in that the answer to a call that failed was another one.
-    fn differs(&self, kind: &str, call: u64, report: &mut Report) -> Result<(), Stopped> {
-        report.add(self.line, kind)?;
-        report.add_numbers(self.line, "the call that fails", 0, call as usize)
-    }
-
     /// Does the command with a call of the shelf or of the output that fails, with its note and
     /// without, and tells whether there was such a call.
     fn fails(
@@ -104,7 +98,7 @@ impl Whole<'_> {
         let trial = self.again(alloc, outside)?;
         if trial.status != 6 {
             if !self.is_whole(&trial) {
-                self.differs(kind, call, report)?;
+                report.add_call(self.line, kind, call)?;
             }
             return Ok(false);
         }
@@ -114,7 +108,7 @@ impl Whole<'_> {
         };
         let second = self.again(alloc, noteless)?;
         if !self.is_stopped(&trial, OUTSIDE) || !self.is_stopped(&second, b"") {
-            self.differs(kind, call, report)?;
+            report.add_call(self.line, kind, call)?;
         }
         Ok(true)
     }
@@ -126,7 +120,7 @@ impl Whole<'_> {
                 shelf: &[call],
                 ..STEADY
             };
-            if !self.fails(alloc, outside, "a call of the shelf", call, report)? {
+            if !self.fails(alloc, outside, "shelf", call, report)? {
                 return Ok(());
             }
         }
@@ -140,7 +134,7 @@ impl Whole<'_> {
                 out: &[call],
                 ..STEADY
             };
-            if !self.fails(alloc, outside, "a write of the output", call, report)? {
+            if !self.fails(alloc, outside, "output", call, report)? {
                 return Ok(());
             }
         }
@@ -157,7 +151,7 @@ impl Whole<'_> {
             let trial = self.again(alloc, outside)?;
             let note = self.trial.notes.bytes();
             if !self.is_all(&trial) || !note.starts_with(trial.notes.bytes()) {
-                self.differs("a write of the notes", call, report)?;
+                report.add_call(self.line, "notes", call)?;
             }
             if trial.notes.bytes().len() == note.len() {
                 return Ok(());

@@ -22,9 +22,10 @@ impl Model for Report {
     ghost view = { λ r. string_bytes r.text };
 }
 
-/// The first bytes of some.
-fn first_bytes(bytes: &[u8]) -> &[u8] {
-    bytes.get(..SHOWN).unwrap_or(bytes)
+/// The bytes of some that are shown, from one on.
+fn shown(bytes: &[u8], from: usize) -> &[u8] {
+    let rest = bytes.get(from..).unwrap_or(&[]);
+    rest.get(..SHOWN).unwrap_or(rest)
 }
 
 /// Appends bytes in hexadecimal digits.
@@ -89,6 +90,15 @@ impl Report {
         self.end_line()
     }
 
+    /// Takes in that a call outside of a command fails, and more or less is done than what is in front.
+    pub fn add_call(&mut self, command: &str, kind: &str, call: u64) -> Result<(), Stopped>
+        ensures told { OnOk result (self.new ≢ []) }
+    {
+        self.add(command, "a call that fails")?;
+        write!(self.text, "  number {call} of the calls of the {kind}")?;
+        self.end_line()
+    }
+
     /// Takes in a difference with the numbers that were wanted and that came.
     pub fn add_numbers(
         &mut self,
@@ -116,9 +126,9 @@ impl Report {
     {
         self.add(command, what)?;
         self.text.push_str("  wanted: ")?;
-        push_bytes(first_bytes(wanted), &mut self.text)?;
+        push_bytes(shown(wanted, 0), &mut self.text)?;
         self.text.push_str("\n  came: ")?;
-        push_bytes(first_bytes(came), &mut self.text)?;
+        push_bytes(shown(came, 0), &mut self.text)?;
         self.end_line()
     }
 
@@ -135,11 +145,9 @@ impl Report {
         let same = count_same(wanted, came);
         self.add_numbers(command, what, wanted.len(), came.len())?;
         write!(self.text, "  the same: {same}\n  wanted then: ")?;
-        let wanted = wanted.get(same..).unwrap_or(&[]);
-        push_digits(first_bytes(wanted), &mut self.text)?;
+        push_digits(shown(wanted, same), &mut self.text)?;
         self.text.push_str("\n  came then: ")?;
-        let came = came.get(same..).unwrap_or(&[]);
-        push_digits(first_bytes(came), &mut self.text)?;
+        push_digits(shown(came, same), &mut self.text)?;
         self.end_line()
     }
 }
