@@ -2,7 +2,7 @@
 # Does the rows of crates/board_rows/data with a program that has this command line, each row in an empty
 # folder, and prints a line a row; the status is 1 where one differs. FORMAT.txt beside the rows says how
 # they are written. It needs sh, awk, cmp, dd, tr and mkfifo.
-#   rows.sh PROGRAM [FILE..]        without files: all of them, the long runs too
+#   rows.sh PROGRAM [FILE..]        without files: all that crates/board_rows/args names
 set -u
 program=$(command -v "$1") || { echo "rows.sh: no program $1" >&2; exit 2; }
 case $program in /*) ;; *) program=$(pwd)/$program ;; esac
@@ -176,7 +176,7 @@ line() {
 }
 lines() { while IFS= read -r l_; do line "$l_"; done; }
 
-[ $# -gt 0 ] || set -- $(sed "s,^,$data/data/," "$data/args") "$data/data/long.rows"
+[ $# -gt 0 ] || set -- $(sed "s,^,$data/data/," "$data/args")
 cat "$@" >"$work/suite"
 given=
 while IFS= read -r l_; do
