@@ -1,5 +1,5 @@
 //! Each call outside of a command is made to fail in turn.
-ghost use Rattle.std.specs.Prelude.{◌≡◌, ◌-◌, ◌<◌, ◌≤◌, length, IsTrue, slice_index};
+ghost use Rattle.std.specs.Prelude.{◌≡◌, ◌-◌, ◌<◌, ◌≤◌, length, take, IsTrue, slice_index};
 
 use crate::folder::Folder;
 use crate::report::Report;
@@ -22,6 +22,16 @@ pub struct Whole<'w> {
     pub trial: &'w Trial,
     /// How many bytes of text stand in front of each store.
     pub ends: &'w [usize],
+}
+
+/// Whether some bytes are the first of the whole.
+fn is_first_part(part: &[u8], whole: &[u8]) -> bool
+    ensures { IsTrue result → part.now ≡ take (length part.now) whole.now }
+{
+    match whole.get(..part.len()) {
+        Some(first) => first == part,
+        None => false,
+    }
 }
 
 /// Whether the stores that were made are the first of those of the whole.
@@ -48,12 +58,13 @@ impl Whole<'_> {
     fn is_stopped(&self, trial: &Trial, note: &[u8]) -> bool
         ensures status { IsTrue result → trial.now.status ≡ 6 }
         ensures note { IsTrue result → trial.now.notes.bytes ≡ note.now }
+        ensures text { IsTrue result → trial.now.out.bytes ≡ take (length trial.now.out.bytes) self.now.trial.now.out.bytes }
     {
         let (text, all) = (trial.out.bytes(), self.trial.out.bytes());
         let (made, whole) = (trial.shelf.stores(), self.trial.shelf.stores());
         trial.status == 6
             && trial.notes.bytes() == note
-            && all.starts_with(text)
+            && is_first_part(text, all)
             && are_first(made, whole)
             && (text.len() < all.len() || made.len() < whole.len() || whole.is_empty())
             && are_in_order(self.ends, made.len(), text.len())
