@@ -1,5 +1,5 @@
 //! What a command did, held against what its row wants.
-ghost use Rattle.std.specs.Prelude.{◌≡◌, ◌≢◌, [], length, OnOk};
+ghost use Rattle.std.specs.Prelude.{◌≡◌, [], length, OnOk};
 
 use crate::content::{after_content, content_bytes, decimal};
 use crate::folder::Folder;
