@@ -1,0 +1,126 @@
+//! The rows of a suite.
+
+use crate::comparison::Comparison;
+use crate::content::{content_bytes, decimal};
+use crate::failures::Whole;
+use crate::folder::Folder;
+use crate::lines::{Level, first_word, pieces};
+use crate::report::Report;
+use crate::stopped::Stopped;
+use crate::trial::{STEADY, try_line};
+use std::alloc::Global;
+
+/// A row under way.
+#[derive(Drop)]
+struct Row {
+    alloc: Global,
+    folder: Folder,
+    report: Report,
+    /// Whether the calls of its commands are made to fail.
+    fails: bool,
+}
+
+/// A name and a number behind it.
+fn name_and_number(rest: &str) -> Result<(&str, usize), Stopped> {
+    let (name, number) = rest.split_once(' ').ok_or(Stopped::Form)?;
+    Ok((name, decimal(number)?))
+}
+
+impl Row {
+    /// Does a command, and holds what it did against the parts of what is wanted.
+    fn command(&mut self, line: &str, step: &[&str]) -> Result<(), Stopped> {
+        let trial = try_line(self.alloc, line, &self.folder, STEADY)?;
+        let mut comparison = Comparison::new(self.alloc, line, &self.folder, &trial);
+        for part in &pieces(self.alloc, step, Level::Part)? {
+            if let Some((head, content)) = part.split_first() {
+                comparison.part(head, content, &mut self.report)?;
+            }
+        }
+        comparison.end(&mut self.report)?;
+        if self.fails && self.report.text().is_empty() {
+            let whole = Whole {
+                line,
+                folder: &self.folder,
+                trial: &trial,
+                ends: comparison.ends(),
+            };
+            whole.check(self.alloc, &mut self.report)?;
+        }
+        let kept = comparison.into_kept();
+        self.folder.keep(trial.shelf.stores(), kept.as_slice())
+    }
+
+    /// Does a step: a file, a change of one, or a command.
+    fn step(&mut self, step: &[&str]) -> Result<(), Stopped> {
+        let Some((head, content)) = step.split_first() else {
+            return Ok(());
+        };
+        let (word, rest) = first_word(head);
+        match word {
+            "row" | "given" => Ok(()),
+            "$" => self.command(rest, step),
+            "file" => {
+                let bytes = content_bytes(self.alloc, content)?;
+                self.folder.put(rest, bytes)
+            }
+            "patch" => {
+                let (name, offset) = name_and_number(rest)?;
+                let bytes = content_bytes(self.alloc, content)?;
+                self.folder.patch(name, offset, &bytes)
+            }
+            "length" => {
+                let (name, length) = name_and_number(rest)?;
+                self.folder.set_length(name, length)
+            }
+            "copy" => {
+                let (from, to) = rest.split_once(' ').ok_or(Stopped::Form)?;
+                let bytes = Vec::from_slice(self.alloc, self.folder.bytes(from))?;
+                self.folder.put(to, bytes)
+            }
+            _ => Err(Stopped::Form),
+        }
+    }
+
+    /// Does the steps of what other rows begin with.
+    fn begin(&mut self, given: &[&str]) -> Result<(), Stopped> {
+        for step in &pieces(self.alloc, given, Level::Step)? {
+            self.step(step)?;
+        }
+        Ok(())
+    }
+}
+
+/// What stands under a name that rows begin with.
+fn given<'l, 't>(blocks: &[&'l [&'t str]], name: &str) -> Result<&'l [&'t str], Stopped> {
+    for block in blocks {
+        if let Some(head) = block.first() {
+            if first_word(head) == ("given", name) {
+                return Ok(block);
+            }
+        }
+    }
+    Err(Stopped::Form)
+}
+
+/// Does a row of a suite, and tells what differs.
+pub fn run_row(alloc: Global, blocks: &[&[&str]], block: &[&str]) -> Result<Report, Stopped> {
+    let mut row = Row {
+        alloc,
+        folder: Folder::new(alloc),
+        report: Report::new(alloc),
+        fails: true,
+    };
+    for step in &pieces(alloc, block, Level::Step)? {
+        match step.first().map(|head| first_word(head)) {
+            Some(("with", name)) => {
+                let fails = row.fails;
+                row.fails = false;
+                row.begin(given(blocks, name)?)?;
+                row.fails = fails;
+            }
+            Some(("once", _)) => row.fails = false,
+            _ => row.step(step)?,
+        }
+    }
+    Ok(row.report)
+}
