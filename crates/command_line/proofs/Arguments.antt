@@ -2,7 +2,7 @@
 use Rattle.std.proofs.Common.{◌≡◌, ℕ, ◌+◌, ◌≤◌, ◌<◌, ◌⊎◌, inl, inr, None, Bool, true, false, not, cond, List, [], ◌∷◌, length, map, take, drop, refl, sym, ap, ◌∙◌, arith}
 use Rattle.std.specs.List.{prefix_len, take_while}
 use Rattle.std.proofs.lemmas.List.{drop-map, length-map, length-take, take-map}
-use Rattle.command_line.specs.declared.verb.Verb.TheVariants.{Debug}
+use Rattle.command_line.specs.declared.verb.Verb.TheVariants.{Debug, Pcm}
 use Rattle.command_line.specs.CommandLine.{arguments_of, built, options_after}
 use Rattle.command_line.specs.SettingsValue.{SettingsValue}
 use Rattle.command_line.specs.Words.{is_dashed}
@@ -44,3 +44,12 @@ not_three (a ∷ b ∷ []) said other = refl
 not_three (a ∷ b ∷ c ∷ []) said (inl few) = absurd (omega arith)
 not_three (a ∷ b ∷ c ∷ []) said (inr many) = absurd (omega arith)
 not_three (a ∷ b ∷ c ∷ d ∷ more) said other = refl
+
+-- and so has a run whose samples are asked for
+pub not_three-pcm : (words : List (List ℕ)) (said : SettingsValue) → (length words < 3) ⊎ (4 ≤ length words) → None ≡ built Pcm words said
+not_three-pcm [] said other = refl
+not_three-pcm (a ∷ []) said other = refl
+not_three-pcm (a ∷ b ∷ []) said other = refl
+not_three-pcm (a ∷ b ∷ c ∷ []) said (inl few) = absurd (omega arith)
+not_three-pcm (a ∷ b ∷ c ∷ []) said (inr many) = absurd (omega arith)
+not_three-pcm (a ∷ b ∷ c ∷ d ∷ more) said other = refl

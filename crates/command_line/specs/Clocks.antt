@@ -2,7 +2,7 @@
 use Rattle.std.specs.Prelude.{◌≤◌, All, AllPairs}
 use Rattle.std.specs.Option.{IfSome}
 use Rattle.board_base.specs.declared.board.TheConstants.{CLOCK_LIMIT}
-use Rattle.command_line.specs.CommandValue.{CommandValue, asm_of, debug_of, run_of, show_of, soak_of}
+use Rattle.command_line.specs.CommandValue.{CommandValue, asm_of, debug_of, pcm_of, run_of, show_of, soak_of}
 use Rattle.command_line.specs.SettingsValue.{SettingsValue}
 
 -- the clock to end at and each cut are within the limit of the clocks, and no cut is before an earlier one
@@ -18,3 +18,4 @@ HasClocks (asm_of words) = Unit {0}
 HasClocks (debug_of words) = AreClocks words.run.settings
 HasClocks (show_of state) = Unit {0}
 HasClocks (soak_of seed) = Unit {0}
+HasClocks (pcm_of words) = AreClocks words.run.settings

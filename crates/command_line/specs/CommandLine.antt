@@ -1,9 +1,9 @@
 -- How the words of a command line are read. This project's own profile.
 use Rattle.std.specs.Prelude.{ℕ, not, List, [], ◌∷◌, drop, length, take_while, Option, None, option_and_then, option_map}
 use Rattle.command_line.specs.declared.verb.Verb.{Verb}
-use Rattle.command_line.specs.declared.verb.Verb.TheVariants.{Run, Asm, Debug, Show, Soak}
-use Rattle.command_line.specs.CommandValue.{CommandValue, asm_of, debug_of, run_of, show_of, soak_of}
-use Rattle.command_line.specs.Numbers.{number_of}
+use Rattle.command_line.specs.declared.verb.Verb.TheVariants.{Run, Asm, Debug, Show, Soak, Pcm}
+use Rattle.command_line.specs.CommandValue.{CommandValue, asm_of, debug_of, pcm_of, run_of, show_of, soak_of}
+use Rattle.command_line.specs.Numbers.{number_of, per_of}
 use Rattle.command_line.specs.Settings.{settings_of}
 use Rattle.command_line.specs.SettingsValue.{SettingsValue}
 use Rattle.command_line.specs.Words.{is_dashed, name_of, verb_of}
@@ -26,6 +26,8 @@ built Debug (image ∷ tape ∷ script ∷ []) said =
     option_and_then (λ i. option_and_then (λ t. option_map (λ s. debug_of (record { run = record { image = i; tape = t; settings = said }; script = s })) (name_of script)) (name_of tape)) (name_of image)
 built Show (state ∷ []) said = option_map show_of (name_of state)
 built Soak (seed ∷ []) said = option_map soak_of (number_of seed)
+built Pcm (image ∷ tape ∷ per ∷ []) said =
+    option_and_then (λ i. option_and_then (λ t. option_map (λ n. pcm_of (record { run = record { image = i; tape = t; settings = said }; per = n })) (per_of per)) (name_of tape)) (name_of image)
 built _ _ said = None
 
 -- the one command of a list of words, or none

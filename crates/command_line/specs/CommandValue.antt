@@ -19,10 +19,17 @@ pub record DebugValue : Type 0 where
   pub run : RunValue
   pub script : List ℕ
 
--- a run, two sources to assemble, a debugger's session, the name of the state to show, or the number of a workload
+-- the samples of a run: its files, and the clocks of a sample
+pub record PcmValue : Type 0 where
+  pub run : RunValue
+  pub per : ℕ
+
+-- a run, two sources to assemble, a debugger's session, the name of the state to show, the number of a workload, or a run whose samples are
+-- asked for
 pub data CommandValue : Type 0 where
   run_of : RunValue → CommandValue
   asm_of : AsmValue → CommandValue
   debug_of : DebugValue → CommandValue
   show_of : List ℕ → CommandValue
   soak_of : ℕ → CommandValue
+  pcm_of : PcmValue → CommandValue

@@ -3,9 +3,9 @@ use Rattle.std.specs.Prelude.{ℕ, Bool, true, false, not, ◌&&◌, List, find,
 use Rattle.std.specs.List.{starts_with}
 use Rattle.command_line.specs.declared.option.Opt.{Opt}
 use Rattle.command_line.specs.declared.option.Opt.TheVariants.{State, Earom, Until, Cuts, Save, Cost, Timers}
-use Rattle.command_line.specs.declared.option.TheConstants.{ASM_OPTIONS, DEBUG_OPTIONS, RUN_OPTIONS, SHOW_OPTIONS, SOAK_OPTIONS}
+use Rattle.command_line.specs.declared.option.TheConstants.{ASM_OPTIONS, DEBUG_OPTIONS, LOOK_OPTIONS, RUN_OPTIONS, SHOW_OPTIONS, SOAK_OPTIONS}
 use Rattle.command_line.specs.declared.verb.Verb.{Verb}
-use Rattle.command_line.specs.declared.verb.Verb.TheVariants.{Run, Asm, Debug, Show, Soak}
+use Rattle.command_line.specs.declared.verb.Verb.TheVariants.{Run, Asm, Debug, Show, Soak, Pcm}
 use Rattle.command_line.specs.declared.verb.TheConstants.{VERBS}
 
 -- the word of a command
@@ -15,6 +15,7 @@ verb_word Asm = codes "asm"
 verb_word Debug = codes "debug"
 verb_word Show = codes "show"
 verb_word Soak = codes "soak"
+verb_word Pcm = codes "pcm"
 
 -- the options that a command takes
 abbrev pub options_of : Verb → List Opt
@@ -23,6 +24,7 @@ options_of Asm = ASM_OPTIONS
 options_of Debug = DEBUG_OPTIONS
 options_of Show = SHOW_OPTIONS
 options_of Soak = SOAK_OPTIONS
+options_of Pcm = LOOK_OPTIONS
 
 -- the word of an option
 abbrev pub option_word : Opt → List ℕ

@@ -6,7 +6,7 @@ ghost use Rattle.command_line.specs.CommandWords.{command_value};
 ghost use Rattle.command_line.specs.Settings.{settings_of};
 ghost use Rattle.command_line.specs.Words.{is_dashed};
 
-use crate::number::read_number;
+use crate::number::{read_number, read_per};
 use crate::option::Opt;
 use crate::settings::Settings;
 use crate::verb::Verb;
@@ -60,6 +60,27 @@ impl<'a> Model for DebugWords<'a> {
     ghost view = { λ w. record { run = w.run; script = w.script.now } };
 }
 
+/// The words of a run whose samples are asked for: those of a run, whose options are fewer, and the
+/// clocks of a sample, 1 to 65,535.
+#[derive(Drop)]
+pub struct PcmWords<'a> {
+    pub run: RunWords<'a>,
+    pub per: u32,
+}
+
+impl<'a> Model for PcmWords<'a> {
+    ghost use Rattle.command_line.specs.CommandValue.{PcmValue};
+
+    ghost Value = { PcmValue };
+
+    ghost use Rattle.std.specs.Prelude.{◌≤◌};
+    ghost use Rattle.command_line.specs.declared.number.TheConstants.{PER_LIMIT};
+
+    ghost view = { λ w. record { run = w.run; per = w.per } };
+
+    ghost invariant = { λ w. (1 ≤ w.per) × (w.per ≤ PER_LIMIT) };
+}
+
 /// A command.
 #[derive(Drop)]
 pub enum Command<'a> {
@@ -73,6 +94,8 @@ pub enum Command<'a> {
     Show(&'a str),
     /// Runs the workload of a number.
     Soak(u64),
+    /// Writes the samples of a run.
+    Pcm(PcmWords<'a>),
 }
 
 /// The number of the words before the first that begins with two dashes.
@@ -192,6 +215,25 @@ fn read_soak<'a>(arguments: &'a [String], settings: &Settings<'a>) -> Option<Com
     Some(Command::Soak(read_number(seed.as_bytes())?))
 }
 
+/// A run whose samples are asked for, with its arguments.
+fn read_pcm<'a>(arguments: &'a [String], settings: Settings<'a>) -> Option<Command<'a>>
+    requires { AreClocks settings }
+    ensures command { option_map command_value result ≡ built Verb.Pcm (map string_bytes arguments.now) settings.entry }
+    ensures clocks { IfSome result (λ command. HasClocks (command_value command)) }
+{
+    let [image, tape, per] = arguments else {
+        return None;
+    };
+    Some(Command::Pcm(PcmWords {
+        run: RunWords {
+            image: read_name(image.as_str())?,
+            tape: read_name(tape.as_str())?,
+            settings,
+        },
+        per: read_per(per.as_bytes())?,
+    }))
+}
+
 /// The command of the words of a command line, without the program's name.
 pub fn read_command<'a>(words: &'a [String]) -> Option<Command<'a>>
     ensures command { option_map command_value result ≡ command_of (map string_bytes words.now) }
@@ -209,5 +251,6 @@ pub fn read_command<'a>(words: &'a [String]) -> Option<Command<'a>>
         Verb::Debug => read_debug(arguments, settings),
         Verb::Show => read_show(arguments, &settings),
         Verb::Soak => read_soak(arguments, &settings),
+        Verb::Pcm => read_pcm(arguments, settings),
     }
 }

@@ -1,6 +1,6 @@
-ghost use Rattle.std.specs.Prelude.{◌≡◌};
-ghost use Rattle.std.specs.Option.{option_map};
-ghost use Rattle.command_line.specs.Numbers.{cuts_of, number_of};
+ghost use Rattle.std.specs.Prelude.{◌≡◌, ◌≤◌};
+ghost use Rattle.std.specs.Option.{option_map, IfSome};
+ghost use Rattle.command_line.specs.Numbers.{cuts_of, number_of, per_of};
 
 use arrayvec::ArrayVec;
 use board_base::CLOCK_LIMIT;
@@ -8,6 +8,9 @@ use plain_text::read_digits;
 
 /// The most cuts of a run.
 pub const CUTS: usize = 1000;
+
+/// The most clocks of a sample.
+pub const PER_LIMIT: u32 = 65_535;
 
 /// The clocks of a run's cuts.
 pub type Cuts = ArrayVec<u64, CUTS>;
@@ -21,6 +24,20 @@ pub fn read_number(word: &[u8]) -> Option<u64>
         return None;
     }
     Some(number)
+}
+
+/// The clocks of a sample, of a word: 1 to `PER_LIMIT`.
+pub fn read_per(word: &[u8]) -> Option<u32>
+    ensures per { result ≡ per_of word.now }
+    ensures some { IfSome result (λ per. 1 ≤ per) }
+    ensures few { IfSome result (λ per. per ≤ PER_LIMIT) }
+{
+    let per = read_number(word)?;
+    if per < 1 || u64::from(PER_LIMIT) < per {
+        return None;
+    }
+    // It is within 32 bits.
+    Some(per as u32)
 }
 
 /// The cuts of a word.

@@ -43,6 +43,9 @@ pub const SHOW_OPTIONS: [Opt; 0] = [];
 /// The options of `soak`.
 pub const SOAK_OPTIONS: [Opt; 0] = [];
 
+/// The options of a command that runs and stores nothing.
+pub const LOOK_OPTIONS: [Opt; 4] = [Opt::State, Opt::Earom, Opt::Until, Opt::Timers];
+
 impl Opt {
     /// The word that gives the option.
     pub fn word(self) -> &'static str

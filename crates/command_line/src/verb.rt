@@ -1,7 +1,9 @@
 ghost use Rattle.std.specs.Prelude.{◌≡◌};
 ghost use Rattle.command_line.specs.Words.{option_of, options_of, verb_of, verb_word};
 
-use crate::option::{ASM_OPTIONS, DEBUG_OPTIONS, Opt, RUN_OPTIONS, SHOW_OPTIONS, SOAK_OPTIONS};
+use crate::option::{
+    ASM_OPTIONS, DEBUG_OPTIONS, LOOK_OPTIONS, Opt, RUN_OPTIONS, SHOW_OPTIONS, SOAK_OPTIONS,
+};
 
 /// What a command does.
 #[derive(Clone, Copy, Debug, PartialEq, Eq)]
@@ -16,10 +18,19 @@ pub enum Verb {
     Show,
     /// Runs the workload of a number.
     Soak,
+    /// Writes the samples of a run.
+    Pcm,
 }
 
 /// Each command.
-pub const VERBS: [Verb; 5] = [Verb::Run, Verb::Asm, Verb::Debug, Verb::Show, Verb::Soak];
+pub const VERBS: [Verb; 6] = [
+    Verb::Run,
+    Verb::Asm,
+    Verb::Debug,
+    Verb::Show,
+    Verb::Soak,
+    Verb::Pcm,
+];
 
 impl Verb {
     /// The word of the command.
@@ -32,6 +43,7 @@ impl Verb {
             Verb::Debug => "debug",
             Verb::Show => "show",
             Verb::Soak => "soak",
+            Verb::Pcm => "pcm",
         }
     }
 
@@ -45,6 +57,7 @@ impl Verb {
             Verb::Debug => &DEBUG_OPTIONS,
             Verb::Show => &SHOW_OPTIONS,
             Verb::Soak => &SOAK_OPTIONS,
+            Verb::Pcm => &LOOK_OPTIONS,
         }
     }
 

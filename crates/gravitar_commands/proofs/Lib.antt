@@ -1,2 +1,3 @@
+pub mod PcmLaws
 pub mod ReadingLaws
 pub mod StageLaws

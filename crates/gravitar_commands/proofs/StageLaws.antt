@@ -5,7 +5,7 @@ use Rattle.board_base.specs.Board.{BoardValue, board_at_power_on}
 use Rattle.board_base.specs.Cpu.{CpuValue}
 use Rattle.save_state.specs.declared.fault.StateFault.{StateFault}
 use Rattle.command_line.specs.CommandLine.{command_of}
-use Rattle.command_line.specs.CommandValue.{AsmValue, CommandValue, DebugValue, RunValue, asm_of, debug_of, run_of, show_of, soak_of}
+use Rattle.command_line.specs.CommandValue.{AsmValue, CommandValue, DebugValue, RunValue, asm_of, debug_of, pcm_of, run_of, show_of, soak_of}
 use Rattle.command_line.specs.SettingsValue.{SettingsValue}
 use Rattle.outside_io.specs.Causes.{HasCause}
 use Rattle.outside_io.specs.Known.{grown}
@@ -76,6 +76,7 @@ comes-map first second (Some (asm_of asm)) told so comes = comes-over first seco
 comes-map first second (Some (debug_of debug)) told so comes = comes-over first second (debug_of debug) told so comes
 comes-map first second (Some (show_of name)) told so comes = comes-over first second (show_of name) told so comes
 comes-map first second (Some (soak_of seed)) told so comes = so (soak_outcome seed) comes
+comes-map first second (Some (pcm_of pcm)) told so comes = comes-over first second (pcm_of pcm) told so comes
 
 -- of words that are those of this command
 of-command : (first second : Outcome → Type 0) (words : List (List ℕ)) (command : CommandValue) (told : Option Files) → Some command ≡ command_of words
@@ -234,7 +235,7 @@ some-calls said (Ok parts) =
 some-calls said (Err refusal) = (0, tt)
 
 -- a stage that stopped before anything was done
-failure-ends : {A : Type 0} (files : Result A Outcome) (outcome : A → Outcome) (failure : Failure) (out0 out1 : Option (List ℕ)) (stores0 stores1 : Option (List Kept))
+pub failure-ends : {A : Type 0} (files : Result A Outcome) (outcome : A → Outcome) (failure : Failure) (out0 out1 : Option (List ℕ)) (stores0 stores1 : Option (List Kept))
     → Refuses files failure → out1 ≡ out0 → stores1 ≡ stores0 → FailureEnds (finished files outcome) out0 out1 stores0 stores1 failure
 failure-ends files outcome (Bad note) out0 out1 stores0 stores1 refuses took same = ap (λ r. finished r outcome) refuses
 failure-ends files outcome (Absent note) out0 out1 stores0 stores1 refuses took same = ap (λ r. finished r outcome) refuses

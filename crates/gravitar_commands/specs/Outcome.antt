@@ -22,9 +22,10 @@ use Rattle.debug_script.specs.declared.script.TheConstants.{SCRIPT_LIMIT}
 use Rattle.debug_script.specs.Script.{script_of}
 use Rattle.debug_script.specs.Stops.{no_stops}
 use Rattle.command_line.specs.CommandLine.{command_of}
-use Rattle.command_line.specs.CommandValue.{AsmValue, CommandValue, DebugValue, RunValue, asm_of, debug_of, run_of, show_of, soak_of}
+use Rattle.command_line.specs.CommandValue.{AsmValue, CommandValue, DebugValue, PcmValue, RunValue, asm_of, debug_of, pcm_of, run_of, show_of, soak_of}
 use Rattle.command_line.specs.SettingsValue.{SettingsValue}
 use Rattle.outside_io.specs.Shelf.{Files}
+use Rattle.sampled_run.specs.BoardSamples.{sampled_bytes}
 use Rattle.soak_run.specs.SoakText.{run_text}
 use Rattle.workload_gen.specs.Roms.{image_of}
 use Rattle.workload_gen.specs.Tape as workload
@@ -53,7 +54,7 @@ refused status note = record { status = status; note = note; events = [] }
 
 -- the notes of the statuses
 abbrev pub usage_text : List ℕ
-usage_text = codes "gravitar: usage: run IMAGE TAPE, asm CPUSRC VGSRC OUT, debug IMAGE TAPE SCRIPT, show STATE, soak SEED\n"
+usage_text = codes "gravitar: usage: run IMAGE TAPE, asm CPUSRC VGSRC OUT, debug IMAGE TAPE SCRIPT, show STATE, soak SEED, pcm IMAGE TAPE N\n"
 
 abbrev pub outside_text : List ℕ
 outside_text = codes "gravitar: outside fault\n"
@@ -214,6 +215,15 @@ soak_outcome seed =
     let parts = workload_of seed in
     record { status = 0; note = []; events = sending (run_text parts.tape.entries parts.tape.end (first_board false parts)) }
 
+-- the samples of a run to a limit, with wired timers or without
+abbrev pub sampled_outcome : Bool → ℕ → ℕ → Parts → Outcome
+sampled_outcome wired limit per parts =
+    record { status = 0; note = []; events = sending (sampled_bytes parts.tape.entries limit per (first_board wired parts)) }
+
+-- the samples that a run of these settings makes, and nothing else: its cells aren't stored, and it has no last line
+unfoldable pub pcm_outcome : SettingsValue → ℕ → Parts → Outcome
+pcm_outcome said per parts = sampled_outcome said.timers (limit_of said.until parts.tape.end) per parts
+
 -- both listings, and then the image, stored under its name
 unfoldable pub asm_outcome : List ℕ → Assembled → Outcome
 asm_outcome name made = record { status = 0; note = []; events = sending (both_listings made) ++ storing (Some name) made.image }
@@ -232,6 +242,7 @@ command_outcome (debug_of debug) files reading calls =
     finished (debug_files files debug reading) (λ session. debug_outcome debug.run.settings.timers session.0 session.1)
 command_outcome (show_of name) files reading calls = finished (state_file files name reading) show_outcome
 command_outcome (soak_of seed) files reading calls = soak_outcome seed
+command_outcome (pcm_of pcm) files reading calls = finished (run_files files pcm.run reading) (pcm_outcome pcm.run.settings pcm.per)
 
 -- the name of a command's state file
 abbrev pub state_name : CommandValue → Option (List ℕ)
@@ -240,6 +251,7 @@ state_name (asm_of asm) = None
 state_name (debug_of debug) = debug.run.settings.state
 state_name (show_of name) = Some name
 state_name (soak_of seed) = None
+state_name (pcm_of pcm) = pcm.run.settings.state
 
 -- the reading is that of the state file's bytes, where there are any
 abbrev pub IsReading : Option (List ℕ) → Files → Result BoardValue StateFault → Type 0
@@ -257,6 +269,7 @@ IsNumber (asm_of asm) files reading calls = Unit {0}
 IsNumber (debug_of debug) files reading calls = Unit {0}
 IsNumber (show_of name) files reading calls = Unit {0}
 IsNumber (soak_of seed) files reading calls = Unit {0}
+IsNumber (pcm_of pcm) files reading calls = Unit {0}
 
 -- this holds of the outcome of a command. Words and files fix it but for the number of device calls, which is one that fits.
 pub record CommandComes (command : CommandValue) (files : Files) (reading : Result BoardValue StateFault) (holds : Outcome → Type 0) : Type 0 where
@@ -282,6 +295,7 @@ ComesOf (Some (asm_of asm)) told holds = ComesOver (asm_of asm) told holds
 ComesOf (Some (debug_of debug)) told holds = ComesOver (debug_of debug) told holds
 ComesOf (Some (show_of name)) told holds = ComesOver (show_of name) told holds
 ComesOf (Some (soak_of seed)) told holds = holds (soak_outcome seed)
+ComesOf (Some (pcm_of pcm)) told holds = ComesOver (pcm_of pcm) told holds
 
 abbrev pub Comes : List (List ℕ) → Option Files → (Outcome → Type 0) → Type 0
 Comes words told holds = ComesOf (command_of words) told holds
@@ -294,3 +308,4 @@ IsRun (Some (asm_of asm)) = ⊥
 IsRun (Some (debug_of debug)) = ⊥
 IsRun (Some (show_of name)) = ⊥
 IsRun (Some (soak_of seed)) = ⊥
+IsRun (Some (pcm_of pcm)) = ⊥

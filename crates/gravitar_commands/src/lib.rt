@@ -3,40 +3,18 @@
 #![tactic(auto)]
 
 mod answer;
-#[cfg(test)]
-mod asm_tests;
 mod assembled;
 mod assembling;
 mod board_devices;
 mod cause;
 mod cause_text;
-#[cfg(test)]
-mod cost_tests;
-#[cfg(test)]
-mod cut_tests;
-#[cfg(test)]
-mod debug_tests;
 mod debugging;
 mod failure;
-#[cfg(test)]
-mod fault_tests;
-#[cfg(test)]
-mod file_tests;
-#[cfg(test)]
-mod fixtures;
+mod limit;
 mod load;
-#[cfg(test)]
-mod option_tests;
 mod parts;
 mod program;
-#[cfg(test)]
-mod programs;
-#[cfg(test)]
-mod rows;
-#[cfg(test)]
-mod show_tests;
-#[cfg(test)]
-mod soak_tests;
+mod sampling;
 mod soaking;
 mod steady;
 #[cfg(test)]

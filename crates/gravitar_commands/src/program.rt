@@ -6,7 +6,7 @@ ghost use Rattle.cpu_core.specs.Places.{IsProcessor};
 ghost use Rattle.outside_io.specs.Causes.{Rose};
 ghost use Rattle.sliced_run.specs.Events.{Did, DidFirst};
 ghost use Rattle.gravitar_commands.specs.Endings.{ending_by};
-ghost use Rattle.gravitar_commands.specs.Outcome.{Comes, ComesOf, CommandComes, ForReading, IsRun, limit_of, usage_text, outside_text, memory_text};
+ghost use Rattle.gravitar_commands.specs.Outcome.{Comes, ComesOf, CommandComes, ForReading, IsRun, usage_text, outside_text, memory_text};
 ghost use Rattle.gravitar_commands.specs.Stages.{Ends, EndFaults, WroteNothing, Noted, RunComes, StageAbsences};
 
 use crate::answer::{ending_status, note, status};
@@ -14,8 +14,10 @@ use crate::assembling::perform_asm;
 use crate::board_devices::devices;
 use crate::debugging::perform_debug;
 use crate::failure::{Ending, Failure};
+use crate::limit::run_limit;
 use crate::load::{load_run, load_state};
 use crate::parts::Parts;
+use crate::sampling::perform_pcm;
 use crate::soaking::perform_soak;
 use crate::words::Words;
 use board_base::CpuState;
@@ -28,17 +30,7 @@ use std::alloc::Global;
 
 /// The note on words of no form.
 pub const USAGE: &[u8] =
-    b"gravitar: usage: run IMAGE TAPE, asm CPUSRC VGSRC OUT, debug IMAGE TAPE SCRIPT, show STATE, soak SEED\n";
-
-/// The clock that a run ends at: the tape's END, or that of `--until` where it is smaller.
-fn run_limit(until: Option<u64>, end: u64) -> u64
-    ensures { result ≡ limit_of until end }
-{
-    match until {
-        Some(until) => until.min(end),
-        None => end,
-    }
-}
+    b"gravitar: usage: run IMAGE TAPE, asm CPUSRC VGSRC OUT, debug IMAGE TAPE SCRIPT, show STATE, soak SEED, pcm IMAGE TAPE N\n";
 
 /// How a run has ended.
 fn ending(cpu: &CpuState) -> Ending
@@ -155,6 +147,7 @@ fn perform<S: Shelf, O: Sink>(
         Command::Debug(words) => perform_debug(alloc, words, shelf, out),
         Command::Show(name) => perform_show(alloc, name, shelf, out),
         Command::Soak(seed) => perform_soak(alloc, *seed, out),
+        Command::Pcm(words) => perform_pcm(alloc, words, shelf, out),
     }
 }
 

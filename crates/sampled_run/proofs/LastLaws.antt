@@ -14,7 +14,8 @@ use Rattle.board_base.specs.Pokey.{PokeyValue}
 use Rattle.board_map.specs.declared.map.Region.{Region}
 use Rattle.board_map.specs.declared.map.Region.TheVariants as region
 use Rattle.board_map.specs.Map.{region_of}
-use Rattle.pokey_chip.specs.Tick.{change, level, levels_of, channels_ticked, base_pulses, pot_counted, pots_rise, clocked, pokey_gives, pokey_tick}
+use Rattle.pokey_chip.specs.Tick.{change, level, levels_of, signal, channels_ticked, base_pulses, pot_counted, pots_rise, clocked, pokey_gives, pokey_tick}
+use Rattle.pokey_chip.specs.Channels.{place}
 use Rattle.pokey_chip.specs.declared.channel.Channel.TheVariants.{First, Second, Third, Fourth}
 use Rattle.pokey_chip.proofs.LastLevels.{level-low, written-last}
 use Rattle.cpu_core.specs.declared.replay.Next.{Next}
@@ -132,7 +133,9 @@ gives-holds : (clock : ℕ) (p : PokeyValue) → All HoldsLevels (pokey_gives cl
 unfolding pokey_gives pokey_tick levels_of
 gives-holds clock p =
     let q = channels_ticked (base_pulses p) (pot_counted (pots_rise p) (clocked p)) in
-    change-holds clock (level q First) (level q Second) (level q Third) (level q Fourth) p.last (level-low _ _) (level-low _ _) (level-low _ _) (level-low _ _)
+    change-holds clock (level q First) (level q Second) (level q Third) (level q Fourth) p.last 
+    (level-low (slice_index q.audc (place First)) (signal q First)) (level-low (slice_index q.audc (place Second)) (signal q Second))
+    (level-low (slice_index q.audc (place Third)) (signal q Third)) (level-low (slice_index q.audc (place Fourth)) (signal q Fourth))
 
 -- what a step does to a POKEY's levels and records
 record StepsLast (before now : List ℕ) (records after : List Record) : Type 0 where
@@ -141,9 +144,9 @@ record StepsLast (before now : List ℕ) (records after : List Record) : Type 0 
   levels : samples.levels_after before added ≡ now
   holds : All HoldsLevels added
 
-steps-last : (clock : ℕ) (p q now : PokeyValue) (records held after : List Record) → p.last ≡ q.last → held ≡ records → now.last ≡ (pokey_tick p).last
-    → after ≡ held ++ pokey_gives clock p → StepsLast q.last now.last records after
-steps-last clock p q now records held after same kept ticked_is after_is = record {
+steps-last : (clock : ℕ) (p : PokeyValue) (before now : List ℕ) (records held after : List Record) → p.last ≡ before → held ≡ records
+    → now ≡ (pokey_tick p).last → after ≡ held ++ pokey_gives clock p → StepsLast before now records after
+steps-last clock p before now records held after same kept ticked_is after_is = record {
   added = pokey_gives clock p;
   after_is = after_is ∙ ap (λ l. l ++ pokey_gives clock p) kept;
   levels = ap (λ l. samples.levels_after l (pokey_gives clock p)) (sym same) ∙ gives-after clock p ∙ sym ticked_is;
@@ -158,8 +161,8 @@ module _ (entries : List TapeEntry) where
       let w = applied (due_at b.wires.clock entries) b.wires in
       let before = applied-keeps (due_at b.wires.clock entries) b.wires in
       let after = after_access-keeps b.cpu.mid b.cpu (devices_ticked w) in (
-        steps-last w.clock w.sound1 b.wires.sound1 _ b.wires.levels1 w.levels1 _ before.last1 before.levels1 after.last1 after.levels1,
-        steps-last w.clock w.sound2 b.wires.sound2 _ b.wires.levels2 w.levels2 _ before.last2 before.levels2 after.last2 after.levels2,
+        steps-last w.clock w.sound1 b.wires.sound1.last _ b.wires.levels1 w.levels1 _ before.last1 before.levels1 after.last1 after.levels1,
+        steps-last w.clock w.sound2 b.wires.sound2.last _ b.wires.levels2 w.levels2 _ before.last2 before.levels2 after.last2 after.levels2,
       )
 
   -- the levels that both POKEYs put out are those after their records, and each record holds levels

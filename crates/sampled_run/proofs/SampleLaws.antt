@@ -1,8 +1,9 @@
 -- The samples of a mixer over a run are those of the boards of the run.
-use Rattle.std.proofs.Common.{◌≡◌, ℕ, ◌+◌, ◌-◌, ◌*◌, ◌/◌, ◌%◌, ◌≤◌, ◌<◌, List, [], ◌∷◌, ◌++◌, map, zero, suc, refl, sym, ap, ◌∙◌, arith, le-leb, nat_le, if◌then◌else◌}
+use Rattle.std.proofs.Common.{◌≡◌, ℕ, ◌+◌, ◌-◌, ◌*◌, ◌/◌, ◌%◌, ◌≤◌, ◌<◌, List, [], ◌∷◌, ◌++◌, map, zero, suc, refl, sym, ap, ◌∙◌, arith, le-leb, nat_le, if◌then◌else◌, slice_index_or}
 use Rattle.std.specs.Prelude.{All}
+use Rattle.std.proofs.lemmas.List.Elements.{All-cons, All-nil}
 use Rattle.std.specs.List.{sum, range_with_len}
-use Rattle.std.proofs.lemmas.Nat.{div-add-mod'}
+use Rattle.std.proofs.Math.Nat.{div-mul-le_self, mul-le-mul_right}
 use Rattle.board_base.specs.declared.part.Part.TheVariants.{Pokey1, Pokey2}
 use Rattle.board_base.specs.declared.board.TheConstants.{CLOCK_END, CLOCK_LIMIT}
 use Rattle.board_base.specs.declared.record.Record.{Record}
@@ -17,8 +18,8 @@ use Rattle.catchup_engine.proofs.Clocks.{stepped-clock}
 use Rattle.catchup_engine.proofs.Ends.{boundary_steps-few}
 use Rattle.catchup_engine.proofs.InOrder.{stepped-made}
 use Rattle.catchup_engine.proofs.Runs.{stepped-add}
-use Rattle.sound_pcm.specs.declared.mixer.TheConstants.{MAX_PER}
-use Rattle.sound_pcm.specs.Mixing.{MixerValue, samples_of}
+use Rattle.sound_pcm.specs.declared.mixer.TheConstants.{MAX_LEVEL}
+use Rattle.sound_pcm.specs.Mixing.{AreLevels, MixerValue, samples_of}
 use Rattle.sound_pcm.specs.Samples.{bytes_of, levels_after, levels_at, levels_of, weight, weights}
 use Rattle.sound_pcm.specs.WholeRun.{AreBefore, AreFrom, run_samples}
 use Rattle.sound_pcm.proofs.LevelLaws.{at-append, at-none, first-of, map-range-same, others-of}
@@ -27,6 +28,27 @@ use Rattle.sound_pcm.proofs.RunLaws.{makes_run}
 use Rattle.sampled_run.specs.BoardSamples.{IsMixerOf, board_sample, board_samples, sampled_bytes, weight_of}
 use Rattle.sampled_run.specs.Sampling.{CanMix, before-made}
 use Rattle.sampled_run.proofs.LastLaws.{told-run}
+
+-- a level of some, or 0
+or-low : (levels : List ℕ) → AreLevels levels → (i : ℕ) → slice_index_or levels i 0 ≤ MAX_LEVEL
+or-low [] all i = omega arith
+or-low (level ∷ levels) all zero = all 0 0 (omega arith)
+or-low (level ∷ levels) all (suc i) = or-low levels (λ k d inside. all (suc k) d (omega (arith, inside))) i
+
+-- eight levels
+pub eight-levels : (xs ys : List ℕ) → AreLevels xs → AreLevels ys
+    → AreLevels (slice_index_or xs 0 0 ∷ slice_index_or xs 1 0 ∷ slice_index_or xs 2 0 ∷ slice_index_or xs 3 0
+    ∷ slice_index_or ys 0 0 ∷ slice_index_or ys 1 0 ∷ slice_index_or ys 2 0 ∷ slice_index_or ys 3 0 ∷ [])
+eight-levels xs ys first second =
+    let l8 = All-cons (λ level. level ≤ MAX_LEVEL) (slice_index_or ys 3 0) ([]) (or-low ys second 3) (All-nil (λ level. level ≤ MAX_LEVEL)) in
+    let l7 = All-cons (λ level. level ≤ MAX_LEVEL) (slice_index_or ys 2 0) (slice_index_or ys 3 0 ∷ []) (or-low ys second 2) (l8) in
+    let l6 = All-cons (λ level. level ≤ MAX_LEVEL) (slice_index_or ys 1 0) (slice_index_or ys 2 0 ∷ slice_index_or ys 3 0 ∷ []) (or-low ys second 1) (l7) in
+    let l5 = All-cons (λ level. level ≤ MAX_LEVEL) (slice_index_or ys 0 0) (slice_index_or ys 1 0 ∷ slice_index_or ys 2 0 ∷ slice_index_or ys 3 0 ∷ []) (or-low ys second 0) (l6) in
+    let l4 = All-cons (λ level. level ≤ MAX_LEVEL) (slice_index_or xs 3 0) (slice_index_or ys 0 0 ∷ slice_index_or ys 1 0 ∷ slice_index_or ys 2 0 ∷ slice_index_or ys 3 0 ∷ []) (or-low xs first 3) (l5) in
+    let l3 = All-cons (λ level. level ≤ MAX_LEVEL) (slice_index_or xs 2 0) (slice_index_or xs 3 0 ∷ slice_index_or ys 0 0 ∷ slice_index_or ys 1 0 ∷ slice_index_or ys 2 0 ∷ slice_index_or ys 3 0 ∷ []) (or-low xs first 2) (l4) in
+    let l2 = All-cons (λ level. level ≤ MAX_LEVEL) (slice_index_or xs 1 0) (slice_index_or xs 2 0 ∷ slice_index_or xs 3 0 ∷ slice_index_or ys 0 0 ∷ slice_index_or ys 1 0 ∷ slice_index_or ys 2 0 ∷ slice_index_or ys 3 0 ∷ []) (or-low xs first 1) (l3) in
+    let l1 = All-cons (λ level. level ≤ MAX_LEVEL) (slice_index_or xs 0 0) (slice_index_or xs 1 0 ∷ slice_index_or xs 2 0 ∷ slice_index_or xs 3 0 ∷ slice_index_or ys 0 0 ∷ slice_index_or ys 1 0 ∷ slice_index_or ys 2 0 ∷ slice_index_or ys 3 0 ∷ []) (or-low xs first 0) (l2) in
+    l1
 
 -- records that have all come
 at-come : (before : List ℕ) (records : List Record) (clock : ℕ) → AreBefore (clock + 1) records → levels_at before records clock ≡ levels_after before records
@@ -99,10 +121,11 @@ module _ (entries : List TapeEntry) (b : Board) (none : HasNoRecords b) where
 
   -- and so are the sums of groups
   group-inside : (n per k : ℕ) → k < n / per → k * per + per ≤ n
-  group-inside n zero k h = absurd (let z = div-add-mod' n 0 in omega (arith, h, z))
-  group-inside n (suc p) k h =
-      let d = div-add-mod' n (suc p) in
-      grind (arith, h, d)
+  group-inside n per k h =
+      let least : (k + 1) * per ≤ n / per * per = mul-le-mul_right per (omega (arith, h)) in
+      let most = div-mul-le_self n per in
+      let sum : (k + 1) * per ≡ k * per + per = omega arith in
+      omega arith
 
   sample-at : (n per k : ℕ) → k * per + per ≤ n
       → sum (weights b.wires.sound1.last b.wires.sound2.last (stepped entries n b).wires.levels1 (stepped entries n b).wires.levels2 (b.wires.clock + k * per) per)

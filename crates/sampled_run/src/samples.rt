@@ -1,15 +1,16 @@
-ghost use Rattle.std.specs.Prelude.{◌≡◌, ◌≤◌, OnOk};
+ghost use Rattle.std.specs.Prelude.{◌≡◌, ◌+◌, ◌≤◌, OnOk};
 ghost use Rattle.outside_io.specs.Causes.{HasCause};
 ghost use Rattle.outside_io.specs.Sink.{Takes};
 ghost use Rattle.catchup_engine.specs.EngineValue.{HasNoRecords, cleared};
 ghost use Rattle.catchup_engine.specs.Run.{to_boundary};
 ghost use Rattle.board_watch.specs.Rested.{engine_of, loan_of};
+ghost use Rattle.sound_pcm.specs.Mixing.{AreLevels};
 ghost use Rattle.sound_pcm.specs.declared.mixer.TheConstants.{MAX_PER};
 ghost use Rattle.sampled_run.specs.BoardSamples.{sampled_bytes, IsMixerOf};
 ghost use Rattle.sampled_run.specs.Sampling.{CanMix, sampled_in_parts, sampler_after, samples_in};
 
 use avg_device::VectorUnit;
-use board_base::{BoardState, CLOCK_LIMIT, Trails};
+use board_base::{BoardState, CLOCK_LIMIT, PokeyState, Trails};
 use board_watch::{Rested, Until, Watch};
 use catchup_engine::Engine;
 use earom_cells::CellUnit;
@@ -44,6 +45,27 @@ impl Watch for Sampler {
     }
 }
 
+/// The four levels that a POKEY puts out.
+fn levels_of(sound: &PokeyState) -> [u8; 4]
+    ensures last { result ≡ sound.now.last }
+    ensures levels { AreLevels result }
+{
+    sound.last
+}
+
+/// A mixer that begins a group of `per` clocks, with these levels of both POKEYs.
+fn mixer_of(clock: u64, per: u32, first: [u8; 4], second: [u8; 4]) -> Mixer
+    requires some { 1 ≤ per }
+    requires longest { per ≤ MAX_PER }
+    requires first { AreLevels first }
+    requires second { AreLevels second }
+    ensures { result ≡ record { clock = clock; per = per; sound1 = first; sound2 = second; sum = 0; count = 0 } }
+{
+    let [a1, a2, a3, a4] = first;
+    let [b1, b2, b3, b4] = second;
+    Mixer::new(clock, per, [a1, a2, a3, a4, b1, b2, b3, b4])
+}
+
 /// A mixer that stands where the board of an engine at rest stands, with its levels.
 fn mixer_at<V: VectorUnit, P: SoundUnit, C: CellUnit, D: DividerUnit>(
     rested: &Rested<'_, V, P, C, D>,
@@ -51,13 +73,14 @@ fn mixer_at<V: VectorUnit, P: SoundUnit, C: CellUnit, D: DividerUnit>(
 ) -> Mixer
     requires some { 1 ≤ per }
     requires longest { per ≤ MAX_PER }
-    ensures { IsMixerOf (engine_of rested.now).board per result }
+    ensures mixer { IsMixerOf (engine_of rested.now).board per result }
+    ensures clock { (engine_of rested.now).board.wires.clock ≤ CLOCK_LIMIT + 16 }
 {
     let mut state = BoardState::power_on();
     rested.engine().state(&mut state);
-    let [a1, a2, a3, a4] = state.sound1.last;
-    let [b1, b2, b3, b4] = state.sound2.last;
-    Mixer::new(state.clock, per, [a1, a2, a3, a4, b1, b2, b3, b4])
+    let first = levels_of(&state.sound1);
+    let second = levels_of(&state.sound2);
+    mixer_of(state.clock, per, first, second)
 }
 
 /// Runs the board of an engine at rest, and writes its samples.

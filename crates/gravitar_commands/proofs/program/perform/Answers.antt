@@ -1,5 +1,5 @@
 use Rattle.std.proofs.Common.{ap}
-use Rattle.command_line.specs.CommandValue.{asm_of, debug_of, run_of, soak_of}
+use Rattle.command_line.specs.CommandValue.{asm_of, debug_of, pcm_of, run_of, soak_of}
 use Rattle.command_line.specs.CommandWords.{command_value}
 use Rattle.gravitar_commands.proofs.StageLaws.{not-jammed, of-same}
 use Rattle.gravitar_commands.proofs.program.perform.Goals as goal
@@ -47,3 +47,11 @@ returns-in-Show-clause-jam g c = λ jam. absurd (not-jammed _ c.perform_show.ens
 
 pub returns-in-Soak-clause-jam : goal.returns-in-Soak-clause-jam
 returns-in-Soak-clause-jam g c = λ jam. absurd (not-jammed _ c.perform_soak.ensures.done jam)
+
+pub returns-in-Pcm-clause-outcome : goal.returns-in-Pcm-clause-outcome
+returns-in-Pcm-clause-outcome g c =
+    of-same _ (g.S.Shelf.files c.args.shelf.now) (pcm_of c.in-Pcm.words) (command_value c.args.command.now) (ap command_value c.in-Pcm.is)
+    c.perform_pcm.ensures.outcome
+
+pub returns-in-Pcm-clause-jam : goal.returns-in-Pcm-clause-jam
+returns-in-Pcm-clause-jam g c = λ jam. absurd (not-jammed _ c.perform_pcm.ensures.done jam)
