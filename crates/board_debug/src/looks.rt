@@ -107,7 +107,7 @@ impl Before {
         rested: &Rested<'_, V, P, C, D>,
         stops: &Stops,
     ) -> Before
-            ensures { IsBefore stops.now (engine_of rested.now).board result }
+        ensures { IsBefore stops.now (engine_of rested.now).board result }
     {
         let mut bytes = ArrayVec::new();
         'watches: for address in stops.watches() {
@@ -142,7 +142,7 @@ impl Before {
         &self,
         rested: &Rested<'_, V, P, C, D>,
     ) -> Option<Found>
-            ensures { (before : lockstep.Board) → self.now.halted ≡ before.wires.vg.halted → result ≡ vg_look true before (engine_of rested.now).board }
+        ensures { (before : lockstep.Board) → self.now.halted ≡ before.wires.vg.halted → result ≡ vg_look true before (engine_of rested.now).board }
     {
         if rested.engine().is_halted() && !self.halted {
             Some(Found::Vg)

@@ -2,6 +2,7 @@
 use Rattle.std.proofs.Common.{◌≡◌, ℕ, Bool, List, Option, Some, None, Ok, take, refl, ap, ◌∙◌}
 use Rattle.std.specs.Prelude.{IfSome}
 use Rattle.command_line.specs.CommandValue.{PcmValue, RunValue, pcm_of}
+use Rattle.command_line.specs.SettingsValue.{SettingsValue}
 use Rattle.outside_io.specs.Known.{grown}
 use Rattle.outside_io.specs.Shelf.{Files, Kept}
 use Rattle.catchup_engine.specs.Lockstep.{Board}
@@ -11,7 +12,7 @@ use Rattle.gravitar_commands.specs.declared.failure.Failure.{Failure}
 use Rattle.gravitar_commands.specs.declared.failure.Failure.TheVariants.{Outside}
 use Rattle.gravitar_commands.specs.declared.failure.Ending.TheVariants.{Done}
 use Rattle.gravitar_commands.specs.declared.parts.Parts.{Parts}
-use Rattle.gravitar_commands.specs.Outcome.{CommandComes, ForReading, Outcome, command_outcome, first_board, pcm_outcome, run_files, sampled_outcome}
+use Rattle.gravitar_commands.specs.Outcome.{CommandComes, ForReading, Outcome, command_outcome, first_board, limit_of, pcm_outcome, run_files, sampled_outcome}
 use Rattle.gravitar_commands.specs.Stages.{Ends, FailureEnds, Refuses}
 use Rattle.gravitar_commands.proofs.StageLaws.{failure-ends}
 
@@ -52,3 +53,11 @@ module _ (wired : Bool) (limit per : ℕ) (parts : Parts) (first : Board) (made 
       → FailureEnds (sampled_outcome wired limit per parts) out0 out1 stores stores Outside
   sampled-cut (k, cut) stores =
       did-first-sending _ out0 out1 stores stores (k, cut ∙ ap (λ text. grown out0 (take k text)) same-bytes) refl
+
+-- by the settings of a run
+pub sampled-asked : (said : SettingsValue) (wired : Bool) (limit per end : ℕ) (parts : Parts) → wired ≡ said.timers → limit ≡ limit_of said.until end
+    → end ≡ parts.tape.end → sampled_outcome wired limit per parts ≡ pcm_outcome said per parts
+unfolding pcm_outcome
+sampled-asked said wired limit per end parts asked lowered ends =
+    ap (λ (w : Bool). sampled_outcome w limit per parts) asked
+    ∙ ap (λ (n : ℕ). sampled_outcome said.timers n per parts) (lowered ∙ ap (limit_of said.until) ends)

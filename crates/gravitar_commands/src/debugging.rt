@@ -9,11 +9,12 @@ ghost use Rattle.gravitar_commands.specs.Stages.{Ends, EndFaults, GivesScript, W
 use crate::board_devices::devices;
 use crate::cause::Cause;
 use crate::failure::{Ending, Failure};
+use crate::limit::has_timers;
 use crate::load::{bad, fetch, load_run};
 use crate::parts::Parts;
 use board_debug::{DebugFault, run_script};
 use catchup_engine::Engine;
-use command_line::{DebugWords, RunWords, Settings};
+use command_line::{DebugWords, RunWords};
 use debug_script::{SCRIPT_LIMIT, ScriptFault};
 use outside_io::{Shelf, Sink};
 use std::alloc::Global;
@@ -65,13 +66,6 @@ fn run_session<O: Sink>(
         Err(DebugFault::SinkFault) => Err(Failure::Outside),
         Err(DebugFault::OutOfMemory) => Err(Failure::NoMemory),
     }
-}
-
-/// Whether the timer requests of the POKEYs reach the interrupt line.
-fn has_timers(settings: &Settings<'_>) -> bool
-    ensures { result ≡ settings.now.timers }
-{
-    settings.timers
 }
 
 /// Loads the files of a session, and runs its script.

@@ -9,7 +9,7 @@ ghost use Rattle.gravitar_commands.specs.Stages.{Ends, EndFaults, WroteNothing, 
 
 use crate::board_devices::devices;
 use crate::failure::{Ending, Failure};
-use crate::limit::run_limit;
+use crate::limit::{has_timers, limit_by};
 use crate::load::load_run;
 use crate::parts::Parts;
 use catchup_engine::Engine;
@@ -68,9 +68,9 @@ fn sample_run<S: Shelf, O: Sink>(
         Ok(parts) => parts,
         Err(failure) => return Err(failure),
     };
-    let settings = &run.settings;
-    let limit = run_limit(settings.until, parts.tape.end());
-    sample_parts(alloc, settings.timers, limit, per, &parts, out)
+    let limit = limit_by(&run.settings, parts.tape.end());
+    let wired = has_timers(&run.settings);
+    sample_parts(alloc, wired, limit, per, &parts, out)
 }
 
 /// Writes the samples of a run of an image with a tape. Nothing is stored, and a board that jams ends

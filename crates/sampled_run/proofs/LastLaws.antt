@@ -133,7 +133,7 @@ gives-holds : (clock : ℕ) (p : PokeyValue) → All HoldsLevels (pokey_gives cl
 unfolding pokey_gives pokey_tick levels_of
 gives-holds clock p =
     let q = channels_ticked (base_pulses p) (pot_counted (pots_rise p) (clocked p)) in
-    change-holds clock (level q First) (level q Second) (level q Third) (level q Fourth) p.last 
+    change-holds clock (level q First) (level q Second) (level q Third) (level q Fourth) p.last
     (level-low (slice_index q.audc (place First)) (signal q First)) (level-low (slice_index q.audc (place Second)) (signal q Second))
     (level-low (slice_index q.audc (place Third)) (signal q Third)) (level-low (slice_index q.audc (place Fourth)) (signal q Fourth))
 

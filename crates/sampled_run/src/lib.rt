@@ -4,4 +4,3 @@
 mod samples;
 
 pub use samples::run_sampled;
-

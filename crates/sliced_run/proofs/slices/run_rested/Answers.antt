@@ -21,9 +21,9 @@ pub loop-cut-preserved : goal.loop-cut-preserved
 loop-cut-preserved g c = (
   c.cut_slice.ensures.same ∙ c.loop-cut.invariant.0,
   cuts-on c.args.tape.now.entries c.args.limit (wanted_of c.args.save c.args.earom c.args.cost) c.args.cuts.now c.args.rested.now.engine.now
-    c.loop-cut.rested.engine.now c.loop-cut.cut-index _ _ _ _ _ _ _ _ _ _ c.loop-cut.invariant.1 c.min.result c.min.ensures c.loop-cut-test.true
-    c.cut_slice.new.rested.engine.now _ _ _ _ _ c.in-Ok.ensures.done c.in-Ok.ensures.faults.0 c.in-Ok.ensures.faults.1 c.in-Ok.ensures.absences c.in-Ok.ensures.board
-    c.cut_slice.new.rested.rest c.in-Ok.ensures.most c.in-Ok.ensures.least,
+      c.loop-cut.rested.engine.now c.loop-cut.cut-index _ _ _ _ _ _ _ _ _ _ c.loop-cut.invariant.1 c.min.result c.min.ensures c.loop-cut-test.true
+      c.cut_slice.new.rested.engine.now _ _ _ _ _ c.in-Ok.ensures.done c.in-Ok.ensures.faults.0 c.in-Ok.ensures.faults.1 c.in-Ok.ensures.absences c.in-Ok.ensures.board
+      c.cut_slice.new.rested.rest c.in-Ok.ensures.most c.in-Ok.ensures.least,
 )
 
 pub returns-clause-done : goal.returns-clause-done
