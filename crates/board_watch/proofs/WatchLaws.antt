@@ -1,5 +1,5 @@
 -- A run in windows, of which a watcher takes each, is to any watcher what the whole run is.
-use Rattle.std.proofs.Common.{◌≡◌, ◌≢◌, ℕ, ◌+◌, ◌*◌, ◌-◌, ◌≤◌, ◌<◌, take, List, [], ◌∷◌, ◌++◌, Option, refl, sym, ap, ◌∙◌, arith, append-nil, append_assoc}
+use Rattle.std.proofs.Common.{◌≡◌, ◌≢◌, ℕ, ◌+◌, ◌-◌, ◌≤◌, take, List, [], ◌++◌, Option, refl, sym, ap, ◌∙◌, arith, append-nil, append_assoc}
 use Rattle.tape_ports.specs.declared.entry.TapeEntry.{TapeEntry}
 use Rattle.outside_io.specs.Known.{grown}
 use Rattle.outside_io.proofs.KnownLaws.{grown-nothing, grown-twice}
@@ -7,22 +7,21 @@ use Rattle.outside_io.proofs.TakesLaws.{took_first, took_then}
 use Rattle.catchup_engine.specs.declared.stop.Stop.TheVariants.{Window}
 use Rattle.catchup_engine.specs.Lockstep.{Board}
 use Rattle.catchup_engine.specs.Run.{stepped, is_over, is_at, to_boundary, to_cut, window_limit, wrap_of, cause_of, IsPlaced}
-use Rattle.catchup_engine.specs.Budget.{budget, counted, wraps}
+use Rattle.catchup_engine.specs.Budget.{budget, wraps}
 use Rattle.catchup_engine.specs.EngineValue.{EngineValue, HasNoRecords, cleared}
 use Rattle.catchup_engine.specs.Order.{Recorded, AreMadeBetween, behind, records_of}
-use Rattle.catchup_engine.proofs.Ended.{at-stop, cleared-empty, over-stop}
+use Rattle.catchup_engine.proofs.Ended.{at-stop, over-stop}
 use Rattle.catchup_engine.proofs.Runs.{steps-none, stepped-add}
 use Rattle.catchup_engine.proofs.Ends.{boundary-split-steps, to_clock-cut-steps}
 use Rattle.catchup_engine.proofs.Behind.{stepped-behind, boundary_steps-behind, clock_steps-behind, budget-behind, counted-behind, behind-cleared}
 use Rattle.catchup_engine.proofs.Budgets.{counted-add, budget-add}
 use Rattle.catchup_engine.proofs.Clocks.{stepped-clock}
 use Rattle.catchup_engine.proofs.InOrder.{stepped-made}
-use Rattle.catchup_engine.proofs.Places.{stepped-placed}
 use Rattle.catchup_engine.proofs.Wraps.{wrap-counted}
 use Rattle.board_watch.specs.declared.until.Until.{Until}
 use Rattle.board_watch.specs.declared.until.Until.TheVariants.{Clock, Boundary}
 use Rattle.board_watch.specs.Rest.{IsAtRest}
-use Rattle.board_watch.specs.Watch.{AreParts, IsTakenInParts, TakesInParts, joined, recorded}
+use Rattle.board_watch.specs.Watch.{IsTakenInParts, TakesInParts, joined, recorded}
 use Rattle.board_watch.specs.Windows.{EndsSo, IsFirstWindow, clock_in, end_of, price_to, steps_to, window_end, window_price, window_steps}
 
 -- what doesn't look at records is the same of a board whose records are forgotten

@@ -1,18 +1,17 @@
 -- The samples of a mixer over a run are those of the boards of the run.
-use Rattle.std.proofs.Common.{◌≡◌, ℕ, ◌+◌, ◌-◌, ◌*◌, ◌/◌, ◌%◌, ◌≤◌, ◌<◌, List, [], ◌∷◌, ◌++◌, map, zero, suc, refl, sym, ap, ◌∙◌, arith, le-leb, nat_le, if◌then◌else◌, slice_index_or}
-use Rattle.std.specs.Prelude.{All}
+use Rattle.std.proofs.Common.{◌≡◌, ℕ, ◌+◌, ◌-◌, ◌*◌, ◌/◌, ◌≤◌, ◌<◌, List, [], ◌∷◌, ◌++◌, map, zero, suc, refl, sym, ap, ◌∙◌, arith, le-leb, slice_index_or}
 use Rattle.std.proofs.lemmas.List.Elements.{All-cons, All-nil}
 use Rattle.std.specs.List.{sum, range_with_len}
 use Rattle.std.proofs.Math.Nat.{div-mul-le_self, mul-le-mul_right}
 use Rattle.board_base.specs.declared.part.Part.TheVariants.{Pokey1, Pokey2}
-use Rattle.board_base.specs.declared.board.TheConstants.{CLOCK_END, CLOCK_LIMIT}
+use Rattle.board_base.specs.declared.board.TheConstants.{CLOCK_LIMIT}
 use Rattle.board_base.specs.declared.record.Record.{Record}
-use Rattle.board_base.specs.Records.{clock_of, MadeBetween}
+use Rattle.board_base.specs.Records.{clock_of}
 use Rattle.tape_ports.specs.declared.entry.TapeEntry.{TapeEntry}
 use Rattle.catchup_engine.specs.Lockstep.{Board}
 use Rattle.catchup_engine.specs.Run.{boundary_steps, stepped, to_boundary}
 use Rattle.catchup_engine.specs.EngineValue.{HasNoRecords, cleared}
-use Rattle.catchup_engine.specs.Order.{Recorded, AreMadeBetween, behind, records_of}
+use Rattle.catchup_engine.specs.Order.{AreMadeBetween, behind, records_of}
 use Rattle.catchup_engine.proofs.Behind.{behind-cleared, stepped-behind}
 use Rattle.catchup_engine.proofs.Clocks.{stepped-clock}
 use Rattle.catchup_engine.proofs.Ends.{boundary_steps-few}

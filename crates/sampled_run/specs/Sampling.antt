@@ -1,6 +1,6 @@
 -- A mixer as a watcher of a run. This project's own.
 use Rattle.std.specs.Prelude.{◌≡◌, ℕ, ◌≤◌, ◌<◌, List, [], ◌∷◌, ◌++◌, All}
-use Rattle.std.proofs.Common.{refl, ap, ◌∙◌, sym, arith}
+use Rattle.std.proofs.Common.{refl, ap, ◌∙◌, arith}
 use Rattle.board_base.specs.declared.board.TheConstants.{CLOCK_END}
 use Rattle.board_base.specs.declared.part.Part.{Part}
 use Rattle.board_base.specs.declared.part.Part.TheVariants.{Pokey1, Pokey2}
@@ -9,10 +9,10 @@ use Rattle.board_base.specs.Records.{clock_of, MadeBetween}
 use Rattle.board_base.proofs.RecordLaws.{made-within}
 use Rattle.std.proofs.lemmas.List.Elements.{All-nil, All-cons}
 use Rattle.catchup_engine.specs.Order.{Recorded}
-use Rattle.board_watch.specs.Watch.{TakesInParts, joined}
+use Rattle.board_watch.specs.Watch.{TakesInParts}
 use Rattle.sound_pcm.specs.Mixing.{HoldsLevels, MixerValue, mixed, samples_of}
 use Rattle.sound_pcm.specs.Samples.{bytes_of}
-use Rattle.sound_pcm.specs.WholeRun.{AreBefore, AreFrom, IsCut}
+use Rattle.sound_pcm.specs.WholeRun.{AreBefore, IsCut}
 use Rattle.sound_pcm.proofs.GatherLaws.{bytes-append}
 use Rattle.sound_pcm.proofs.LevelLaws.{first-of, others-of}
 use Rattle.sound_pcm.proofs.MixLaws.{made-from}
