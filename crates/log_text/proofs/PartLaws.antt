@@ -1,7 +1,7 @@
 -- The log of records up to a clock, and then that of the records from it on, is the log of all of them.
 use Rattle.std.proofs.Common.{◌≡◌, ℕ, ◌<◌, ◌≤◌, List, [], ◌∷◌, ◌++◌, Bool, true, false, if◌then◌else◌, refl, sym, ap, ◌∙◌, arith, append-nil, append_assoc}
 use Rattle.std.specs.Prelude.{nat_lt}
-use Rattle.std.proofs.lemmas.Bool.{lt-ltb, le-ltb}
+use Rattle.std.proofs.lemmas.Bool.{le-ltb}
 use Rattle.std.proofs.lemmas.List.{map-append}
 use Rattle.std.proofs.lemmas.List.Concat.{flat_map-append}
 use Rattle.board_base.specs.declared.record.Record.{Record}
@@ -10,7 +10,7 @@ use Rattle.board_base.specs.declared.part.Part.TheVariants.{Generator, Pokey1, P
 use Rattle.board_base.specs.Records.{clock_of, MadeBetween}
 use Rattle.log_text.specs.LogText.{PartRecord, placed, by_clock, from_part, log_text, merged, merged_text}
 use Rattle.log_text.proofs.Each.{Each}
-use Rattle.log_text.proofs.SortLaws.{clock, each-by_clock, placed-first, placed-behind}
+use Rattle.log_text.proofs.SortLaws.{clock, each-by_clock, placed-behind}
 
 -- records that are earlier than a clock, and others that aren't
 abbrev AllBefore : ℕ → List PartRecord → Type 0

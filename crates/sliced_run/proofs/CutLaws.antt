@@ -1,18 +1,13 @@
 -- A run in slices, cut by cut.
-use Rattle.std.proofs.Common.{◌≡◌, ℕ, ◌+◌, ◌*◌, ◌≤◌, ◌<◌, min, get_or, length, drop, List, [], ◌∷◌, ◌++◌, Option, Some, None, IfSome, IsSomeAnd, refl, sym, ap, ◌∙◌, subst, arith, append_assoc}
+use Rattle.std.proofs.Common.{◌≡◌, ℕ, ◌+◌, ◌*◌, ◌≤◌, ◌<◌, min, get_or, length, drop, List, [], ◌∷◌, ◌++◌, Option, refl, sym, ap, ◌∙◌, arith, append_assoc}
 use Rattle.std.proofs.Math.Seq.{drop-length}
-use Rattle.std.proofs.lemmas.List.{drop_more, length-take-le}
-use Rattle.board_base.specs.Cpu.{IsMid, MidValue}
+use Rattle.std.proofs.lemmas.List.{drop_more}
 use Rattle.tape_ports.specs.declared.entry.TapeEntry.{TapeEntry}
-use Rattle.cpu_core.specs.Places.{IsMiddle, IsPlace, given_by}
-use Rattle.cpu_core.specs.Registers.{registers_of}
 use Rattle.outside_io.specs.Shelf.{Kept}
-use Rattle.save_state.specs.Reading.{IsWhole}
-use Rattle.catchup_engine.specs.EngineValue.{EngineValue, HasNoRecords, cleared, counted_on}
+use Rattle.catchup_engine.specs.EngineValue.{EngineValue, cleared, counted_on}
 use Rattle.catchup_engine.specs.Lockstep.{Board}
 use Rattle.catchup_engine.specs.Order.{Recorded, behind}
 use Rattle.catchup_engine.specs.Run.{IsPlaced, boundary_steps, clock_steps, to_clock, stepped, to_boundary}
-use Rattle.catchup_engine.specs.Wires.{board_of}
 use Rattle.catchup_engine.proofs.Behind.{to_clock-behind, to_boundary-behind}
 use Rattle.catchup_engine.proofs.Budgets.{budget-parts}
 use Rattle.catchup_engine.proofs.Ends.{boundary-clock-steps}

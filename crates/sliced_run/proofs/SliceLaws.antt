@@ -1,5 +1,5 @@
 -- The log of a slice.
-use Rattle.std.proofs.Common.{◌≡◌, ℕ, ◌+◌, List, ◌++◌, refl, sym, ap, ◌∙◌, arith}
+use Rattle.std.proofs.Common.{◌≡◌, ℕ, ◌+◌, List, ◌++◌, sym, ap, ◌∙◌}
 use Rattle.board_base.specs.declared.part.Part.TheVariants.{Generator, Pokey1, Pokey2, Board}
 use Rattle.board_base.proofs.RecordLaws.{trail-made}
 use Rattle.log_text.specs.LogText.{log_text}

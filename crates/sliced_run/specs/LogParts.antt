@@ -1,5 +1,4 @@
 -- The log of a first part of the records, and then that of the rest, is the log of the whole.
-use Rattle.std.specs.Prelude.{ℕ, List}
 use Rattle.board_base.specs.declared.part.Part.TheVariants.{Generator, Pokey1, Pokey2, Board}
 use Rattle.board_base.proofs.RecordLaws.{trail-made}
 use Rattle.std.proofs.Common.{refl}
