@@ -2,16 +2,14 @@
 use Rattle.std.proofs.Common.{◌≡◌, ℕ, ◌+◌, ◌-◌, ◌==◌, ◌<◌, ◌≤◌, Bool, true, false, cond, ◌&&◌, ◌||◌, find, nat_le, is_none, is_some, unwrap_or, List, [], ◌∷◌, Option, Some, None, suc, zero, refl, sym, ap, ◌∙◌, arith}
 use Rattle.std.specs.List.{list_any}
 use Rattle.std.specs.Option.{option_map}
-use Rattle.std.proofs.lemmas.Bool.{leb-false, leb-true, lt-leb}
+use Rattle.std.proofs.lemmas.Bool.{leb-false, lt-leb}
 use Rattle.tape_ports.specs.declared.entry.TapeEntry.{TapeEntry}
 use Rattle.tape_ports.specs.Tape.{TapeValue}
-use Rattle.catchup_engine.specs.declared.stop.Stop.{Stop}
-use Rattle.catchup_engine.specs.declared.stop.Stop.TheVariants.{Window}
 use Rattle.catchup_engine.specs.Breaks.{BreakRun, TurnsTo, is_at_any, turn, turned}
 use Rattle.catchup_engine.specs.EngineValue.{HasNoRecords, cleared}
 use Rattle.catchup_engine.specs.Lockstep.{Board}
 use Rattle.catchup_engine.specs.Order.{records_of}
-use Rattle.catchup_engine.specs.Run.{IsPlaced, cause_of, is_over, to_boundary}
+use Rattle.catchup_engine.specs.Run.{IsPlaced, is_over, to_boundary}
 use Rattle.catchup_engine.proofs.Behind.{behind-cleared}
 use Rattle.catchup_engine.proofs.Ended.{cleared-empty}
 use Rattle.catchup_engine.proofs.RunsOn.{open-before}

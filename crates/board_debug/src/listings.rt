@@ -1,5 +1,5 @@
 //! The bytes and the instructions of a board, in lines.
-ghost use Rattle.std.specs.Prelude.{◌≡◌, ◌≤◌, ◌*◌, ◌<◌, length};
+ghost use Rattle.std.specs.Prelude.{◌≡◌, ◌≤◌, ◌*◌, ◌<◌};
 ghost use Rattle.debug_lines.specs.Bytes.{bytes_from, further, mem_text};
 ghost use Rattle.debug_lines.specs.Instructions.{dis_text, readable};
 ghost use Rattle.debug_lines.specs.Statements.{vdis_text, vg_further, word_seen};

@@ -2,7 +2,7 @@
 ghost use Rattle.std.specs.Prelude.{◌≡◌, ◌==◌, find, map, length, true, unwrap_or};
 ghost use Rattle.catchup_engine.specs.Lockstep as lockstep;
 ghost use Rattle.board_watch.specs.Rested.{engine_of};
-ghost use Rattle.board_debug.specs.Looks.{IsBefore, break_look, end_look, first_of, jam_look, look_after, look_before, look_until, until_look, vg_look, watch_look, watched_byte};
+ghost use Rattle.board_debug.specs.Looks.{IsBefore, break_look, jam_look, look_after, look_before, look_until, vg_look, watch_look, watched_byte};
 
 use crate::found::Found;
 use arrayvec::ArrayVec;

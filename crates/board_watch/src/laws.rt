@@ -1,5 +1,5 @@
 //! Laws of runs in windows. Each is the contract of a function that does nothing.
-ghost use Rattle.std.specs.Prelude.{◌≡◌, List};
+ghost use Rattle.std.specs.Prelude.{List};
 ghost use Rattle.tape_ports.specs.declared.entry.TapeEntry.{TapeEntry};
 ghost use Rattle.catchup_engine.specs.Lockstep.{Board};
 ghost use Rattle.catchup_engine.specs.EngineValue.{HasNoRecords};

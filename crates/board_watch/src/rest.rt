@@ -10,7 +10,7 @@ ghost use Rattle.catchup_engine.specs.Budget.{budget};
 ghost use Rattle.catchup_engine.specs.EngineValue.{HasNoRecords, cleared, counted_on};
 ghost use Rattle.catchup_engine.specs.Lockstep as lockstep;
 ghost use Rattle.catchup_engine.specs.Order.{records_of};
-ghost use Rattle.catchup_engine.specs.Run.{cause_of, stepped, to_boundary, window_limit, wrap_of, IsPlaced};
+ghost use Rattle.catchup_engine.specs.Run.{cause_of, to_boundary, window_limit, wrap_of, IsPlaced};
 ghost use Rattle.catchup_engine.specs.Wires.{reloaded};
 ghost use Rattle.board_base.specs.declared.divider.TheConstants.{DIVIDER_PERIOD};
 ghost use Rattle.board_watch.specs.Rest.{IsAtRest};

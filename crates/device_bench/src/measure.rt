@@ -1,4 +1,4 @@
-ghost use Rattle.std.specs.Prelude.{◌≡◌, ◌≤◌, None};
+ghost use Rattle.std.specs.Prelude.{◌≡◌, ◌≤◌};
 ghost use Rattle.catchup_engine.specs.EngineValue.{HasNoRecords};
 
 use crate::board::{BoardTally, run_windows};

@@ -1,7 +1,7 @@
 -- What a command comes to that writes the samples of a run.
 use Rattle.std.proofs.Common.{◌≡◌, ℕ, Bool, List, Option, Some, None, Ok, take, refl, ap, ◌∙◌}
 use Rattle.std.specs.Prelude.{IfSome}
-use Rattle.command_line.specs.CommandValue.{PcmValue, RunValue, pcm_of}
+use Rattle.command_line.specs.CommandValue.{PcmValue, pcm_of}
 use Rattle.command_line.specs.SettingsValue.{SettingsValue}
 use Rattle.outside_io.specs.Known.{grown}
 use Rattle.outside_io.specs.Shelf.{Files, Kept}

@@ -22,7 +22,7 @@ use Rattle.debug_script.specs.declared.script.TheConstants.{SCRIPT_LIMIT}
 use Rattle.debug_script.specs.Script.{script_of}
 use Rattle.debug_script.specs.Stops.{no_stops}
 use Rattle.command_line.specs.CommandLine.{command_of}
-use Rattle.command_line.specs.CommandValue.{AsmValue, CommandValue, DebugValue, PcmValue, RunValue, asm_of, debug_of, pcm_of, run_of, show_of, soak_of}
+use Rattle.command_line.specs.CommandValue.{AsmValue, CommandValue, DebugValue, RunValue, asm_of, debug_of, pcm_of, run_of, show_of, soak_of}
 use Rattle.command_line.specs.SettingsValue.{SettingsValue}
 use Rattle.outside_io.specs.Shelf.{Files}
 use Rattle.sampled_run.specs.BoardSamples.{sampled_bytes}

@@ -1,6 +1,5 @@
-ghost use Rattle.std.specs.Prelude.{◌≡◌, ◌+◌, ◌≤◌, ℕ, IfOk, IfSome, None, OnOk};
+ghost use Rattle.std.specs.Prelude.{◌≡◌, ℕ, IfOk, IfSome, None};
 ghost use Rattle.command_line.specs.CommandValue.{asm_of};
-ghost use Rattle.outside_io.specs.Causes.{Rose};
 ghost use Rattle.gravitar_commands.specs.Outcome.{CommandComes, ForReading, asm_files, read_as, source_file};
 ghost use Rattle.gravitar_commands.specs.Sources.{assembled_in, both_listings, source_read};
 ghost use Rattle.gravitar_commands.specs.Stages.{Ends, EndFaults, Gives, WroteNothing, StageAbsences, StageFaults};

@@ -1,5 +1,5 @@
 -- How many records a large run makes.
-use Rattle.std.proofs.Common.{◌≡◌, ℕ, ◌+◌, ◌-◌, ◌*◌, ◌≤◌, List, ◌++◌, length, zero, suc, refl, ap, arith, length-append}
+use Rattle.std.proofs.Common.{◌≡◌, ℕ, ◌+◌, ◌-◌, ◌≤◌, List, ◌++◌, length, zero, suc, ap, arith, length-append}
 use Rattle.board_base.specs.declared.record.Record.{Record}
 use Rattle.board_base.specs.declared.board.TheConstants.{CLOCK_LIMIT}
 use Rattle.tape_ports.specs.declared.entry.TapeEntry.{TapeEntry}
@@ -10,7 +10,7 @@ use Rattle.catchup_engine.specs.Order.{Recorded, records_of}
 use Rattle.catchup_engine.proofs.Ends.{boundary_steps-few, to_boundary-clock}
 use Rattle.catchup_engine.proofs.InOrder.{adds-one}
 use Rattle.soak_run.specs.Counter.{HasRoom}
-use Rattle.soak_run.specs.Sizes.{AreFew, most_records}
+use Rattle.soak_run.specs.Sizes.{AreFew}
 use Rattle.soak_run.specs.Summary.{no_records, summary_of}
 
 -- one list more, of one record at most

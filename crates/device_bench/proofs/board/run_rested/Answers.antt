@@ -1,4 +1,3 @@
-use Rattle.std.proofs.Common.{◌∙◌}
 use Rattle.catchup_engine.specs.Run.{to_boundary}
 use Rattle.device_bench.proofs.board.run_rested.Goals as goal
 

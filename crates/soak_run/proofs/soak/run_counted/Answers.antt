@@ -1,5 +1,4 @@
-use Rattle.std.proofs.Common.{refl, ap, ◌∙◌}
-use Rattle.catchup_engine.specs.EngineValue.{cleared}
+use Rattle.std.proofs.Common.{ap, ◌∙◌}
 use Rattle.catchup_engine.specs.Order.{records_of}
 use Rattle.catchup_engine.specs.Run.{to_boundary}
 use Rattle.soak_run.specs.Counter.{CounterValue}
