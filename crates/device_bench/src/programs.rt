@@ -72,10 +72,7 @@ impl Program {
 
     /// The image of a board that does it.
     pub fn image(self, alloc: Global) -> Result<Image, OutOfMemory> {
-        let mut burner = Burner {
-            image: Image::blank(alloc)?,
-            place: VECTOR_ROM,
-        };
+        let mut burner = Burner::new(alloc)?;
         match self {
             Program::CountingLoop => burner.put_from(PROGRAM_ROM, &COUNTING),
             Program::Soak => {
@@ -85,20 +82,33 @@ impl Program {
             Program::RamLoop => burner.put_from(PROGRAM_ROM, &RAM_COUNTING),
         }
         burner.put_from(VECTORS, &VECTOR_BYTES);
-        Ok(burner.image)
+        Ok(burner.image())
     }
 }
 
 /// An image, and the address of the byte that is put next.
 #[derive(Drop)]
-struct Burner {
+pub(crate) struct Burner {
     image: Image,
     place: u16,
 }
 
 impl Burner {
+    /// A blank image.
+    pub(crate) fn new(alloc: Global) -> Result<Burner, OutOfMemory> {
+        Ok(Burner {
+            image: Image::blank(alloc)?,
+            place: VECTOR_ROM,
+        })
+    }
+
+    /// The image.
+    pub(crate) fn image(self) -> Image {
+        self.image
+    }
+
     /// Puts a byte, where a ROM stands.
-    fn put(&mut self, byte: u8) {
+    pub(crate) fn put(&mut self, byte: u8) {
         if let 0x2800..=0x5FFF | 0x9000..=0xFFFF = self.place {
             self.image.put(self.place, byte);
         }
@@ -106,7 +116,7 @@ impl Burner {
     }
 
     /// Puts bytes from an address on.
-    fn put_from(&mut self, place: u16, bytes: &[u8]) {
+    pub(crate) fn put_from(&mut self, place: u16, bytes: &[u8]) {
         self.place = place;
         for byte in bytes {
             self.put(*byte);
@@ -114,7 +124,7 @@ impl Burner {
     }
 
     /// Puts a word, its low byte first.
-    fn put_word(&mut self, word: u16) {
+    pub(crate) fn put_word(&mut self, word: u16) {
         let [low, high] = word.to_le_bytes();
         self.put(low);
         self.put(high);
@@ -122,7 +132,7 @@ impl Burner {
 
     /// Puts the soak workload's picture, from the start of the vector ROM on.
     fn put_picture(&mut self) {
-        let mut draws = Draws { last: 1 };
+        let mut draws = Draws::from(1);
         self.place = VECTOR_ROM;
         self.put_word(CENTRE);
         self.put_word(SCALE + draws.below(128));
@@ -138,13 +148,18 @@ impl Burner {
 
 /// A linear congruential generator, with the factor and the summand of Knuth's MMIX.
 #[derive(Drop)]
-struct Draws {
+pub(crate) struct Draws {
     last: u64,
 }
 
 impl Draws {
+    /// Numbers that begin with a seed.
+    pub(crate) fn from(seed: u64) -> Draws {
+        Draws { last: seed }
+    }
+
     /// The next number, modulo another: its upper 16 bits are taken.
-    fn below(&mut self, modulus: u16) -> u16
+    pub(crate) fn below(&mut self, modulus: u16) -> u16
         requires { 0 < modulus }
         ensures { result < modulus }
     {
@@ -153,5 +168,10 @@ impl Draws {
             .wrapping_mul(6_364_136_223_846_793_005)
             .wrapping_add(1_442_695_040_888_963_407);
         (self.last >> 48) as u16 % modulus
+    }
+
+    /// The next number, a byte.
+    pub(crate) fn byte(&mut self) -> u8 {
+        self.below(256) as u8
     }
 }
