@@ -30,13 +30,25 @@ def seconds_of(pid):
     return (int(fields[11]) + int(fields[12])) / os.sysconf("SC_CLK_TCK")
 
 
-def look(seen):
-    """Notes each prover that runs, with its time so far."""
+def is_below(pid, gate):
+    """Whether a process was started by the gate, or by one that was."""
+    while pid > 1:
+        if pid == gate:
+            return True
+        with open(f"/proc/{pid}/stat") as stat:
+            pid = int(stat.read().rsplit(")", 1)[1].split()[1])
+    return False
+
+
+def look(gate, seen):
+    """Notes each prover of the gate that runs, with its time so far."""
     for pid in filter(str.isdigit, os.listdir("/proc")):
         try:
             with open(f"/proc/{pid}/cmdline") as line:
                 words = line.read().split("\0")
             if "--crate-name" not in words or os.path.basename(words[0]) != "rattle":
+                continue
+            if not is_below(int(pid), gate):
                 continue
             crate = words[words.index("--crate-name") + 1]
             kind = kind_of(words, os.readlink(f"/proc/{pid}/cwd"))
@@ -66,14 +78,15 @@ def table(seen):
 def main(words):
     if len(words) < 2:
         sys.exit(__doc__)
-    gate = None if words[0] == "--pid" else subprocess.Popen(words)
+    started = None if words[0] == "--pid" else subprocess.Popen(words)
+    gate = started.pid if started else int(words[1])
     seen, status = {}, None
     while status is None:
-        look(seen)
+        look(gate, seen)
         time.sleep(0.5)
-        if gate is not None:
-            status = gate.poll()
-        elif not os.path.exists(f"/proc/{int(words[1])}"):
+        if started:
+            status = started.poll()
+        elif not os.path.exists(f"/proc/{gate}"):
             status = 0
     print("\n".join(table(seen)))
     sys.exit(status)
