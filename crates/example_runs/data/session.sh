@@ -17,6 +17,7 @@ gravitar debug square.img square/square.tape square/square.script
 gravitar asm tune/tune.s tune/tune.v tune.img > tune.listing
 gravitar run tune.img tune/tune.tape > tune.log
 cmp tune.log tune/tune.log
+gravitar pcm tune.img tune/tune.tape 34 > tune.pcm
 
 # A number in the EAROM, across two runs.
 gravitar asm score/score.s score/score.v score.img > score.listing
