@@ -35,26 +35,30 @@ enum Task {
 }
 
 /// A number of the command line.
-fn number(word: Option<&str>) -> Result<u64, Fault> {
-    match word.and_then(|word| word.parse::<u64>().ok()) {
-        Some(number) => Ok(number),
-        None => Err(Fault::Usage),
+fn number(word: &str) -> Result<u64, Fault> {
+    match word.parse::<u64>() {
+        Ok(number) => Ok(number),
+        Err(_) => Err(Fault::Usage),
     }
 }
 
 /// Reads the command line.
 fn task_asked<R: env::Env + Alloc>(rt: &R) -> Result<Task, Fault> {
     let mut words = env::args(rt)?.skip(1);
-    let Some(word) = words.next() else {
+    let Some(first) = words.next() else {
         return Ok(Task::Measure(Report::Sums));
     };
-    if word.as_str() == "pairs" {
-        let from = number(words.next().as_deref())?;
-        let to = number(words.next().as_deref())?;
-        return Ok(Task::Pairs { from, to });
+    if first.as_str() != "pairs" {
+        let clocks = number(&first)?;
+        return Ok(Task::Measure(Report::Times { clocks }));
     }
-    let clocks = number(Some(&word))?;
-    Ok(Task::Measure(Report::Times { clocks }))
+    let (Some(from), Some(to)) = (words.next(), words.next()) else {
+        return Err(Fault::Usage);
+    };
+    Ok(Task::Pairs {
+        from: number(&from)?,
+        to: number(&to)?,
+    })
 }
 
 /// Prints the measures, and where they are sums, whether both kinds of devices do the same.

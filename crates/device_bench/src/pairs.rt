@@ -1,9 +1,7 @@
 //! Boards of fast devices beside boards of plain ones.
-ghost use Rattle.std.specs.Prelude.{◌≡◌, ◌≤◌, IfOk, IfSome, IsTrue};
+ghost use Rattle.std.specs.Prelude.{◌≡◌, ◌≤◌, IfOk, IfSome};
 ghost use Rattle.cpu_core.specs.Places.{IsMiddle};
 ghost use Rattle.cpu_table.specs.Opcodes.{row_of};
-ghost use Rattle.catchup_engine.specs.EngineValue.{HasNoRecords};
-ghost use Rattle.catchup_engine.specs.Wires.{board_of};
 ghost use Rattle.board_watch.specs.Windows.{clock_in};
 
 use crate::busy::{busy_image, busy_tape};
@@ -70,15 +68,10 @@ type Fast = Engine<FastVg, FastPokey, Earom, Divider>;
 
 type Plain = Engine<PlainVg, PlainPokey, Earom, Divider>;
 
-/// Whether both engines stand for the same board, with the same records.
+/// Whether two engines stand for the same board, with the same records.
 fn are_alike(fast: &Fast, plain: &Plain) -> bool
     requires fast { fast.now.lagging ≡ 0 }
     requires plain { plain.now.lagging ≡ 0 }
-    ensures board { IsTrue result → board_of fast.now.board.cpu fast.now.board.wires ≡ board_of plain.now.board.cpu plain.now.board.wires }
-    ensures strokes { IsTrue result → fast.now.board.wires.strokes ≡ plain.now.board.wires.strokes }
-    ensures levels1 { IsTrue result → fast.now.board.wires.levels1 ≡ plain.now.board.wires.levels1 }
-    ensures levels2 { IsTrue result → fast.now.board.wires.levels2 ≡ plain.now.board.wires.levels2 }
-    ensures written { IsTrue result → fast.now.board.wires.written ≡ plain.now.board.wires.written }
 {
     let (mut found, mut wanted) = (BoardState::power_on(), BoardState::power_on());
     fast.state(&mut found);
@@ -91,28 +84,22 @@ fn are_alike(fast: &Fast, plain: &Plain) -> bool
         && made.board.records() == meant.board.records()
 }
 
-/// Runs both to a clock, or to a boundary, or to the end of a window; whether they are alike then.
+/// Forgets what both have made, and runs them to a clock, or to a boundary, or to the end of a window;
+/// whether they stand alike then, with the same records.
 fn run_both(fast: &mut Fast, plain: &mut Plain, tape: &Tape, until: Until) -> bool
     requires limit { clock_in until ≤ CLOCK_LIMIT }
-    requires fast { fast.old.lagging ≡ 0 }
-    requires plain { plain.old.lagging ≡ 0 }
-    requires fast_empty { HasNoRecords fast.old.board }
-    requires plain_empty { HasNoRecords plain.old.board }
-    ensures fast { fast.new.lagging ≡ 0 }
-    ensures plain { plain.new.lagging ≡ 0 }
-    ensures fast_empty { HasNoRecords fast.new.board }
-    ensures plain_empty { HasNoRecords plain.new.board }
 {
+    fast.settle();
+    plain.settle();
+    fast.clear_trails();
+    plain.clear_trails();
     let stops = match until {
         Until::Clock(cut) => (fast.run_to(tape, cut), plain.run_to(tape, cut)),
         Until::Boundary(limit) => (fast.run(tape, limit), plain.run(tape, limit)),
     };
     fast.settle();
     plain.settle();
-    let alike = stops.0 == stops.1 && are_alike(fast, plain);
-    fast.clear_trails();
-    plain.clear_trails();
-    alike
+    stops.0 == stops.1 && are_alike(fast, plain)
 }
 
 /// The board at a clock of a run from power-on, which is in the first window.
@@ -161,13 +148,11 @@ fn print_same<R: io::Print>(rt: &R, name: &str, number: u64, same: bool) -> io::
 /// Runs each small board on both kinds of devices.
 pub fn small_boards<R: io::Print>(rt: &R, alloc: Global) -> Result<(), Fault> {
     println!(rt; "boards on fast devices and on plain ones")?;
-    let mut number = 0;
-    for play in &PLAYS {
+    for (number, play) in PLAYS.iter().enumerate() {
         let image = play.image(alloc)?;
         let tape = play.tape(alloc)?;
         let same = is_same(alloc, &image, &tape, play.course)?;
-        print_same(rt, "small board", number, same)?;
-        number += 1;
+        print_same(rt, "small board", number as u64, same)?;
     }
     Ok(())
 }
