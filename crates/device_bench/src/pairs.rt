@@ -44,6 +44,7 @@ const PARTS: [u64; 4] = [7000, 97, 331, 71];
 /// The clocks between two entries of a busy tape are fewer than one of these.
 const GAPS: [u16; 4] = [2, 9, 60, 255];
 
+/// The devices of the program: the fast ones where there are two kinds.
 pub fn fast_devices() -> Devices<FastVg, FastPokey, Earom, Divider> {
     Devices {
         vector: FastVg::new(),
@@ -54,6 +55,7 @@ pub fn fast_devices() -> Devices<FastVg, FastPokey, Earom, Divider> {
     }
 }
 
+/// The devices that move clock by clock where there are two kinds.
 pub fn plain_devices() -> Devices<PlainVg, PlainPokey, Earom, Divider> {
     Devices {
         vector: PlainVg::new(),

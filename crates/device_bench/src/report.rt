@@ -5,6 +5,7 @@ use crate::board::BoardTally;
 use crate::measure::{
     Fault, Timed, timed_counting, timed_drawing, timed_playing, timed_running, timed_shifts,
 };
+use crate::pairs::{fast_devices, plain_devices};
 use crate::picture::{long_vectors, short_vectors};
 use crate::processor::ROUND_CLOCKS;
 use crate::programs::Program;
@@ -303,22 +304,8 @@ fn both_boards<R: io::Print + CpuClock>(
 ) -> Result<(), Fault> {
     println!(rt; "{}", program.name())?;
     let image = program.image(alloc)?;
-    let plain = Devices {
-        vector: PlainVg::new(),
-        sound1: PlainPokey::new(),
-        sound2: PlainPokey::new(),
-        cells: Earom::new(),
-        divider: Divider::new(),
-    };
-    let plain = board(rt, alloc, report, "plain devices", &image, plain)?;
-    let fast = Devices {
-        vector: FastVg::new(),
-        sound1: FastPokey::new(),
-        sound2: FastPokey::new(),
-        cells: Earom::new(),
-        divider: Divider::new(),
-    };
-    let fast = board(rt, alloc, report, "fast devices", &image, fast)?;
+    let plain = board(rt, alloc, report, "plain devices", &image, plain_devices())?;
+    let fast = board(rt, alloc, report, "fast devices", &image, fast_devices())?;
     report.ratio(rt, "fast devices to plain devices", fast, plain)?;
     Ok(())
 }
