@@ -17,6 +17,7 @@ pub mod OpcodeLaws
 pub mod Places
 pub mod QueueLaws
 pub mod Runs
+pub mod Seen
 pub mod RunsOn
 pub mod SettledLaws
 pub mod Steps
@@ -25,6 +26,7 @@ pub mod TurnLaws
 pub mod Turns
 pub mod Windows
 pub mod Traces
+pub mod TracedRuns
 pub mod QuietLaws
 pub mod Wraps
 pub mod BoardRange

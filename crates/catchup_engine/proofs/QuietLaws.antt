@@ -14,7 +14,7 @@ use Rattle.irq_watchdog.specs.Tick.{divider_tick}
 use Rattle.pokey_chip.specs.Tick.{levels_made, pokey_gives, pokey_tick}
 use Rattle.cpu_core.specs.Course.{Access, read_of, write_of}
 use Rattle.cpu_core.specs.Registers.{RegistersValue}
-use Rattle.cpu_core.specs.Sequences.{Moves, Runs}
+use Rattle.cpu_core.specs.Sequences.{Runs}
 use Rattle.tape_ports.specs.declared.entry.TapeEntry.{TapeEntry}
 use Rattle.tape_ports.specs.Tape.{TapeValue}
 use Rattle.board_map.specs.Map.{region_of}
@@ -27,6 +27,7 @@ use Rattle.catchup_engine.specs.Wires.{Wires, byte_put, byte_read, devices_ticke
 use Rattle.catchup_engine.proofs.AccessLaws.{write-step}
 use Rattle.catchup_engine.proofs.ClockLaws.{clock-back}
 use Rattle.catchup_engine.proofs.MapLaws.{region-program, region-ram}
+use Rattle.catchup_engine.proofs.Seen.{runs-seen}
 use Rattle.catchup_engine.proofs.TapeLaws.{fits-quiet, ticked-quiet}
 
 module _ {S : Type 0} (tick : ℕ → S → S) where
@@ -390,25 +391,6 @@ device-writes tape n k a v s m t c room told none does few =
       room = room-told n (write_of a v) s m t r few;
     })
 
--- accesses of a bus that counts are those of the bus that it will have told
-moves-seen : {S : Type 0} {T : Access → S → S → Type 0} (entries : List TapeEntry) (seen : S → BusValue) (name : S → ℕ)
-    → ((x : Access) (a b : S) → T x a b → (name b ≡ name a) × BusStep entries x (seen a) (seen b))
-    → (r : RegistersValue) (q : Sequence) (bytes more : List ℕ) (s t : S) → Moves T r q bytes more s t
-    → (name t ≡ name s) × Moves (BusStep entries) r q bytes more (seen s) (seen t)
-moves-seen entries seen name lift r q bytes [] s t same = (ap name same, ap seen same)
-moves-seen entries seen name lift r q bytes (v ∷ more) s t (x, m, is, did, rest) =
-    let one = lift x s m did in
-    let others = moves-seen entries seen name lift r q (bytes ++ v ∷ []) more m t rest in
-    (others.0 ∙ one.0, (x, seen m, is, one.1, others.1))
-
-pub runs-seen : {S : Type 0} {T : Access → S → S → Type 0} (entries : List TapeEntry) (seen : S → BusValue) (name : S → ℕ)
-    → ((x : Access) (a b : S) → T x a b → (name b ≡ name a) × BusStep entries x (seen a) (seen b))
-    → (r : RegistersValue) (q : Sequence) (s t : S) (e : CpuValue) → Runs T r q s t e
-    → (name t ≡ name s) × Runs (BusStep entries) r q (seen s) (seen t) e
-runs-seen entries seen name lift r q s t e runs =
-    let moved = moves-seen entries seen name lift r q [] runs.bytes s t runs.moves in
-    (moved.0, record { bytes = runs.bytes; moves = moved.1; ends = runs.ends })
-
 -- one such clock has its devices' ticks
 pub passed-one : (s : BusValue) → (passed 1 s).wires ≡ done_clock (devices_ticked s.wires)
 unfolding passed
@@ -465,6 +447,6 @@ pub quiet-runs : {S : Type 0} {T : Access → S → S → Type 0} (entries : Lis
     → (r : RegistersValue) (q : Sequence) (s t : S) (e : CpuValue) (told : BusValue) → made s ≡ 0 → told ≡ passed (made t) (bus t) → Runs T r q s t e
     → (name t ≡ name s) × Runs (BusStep entries) r q (bus s) told e
 quiet-runs {S} entries bus made name lift r q s t e told none is runs =
-    let seen = runs-seen entries (λ (k : S). passed (made k) (bus k)) name lift r q s t e runs in
+    let seen = runs-seen (BusStep entries) (λ (k : S). passed (made k) (bus k)) name lift r q s t e runs in
     let start : passed (made s) (bus s) ≡ bus s = ap (λ n. passed n (bus s)) none ∙ passed-zero (bus s) in
     (seen.0, rw (is, ← start) seen.1)

@@ -53,7 +53,7 @@ not-end (Write a w) v x is end = end
 not-end (End e) v x is end = is
 
 -- where an access is due, the processor stands inside the sequence
-paused-is : (next : Next) (r : RegistersValue) (q : Sequence) (bytes : List ℕ) (v : ℕ) (x : Access) → IsAccess next v x
+pub paused-is : (next : Next) (r : RegistersValue) (q : Sequence) (bytes : List ℕ) (v : ℕ) (x : Access) → IsAccess next v x
     → stopped r q bytes next ≡ paused r q bytes
 paused-is (Read a) r q bytes v x is = refl
 paused-is (Write a w) r q bytes v x is = refl
@@ -73,7 +73,7 @@ unfolding in_clock
 in_clock-between entries s between = rw between refl
 
 -- where an access is due, a step makes it
-step-access : (entries : List TapeEntry) (r : RegistersValue) (q : Sequence) (bytes : List ℕ) (v : ℕ) (x : Access) (s t : BusValue)
+pub step-access : (entries : List TapeEntry) (r : RegistersValue) (q : Sequence) (bytes : List ℕ) (v : ℕ) (x : Access) (s t : BusValue)
     → IsAccess (next_of r q bytes) v x → BusStep entries x s t → s.begun ≡ false
     → step entries (board_after r q bytes s.wires) ≡ board_after r q (bytes ++ v ∷ []) t.wires
 step-access entries r q bytes v x s t is b between =

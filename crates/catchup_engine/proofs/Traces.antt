@@ -1,80 +1,33 @@
--- The accesses of a sequence, one by one.
-use Rattle.std.proofs.Common.{◌≡◌, ◌≢◌, ℕ, ◌+◌, ◌-◌, ◌^◌, ◌≤◌, ◌<◌, ◌||◌, is_some, Bool, true, false, List, [], ◌∷◌, ◌++◌, length, append-nil, length-append, Option, Some, None, IfSome, IsSome, refl, sym, ap, ◌∙◌, subst, arith, rules, suc, zero, slice_index, slice_set, nat_le, append_assoc, if◌then◌else◌}
+-- The accesses of a sequence, as they are traced.
+use Rattle.std.proofs.Common.{◌≡◌, ◌≢◌, ℕ, ◌+◌, ◌-◌, ◌^◌, ◌≤◌, ◌<◌, ◌||◌, is_some, true, false, List, [], ◌∷◌, ◌++◌, length, append-nil, length-append, Option, Some, None, IfSome, IsSome, refl, sym, ap, ◌∙◌, subst, arith, rules, suc, slice_index, slice_set, nat_le, append_assoc, if◌then◌else◌}
 use Rattle.std.proofs.lemmas.Bool.{lt-leb, le-leb}
 use Rattle.board_base.specs.declared.cpu.Sequence.{Sequence}
-use Rattle.board_base.specs.declared.cpu.Sequence.TheVariants.{Reset}
-use Rattle.board_base.specs.Cpu.{CpuValue, MidValue, count_of}
+use Rattle.board_base.specs.declared.cpu.Sequence.TheVariants.{Opcode, Interrupt, Reset}
+use Rattle.board_base.specs.Cpu.{CpuValue, MidValue}
 use Rattle.cpu_core.specs.declared.replay.Next.{Next}
 use Rattle.cpu_core.specs.declared.replay.Next.TheVariants.{Read, Write, End}
 use Rattle.cpu_core.specs.Course as course
 use Rattle.cpu_core.specs.Course.{read_of, write_of}
 use Rattle.cpu_core.specs.Registers.{RegistersValue, registers_of}
-use Rattle.cpu_core.specs.Sequences.{next_of, start_of, IsAccess, IsEnd, Moves}
-use Rattle.cpu_core.specs.Places.{standing, stopped, given_by, Advances, IsPlace, IsMiddle}
-use Rattle.cpu_core.proofs.PlaceLemmas.{place_due}
+use Rattle.cpu_core.specs.Sequences.{next_of, start_of, IsAccess, IsEnd, Moves, Runs}
+use Rattle.cpu_core.specs.Places.{paused, standing, given_by, Advances, IsPlace, IsMiddle}
+use Rattle.cpu_core.proofs.PlaceLemmas.{given_paused, place_due}
 use Rattle.tape_ports.specs.declared.entry.TapeEntry.{TapeEntry}
 use Rattle.catchup_engine.specs.declared.trace.Access.{Access}
-use Rattle.catchup_engine.specs.Bus.{BusStep, BusValue, in_clock}
+use Rattle.catchup_engine.specs.Bus.{BusStep, BusValue, at_clock, done_clock, in_clock, room_of}
+use Rattle.catchup_engine.specs.EngineValue.{Rooms}
 use Rattle.catchup_engine.specs.Lockstep.{Board, access_in, due_access, made_by, sequence_due, step}
-use Rattle.catchup_engine.specs.Run.{boundary_steps, is_over, stepped}
-use Rattle.catchup_engine.specs.Runs.{over_bus, BoundaryRun, IsInRange, RunsOn}
-use Rattle.catchup_engine.specs.Trace.{Makes, TraceValue, access_at, accesses_in, accesses_of, byte_of, first_byte, made_of, no_trace, opcode_by, sequence_at, seven_of, step_trace, trace_of}
-use Rattle.catchup_engine.specs.Turn.{TurnedBus}
-use Rattle.catchup_engine.specs.Wires.{ticked}
-use Rattle.catchup_engine.proofs.Runs.{stepped-is, steps_until-is, through-reached}
-use Rattle.catchup_engine.proofs.RunsOn.{AtBoundary, boundary-ends, boundary-starts, goes_on, middle-open, running-inside, starts}
-use Rattle.catchup_engine.proofs.Steps.{in_clock-between}
-use Rattle.catchup_engine.proofs.Turns.{Begins, HasEffects, due-clock, fetch-turn, given-some, in_clock-begun, reset-begun, reset-turn, resets-one, resume-turn}
-
--- a step of a bus with a trace is one of the bus that it holds, whose name stays
-pub record IsTold {S : Type 0} (entries : List TapeEntry) (bus : S → BusValue) (name : S → ℕ) (made : S → Access) (x : course.Access) (s t : S) : Type 0 where
-  pub same : name t ≡ name s
-  pub did : BusStep entries x (bus s) (bus t)
-  pub traced : made t ≡ access_at ((bus t).wires.clock - 1) x
-
--- an advance by one clock makes the access that is due
-pub record MadeOne {S : Type 0} (entries : List TapeEntry) (bus : S → BusValue) (name : S → ℕ) (made : S → Access) (r : RegistersValue) (q : Sequence) (given : List ℕ) (s t : S) (e : CpuValue) : Type 0 where
-  pub same : name t ≡ name s
-  pub makes : Makes entries r q given (bus s) (bus t) e (made t)
-
-pub made-one : {S : Type 0} {T : course.Access → S → S → Type 0} (r : RegistersValue) (q : Sequence) (given : List ℕ) (n : ℕ) (s t : S) (e : CpuValue)
-    → Advances T r q given 1 n s t e → (IsEnd (next_of r q given) → ⊥)
-    → (entries : List TapeEntry) (bus : S → BusValue) (name : S → ℕ) (made : S → Access)
-    → ((x : course.Access) (a b : S) → T x a b → IsTold entries bus name made x a b)
-    → MadeOne entries bus name made r q given s t e
-made-one {S = S} {T = T} r q given n s t e a due entries bus name made traced = by_more a.more a.moves a.count a.full a.stands a.complete
-  where
-    by_more : (more : List ℕ) → Moves T r q given more s t → length more ≡ n
-        → ((IsEnd (next_of r q (given ++ more)) → ⊥) → n ≡ 1) → e ≡ standing r q (given ++ more)
-        → ((e.mid ≡ None → IsEnd (next_of r q (given ++ more))) × (IsEnd (next_of r q (given ++ more)) → e.mid ≡ None))
-        → MadeOne entries bus name made r q given s t e
-    by_more [] m count full stands complete =
-        let one : n ≡ 1 = full (rw (append-nil given) due) in
-        absurd (omega arith)
-    by_more (v ∷ []) (x, m, is, did, same) count full stands complete =
-        let h : IsTold entries bus name made x s t = subst (λ (k : S). IsTold entries bus name made x s k) (sym same) (traced x s m did) in
-        record {
-          same = h.same;
-          makes = record { value = v; access = x; is = is; did = h.did; stands = stands; complete = complete; traced = h.traced };
-        }
-    by_more (v ∷ (u ∷ more)) moves count full stands complete = let few = a.few in absurd (omega arith)
-
--- the same for a processor that stands inside a sequence
-pub made-next : {S : Type 0} {T : course.Access → S → S → Type 0} (c : CpuValue) (n : ℕ) (s t : S) (e : CpuValue)
-    → IfSome c.mid (λ m. Advances T (registers_of c) m.sequence (given_by m) 1 n s t e) → IsSome c.mid → IfSome c.mid (λ _. IsMiddle c)
-    → (entries : List TapeEntry) (bus : S → BusValue) (name : S → ℕ) (made : S → Access)
-    → ((x : course.Access) (a b : S) → T x a b → IsTold entries bus name made x a b)
-    → (name t ≡ name s) × IfSome c.mid (λ m. Makes entries (registers_of c) m.sequence (given_by m) (bus s) (bus t) e (made t))
-made-next {S = S} {T = T} c n s t e advances some middle entries bus name made traced = by_mid c.mid refl some advances middle
-  where
-    by_mid : (mid : Option MidValue) → c.mid ≡ mid → IsSome mid
-        → IfSome mid (λ m. Advances T (registers_of c) m.sequence (given_by m) 1 n s t e) → IfSome mid (λ _. IsMiddle c)
-        → (name t ≡ name s) × IfSome mid (λ m. Makes entries (registers_of c) m.sequence (given_by m) (bus s) (bus t) e (made t))
-    by_mid None is some advances middle = cc
-    by_mid (Some m) is some advances middle =
-        let place : IsPlace (registers_of c) m = (rw is at middle).1 in
-        let h = made-one (registers_of c) m.sequence (given_by m) n s t e advances (place_due (registers_of c) m place) entries bus name made traced in
-        (h.same, h.makes)
+use Rattle.catchup_engine.specs.Run.{boundary_steps, is_over}
+use Rattle.catchup_engine.specs.Runs.{over_bus, BoundaryRun, IsInRange}
+use Rattle.catchup_engine.specs.Trace.{TracedReset, TracedStep, TracedValue, TraceValue, access_at, accesses_in, accesses_of, byte_of, first_byte, first_value, no_trace, opcode_by, pushed, sequence_at, seven_of, step_trace, trace_of, traced}
+use Rattle.catchup_engine.specs.Turn.{Goes, TurnedBus}
+use Rattle.catchup_engine.specs.Wires.{Wires, ticked}
+use Rattle.catchup_engine.proofs.Clocks.{step-clock}
+use Rattle.catchup_engine.proofs.Runs.{steps_until-is, through-reached}
+use Rattle.catchup_engine.proofs.RunsOn.{boundary-ends, boundary-starts, open-before, turn-runs}
+use Rattle.catchup_engine.proofs.Seen.{advances-seen, moves-seen, runs-seen}
+use Rattle.catchup_engine.proofs.Steps.{board_after, in_clock-between, moves-length, moves-went, paused-is, stays-of, step-access}
+use Rattle.catchup_engine.proofs.Turns.{Begins, First, HasEffects, ResetBegun, clock-some, due-clock, effects-by, fetch-first, given-some, in_clock-begun, next-first, reset-begun, reset-first, reset-turn, resets-more, resume-first, resume-turn, standing-paused, turned-clock}
 
 -- the access that was made is the one that the board makes
 made_by-is : (entries : List TapeEntry) (next : Next) (v : ℕ) (x : course.Access) (s t : BusValue) → IsAccess next v x → BusStep entries x s t
@@ -105,166 +58,6 @@ access-fetched entries c q v x s b t boundary begins due is did =
     ∙ ap (made_by (next_of (start_of q c) q [])) (sym (in_clock-begun entries s b begins))
     ∙ made_by-is entries (next_of (start_of q c) q []) v x b t is did
 
--- what is traced of an access tells it
-told-made : (clock : ℕ) (x : course.Access) → made_of (access_at clock x) ≡ x
-told-made clock (read_of a v) = refl
-told-made clock (write_of a v) = refl
-
-told-clock : (clock : ℕ) (x : course.Access) → (access_at clock x).clock ≡ clock
-told-clock clock (read_of a v) = refl
-told-clock clock (write_of a v) = refl
-
--- one access is an advance by one clock
-pub advance-one : (entries : List TapeEntry) (r : RegistersValue) (q : Sequence) (given : List ℕ) (s t : BusValue) (e : CpuValue) (made : Access)
-    → Makes entries r q given s t e made → Advances (BusStep entries) r q given 1 1 s t e
-advance-one entries r q given s t e made m = record {
-  more = m.value ∷ [];
-  moves = (m.access, t, m.is, m.did, refl);
-  count = refl;
-  few = omega arith;
-  full = λ _. refl;
-  stands = m.stands;
-  complete = m.complete;
-}
-
--- one clock over a bus, with its access
-pub record IsTraced (entries : List TapeEntry) (c : CpuValue) (s t : BusValue) (e : CpuValue) (made : Access) : Type 0 where
-  pub turned : TurnedBus entries 1 c s t e
-  pub access : access_in entries (over_bus c s) ≡ Some (made_of made)
-  pub clock : made.clock + 1 ≡ t.wires.clock
-
-told-after : (entries : List TapeEntry) (x : course.Access) (s t : BusValue) (made : Access) → made ≡ access_at (t.wires.clock - 1) x
-    → 1 ≤ t.wires.clock → made.clock + 1 ≡ t.wires.clock
-told-after entries x s t made traced some =
-    let e : made.clock ≡ t.wires.clock - 1 = ap (λ (m : Access). m.clock) traced ∙ told-clock (t.wires.clock - 1) x in
-    omega arith
-
-turned-some : (entries : List TapeEntry) (c : CpuValue) (s t : BusValue) (e : CpuValue) → TurnedBus entries 1 c s t e → 1 ≤ t.wires.clock
-turned-some entries c s t e turned = let clock = turned.turned.clock in omega arith
-
-some-made : (x : course.Access) (made : Access) (clock : ℕ) → made ≡ access_at clock x → Some x ≡ Some (made_of made)
-some-made x made clock traced = ap (λ (y : course.Access). Some y) (sym (ap made_of traced ∙ told-made clock x))
-
--- the next clock of a sequence under way
-pub resumed : (entries : List TapeEntry) (c : CpuValue) (m : MidValue) (s t : BusValue) (e : CpuValue) (made : Access) → c.mid ≡ Some m
-    → IfSome c.mid (λ _. IsMiddle c) → length m.bytes ≡ 6 → s.begun ≡ false
-    → IfSome c.mid (λ m. Makes entries (registers_of c) m.sequence (given_by m) s t e made) → IsTraced entries c s t e made
-resumed entries c m s t e made inside middle six between makes =
-    let h : Makes entries (registers_of c) m.sequence (given_by m) s t e made = rw inside at makes in
-    let turned = resume-turn entries c m 1 1 s t e inside middle six between (omega arith)
-    (subst (λ (mid : Option MidValue). IfSome mid (λ m. Advances (BusStep entries) (registers_of c) m.sequence (given_by m) 1 1 s t e)) (sym inside)
-    (advance-one entries (registers_of c) m.sequence (given_by m) s t e made h)) in
-    record {
-      turned = turned;
-      access = access-resumed entries c m h.value h.access s t inside between h.is h.did ∙ some-made h.access made (t.wires.clock - 1) h.traced;
-      clock = told-after entries h.access s t made h.traced (turned-some entries c s t e turned);
-    }
-
--- the first clock of an instruction or an interrupt
-pub fetched-one : (entries : List TapeEntry) (c : CpuValue) (q : Sequence) (s b t : BusValue) (e : CpuValue) (made : Access) → c.mid ≡ None
-    → Begins entries s b → q ≡ sequence_due c b.wires → q ≢ Reset → Makes entries (start_of q c) q [] b t e made → IsTraced entries c s t e made
-fetched-one entries c q s b t e made boundary begins due other h =
-    let turned = fetch-turn entries c q 1 1 s b t e boundary begins due other (omega arith) (advance-one entries (start_of q c) q [] b t e made h) in
-    record {
-      turned = turned;
-      access = access-fetched entries c q h.value h.access s b t boundary begins due h.is h.did ∙ some-made h.access made (t.wires.clock - 1) h.traced;
-      clock = told-after entries h.access s t made h.traced (turned-some entries c s t e turned);
-    }
-
--- the first clock of a reset
-pub reset-one : (entries : List TapeEntry) (c : CpuValue) (s b m t : BusValue) (e : CpuValue) (made : Access) → c.mid ≡ None
-    → Begins entries s b → Reset ≡ sequence_due c b.wires → Makes entries (start_of Reset c) Reset [] b m e made → HasEffects m t
-    → t.wires.clock ≡ m.wires.clock → IsTraced entries c s t e made
-reset-one entries c s b m t e made boundary begins due h effects same =
-    let begun = reset-begun entries c b m e (1, advance-one entries (start_of Reset c) Reset [] b m e made h) in
-    let turned = reset-turn entries c 1 s b t e boundary begins due (omega arith) (resets-one entries c 1 b m t e refl begun effects) in
-    record {
-      turned = turned;
-      access = access-fetched entries c Reset h.value h.access s b m boundary begins due h.is h.did ∙ some-made h.access made (m.wires.clock - 1) h.traced;
-      clock = told-after entries h.access b m made h.traced begun.clock ∙ sym same;
-    }
-
--- the count of a place is that of its bytes
-pub counts-one : (entries : List TapeEntry) (r : RegistersValue) (q : Sequence) (given : List ℕ) (s t : BusValue) (e : CpuValue) (made : Access)
-    → Makes entries r q given s t e made → IfSome e.mid (λ m. m.count ≡ length given + 1)
-counts-one entries r q given s t e made h = by_next (next_of r q (given ++ h.value ∷ [])) h.stands h.complete.1
-  where
-    by_next : (next : Next) → e ≡ stopped r q (given ++ h.value ∷ []) next → (IsEnd next → e.mid ≡ None) → IfSome e.mid (λ m. m.count ≡ length given + 1)
-    by_next (Read a) stands none = rw stands (length-append given (h.value ∷ []))
-    by_next (Write a w) stands none = rw stands (length-append given (h.value ∷ []))
-    by_next (End k) stands none = rw (none tt) tt
-
--- what a fetch begins, seen after its ticks
-pub due-begun : (entries : List TapeEntry) (c : CpuValue) (q : Sequence) (s b : BusValue) → Begins entries s b → q ≡ sequence_due c b.wires
-    → q ≡ sequence_due c (ticked entries s.wires)
-due-begun entries c q s b begins due = due ∙ ap (sequence_due c) begins.wires ∙ due-clock c (ticked entries s.wires)
-
-pub counts-next : (entries : List TapeEntry) (c : CpuValue) (m : MidValue) (s t : BusValue) (e : CpuValue) (made : Access) → c.mid ≡ Some m
-    → IfSome c.mid (λ _. IsMiddle c) → length m.bytes ≡ 6
-    → IfSome c.mid (λ m. Makes entries (registers_of c) m.sequence (given_by m) s t e made) → IfSome c.mid (λ m. IfSome e.mid (λ n. n.count ≡ m.count + 1))
-counts-next entries c m s t e made inside middle six makes =
-    let place : IsPlace (registers_of c) m = (rw inside at middle).1 in
-    let h : Makes entries (registers_of c) m.sequence (given_by m) s t e made = rw inside at makes in
-    let given : length (given_by m) ≡ m.count = given-some m place.begun place.short six in
-    subst (λ (mid : Option MidValue). IfSome mid (λ m. IfSome e.mid (λ n. n.count ≡ m.count + 1))) (sym inside)
-    (subst (λ k. IfSome e.mid (λ n. n.count ≡ k + 1)) given (counts-one entries (registers_of c) m.sequence (given_by m) s t e made h))
-
--- an access is traced again as it was
-told-again : (made : Access) (clock : ℕ) → made.clock ≡ clock → access_at clock (made_of made) ≡ made
-told-again made clock same = by_write made.write refl
-  where
-    by_write : (w : Bool) → made.write ≡ w → access_at clock (made_of made) ≡ made
-    by_write false is = rw (is, ← same) refl
-    by_write true is = rw (is, ← same) refl
-
-byte-made : (made : Access) → byte_of (Some (made_of made)) ≡ made.value
-byte-made made = by_write made.write refl
-  where
-    by_write : (w : Bool) → made.write ≡ w → byte_of (Some (made_of made)) ≡ made.value
-    by_write false is = rw is refl
-    by_write true is = rw is refl
-
-clock-one : (entries : List TapeEntry) (c : CpuValue) (s t : BusValue) (e : CpuValue) (made : Access) → TurnedBus entries 1 c s t e
-    → made.clock + 1 ≡ t.wires.clock → made.clock ≡ s.wires.clock
-clock-one entries c s t e made turned traced =
-    let clock = turned.turned.clock in
-    let most = turned.at_most in
-    omega arith
-
-one-access : (entries : List TapeEntry) (b : Board) (made : Access) → access_in entries b ≡ Some (made_of made) → made.clock ≡ b.wires.clock
-    → accesses_in b.wires.clock (access_in entries b) ≡ made ∷ []
-one-access entries b made access same =
-    ap (accesses_in b.wires.clock) access ∙ ap (λ (a : Access). a ∷ []) (told-again made b.wires.clock same)
-
--- the trace of one clock
-trace-one : (entries : List TapeEntry) (b : Board) (q : Sequence) (first : ℕ) (made : Access) → access_in entries b ≡ Some (made_of made)
-    → made.clock ≡ b.wires.clock → q ≡ sequence_at b.cpu.mid b.cpu (ticked entries b.wires) → first ≡ first_byte b.cpu.mid (access_in entries b)
-    → (let t : TraceValue = record { sequence = q; opcode = opcode_by q first; count = 1; accesses = seven_of (made ∷ []) } in t) ≡ trace_of entries 1 b
-unfolding trace_of accesses_of
-trace-one entries b q first made access same is byte =
-    let list : accesses_in b.wires.clock (access_in entries b) ++ [] ≡ made ∷ [] = append-nil (accesses_in b.wires.clock (access_in entries b)) ∙ one-access entries b made access same in
-    let whole = λ (p : Sequence) (n : ℕ) (l : List Access). (let t : TraceValue = record { sequence = p; opcode = opcode_by p n; count = 1; accesses = seven_of l } in t) in
-    ap (λ p. whole p first (made ∷ [])) is
-    ∙ ap (λ n. whole (sequence_at b.cpu.mid b.cpu (ticked entries b.wires)) n (made ∷ [])) byte
-    ∙ ap (λ l. whole (sequence_at b.cpu.mid b.cpu (ticked entries b.wires)) (first_byte b.cpu.mid (access_in entries b)) l) (sym list)
-
-pub trace-fetched : (entries : List TapeEntry) (c : CpuValue) (q : Sequence) (s t : BusValue) (e : CpuValue) (made : Access) → c.mid ≡ None
-    → TurnedBus entries 1 c s t e → access_in entries (over_bus c s) ≡ Some (made_of made) → made.clock + 1 ≡ t.wires.clock
-    → q ≡ sequence_due c (ticked entries s.wires)
-    → (let t : TraceValue = record { sequence = q; opcode = opcode_by q made.value; count = 1; accesses = seven_of (made ∷ []) } in t) ≡ trace_of entries 1 (over_bus c s)
-trace-fetched entries c q s t e made boundary turned access traced due =
-    trace-one entries (over_bus c s) q made.value made access (clock-one entries c s t e made turned traced)
-    (due ∙ ap (λ (mid : Option MidValue). sequence_at mid c (ticked entries s.wires)) (sym boundary))
-    (sym (byte-made made) ∙ ap byte_of (sym access) ∙ ap (λ (mid : Option MidValue). first_byte mid (access_in entries (over_bus c s))) (sym boundary))
-
-pub trace-resumed : (entries : List TapeEntry) (c : CpuValue) (m : MidValue) (s t : BusValue) (e : CpuValue) (made : Access) → c.mid ≡ Some m
-    → TurnedBus entries 1 c s t e → access_in entries (over_bus c s) ≡ Some (made_of made) → made.clock + 1 ≡ t.wires.clock
-    → (let t : TraceValue = record { sequence = m.sequence; opcode = opcode_by m.sequence (slice_index m.bytes 0); count = 1; accesses = seven_of (made ∷ []) } in t) ≡ trace_of entries 1 (over_bus c s)
-trace-resumed entries c m s t e made inside turned access traced =
-    trace-one entries (over_bus c s) m.sequence (slice_index m.bytes 0) made access (clock-one entries c s t e made turned traced)
-    (ap (λ (mid : Option MidValue). sequence_at mid c (ticked entries s.wires)) (sym inside))
-    (ap (λ (mid : Option MidValue). first_byte mid (access_in entries (over_bus c s))) (sym inside))
-
 -- one access more
 seven-push : (made : List Access) (a : Access) → length made ≤ 6 → slice_set (seven_of made) (length made) a ≡ seven_of (made ++ a ∷ [])
 seven-push [] a few = refl
@@ -276,137 +69,359 @@ seven-push (x0 ∷ (x1 ∷ (x2 ∷ (x3 ∷ (x4 ∷ []))))) a few = refl
 seven-push (x0 ∷ (x1 ∷ (x2 ∷ (x3 ∷ (x4 ∷ (x5 ∷ [])))))) a few = refl
 seven-push (x0 ∷ (x1 ∷ (x2 ∷ (x3 ∷ (x4 ∷ (x5 ∷ (x6 ∷ more))))))) a few = absurd (omega arith)
 
-accesses-more : (entries : List TapeEntry) (n : ℕ) (b last : Board) → stepped entries n b ≡ last
-    → accesses_of entries (suc n) b ≡ accesses_of entries n b ++ accesses_in last.wires.clock (access_in entries last)
-unfolding accesses_of stepped
-accesses-more entries zero b last is =
-    append-nil (accesses_in b.wires.clock (access_in entries b)) ∙ ap (λ (k : Board). accesses_in k.wires.clock (access_in entries k)) is
-accesses-more entries (suc n) b last is =
-    let first = accesses_in b.wires.clock (access_in entries b) in
-    ap (λ (l : List Access). first ++ l) (accesses-more entries n (step entries b) last is)
-    ∙ sym (append_assoc first (accesses_of entries n (step entries b)) (accesses_in last.wires.clock (access_in entries last)))
+-- a trace of these accesses, whose sequence isn't told yet
+abbrev pub of_accesses : List Access → TraceValue
+of_accesses made = record { sequence = Opcode; opcode = 0; count = length made; accesses = seven_of made }
 
--- one clock more in a trace
-trace-more : (entries : List TapeEntry) (n : ℕ) (b last : Board) (a : Access) → stepped entries n b ≡ last
-    → accesses_in last.wires.clock (access_in entries last) ≡ a ∷ [] → length (accesses_of entries n b) ≡ n → n ≤ 6
-    → record (trace_of entries n b) { count = (trace_of entries n b).count + 1; accesses = slice_set (trace_of entries n b).accesses (trace_of entries n b).count a }
-    ≡ trace_of entries (suc n) b
-unfolding trace_of
-trace-more entries n b last a is one full few =
-    let q = sequence_at b.cpu.mid b.cpu (ticked entries b.wires) in
-    let made = accesses_of entries n b in
-    let more : accesses_of entries (suc n) b ≡ made ++ a ∷ [] = accesses-more entries n b last is ∙ ap (λ (l : List Access). made ++ l) one in
-    let short : length made ≤ 6 = rw full few in
-    let pushed : slice_set (seven_of made) n a ≡ seven_of (accesses_of entries (suc n) b) =
-    ap (λ k. slice_set (seven_of made) k a) (sym full) ∙ seven-push made a short ∙ ap seven_of (sym more) in
-    let whole = λ (k : ℕ) (l : List Access). (let t : TraceValue = record { sequence = q; opcode = opcode_by q (first_byte b.cpu.mid (access_in entries b)); count = k; accesses = l } in t) in
-    let next : n + 1 ≡ suc n = omega arith in
-    ap (whole (n + 1)) pushed ∙ ap (λ k. whole k (seven_of (accesses_of entries (suc n) b))) next
+pushed-is : (made : List Access) (a : Access) → length made ≤ 6 → pushed (of_accesses made) a ≡ of_accesses (made ++ a ∷ [])
+pushed-is made a few =
+    ap (λ (l : List Access). let t : TraceValue = record { sequence = Opcode; opcode = 0; count = length made + 1; accesses = l } in t) (seven-push made a few)
+    ∙ ap (λ n. let t : TraceValue = record { sequence = Opcode; opcode = 0; count = n; accesses = seven_of (made ++ a ∷ []) } in t) (sym (length-append made (a ∷ [])))
 
-full-more : (entries : List TapeEntry) (n : ℕ) (b last : Board) (a : Access) → stepped entries n b ≡ last
-    → accesses_in last.wires.clock (access_in entries last) ≡ a ∷ [] → length (accesses_of entries n b) ≡ n
-    → length (accesses_of entries (suc n) b) ≡ suc n
-full-more entries n b last a is one full =
-    ap (λ (l : List Access). length l) (accesses-more entries n b last is ∙ ap (λ (l : List Access). accesses_of entries n b ++ l) one)
-    ∙ length-append (accesses_of entries n b) (a ∷ [])
-    ∙ (let e : length (accesses_of entries n b) + 1 ≡ suc n = omega arith in e)
+-- the bus of a traced one makes the same accesses
+pub bus-moves : (entries : List TapeEntry) (r : RegistersValue) (q : Sequence) (bytes more : List ℕ) (s t : TracedValue)
+    → Moves (TracedStep entries) r q bytes more s t → Moves (BusStep entries) r q bytes more s.bus t.bus
+bus-moves entries r q bytes more s t moves =
+    (moves-seen (BusStep entries) (λ (k : TracedValue). k.bus) (λ k. 0) (λ x a b h. (refl, h.0)) r q bytes more s t moves).1
 
--- a sequence that is traced: the clocks done, and the trace of them
-pub record AtTrace (entries : List TapeEntry) (c : CpuValue) (s t : BusValue) (e : CpuValue) (trace : TraceValue) : Type 0 where
-  pub run : RunsOn entries (is_over (s.wires.clock + 1)) c s t e
-  pub trace_is : trace ≡ trace_of entries run.count (over_bus c s)
-  pub full : length (accesses_of entries run.count (over_bus c s)) ≡ run.count
-  pub some : 1 ≤ run.count
-  pub few : run.count ≤ 7
-  pub counts : IfSome e.mid (λ m. m.count ≡ count_of c.mid + run.count)
+pub bus-advances : (entries : List TapeEntry) (r : RegistersValue) (q : Sequence) (given : List ℕ) (clocks made : ℕ) (s t : TracedValue) (e : CpuValue)
+    → Advances (TracedStep entries) r q given clocks made s t e → Advances (BusStep entries) r q given clocks made s.bus t.bus e
+bus-advances entries r q given clocks made s t e a =
+    (advances-seen (BusStep entries) (λ (k : TracedValue). k.bus) (λ k. 0) (λ x a b h. (refl, h.0)) r q given clocks made s t e a).1
 
-open-start : (b : Board) → b.cpu.jam ≡ None → is_over (b.wires.clock + 1) b ≡ false
-open-start b running = by_mid b.cpu.mid refl
-  where
-    late : nat_le (b.wires.clock + 1) b.wires.clock ≡ false
-    late = lt-leb (b.wires.clock + 1) b.wires.clock (omega arith)
+-- the access of a board inside a sequence
+access-paused : (entries : List TapeEntry) (r : RegistersValue) (q : Sequence) (bytes : List ℕ) (w : Wires)
+    → access_in entries (record { cpu = paused r q bytes; wires = w }) ≡ made_by (next_of r q bytes) (ticked entries w)
+unfolding access_in
+access-paused entries r q bytes w = rw (given_paused bytes) refl
 
-    by_mid : (mid : Option MidValue) → b.cpu.mid ≡ mid → is_over (b.wires.clock + 1) b ≡ false
-    by_mid None is = rw (running, is, late) refl
-    by_mid (Some m) is = rw (running, is) refl
+access-inside : (entries : List TapeEntry) (r : RegistersValue) (q : Sequence) (bytes : List ℕ) (v : ℕ) (x : course.Access) (s t : BusValue)
+    → IsAccess (next_of r q bytes) v x → BusStep entries x s t → s.begun ≡ false → access_in entries (board_after r q bytes s.wires) ≡ Some x
+access-inside entries r q bytes v x s t is did between =
+    ap (λ (c : CpuValue). access_in entries (record { cpu = c; wires = s.wires })) (paused-is (next_of r q bytes) r q bytes v x is)
+    ∙ access-paused entries r q bytes s.wires
+    ∙ ap (made_by (next_of r q bytes)) (sym (in_clock-between entries s between))
+    ∙ made_by-is entries (next_of r q bytes) v x s t is did
 
-one-full : (entries : List TapeEntry) (b : Board) (x : Option course.Access) → access_in entries b ≡ x → IsSome x → length (accesses_of entries 1 b) ≡ 1
+-- the trace tells n clocks of a board, behind the accesses that were there
+pub record IsTold (entries : List TapeEntry) (n : ℕ) (b : Board) (before : List Access) (trace : TraceValue) : Type 0 where
+  pub trace_is : trace ≡ of_accesses (before ++ accesses_of entries n b)
+  pub full : length (accesses_of entries n b) ≡ n
+
+-- the accesses of the next clock, and then those of the others
+told-more : (entries : List TapeEntry) (n : ℕ) (b next : Board) (a : Access) (before : List Access) (trace : TraceValue) → step entries b ≡ next
+    → accesses_in b.wires.clock (access_in entries b) ≡ a ∷ [] → IsTold entries n next (before ++ a ∷ []) trace → IsTold entries (suc n) b before trace
 unfolding accesses_of
-one-full entries b None is some = cc
-one-full entries b (Some x) is some = rw is refl
-
--- its first clock
-pub trace-starts : (entries : List TapeEntry) (c : CpuValue) (s t : BusValue) (e : CpuValue) (trace : TraceValue) → c.jam ≡ None → s.begun ≡ false
-    → TurnedBus entries 1 c s t e → trace ≡ trace_of entries 1 (over_bus c s) → IsSome (access_in entries (over_bus c s))
-    → IfSome e.mid (λ m. m.count ≡ count_of c.mid + 1) → AtTrace entries c s t e trace
-trace-starts entries c s t e trace running between turned traced access counts =
-    let limit = s.wires.clock + 1 in
-    let open_yet = open-start (over_bus c s) running in
-    let reached = through-reached entries limit turned.turned.count (step entries (over_bus c s)) (over_bus e t) turned.turned.through in
-    let run = goes_on entries (is_over limit) 1 c s s t c e (starts entries (is_over limit) c s between) open_yet turned reached in
-    let clock = run.clock in
-    let clock_turned = turned.turned.clock in
-    let most = turned.at_most in
-    let one : run.count ≡ 1 = omega arith in
+told-more entries n b next a before trace steps one rest =
+    let whole : accesses_of entries (suc n) b ≡ a ∷ accesses_of entries n next =
+    ap (λ (k : Board). accesses_in b.wires.clock (access_in entries b) ++ accesses_of entries n k) steps
+    ∙ ap (λ (l : List Access). l ++ accesses_of entries n next) one in
+    let full = rest.full in
     record {
-      run = run;
-      trace_is = traced ∙ ap (λ n. trace_of entries n (over_bus c s)) (sym one);
-      full = subst (λ n. length (accesses_of entries n (over_bus c s)) ≡ n) (sym one) (one-full entries (over_bus c s) (access_in entries (over_bus c s)) refl access);
-      some = omega arith;
-      few = omega arith;
-      counts = subst (λ n. IfSome e.mid (λ m. m.count ≡ count_of c.mid + n)) (sym one) counts;
+      trace_is =
+          rest.trace_is
+          ∙ ap of_accesses (append_assoc before (a ∷ []) (accesses_of entries n next) ∙ ap (λ (l : List Access). before ++ l) (sym whole));
+      full = ap (λ (l : List Access). length l) whole ∙ (let e : suc (length (accesses_of entries n next)) ≡ suc n = omega arith in e);
     }
 
--- there is room in a trace while the processor stands inside the sequence
-pub trace-few : (entries : List TapeEntry) (c : CpuValue) (s t : BusValue) (e : CpuValue) (trace : TraceValue) → (at : AtTrace entries c s t e trace)
-    → IsSome e.mid → IfSome e.mid (λ _. IsMiddle e) → at.run.count ≤ 6
-trace-few entries c s t e trace at inside middle = by_mid e.mid refl inside middle at.counts
+-- what is left of a sequence is told clock by clock
+moves-told : (entries : List TapeEntry) (r : RegistersValue) (q : Sequence) (bytes more : List ℕ) (s t : TracedValue)
+    → Moves (TracedStep entries) r q bytes more s t → s.bus.begun ≡ false → (before : List Access) → s.trace ≡ of_accesses before
+    → length before + length more ≤ 7 → IsTold entries (length more) (board_after r q bytes s.bus.wires) before t.trace
+unfolding accesses_of
+moves-told entries r q bytes [] s t same between before is few = record {
+  trace_is = ap (λ (k : TracedValue). k.trace) same ∙ is ∙ ap of_accesses (sym (append-nil before));
+  full = refl;
+}
+moves-told entries r q bytes (v ∷ more) s t (x, m, is, did, rest) between before at few =
+    let b = board_after r q bytes s.bus.wires in
+    let next = step-access entries r q bytes v x s.bus m.bus is did.0 between in
+    let clock = step-clock entries b in
+    let clock_then : m.bus.wires.clock ≡ (step entries b).wires.clock = ap (λ (k : Board). k.wires.clock) (sym next) in
+    let now : m.bus.wires.clock - 1 ≡ s.bus.wires.clock = omega arith in
+    let a = access_at s.bus.wires.clock x in
+    let one : accesses_in b.wires.clock (access_in entries b) ≡ a ∷ [] =
+    ap (accesses_in s.bus.wires.clock) (access-inside entries r q bytes v x s.bus m.bus is did.0 between) in
+    let longer = length-append before (a ∷ []) in
+    let told : m.trace ≡ of_accesses (before ++ a ∷ []) =
+    did.1
+    ∙ ap (λ (k : TraceValue). pushed k (access_at (m.bus.wires.clock - 1) x)) at
+    ∙ ap (λ n. pushed (of_accesses before) (access_at n x)) now
+    ∙ pushed-is before a (omega arith) in
+    told-more entries (length more) b (board_after r q (bytes ++ v ∷ []) m.bus.wires) a before t.trace next one
+    (moves-told entries r q (bytes ++ v ∷ []) more m t rest (stays-of entries x s.bus m.bus did.0).begun (before ++ a ∷ []) told (omega arith))
+
+-- a turn that is traced: so many clocks of it are told
+pub record IsTraced (entries : List TapeEntry) (b : Board) (t : TracedValue) : Type 0 where
+  pub count : ℕ
+  pub clock : t.bus.wires.clock ≡ b.wires.clock + count
+  pub some : 1 ≤ count
+  pub told : IsTold entries count b [] t.trace
+  pub byte : first_value t.trace.accesses ≡ byte_of (access_in entries b)
+
+value-at : (clock : ℕ) (x : course.Access) → (access_at clock x).value ≡ byte_of (Some x)
+value-at clock (read_of a v) = refl
+value-at clock (write_of a v) = refl
+
+-- the byte of the first access
+first-byte : (entries : List TapeEntry) (n : ℕ) (b : Board) (x : course.Access) (trace : TraceValue) → access_in entries b ≡ Some x
+    → trace ≡ of_accesses (accesses_of entries (suc n) b) → first_value trace.accesses ≡ byte_of (access_in entries b)
+unfolding accesses_of
+first-byte entries n b x trace access is =
+    let rest = accesses_of entries n (step entries b) in
+    ap (λ (t : TraceValue). first_value t.accesses) is
+    ∙ ap (λ (y : Option course.Access). first_value (seven_of (accesses_in b.wires.clock y ++ rest))) access
+    ∙ value-at b.wires.clock x
+    ∙ ap byte_of (sym access)
+
+-- the first clock, and then the others
+turn-told : (entries : List TapeEntry) (b : Board) (r : RegistersValue) (q : Sequence) (bytes more : List ℕ) (s : BusValue) (m t : TracedValue) (x : course.Access)
+    → First entries b r q bytes s m.bus → access_in entries b ≡ Some x → m.trace ≡ of_accesses (access_at (m.bus.wires.clock - 1) x ∷ [])
+    → Moves (TracedStep entries) r q bytes more m t → length more ≤ 6 → IsTraced entries b t
+turn-told entries b r q bytes more s m t x first access told moves few =
+    let clock = step-clock entries b in
+    let clock_then : m.bus.wires.clock ≡ (step entries b).wires.clock = ap (λ (k : Board). k.wires.clock) (sym first.step) in
+    let now : m.bus.wires.clock - 1 ≡ b.wires.clock = omega arith in
+    let a = access_at b.wires.clock x in
+    let at : m.trace ≡ of_accesses (a ∷ []) = told ∙ ap (λ n. of_accesses (access_at n x ∷ [])) now in
+    let whole = told-more entries (length more) b (board_after r q bytes m.bus.wires) a [] t.trace first.step (ap (accesses_in b.wires.clock) access)
+    (moves-told entries r q bytes more m t moves first.goes.between (a ∷ []) at (omega arith)) in
+    record {
+      count = suc (length more);
+      clock =
+          turned-clock entries b r q bytes more s m.bus t.bus first
+          (moves-went entries r q bytes more m.bus t.bus (bus-moves entries r q bytes more m t moves) first.goes.between);
+      some = omega arith;
+      told = whole;
+      byte = first-byte entries (length more) b x t.trace access whole.trace_is;
+    }
+
+pub bus-runs : (entries : List TapeEntry) (r : RegistersValue) (q : Sequence) (s t : TracedValue) (e : CpuValue)
+    → Runs (TracedStep entries) r q s t e → Runs (BusStep entries) r q s.bus t.bus e
+bus-runs entries r q s t e runs =
+    (runs-seen (BusStep entries) (λ (k : TracedValue). k.bus) (λ k. 0) (λ x a b h. (refl, h.0)) r q s t e runs).1
+
+-- a whole instruction or interrupt
+pub whole-told : (entries : List TapeEntry) (c : CpuValue) (q : Sequence) (s b : BusValue) (t : TracedValue) (e : CpuValue) → c.mid ≡ None
+    → Begins entries s b → q ≡ sequence_due c b.wires → q ≢ Reset → Runs (TracedStep entries) (start_of q c) q (traced b no_trace) t e
+    → IsTraced entries (over_bus c s) t
+whole-told entries c q s b t e boundary begins due other runs = by_bytes runs.bytes runs.moves runs.ends
   where
-    by_mid : (mid : Option MidValue) → e.mid ≡ mid → IsSome mid → IfSome mid (λ _. IsMiddle e)
-        → IfSome mid (λ m. m.count ≡ count_of c.mid + at.run.count) → at.run.count ≤ 6
-    by_mid None is inside middle counts = cc
-    by_mid (Some m) is inside middle counts =
-        let place : IsPlace (registers_of e) m = (rw is at middle).1 in
+    r : RegistersValue
+    r = start_of q c
+
+    by_bytes : (bytes : List ℕ) → Moves (TracedStep entries) r q [] bytes (traced b no_trace) t → next_of r q bytes ≡ End e → IsTraced entries (over_bus c s) t
+    by_bytes [] moves ends = absurd (next-first r q (rw ends tt))
+    by_bytes (v ∷ more) (x, m, is, did, rest) ends =
+        let few = moves-length entries r q (v ∷ []) more m.bus t.bus (bus-moves entries r q (v ∷ []) more m t rest) (omega arith) in
+        turn-told entries (over_bus c s) r q (v ∷ []) more s m t x (fetch-first entries c q s b m.bus v x boundary begins due other is did.0)
+        (access-fetched entries c q v x s b m.bus boundary begins due is did.0)
+        (did.1 ∙ pushed-is [] (access_at (m.bus.wires.clock - 1) x) (omega arith)) rest (omega arith)
+
+-- what is left of a sequence
+pub rest-told : (entries : List TapeEntry) (c : CpuValue) (m : MidValue) (made : ℕ) (s : BusValue) (t : TracedValue) (e : CpuValue) → c.mid ≡ Some m
+    → IfSome c.mid (λ _. IsMiddle c) → length m.bytes ≡ 6 → s.begun ≡ false
+    → Advances (TracedStep entries) (registers_of c) m.sequence (given_by m) 7 made (traced s no_trace) t e → IsTraced entries (over_bus c s) t
+rest-told entries c m made s t e inside middle six between a = by_more a.more a.moves a.count a.full
+  where
+    r : RegistersValue
+    r = registers_of c
+
+    place : IsPlace r m
+    place = (rw inside at middle).1
+
+    by_more : (more : List ℕ) → Moves (TracedStep entries) r m.sequence (given_by m) more (traced s no_trace) t → length more ≡ made
+        → ((IsEnd (next_of r m.sequence (given_by m ++ more)) → ⊥) → made ≡ 7) → IsTraced entries (over_bus c s) t
+    by_more [] moves count full =
+        let all : made ≡ 7 = full (rw (append-nil (given_by m)) (place_due r m place)) in
+        absurd (omega arith)
+    by_more (v ∷ more) (x, k, is, did, rest) count full =
+        let given = given-some m place.begun place.short six in
         let short = place.short in
+        let longer : length (given_by m ++ v ∷ []) ≡ length (given_by m) + 1 = length-append (given_by m) (v ∷ []) in
+        let few = moves-length entries r m.sequence (given_by m ++ v ∷ []) more k.bus t.bus
+        (bus-moves entries r m.sequence (given_by m ++ v ∷ []) more k t rest) (omega arith) in
+        turn-told entries (over_bus c s) r m.sequence (given_by m ++ v ∷ []) more s k t x (resume-first entries c m s k.bus v x inside between is did.0)
+        (access-resumed entries c m v x s k.bus inside between is did.0)
+        (did.1 ∙ pushed-is [] (access_at (k.bus.wires.clock - 1) x) (omega arith)) rest (omega arith)
+
+-- what is left of a sequence is a turn, and it is told
+pub record IsRest (entries : List TapeEntry) (c : CpuValue) (m : MidValue) (s : BusValue) (t : TracedValue) (e : CpuValue) : Type 0 where
+  pub turned : TurnedBus entries 7 c s t.bus e
+  pub traced : IsTraced entries (over_bus c s) t
+  pub inside : c.mid ≡ Some m
+
+pub middle-told : (entries : List TapeEntry) (c : CpuValue) (m : MidValue) (s : BusValue) (t : TracedValue) (e : CpuValue) → c.mid ≡ Some m
+    → IfSome c.mid (λ _. IsMiddle c) → length m.bytes ≡ 6 → s.begun ≡ false
+    → IfSome c.mid (λ p. (made : ℕ) × Advances (TracedStep entries) (registers_of c) p.sequence (given_by p) 7 made (traced s no_trace) t e)
+    → IsRest entries c m s t e
+middle-told entries c m s t e inside middle six between advances =
+    let a : (made : ℕ) × Advances (TracedStep entries) (registers_of c) m.sequence (given_by m) 7 made (traced s no_trace) t e =
+    subst (λ (mid : Option MidValue). IfSome mid (λ p. (made : ℕ) × Advances (TracedStep entries) (registers_of c) p.sequence (given_by p) 7 made (traced s no_trace) t e)) inside advances in
+    record {
+      turned =
+          resume-turn entries c m 7 a.0 s t.bus e inside middle six between (omega arith)
+          (subst (λ (mid : Option MidValue). IfSome mid (λ p. Advances (BusStep entries) (registers_of c) p.sequence (given_by p) 7 a.0 s t.bus e)) (sym inside)
+          (bus-advances entries (registers_of c) m.sequence (given_by m) 7 a.0 (traced s no_trace) t e a.1));
+      traced = rest-told entries c m a.0 s t e inside middle six between a.1;
+      inside = inside;
+    }
+
+-- the sequence and the first byte of a sequence under way
+pub middle-sequence : (entries : List TapeEntry) (c : CpuValue) (m : MidValue) (s : BusValue) → c.mid ≡ Some m
+    → m.sequence ≡ sequence_at (over_bus c s).cpu.mid (over_bus c s).cpu (ticked entries (over_bus c s).wires)
+middle-sequence entries c m s inside = sym (ap (λ (mid : Option MidValue). sequence_at mid c (ticked entries s.wires)) inside)
+
+pub middle-byte : (entries : List TapeEntry) (c : CpuValue) (m : MidValue) (s : BusValue) → c.mid ≡ Some m
+    → slice_index m.bytes 0 ≡ first_byte (over_bus c s).cpu.mid (access_in entries (over_bus c s))
+middle-byte entries c m s inside = sym (ap (λ (mid : Option MidValue). first_byte mid (access_in entries (over_bus c s))) inside)
+
+-- a reset over a bus is one, and it is told
+pub record IsReset (entries : List TapeEntry) (c : CpuValue) (s : BusValue) (t : TracedValue) (e : CpuValue) : Type 0 where
+  pub turned : TurnedBus entries 7 c s t.bus e
+  pub traced : IsTraced entries (over_bus c s) t
+
+-- the rest of a reset that stands behind its read
+reset-rest : (entries : List TapeEntry) (c k : CpuValue) (v : ℕ) (s t : TracedValue) (e : CpuValue) → k ≡ paused (start_of Reset c) Reset (v ∷ [])
+    → IfSome k.mid (λ m. (made : ℕ) × Advances (TracedStep entries) (registers_of k) m.sequence (given_by m) 6 made s t e)
+    → (made : ℕ) × Advances (TracedStep entries) (start_of Reset c) Reset (v ∷ []) 6 made s t e
+reset-rest entries c k v s t e stands rest =
+    subst (λ (j : CpuValue). IfSome j.mid (λ m. (made : ℕ) × Advances (TracedStep entries) (registers_of j) m.sequence (given_by m) 6 made s t e)) stands rest
+
+-- from the move of its read
+reset-of : (entries : List TapeEntry) (c : CpuValue) (s b : BusValue) (m t : TracedValue) (k e : CpuValue) (v : ℕ) (x : course.Access) → c.mid ≡ None
+    → Begins entries s b → Reset ≡ sequence_due c b.wires → IsAccess (next_of (start_of Reset c) Reset []) v x → TracedStep entries x (traced b no_trace) m
+    → k ≡ paused (start_of Reset c) Reset (v ∷ []) → (taken : BusValue) → HasEffects m.bus taken
+    → IfSome k.mid (λ p. (made : ℕ) × Advances (TracedStep entries) (registers_of k) p.sequence (given_by p) 6 made (traced taken m.trace) t e)
+    → IsReset entries c s t e
+reset-of entries c s b m t k e v x boundary begins due is did stands taken effects rest =
+    let r = start_of Reset c in
+    let between = (stays-of entries x b m.bus did.0).begun in
+    let begun : ResetBegun entries c b m.bus k = record {
+      value = v;
+      moves = (x, m.bus, is, did.0, refl);
+      stands = stands;
+      clock = clock-some entries x b m.bus did.0;
+      between = between;
+    } in
+    let goes : Goes m.bus taken = record { more = effects.more; rooms = effects.rooms; until = effects.until; between = effects.between ∙ between } in
+    let same : taken.wires.clock ≡ m.bus.wires.clock = ap (λ (w : Wires). w.clock) effects.wires in
+    let a = reset-rest entries c k v (traced taken m.trace) t e stands rest in
+    let moves = bus-moves entries r Reset (v ∷ []) a.1.more (traced taken m.trace) t a.1.moves in
+    let few = moves-length entries r Reset (v ∷ []) a.1.more taken t.bus moves (omega arith) in
+    record {
+      turned =
+          reset-turn entries c 7 s b t.bus e boundary begins due (omega arith)
+          (resets-more entries c 7 a.0 b m.bus taken t.bus k e begun effects
+          (subst (λ (j : CpuValue). IfSome j.mid (λ p. Advances (BusStep entries) (registers_of j) p.sequence (given_by p) 6 a.0 taken t.bus e)) (sym stands)
+          (bus-advances entries r Reset (v ∷ []) 6 a.0 (traced taken m.trace) t e a.1)));
+      traced =
+          turn-told entries (over_bus c s) r Reset (v ∷ []) a.1.more s (traced taken m.trace) t x
+          (reset-first entries c s b m.bus taken v x boundary begins due is did.0 effects.wires effects.calls goes)
+          (access-fetched entries c Reset v x s b m.bus boundary begins due is did.0)
+          (did.1 ∙ pushed-is [] (access_at (m.bus.wires.clock - 1) x) (omega arith) ∙ ap (λ n. of_accesses (access_at (n - 1) x ∷ [])) (sym same))
+          a.1.moves (omega arith);
+    }
+
+pub reset-told : (entries : List TapeEntry) (c : CpuValue) (s b : BusValue) (t : TracedValue) (e : CpuValue) → c.mid ≡ None
+    → Begins entries s b → Reset ≡ sequence_due c b.wires → TracedReset entries c b t e → IsReset entries c s t e
+reset-told entries c s b t e boundary begins due reset = by_more one.more one.moves one.count one.full one.stands
+  where
+    r : RegistersValue
+    r = start_of Reset c
+
+    one : Advances (TracedStep entries) r Reset [] 1 reset.begins.0 (traced b no_trace) reset.read reset.inside
+    one = reset.begins.1
+
+    by_more : (more : List ℕ) → Moves (TracedStep entries) r Reset [] more (traced b no_trace) reset.read → length more ≡ reset.begins.0
+        → ((IsEnd (next_of r Reset more) → ⊥) → reset.begins.0 ≡ 1) → reset.inside ≡ standing r Reset more → IsReset entries c s t e
+    by_more [] moves count full stands =
+        let all : reset.begins.0 ≡ 1 = full (next-first r Reset) in
+        absurd (omega arith)
+    by_more (v ∷ (u ∷ more)) moves count full stands = let few = one.few in absurd (omega arith)
+    by_more (v ∷ []) (x, m, is, did, same) count full stands =
+        reset-of entries c s b reset.read t reset.inside e v x boundary begins due is
+        (subst (λ (k : TracedValue). TracedStep entries x (traced b no_trace) k) (sym same) did) (stands ∙ standing-paused r v)
+        reset.taken (effects-by reset.read.bus reset.taken reset.effects) reset.rest
+
+-- a reset has begun in its first clock
+pub reset-starts : (entries : List TapeEntry) (c k : CpuValue) (b : BusValue) (m : TracedValue)
+    → ((made : ℕ) × Advances (TracedStep entries) (start_of Reset c) Reset [] 1 made (traced b no_trace) m k) → ResetBegun entries c b m.bus k
+reset-starts entries c k b m (made, a) =
+    reset-begun entries c b m.bus k (made, bus-advances entries (start_of Reset c) Reset [] 1 made (traced b no_trace) m k a)
+
+-- its trace has one access
+pub reset-one : (entries : List TapeEntry) (c k : CpuValue) (b : BusValue) (m : TracedValue)
+    → ((made : ℕ) × Advances (TracedStep entries) (start_of Reset c) Reset [] 1 made (traced b no_trace) m k) → m.trace.count ≤ 1
+reset-one entries c k b m (made, a) = by_more a.more a.moves a.count
+  where
+    by_more : (more : List ℕ) → Moves (TracedStep entries) (start_of Reset c) Reset [] more (traced b no_trace) m → length more ≡ made → m.trace.count ≤ 1
+    by_more [] same count = let none : m.trace.count ≡ 0 = ap (λ (k : TracedValue). k.trace.count) same in omega arith
+    by_more (v ∷ []) (x, n, is, did, same) count =
+        let one : m.trace.count ≡ 1 = ap (λ (k : TracedValue). k.trace.count) same ∙ ap (λ (k : TraceValue). k.count) did.1 in
+        omega arith
+    by_more (v ∷ (u ∷ more)) moves count = let few = a.few in absurd (omega arith)
+
+-- and leaves room for all others
+pub first-room : (entries : List TapeEntry) (c k : CpuValue) (b : BusValue) (trace : TraceValue) (m : TracedValue) → b.begun ≡ true
+    → ((made : ℕ) × Advances (TracedStep entries) (start_of Reset c) Reset [] 1 made (traced b trace) m k) → room_of b ≤ room_of m.bus + 1
+unfolding next_of in_clock
+first-room entries c k b trace m begun (made, a) = by_more a.more a.moves a.count
+  where
+    read-room : (v : ℕ) (x : course.Access) (t : BusValue) → IsAccess (next_of (start_of Reset c) Reset []) v x → BusStep entries x b t → room_of b ≤ room_of t + 1
+    read-room v x t is did =
+        let d = subst (λ y. BusStep entries y b t) is did in
+        let wires = d.1 ∙ ap (λ f. done_clock (if f then at_clock (b.wires.clock - 1) b.wires else ticked entries b.wires)) begun in
+        let written = ap (λ (w : Wires). length w.written) wires in
+        let clock = ap (λ (w : Wires). w.clock) wires in
+        let rooms = ap (λ (r : Rooms). r.board) (stays-of entries x b t did).rooms in
+        let until = (stays-of entries x b t did).until in
         omega arith
 
-counts-on : (mid new : Option MidValue) (k n : ℕ) → IsSome mid → IfSome mid (λ m. m.count ≡ k + n)
-    → IfSome mid (λ m. IfSome new (λ l. l.count ≡ m.count + 1)) → IfSome new (λ l. l.count ≡ k + suc n)
-counts-on None new k n some first later = cc
-counts-on (Some m) None k n some first later = tt
-counts-on (Some m) (Some l) k n some first later = omega arith
+    by_more : (more : List ℕ) → Moves (TracedStep entries) (start_of Reset c) Reset [] more (traced b trace) m → length more ≡ made → room_of b ≤ room_of m.bus + 1
+    by_more [] same count = let e : m.bus ≡ b = ap (λ (k : TracedValue). k.bus) same in rw e (omega arith)
+    by_more (v ∷ []) (x, n, is, did, same) count =
+        let e : m.bus ≡ n.bus = ap (λ (k : TracedValue). k.bus) same in rw e (read-room v x n.bus is did.0)
+    by_more (v ∷ (u ∷ more)) moves count = let few = a.few in absurd (omega arith)
 
--- and a clock more
-pub trace-goes_on : (entries : List TapeEntry) (c : CpuValue) (s t u : BusValue) (e f : CpuValue) (trace : TraceValue) (a : Access)
-    → AtTrace entries c s t e trace → IsSome e.mid → IfSome e.mid (λ _. IsMiddle e) → TurnedBus entries 1 e t u f
-    → access_in entries (over_bus e t) ≡ Some (made_of a) → a.clock + 1 ≡ u.wires.clock
-    → IfSome e.mid (λ m. IfSome f.mid (λ n. n.count ≡ m.count + 1))
-    → AtTrace entries c s u f (record trace { count = trace.count + 1; accesses = slice_set trace.accesses trace.count a })
-trace-goes_on entries c s t u e f trace a at inside middle turned access traced counts =
-    let limit = s.wires.clock + 1 in
-    let n = at.run.count in
-    let few = trace-few entries c s t e trace at inside middle in
-    let open_yet = middle-open limit (over_bus e t) inside (running-inside e inside middle) in
-    let reached = through-reached entries limit turned.turned.count (step entries (over_bus e t)) (over_bus f u) turned.turned.through in
-    let run = goes_on entries (is_over limit) 1 c s t u e f at.run open_yet turned reached in
-    let clock = at.run.clock in
-    let clock_now = run.clock in
-    let clock_turned = turned.turned.clock in
-    let most = turned.at_most in
-    let next : run.count ≡ suc n = omega arith in
-    let here : stepped entries n (over_bus c s) ≡ over_bus e t = stepped-is entries (is_over limit) n (over_bus c s) (over_bus e t) at.run.reached in
-    let one = one-access entries (over_bus e t) a access (clock-one entries e t u f a turned traced) in
-    record {
-      run = run;
-      trace_is =
-          ap (λ (t : TraceValue). record t { count = t.count + 1; accesses = slice_set t.accesses t.count a }) at.trace_is
-          ∙ trace-more entries n (over_bus c s) (over_bus e t) a here one at.full few
-          ∙ ap (λ k. trace_of entries k (over_bus c s)) (sym next);
-      full = subst (λ k. length (accesses_of entries k (over_bus c s)) ≡ k) (sym next) (full-more entries n (over_bus c s) (over_bus e t) a here one at.full);
-      some = omega arith;
-      few = omega arith;
-      counts = subst (λ k. IfSome f.mid (λ m. m.count ≡ count_of c.mid + k)) (sym next) (counts-on e.mid f.mid (count_of c.mid) n inside at.counts counts);
-    }
+-- the trace with its sequence
+pub trace-named : (entries : List TapeEntry) (b : Board) (t : TracedValue) (q : Sequence) (o : ℕ) → IsTraced entries b t
+    → q ≡ sequence_at b.cpu.mid b.cpu (ticked entries b.wires) → o ≡ opcode_by q (first_byte b.cpu.mid (access_in entries b))
+    → (let r : TraceValue = record t.trace { sequence = q; opcode = o } in r) ≡ trace_of entries (t.bus.wires.clock - b.wires.clock) b
+unfolding trace_of
+trace-named entries b t q o at is opcode =
+    let n = at.count in
+    let clock = at.clock in
+    let same : t.bus.wires.clock - b.wires.clock ≡ n = omega arith in
+    let whole = λ (p : Sequence) (code k : ℕ) (l : List Access). (let r : TraceValue = record { sequence = p; opcode = code; count = k; accesses = l } in r) in
+    let made = accesses_of entries n b in
+    let there = sequence_at b.cpu.mid b.cpu (ticked entries b.wires) in
+    ap (λ (k : TraceValue). let r : TraceValue = record k { sequence = q; opcode = o } in r) at.told.trace_is
+    ∙ ap (λ code. whole q code (length made) (seven_of made)) opcode
+    ∙ ap (λ (p : Sequence). whole p (opcode_by p (first_byte b.cpu.mid (access_in entries b))) (length made) (seven_of made)) is
+    ∙ ap (λ k. whole there (opcode_by there (first_byte b.cpu.mid (access_in entries b))) k (seven_of made)) at.told.full
+    ∙ ap (λ k. whole there (opcode_by there (first_byte b.cpu.mid (access_in entries b))) k (seven_of (accesses_of entries k b))) (sym same)
+
+-- a reset has no opcode
+pub reset-opcode : (q : Sequence) (x y : ℕ) → q ≡ Reset → opcode_by q x ≡ opcode_by q y
+reset-opcode Opcode x y is = cc
+reset-opcode Interrupt x y is = refl
+reset-opcode Reset x y is = refl
+
+-- what a fetch begins is the sequence of the next clock
+pub fetch-sequence : (entries : List TapeEntry) (c : CpuValue) (q : Sequence) (s b : BusValue) → c.mid ≡ None → Begins entries s b → q ≡ sequence_due c b.wires
+    → q ≡ sequence_at (over_bus c s).cpu.mid (over_bus c s).cpu (ticked entries (over_bus c s).wires)
+fetch-sequence entries c q s b boundary begins due =
+    due
+    ∙ ap (sequence_due c) begins.wires
+    ∙ due-clock c (ticked entries s.wires)
+    ∙ sym (ap (λ (mid : Option MidValue). sequence_at mid c (ticked entries s.wires)) boundary)
+
+-- and its byte is that of the first access
+pub fetch-byte : (entries : List TapeEntry) (c : CpuValue) (s : BusValue) (t : TracedValue) → c.mid ≡ None → IsTraced entries (over_bus c s) t
+    → first_value t.trace.accesses ≡ first_byte (over_bus c s).cpu.mid (access_in entries (over_bus c s))
+fetch-byte entries c s t boundary at =
+    at.byte ∙ sym (ap (λ (mid : Option MidValue). first_byte mid (access_in entries (over_bus c s))) boundary)
 
 over-after : (limit : ℕ) (b : Board) → b.cpu.mid ≡ None → limit ≤ b.wires.clock → is_over limit b ≡ true
 over-after limit b boundary late = rw (boundary, le-leb limit b.wires.clock late) (or-true b.cpu.jam)
@@ -415,6 +430,68 @@ over-after limit b boundary late = rw (boundary, le-leb limit b.wires.clock late
     or-true None = refl
     or-true (Some o) = refl
 
+-- a board at which a run isn't over: it isn't jammed, and at a boundary it stands before the limit
+pub record IsRunning (limit : ℕ) (b : Board) : Type 0 where
+  pub running : b.cpu.jam ≡ None
+  pub before : b.cpu.mid ≡ None → b.wires.clock < limit
+
+pub over-running : (limit : ℕ) (b : Board) → is_over limit b ≡ false → IsRunning limit b
+over-running limit b open_yet = by_jam b.cpu.jam refl open_yet
+  where
+    before : is_over limit b ≡ false → b.cpu.mid ≡ None → b.wires.clock < limit
+    before off boundary = (open-before limit b boundary off).clock
+
+    by_jam : (jam : Option ℕ) → b.cpu.jam ≡ jam → is_over limit b ≡ false → IsRunning limit b
+    by_jam None is off = record { running = is; before = before off }
+    by_jam (Some o) is off = let over : is_over limit b ≡ true = rw is refl in cc
+
+-- a turn over the bus ends where the board's does, and its trace is that of the board's
+turn-ended : (entries : List TapeEntry) (c : CpuValue) (s t : BusValue) (e : CpuValue) → TurnedBus entries 7 c s t e → e.mid ≡ None
+turn-ended entries c s t e turned = of e.mid turned.stops turned.short
+  where
+    of : (mid : Option MidValue) → (IsSome mid → t.wires.clock ≡ s.wires.clock + 7) → (IsSome mid → turned.before + t.wires.clock ≤ s.wires.clock + 6) → mid ≡ None
+    of None stops short = refl
+    of (Some m) stops short = let all = stops (search rules) in let few = short (search rules) in absurd (omega arith)
+
+turn-open : (b : Board) → b.cpu.jam ≡ None → is_over (b.wires.clock + 1) b ≡ false
+turn-open b running = by_mid b.cpu.mid refl
+  where
+    late : nat_le (b.wires.clock + 1) b.wires.clock ≡ false
+    late = lt-leb (b.wires.clock + 1) b.wires.clock (omega arith)
+
+    by_mid : (mid : Option MidValue) → b.cpu.mid ≡ mid → is_over (b.wires.clock + 1) b ≡ false
+    by_mid None is = rw (running, is, late) refl
+    by_mid (Some m) is = rw (running, is) refl
+
+turn-over : (entries : List TapeEntry) (c : CpuValue) (s t : BusValue) (e : CpuValue) → TurnedBus entries 7 c s t e
+    → is_over (s.wires.clock + 1) (over_bus e t) ≡ true
+turn-over entries c s t e turned =
+    let clock = turned.turned.clock in
+    over-after (s.wires.clock + 1) (over_bus e t) (turn-ended entries c s t e turned) (omega arith)
+
+-- a turn takes as many clocks as the run that it is
+turn-steps : (entries : List TapeEntry) (c : CpuValue) (s t : BusValue) (e : CpuValue) → c.jam ≡ None → TurnedBus entries 7 c s t e
+    → boundary_steps entries (s.wires.clock + 1) (over_bus c s) ≡ t.wires.clock - s.wires.clock
+turn-steps entries c s t e running turned =
+    let limit = s.wires.clock + 1 in
+    let clock = turned.turned.clock in
+    let most = turned.at_most in
+    let n = turned.turned.count in
+    let reached = through-reached entries limit n (step entries (over_bus c s)) (over_bus e t) turned.turned.through in
+    let count : t.wires.clock - s.wires.clock ≡ suc n = omega arith in
+    steps_until-is entries (is_over limit) (suc n) ((limit - s.wires.clock) + 6) (over_bus c s) (over_bus e t) (turn-open (over_bus c s) running, reached)
+    (turn-over entries c s t e turned) (omega arith)
+    ∙ sym count
+
+pub trace-told : (entries : List TapeEntry) (c : CpuValue) (s t : BusValue) (e : CpuValue) (trace : TraceValue) → c.jam ≡ None → TurnedBus entries 7 c s t e
+    → trace ≡ trace_of entries (t.wires.clock - s.wires.clock) (over_bus c s) → trace ≡ step_trace entries (over_bus c s)
+unfolding step_trace
+trace-told entries c s t e trace running turned is =
+    is
+    ∙ ap (λ n. trace_of entries n (over_bus c s)) (sym (turn-steps entries c s t e running turned))
+    ∙ sym (ap (λ (jam : Option ℕ). if is_some jam then no_trace else trace_of entries (boundary_steps entries (s.wires.clock + 1) (over_bus c s)) (over_bus c s)) running)
+
+-- a turn of a processor that isn't jammed is the run that it is
 none-some : (mid : Option MidValue) (n : ℕ) → mid ≡ None → IsSome mid → n ≤ 2 ^ 48
 none-some None n is some = cc
 none-some (Some m) n is some = cc
@@ -426,52 +503,26 @@ early-of c s range early = by_mid c.mid refl
     by_mid None is = let h = early is in omega arith
     by_mid (Some m) is = range.middle (rw is (search rules))
 
--- a sequence that is traced stands where its run is to end
-trace-at : (entries : List TapeEntry) (c : CpuValue) (s t : BusValue) (e : CpuValue) (trace : TraceValue) → AtTrace entries c s t e trace
-    → e.mid ≡ None → IsInRange c s → (c.mid ≡ None → s.wires.clock < 2 ^ 48) → AtBoundary entries (s.wires.clock + 1) c s t e
-trace-at entries c s t e trace at boundary range early =
-    let few = at.few in
-    let clock = at.run.clock in
+pub trace-ends : (entries : List TapeEntry) (c : CpuValue) (s t : BusValue) (e : CpuValue) → c.jam ≡ None → IsInRange c s
+    → (c.mid ≡ None → s.wires.clock < 2 ^ 48) → TurnedBus entries 7 c s t e → BoundaryRun entries (s.wires.clock + 1) c s t e
+trace-ends entries c s t e running range early turned =
+    let limit = s.wires.clock + 1 in
+    let n = turned.turned.count in
+    let clock = turned.turned.clock in
+    let most = turned.at_most in
     let first = early-of c s range early in
-    record {
-      run = at.run;
+    let boundary = turn-ended entries c s t e turned in
+    let reached = through-reached entries limit n (step entries (over_bus c s)) (over_bus e t) turned.turned.through in
+    boundary-ends entries limit c s t e
+    (record {
+      run = turn-runs entries (is_over limit) 7 c e s t (turn-open (over_bus c s) running) turned reached;
       few = omega arith;
       boundary = boundary;
       range = record { clock = omega arith; middle = λ some. none-some e.mid t.wires.clock boundary some };
-    }
+    })
+    (turn-over entries c s t e turned)
 
-trace-over : (entries : List TapeEntry) (c : CpuValue) (s t : BusValue) (e : CpuValue) (trace : TraceValue) → AtTrace entries c s t e trace
-    → e.mid ≡ None → is_over (s.wires.clock + 1) (over_bus e t) ≡ true
-trace-over entries c s t e trace at boundary =
-    let some = at.some in
-    let clock = at.run.clock in
-    over-after (s.wires.clock + 1) (over_bus e t) boundary (omega arith)
-
-pub trace-ends : (entries : List TapeEntry) (c : CpuValue) (s t : BusValue) (e : CpuValue) (trace : TraceValue) → AtTrace entries c s t e trace
-    → e.mid ≡ None → IsInRange c s → (c.mid ≡ None → s.wires.clock < 2 ^ 48) → BoundaryRun entries (s.wires.clock + 1) c s t e
-trace-ends entries c s t e trace at boundary range early =
-    boundary-ends entries (s.wires.clock + 1) c s t e (trace-at entries c s t e trace at boundary range early) (trace-over entries c s t e trace at boundary)
-
--- and its trace is that of the step
-pub trace-told : (entries : List TapeEntry) (c : CpuValue) (s t : BusValue) (e : CpuValue) (trace : TraceValue) → AtTrace entries c s t e trace
-    → c.jam ≡ None → e.mid ≡ None → trace ≡ step_trace entries (over_bus c s)
-unfolding step_trace
-trace-told entries c s t e trace at running boundary =
-    let limit = s.wires.clock + 1 in
-    let few = at.few in
-    let steps : boundary_steps entries limit (over_bus c s) ≡ at.run.count =
-    steps_until-is entries (is_over limit) at.run.count ((limit - s.wires.clock) + 6) (over_bus c s) (over_bus e t) at.run.reached
-    (trace-over entries c s t e trace at boundary) (omega arith) in
-    at.trace_is
-    ∙ ap (λ n. trace_of entries n (over_bus c s)) (sym steps)
-    ∙ sym (ap (λ (jam : Option ℕ). if is_some jam then no_trace else trace_of entries (boundary_steps entries limit (over_bus c s)) (over_bus c s)) running)
-
-pub trace-count : (entries : List TapeEntry) (c : CpuValue) (s t : BusValue) (e : CpuValue) (trace : TraceValue) → (at : AtTrace entries c s t e trace)
-    → trace.count ≡ at.run.count
-unfolding trace_of
-trace-count entries c s t e trace at = ap (λ (t : TraceValue). t.count) at.trace_is
-
-jammed-boundary : (c : CpuValue) → is_some c.jam ≡ true → IfSome c.mid (λ _. IsMiddle c) → c.mid ≡ None
+pub jammed-boundary : (c : CpuValue) → is_some c.jam ≡ true → IfSome c.mid (λ _. IsMiddle c) → c.mid ≡ None
 jammed-boundary c jammed middle = by_mid c.mid middle
   where
     by_jam : (jam : Option ℕ) → is_some jam ≡ true → jam ≡ None → ⊥
@@ -481,6 +532,13 @@ jammed-boundary c jammed middle = by_mid c.mid middle
     by_mid : (mid : Option MidValue) → IfSome mid (λ _. IsMiddle c) → mid ≡ None
     by_mid None middle = refl
     by_mid (Some m) middle = absurd (by_jam c.jam jammed middle.0)
+
+pub none-jammed : (c : CpuValue) → is_some c.jam ≡ false → c.jam ≡ None
+none-jammed c off = of c.jam off
+  where
+    of : (jam : Option ℕ) → is_some jam ≡ false → jam ≡ None
+    of None off = refl
+    of (Some o) off = cc
 
 -- a board that is jammed does nothing
 pub jammed-run : (entries : List TapeEntry) (c : CpuValue) (s : BusValue) → s.begun ≡ false → is_some c.jam ≡ true

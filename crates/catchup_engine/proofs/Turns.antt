@@ -65,7 +65,7 @@ turned-by entries b r q bytes more before s m t first rest few =
       paid = omega arith;
     }
 
-turned-clock : (entries : List TapeEntry) (b : Board) (r : RegistersValue) (q : Sequence) (bytes more : List ℕ) (s m t : BusValue)
+pub turned-clock : (entries : List TapeEntry) (b : Board) (r : RegistersValue) (q : Sequence) (bytes more : List ℕ) (s m t : BusValue)
     → First entries b r q bytes s m → Went entries (length more) (board_after r q bytes m.wires) (board_after r q (bytes ++ more) t.wires) m t
     → t.wires.clock ≡ b.wires.clock + suc (length more)
 turned-clock entries b r q bytes more s m t first rest =
@@ -426,11 +426,11 @@ pub record ResetBegun (entries : List TapeEntry) (c : CpuValue) (s m : BusValue)
   pub clock : 1 ≤ m.wires.clock
   pub between : m.begun ≡ false
 
-clock-some : (entries : List TapeEntry) (x : Access) (s t : BusValue) → BusStep entries x s t → 1 ≤ t.wires.clock
+pub clock-some : (entries : List TapeEntry) (x : Access) (s t : BusValue) → BusStep entries x s t → 1 ≤ t.wires.clock
 clock-some entries (read_of a v) s t b = let e = ap (λ (w : Wires). w.clock) b.1 in omega arith
 clock-some entries (write_of a v) s t b = let e = ap (λ (w : Wires). w.clock) b.0 in omega arith
 
-standing-paused : (r : RegistersValue) (v : ℕ) → standing r Reset (v ∷ []) ≡ paused r Reset (v ∷ [])
+pub standing-paused : (r : RegistersValue) (v : ℕ) → standing r Reset (v ∷ []) ≡ paused r Reset (v ∷ [])
 unfolding next_of
 standing-paused r v = refl
 

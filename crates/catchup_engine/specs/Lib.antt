@@ -12,6 +12,7 @@ pub mod Runs
 pub mod Turn
 pub mod Wires
 pub mod Trace
+pub mod Traced
 pub mod Quiet
 pub mod Ranges
 pub mod Uses

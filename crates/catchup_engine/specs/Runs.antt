@@ -8,6 +8,8 @@ use Rattle.catchup_engine.specs.Run.{is_over, is_cut, to_boundary, to_cut, bound
 use Rattle.catchup_engine.specs.Breaks.{is_at_any, BreakRun}
 use Rattle.catchup_engine.specs.Budget.{budget}
 use Rattle.catchup_engine.specs.Bus.{BusValue, room_of}
+use Rattle.catchup_engine.specs.Trace.{TraceValue}
+use Rattle.catchup_engine.specs.Traced.{TracedRun}
 use Rattle.catchup_engine.specs.Turn.{Goes, reads_opcode}
 
 -- the board that a processor and a bus stand for
@@ -91,3 +93,12 @@ pub record BreakRunBus (entries : List TapeEntry) (limit : ℕ) (addresses : Lis
   pub range : IsInRange e t
   pub since : s.wires.clock ≤ t.wires.clock
   pub later : c.jam ≡ None → s.wires.clock < t.wires.clock
+
+-- and one of which somebody is told turn by turn, who was w and is v then
+pub record TracedBusRun {T : Type 0} (next : T → TraceValue → ℕ → T) (enough : T → Bool) (entries : List TapeEntry) (limit : ℕ) (c : CpuValue) (s t : BusValue) (e : CpuValue) (w v : T) : Type 0 where
+  pub turns : TracedRun next enough entries limit (over_bus c s) (over_bus e t) w v
+  pub boundary : e.mid ≡ None
+  pub paid : t.calls ≤ s.calls + budget entries (t.wires.clock - s.wires.clock) (over_bus c s)
+  pub goes : Goes s t
+  pub range : IsInRange e t
+  pub later : s.wires.clock ≤ t.wires.clock

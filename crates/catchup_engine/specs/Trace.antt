@@ -1,19 +1,19 @@
 -- What a board's clocks access, as a trace tells it.
-use Rattle.std.specs.Prelude.{◌≡◌, ◌↔◌, ℕ, ◌+◌, ◌-◌, ◌≤◌, List, [], ◌∷◌, ◌++◌, length, drop, slice_index, Option, Some, None, false, true, if◌then◌else◌, zero, suc}
+use Rattle.std.specs.Prelude.{◌≡◌, ℕ, ◌+◌, ◌-◌, ◌≤◌, List, [], ◌∷◌, ◌++◌, length, drop, slice_index, slice_set, Option, Some, None, IfSome, false, true, if◌then◌else◌, zero, suc}
 use Rattle.board_base.specs.Cpu.{CpuValue, MidValue}
 use Rattle.board_base.specs.declared.cpu.Sequence.{Sequence}
 use Rattle.board_base.specs.declared.cpu.Sequence.TheVariants.{Opcode, Interrupt, Reset}
 use Rattle.cpu_core.specs.Course as course
 use Rattle.cpu_core.specs.Course.{read_of, write_of}
-use Rattle.cpu_core.specs.Places.{standing}
-use Rattle.cpu_core.specs.Registers.{RegistersValue}
-use Rattle.cpu_core.specs.Sequences.{next_of, IsAccess, IsEnd}
+use Rattle.cpu_core.specs.Places.{given_by, Advances}
+use Rattle.cpu_core.specs.Registers.{registers_of}
+use Rattle.cpu_core.specs.Sequences.{start_of}
 use Rattle.tape_ports.specs.declared.entry.TapeEntry.{TapeEntry}
 use Rattle.catchup_engine.specs.declared.trace.Access.{Access}
-use Rattle.catchup_engine.specs.Bus.{BusStep, BusValue}
+use Rattle.catchup_engine.specs.Bus.{BusStep, BusValue, Does, at_clock}
 use Rattle.catchup_engine.specs.Lockstep.{Board, access_in, sequence_due, step}
 use Rattle.catchup_engine.specs.Run.{boundary_steps, is_jammed}
-use Rattle.catchup_engine.specs.Wires.{Wires, ticked}
+use Rattle.catchup_engine.specs.Wires.{Wires, reset_begun, ticked}
 
 -- the sequence, its opcode, the number of its accesses, and seven accesses of which the first are those made
 pub record TraceValue : Type 0 where
@@ -95,12 +95,34 @@ unfoldable pub step_trace : List TapeEntry → Board → TraceValue
 step_trace entries b =
     if is_jammed b then no_trace else trace_of entries (boundary_steps entries (b.wires.clock + 1) b) b
 
--- over a bus a sequence made its next access, which left the processor e
-pub record Makes (entries : List TapeEntry) (r : RegistersValue) (q : Sequence) (given : List ℕ) (s t : BusValue) (e : CpuValue) (made : Access) : Type 0 where
-  pub value : ℕ
-  pub access : course.Access
-  pub is : IsAccess (next_of r q given) value access
-  pub did : BusStep entries access s t
-  pub stands : e ≡ standing r q (given ++ value ∷ [])
-  pub complete : (e.mid ≡ None) ↔ IsEnd (next_of r q (given ++ value ∷ []))
-  pub traced : made ≡ access_at (t.wires.clock - 1) access
+-- the byte of the first of some accesses
+abbrev pub first_value : List Access → ℕ
+first_value [] = 0
+first_value (first ∷ others) = first.value
+
+-- a bus, and the trace of the accesses that it made
+pub record TracedValue : Type 0 where
+  pub bus : BusValue
+  pub trace : TraceValue
+
+abbrev pub traced : BusValue → TraceValue → TracedValue
+traced bus trace = record { bus = bus; trace = trace }
+
+-- a trace with one access more
+abbrev pub pushed : TraceValue → Access → TraceValue
+pushed trace access = record trace { count = trace.count + 1; accesses = slice_set trace.accesses trace.count access }
+
+-- an access is made, and traced with its clock
+abbrev pub TracedStep : List TapeEntry → course.Access → TracedValue → TracedValue → Type 0
+TracedStep entries x s t =
+    BusStep entries x s.bus t.bus × (t.trace ≡ pushed s.trace (access_at (t.bus.wires.clock - 1) x))
+
+-- a whole reset over a bus whose clock has begun, with its trace: its read, then its effects in that clock, and then the rest
+-- of its accesses
+pub record TracedReset (entries : List TapeEntry) (c : CpuValue) (s : BusValue) (t : TracedValue) (e : CpuValue) : Type 0 where
+  pub read : TracedValue
+  pub inside : CpuValue
+  pub begins : (made : ℕ) × Advances (TracedStep entries) (start_of Reset c) Reset [] 1 made (traced s no_trace) read inside
+  pub taken : BusValue
+  pub effects : Does read.bus taken (at_clock read.bus.wires.clock (reset_begun (at_clock (read.bus.wires.clock - 1) read.bus.wires))) 4
+  pub rest : IfSome inside.mid (λ m. (made : ℕ) × Advances (TracedStep entries) (registers_of inside) m.sequence (given_by m) 6 made (traced taken read.trace) t e)

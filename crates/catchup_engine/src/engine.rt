@@ -7,13 +7,15 @@ ghost use Rattle.catchup_engine.specs.EngineValue.{HasNoRecords, HasRoom, cleare
 ghost use Rattle.catchup_engine.specs.Memory.{memory_byte};
 ghost use Rattle.catchup_engine.specs.Run.{boundary_steps, cause_of, cut_steps, is_over, to_boundary, to_cut, window_limit, wrap_of};
 ghost use Rattle.catchup_engine.specs.Trace.{step_trace};
+ghost use Rattle.catchup_engine.specs.Traced.{TracedRun};
 ghost use Rattle.catchup_engine.specs.Wires.{board_of, reloaded, wires_of};
 
 use crate::bus::BoardBus;
 use crate::devices::Devices;
-use crate::run::{run_to_break, run_to_cut, run_until};
+use crate::run::{run_to_break, run_to_cut, run_traced, run_until};
 use crate::stop::Stop;
 use crate::trace::{Trace, trace_sequence};
+use crate::tracer::Tracer;
 use avg_device::VectorUnit;
 use board_base::{BoardState, CLOCK_LIMIT, CpuState, DIVIDER_PERIOD, OutOfMemory, Trails};
 use cpu_core::Cpu;
@@ -243,6 +245,32 @@ impl<V: VectorUnit, P: SoundUnit, C: CellUnit, D: DividerUnit> Engine<V, P, C, D
         self.cpu = cpu;
         self.count_clocks(before);
         self.cause(before + 1)
+    }
+
+    /// Runs turn by turn to the limit, to the first boundary after the divider's next wrap, or to
+    /// where a tracer has enough, whichever comes first, and tells the tracer of each turn. A board
+    /// that is jammed makes none.
+    #[tactic(auto, using(crate::proofs::Windows::windows))]
+    pub fn run_traced<T: Tracer>(&mut self, tape: &Tape, limit: u64, tracer: &mut T) -> Stop
+        requires limit { limit ≤ CLOCK_LIMIT }
+        requires settled { self.old.lagging ≡ 0 }
+        requires empty { HasNoRecords self.old.board }
+        ensures run { TracedRun T.next T.has_enough tape.now.entries (window_limit limit self.old.board) self.old.board self.new.board tracer.old tracer.new }
+        ensures cause { result ≡ cause_of limit self.new.board }
+        ensures boundary { self.new.board.cpu.mid ≡ None }
+        ensures calls { self.new.calls ≤ self.old.calls + budget tape.now.entries (self.new.board.wires.clock - self.old.board.wires.clock) self.old.board }
+        ensures more { self.old.calls ≤ self.new.calls }
+        ensures done { self.new.done ≡ counted_on self.old.done (self.new.board.wires.clock - self.old.board.wires.clock) }
+        ensures rooms { self.new.rooms ≡ self.old.rooms }
+    {
+        let wrap = self.bus.next_wrap();
+        let before = self.bus.clock();
+        self.bus.has_room();
+        self.bus.look_at(tape);
+        let cpu = Cpu::new(*self.cpu.state());
+        self.cpu = run_traced(cpu, &mut self.bus, tape, limit.min(wrap), tracer);
+        self.count_clocks(before);
+        self.cause(limit)
     }
 
     /// Runs to this clock, inside a sequence too, or to the first boundary after the divider's next

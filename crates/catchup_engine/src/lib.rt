@@ -11,6 +11,7 @@ mod quiet;
 mod run;
 pub mod stop;
 pub mod trace;
+mod tracer;
 mod turn;
 
 pub use devices::Devices;
@@ -21,6 +22,7 @@ pub use laws::{
 };
 pub use stop::Stop;
 pub use trace::{Access, Trace};
+pub use tracer::Tracer;
 
 #[cfg(test)]
 mod tests;

@@ -1,15 +1,18 @@
 //! Runs of the processor over the bus, turn by turn.
-ghost use Rattle.std.specs.Prelude.{◌≡◌, ◌+◌, ◌≤◌, ◌<◌, ◌⊎◌, ◌&&◌, ◌||◌, not, [], false, None};
+ghost use Rattle.std.specs.Prelude.{◌≡◌, ◌+◌, ◌≤◌, ◌<◌, ◌⊎◌, ◌&&◌, ◌||◌, not, [], false, None, IfSome};
+ghost use Rattle.cpu_core.specs.Places.{IsMiddle};
 ghost use Rattle.catchup_engine.specs.Breaks.{is_at_any};
 ghost use Rattle.catchup_engine.specs.Bus.{Fits};
 ghost use Rattle.catchup_engine.specs.Calm.{IsCalm};
 ghost use Rattle.catchup_engine.specs.Run.{is_over, is_cut};
 ghost use Rattle.catchup_engine.specs.Turn.{reads_opcode};
-ghost use Rattle.catchup_engine.specs.Runs.{over_bus, BoundaryRun, BreakRunBus, CutRun, HasRoomTo, IsInRange, QuietRun, TurnsRun};
+ghost use Rattle.catchup_engine.specs.Runs.{over_bus, BoundaryRun, BreakRunBus, CutRun, HasRoomTo, IsInRange, QuietRun, TracedBusRun, TurnsRun};
 
 use crate::bus::{BoardBus, TRAIL_ROOM, WHOLE};
 use crate::calm::{Calm, calm_since, lasts, no_calm};
 use crate::quiet::perform_quietly;
+use crate::trace::trace_running;
+use crate::tracer::Tracer;
 use crate::turn::{reads_opcode, turn_slowly};
 use avg_device::VectorUnit;
 use board_base::{CLOCK_LIMIT, DIVIDER_PERIOD};
@@ -193,6 +196,35 @@ pub(crate) fn run_to_break<V: VectorUnit, P: SoundUnit, C: CellUnit, D: DividerU
         cpu = turn_slowly(cpu, bus, tape, WHOLE);
     }
     run_turns(cpu, bus, tape, limit, addresses)
+}
+
+/// Does turns up to the limit, of each of which a tracer is told, or up to one after which it has
+/// enough.
+pub(crate) fn run_traced<V: VectorUnit, P: SoundUnit, C: CellUnit, D: DividerUnit, T: Tracer>(
+    mut cpu: Cpu,
+    bus: &mut BoardBus<V, P, C, D>,
+    tape: &Tape,
+    limit: u64,
+    tracer: &mut T,
+) -> Cpu
+    requires limit { limit ≤ CLOCK_LIMIT }
+    requires window { limit ≤ bus.old.wires.clock + DIVIDER_PERIOD }
+    requires range { IsInRange cpu bus.old }
+    requires place { IfSome cpu.mid (λ _. IsMiddle cpu) }
+    requires between { bus.old.begun ≡ false }
+    requires until { bus.old.wires.clock + TRAIL_ROOM ≤ bus.old.until }
+    requires written { bus.old.wires.written ≡ [] }
+    requires fits { Fits tape.now bus.old }
+    ensures runs { TracedBusRun T.next T.has_enough tape.now.entries limit cpu bus.old bus.new result tracer.old tracer.new }
+{
+    // opens its range
+    let _clock = bus.clock();
+    let mut enough = false;
+    while !enough && !is_done(&cpu, bus, limit) {
+        let trace = trace_running(&mut cpu, bus, tape);
+        enough = tracer.trace(&trace, cpu.state().pc);
+    }
+    cpu
 }
 
 /// The clocks of a turn that isn't to go past a clock.

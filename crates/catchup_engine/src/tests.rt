@@ -1,15 +1,14 @@
-ghost use Rattle.std.specs.Prelude.{◌≡◌, ◌≤◌, IfOk};
+ghost use Rattle.std.specs.Prelude.{◌≡◌, IfOk};
 ghost use Rattle.catchup_engine.specs.EngineValue.{HasNoRecords};
 
 use crate::{Devices, Engine, Stop, Trace};
 use avg_device::FastVg;
-use board_base::{BoardState, Record, Sequence, Trails};
+use board_base::{BoardState, Record, Sequence};
 use earom_cells::Earom;
 use irq_watchdog::Divider;
 use pokey_chip::FastPokey;
 use rom_image::Image;
 use std::alloc::Global;
-use std::process::Abort;
 use std::test::Fail;
 use tape_ports::Tape;
 
@@ -19,12 +18,6 @@ use tape_ports::Tape;
 const TIMER: &str = "A9 40 8D 08 60 A9 01 8D 0E 60 58 4C 0B 90";
 /// Writes the latch, and takes back the request.
 const TIMER_HANDLER: &str = "A9 07 8D 00 88 A9 00 8D 0E 60 40";
-/// A short vector and a halt, drawn from the RAM.
-const SHORT_VECTOR: &str = "A9 E1 8D 00 20 A9 40 8D 01 20 A9 20 8D 03 20 EE 40 88 4C 12 90";
-/// A jump into the vector ROM, drawn from the RAM.
-const VECTOR_JUMP: &str = "A9 E4 8D 01 20 8D 40 88 4C 08 90";
-/// A long vector from the middle again and again.
-const LONG_VECTOR: &str = "00 00 00 F0 00 80 00 E4";
 /// A tape without entries.
 const EMPTY: &str = "90000 END";
 /// Two instructions of two clocks and a jump of three back to the first.
@@ -90,16 +83,6 @@ fn power_on(alloc: Global, image: &Image, wired: bool) -> Result<FastEngine, Fai
     Ok(Engine::new(alloc, image, &board, fast_devices(), wired)?)
 }
 
-/// The records of the four parts.
-fn records<'a>(trails: &Trails<'a>) -> [&'a [Record]; 4] {
-    [
-        trails.vector.records(),
-        trails.sound1.records(),
-        trails.sound2.records(),
-        trails.board.records(),
-    ]
-}
-
 #[test]
 fn timer_requests_reach_the_processor_where_they_are_wired(rt: HostRuntime) -> Result<(), Fail> {
     let image = image_of(rt.alloc(), TIMER, TIMER_HANDLER)?;
@@ -116,81 +99,6 @@ fn timer_requests_reach_the_processor_where_they_are_wired(rt: HostRuntime) -> R
         assert_eq!(&rt; engine.trails().board.records(), writes, "wired {wired}");
     }
     Ok(())
-}
-
-/// Cuts a run from power-on at a clock, goes on with another engine, and compares both parts with
-/// the whole.
-fn check_cut<R: Abort + Alloc<A = Global>>(
-    rt: &R,
-    image: &Image,
-    whole: &FastEngine,
-    cut: u64,
-    limit: u64,
-) -> Result<(), Fail>
-    requires settled { whole.now.lagging ≡ 0 }
-    requires cut { cut ≤ 100 }
-    requires limit { limit ≤ 100 }
-{
-    let tape = Tape::read(rt.alloc(), EMPTY.as_bytes())?;
-    let mut first = power_on(rt.alloc(), image, true)?;
-    first.run_to(&tape, cut);
-    first.settle();
-    assert_eq!(rt; first.clock(), cut);
-    let mut board = BoardState::power_on();
-    first.state(&mut board);
-    let mut second = Engine::new(rt.alloc(), image, &board, fast_devices(), true)?;
-    second.run(&tape, limit);
-    second.settle();
-    second.state(&mut board);
-    let mut wanted = BoardState::power_on();
-    whole.state(&mut wanted);
-    assert_eq!(rt; board, wanted, "cut {cut}");
-    let before = records(&first.trails());
-    let after = records(&second.trails());
-    for (k, all) in records(&whole.trails()).into_iter().enumerate() {
-        let joined = before[k].iter().chain(after[k]);
-        assert!(rt; all.iter().eq(joined), "cut {cut}");
-    }
-    Ok(())
-}
-
-/// Runs a program, and cuts the run at each clock.
-fn check_cuts<R: Abort + Alloc<A = Global>>(
-    rt: &R,
-    program: &str,
-    limit: u64,
-    end: u64,
-    strokes: &[Record],
-) -> Result<(), Fail>
-    requires { limit ≤ 99 }
-{
-    let mut image = image_of(rt.alloc(), program, "")?;
-    put_text(&mut image, 0x2800, LONG_VECTOR);
-    let tape = Tape::read(rt.alloc(), EMPTY.as_bytes())?;
-    let mut whole = power_on(rt.alloc(), &image, true)?;
-    assert_eq!(rt; whole.run(&tape, limit), Stop::Limit);
-    whole.settle();
-    assert_eq!(rt; whole.clock(), end);
-    assert_eq!(rt; whole.trails().vector.records(), strokes);
-    for cut in 0..limit + 1 {
-        check_cut(rt, &image, &whole, cut, limit)?;
-    }
-    Ok(())
-}
-
-#[test]
-fn a_run_may_be_cut_at_any_clock(rt: HostRuntime) -> Result<(), Fail> {
-    let stroke = Record::Stroke {
-        clock: 37,
-        x0: 0,
-        y0: 0,
-        x1: 65_536,
-        y1: 0,
-        colour: 0,
-        intensity: 14,
-    };
-    check_cuts(&rt, SHORT_VECTOR, 40, 40, &[stroke])?;
-    check_cuts(&rt, VECTOR_JUMP, 60, 62, &[])
 }
 
 #[test]

@@ -1,18 +1,15 @@
 //! The accesses of a sequence.
-ghost use Rattle.std.specs.Prelude.{◌≡◌, ◌+◌, ◌-◌, ◌<◌, ◌≤◌, [], ◌∷◌, false, None, Some, IfSome, IsSome, slice_set};
-ghost use Rattle.cpu_core.specs.Places.{given_by};
+ghost use Rattle.std.specs.Prelude.{◌≡◌, ◌≢◌, ◌+◌, ◌-◌, ◌<◌, ◌≤◌, ℕ, [], true, false, None, IfSome, IsSome};
+ghost use Rattle.cpu_core.specs.Places.{given_by, Advances};
 ghost use Rattle.cpu_core.specs.Registers.{registers_of};
-ghost use Rattle.cpu_core.specs.Sequences.{start_of};
-ghost use Rattle.board_base.specs.Cpu.{count_of};
+ghost use Rattle.cpu_core.specs.Sequences.{start_of, Runs};
 ghost use Rattle.catchup_engine.specs.Bus.{Fits, room_of};
-ghost use Rattle.catchup_engine.specs.Lockstep.{access_in, sequence_due};
 ghost use Rattle.catchup_engine.specs.Runs.{over_bus, BoundaryRun, IsInRange};
-ghost use Rattle.catchup_engine.specs.Trace.{Makes, made_of, opcode_by, seven_of, step_trace, trace_of};
+ghost use Rattle.catchup_engine.specs.Trace.{TracedReset, TracedStep, no_trace, step_trace, trace_of, traced};
 ghost use Rattle.catchup_engine.specs.Turn.{TurnedBus};
-ghost use Rattle.catchup_engine.specs.Wires.{ticked};
 
-use crate::bus::BoardBus;
-use crate::turn::due;
+use crate::bus::{BoardBus, WHOLE};
+use crate::turn::{due, perform};
 use avg_device::VectorUnit;
 use board_base::{CLOCK_LIMIT, Sequence};
 use cpu_core::{Bus, Cpu};
@@ -73,7 +70,7 @@ impl Model for Trace {
 }
 
 impl Trace {
-    ghost use Rattle.catchup_engine.specs.Trace.{no_trace};
+    ghost use Rattle.catchup_engine.specs.Trace.{first_value, no_trace, opcode_by, pushed};
 
     /// A trace of nothing.
     pub fn new() -> Trace
@@ -87,199 +84,273 @@ impl Trace {
         }
     }
 
-    /// A trace of one access, of this sequence, whose first byte is this one.
-    fn of(sequence: Sequence, first: u8, access: Access) -> Trace
-        ensures { result ≡ record { sequence = sequence; opcode = opcode_by sequence first; count = 1; accesses = seven_of (access ∷ []) } }
+    /// The trace as that of this sequence, whose first byte is this one.
+    fn named(self, sequence: Sequence, first: u8) -> Trace
+        ensures { result ≡ record self { sequence = sequence; opcode = opcode_by sequence first } }
     {
-        let mut trace = Trace::new();
-        trace.sequence = sequence;
-        if let Sequence::Opcode = sequence {
-            trace.opcode = first;
+        let opcode = match sequence {
+            Sequence::Opcode => first,
+            _ => 0,
+        };
+        Trace {
+            sequence,
+            opcode,
+            ..self
         }
-        trace.push(access);
-        trace
+    }
+
+    /// The byte of its first access.
+    fn first_byte(&self) -> u8
+        ensures { result ≡ first_value self.now.accesses }
+    {
+        let [first, ..] = self.accesses;
+        first.value
     }
 
     /// Adds an access.
     fn push(&mut self, access: Access)
         requires { self.old.count < 7 }
-        ensures { self.new ≡ record self.old { count = self.old.count + 1; accesses = slice_set self.old.accesses self.old.count access } }
+        ensures { self.new ≡ pushed self.old access }
     {
         self.accesses[usize::from(self.count)] = access;
         self.count += 1;
     }
 }
 
-/// A bus that keeps its last access.
+/// A bus that tells each access.
 struct TracedBus<'a, V: VectorUnit, P: SoundUnit, C: CellUnit, D: DividerUnit> {
     bus: &'a mut BoardBus<V, P, C, D>,
-    made: Access,
+    trace: Trace,
 }
 
 impl<'a, V: VectorUnit, P: SoundUnit, C: CellUnit, D: DividerUnit> TracedBus<'a, V, P, C, D> {
-    /// A bus that has made no access yet.
-    fn new(bus: &'a mut BoardBus<V, P, C, D>) -> TracedBus<'a, V, P, C, D>
+    /// A bus that goes on with a trace.
+    fn new(bus: &'a mut BoardBus<V, P, C, D>, trace: Trace) -> TracedBus<'a, V, P, C, D>
         ensures same_reference { result.bus.ghost_name ≡ bus.entry.ghost_name }
         ensures bus { result.bus.now ≡ bus.old }
+        ensures trace { result.trace ≡ trace }
     {
-        TracedBus {
-            bus,
-            made: Access::none(),
-        }
+        TracedBus { bus, trace }
     }
 
-    /// Makes the first access of a sequence.
-    fn begin(&mut self, cpu: &mut Cpu, sequence: Sequence, tape: &Tape)
+    /// Does a whole instruction or interrupt sequence.
+    fn perform(&mut self, cpu: &mut Cpu, sequence: Sequence, tape: &Tape)
         requires running { cpu.old.jam ≡ None }
         requires boundary { cpu.old.mid ≡ None }
         requires fits { Fits tape.now self.old.bus.now }
-        requires room { 1 ≤ room_of self.old.bus.now }
+        requires room { WHOLE ≤ room_of self.old.bus.now }
+        requires first { self.old.trace.count ≡ 0 }
+        requires no_reset { sequence ≢ Sequence.Reset }
         ensures same_reference { self.new.bus.ghost_name ≡ self.old.bus.ghost_name }
-        ensures makes { Makes tape.now.entries (start_of sequence cpu.old) sequence [] self.old.bus.now self.new.bus.now cpu.new self.new.made }
+        ensures runs { Runs (TracedStep tape.now.entries) (start_of sequence cpu.old) sequence (traced self.old.bus.now self.old.trace) (traced self.new.bus.now self.new.trace) cpu.new }
+        ensures boundary { cpu.new.mid ≡ None }
+        ensures fits { Fits tape.now self.new.bus.now }
+    {
+        perform(cpu, sequence, self, tape);
+    }
+
+    /// Makes the first access of a reset.
+    fn begin(&mut self, cpu: &mut Cpu, tape: &Tape)
+        requires running { cpu.old.jam ≡ None }
+        requires boundary { cpu.old.mid ≡ None }
+        requires begun { self.old.bus.now.begun ≡ true }
+        requires fits { Fits tape.now self.old.bus.now }
+        requires room { 1 ≤ room_of self.old.bus.now }
+        requires first { self.old.trace.count ≡ 0 }
+        ensures same_reference { self.new.bus.ghost_name ≡ self.old.bus.ghost_name }
+        ensures advances { (made : ℕ) × Advances (TracedStep tape.now.entries) (start_of Sequence.Reset cpu.old) Sequence.Reset [] 1 made (traced self.old.bus.now self.old.trace) (traced self.new.bus.now self.new.trace) cpu.new }
         ensures fits { Fits tape.now self.new.bus.now }
         ensures room { room_of self.old.bus.now ≤ room_of self.new.bus.now + 1 }
     {
-        let _fetched = cpu.begin(sequence, self, tape, 1);
+        let _fetched = cpu.begin(Sequence::Reset, self, tape, 1);
     }
 
-    /// Makes the next access of the sequence under way.
-    fn resume(&mut self, cpu: &mut Cpu, tape: &Tape)
+    /// Does what is left of the sequence under way, in so many clocks at most.
+    fn resume(&mut self, cpu: &mut Cpu, tape: &Tape, clocks: u8)
         requires middle { IsSome cpu.old.mid }
         requires fits { Fits tape.now self.old.bus.now }
-        requires room { 1 ≤ room_of self.old.bus.now }
+        requires some { 1 ≤ clocks }
+        requires few { self.old.trace.count + clocks ≤ 7 }
+        requires room { clocks ≤ room_of self.old.bus.now }
         ensures same_reference { self.new.bus.ghost_name ≡ self.old.bus.ghost_name }
-        ensures makes { IfSome cpu.old.mid (λ m. Makes tape.now.entries (registers_of cpu.old) m.sequence (given_by m) self.old.bus.now self.new.bus.now cpu.new self.new.made) }
+        ensures advances { IfSome cpu.old.mid (λ m. (made : ℕ) × Advances (TracedStep tape.now.entries) (registers_of cpu.old) m.sequence (given_by m) clocks made (traced self.old.bus.now self.old.trace) (traced self.new.bus.now self.new.trace) cpu.new) }
         ensures fits { Fits tape.now self.new.bus.now }
-        ensures room { room_of self.old.bus.now ≤ room_of self.new.bus.now + 1 }
     {
         // the place in the sequence, for the proof
         let _place = cpu.state();
-        let _made = cpu.resume(self, tape, 1);
+        let _made = cpu.resume(self, tape, clocks);
     }
 }
 
 impl<'a, V: VectorUnit, P: SoundUnit, C: CellUnit, D: DividerUnit> Bus
     for TracedBus<'a, V, P, C, D> {
-    ghost use Rattle.std.specs.Prelude.{◌≡◌, ◌-◌};
-    ghost use Rattle.catchup_engine.specs.Bus.{BusStep, Fits, room_of};
-    ghost use Rattle.catchup_engine.specs.Trace.{access_at};
+    ghost use Rattle.std.specs.Prelude.{◌≡◌, ◌-◌, min};
+    ghost use Rattle.catchup_engine.specs.Bus.{Fits, room_of};
+    ghost use Rattle.catchup_engine.specs.Trace.{TracedStep, traced};
 
     type Feed = Tape;
 
-    ghost step = { λ tape x s t. (t.bus.ghost_name ≡ s.bus.ghost_name) × BusStep tape.entries x s.bus.now t.bus.now
-        × (t.made ≡ access_at (t.bus.now.wires.clock - 1) x) };
+    ghost step = { λ tape x s t. (t.bus.ghost_name ≡ s.bus.ghost_name) × TracedStep tape.entries x (traced s.bus.now s.trace) (traced t.bus.now t.trace) };
 
     ghost fits = { λ tape s. Fits tape s.bus.now };
 
-    ghost room = { λ s. room_of s.bus.now };
+    ghost room = { λ s. min (room_of s.bus.now) (7 - s.trace.count) };
 
     fn read(&mut self, tape: &Tape, addr: u16) -> u8 {
         let value = self.bus.read(tape, addr);
-        self.made = Access {
+        self.trace.push(Access {
             clock: self.bus.clock() - 1,
             addr,
             value,
             write: false,
-        };
+        });
         value
     }
 
     fn write(&mut self, tape: &Tape, addr: u16, value: u8) {
         self.bus.write(tape, addr, value);
-        self.made = Access {
+        self.trace.push(Access {
             clock: self.bus.clock() - 1,
             addr,
             value,
             write: true,
-        };
+        });
     }
 }
 
-/// Makes the first access of a sequence.
-fn begin_one<V: VectorUnit, P: SoundUnit, C: CellUnit, D: DividerUnit>(
+/// Does a whole instruction or interrupt sequence, and tells its accesses.
+fn trace_whole<V: VectorUnit, P: SoundUnit, C: CellUnit, D: DividerUnit>(
     cpu: &mut Cpu,
     sequence: Sequence,
     bus: &mut BoardBus<V, P, C, D>,
     tape: &Tape,
-) -> Access
+) -> Trace
     requires running { cpu.old.jam ≡ None }
     requires boundary { cpu.old.mid ≡ None }
     requires fits { Fits tape.now bus.old }
-    requires room { 1 ≤ room_of bus.old }
-    ensures makes { Makes tape.now.entries (start_of sequence cpu.old) sequence [] bus.old bus.new cpu.new result }
+    requires room { WHOLE ≤ room_of bus.old }
+    requires no_reset { sequence ≢ Sequence.Reset }
+    ensures runs { Runs (TracedStep tape.now.entries) (start_of sequence cpu.old) sequence (traced bus.old no_trace) (traced bus.new result) cpu.new }
+    ensures boundary { cpu.new.mid ≡ None }
     ensures fits { Fits tape.now bus.new }
-    ensures room { room_of bus.old ≤ room_of bus.new + 1 }
 {
-    let mut traced = TracedBus::new(bus);
-    traced.begin(cpu, sequence, tape);
-    let TracedBus { bus: back, made } = traced;
+    let mut told = TracedBus::new(bus, Trace::new());
+    told.perform(cpu, sequence, tape);
+    let TracedBus { bus: back, trace } = told;
     // opens the model
     let _same = &*back;
-    made
+    trace
 }
 
-/// Makes the next access of the sequence under way.
-fn resume_one<V: VectorUnit, P: SoundUnit, C: CellUnit, D: DividerUnit>(
+/// Makes the first access of a reset, and tells it.
+fn trace_first<V: VectorUnit, P: SoundUnit, C: CellUnit, D: DividerUnit>(
     cpu: &mut Cpu,
     bus: &mut BoardBus<V, P, C, D>,
     tape: &Tape,
-) -> Access
-    requires middle { IsSome cpu.old.mid }
+) -> Trace
+    requires running { cpu.old.jam ≡ None }
+    requires boundary { cpu.old.mid ≡ None }
+    requires begun { bus.old.begun ≡ true }
     requires fits { Fits tape.now bus.old }
     requires room { 1 ≤ room_of bus.old }
-    ensures makes { IfSome cpu.old.mid (λ m. Makes tape.now.entries (registers_of cpu.old) m.sequence (given_by m) bus.old bus.new cpu.new result) }
+    ensures advances { (made : ℕ) × Advances (TracedStep tape.now.entries) (start_of Sequence.Reset cpu.old) Sequence.Reset [] 1 made (traced bus.old no_trace) (traced bus.new result) cpu.new }
     ensures fits { Fits tape.now bus.new }
     ensures room { room_of bus.old ≤ room_of bus.new + 1 }
 {
-    let mut traced = TracedBus::new(bus);
-    traced.resume(cpu, tape);
-    let TracedBus { bus: back, made } = traced;
+    let mut told = TracedBus::new(bus, Trace::new());
+    told.begin(cpu, tape);
+    let TracedBus { bus: back, trace } = told;
     // opens the model
     let _same = &*back;
-    made
+    trace
 }
 
-/// The first clock of the sequence that a fetch begins, and its access.
-fn fetch_one<V: VectorUnit, P: SoundUnit, C: CellUnit, D: DividerUnit>(
+/// Does what is left of the sequence under way, in so many clocks at most, and tells its accesses
+/// behind those of a trace.
+fn trace_rest<V: VectorUnit, P: SoundUnit, C: CellUnit, D: DividerUnit>(
     cpu: &mut Cpu,
     bus: &mut BoardBus<V, P, C, D>,
     tape: &Tape,
-) -> (Sequence, Access)
+    trace: Trace,
+    clocks: u8,
+) -> Trace
+    requires middle { IsSome cpu.old.mid }
+    requires fits { Fits tape.now bus.old }
+    requires some { 1 ≤ clocks }
+    requires few { trace.count + clocks ≤ 7 }
+    requires room { clocks ≤ room_of bus.old }
+    ensures advances { IfSome cpu.old.mid (λ m. (made : ℕ) × Advances (TracedStep tape.now.entries) (registers_of cpu.old) m.sequence (given_by m) clocks made (traced bus.old trace) (traced bus.new result) cpu.new) }
+    ensures fits { Fits tape.now bus.new }
+{
+    let mut told = TracedBus::new(bus, trace);
+    told.resume(cpu, tape, clocks);
+    let TracedBus { bus: back, trace } = told;
+    // opens the model
+    let _same = &*back;
+    trace
+}
+
+/// Does a whole reset, and tells its accesses. Its effects come in its first clock, after the access.
+fn trace_reset<V: VectorUnit, P: SoundUnit, C: CellUnit, D: DividerUnit>(
+    cpu: &mut Cpu,
+    bus: &mut BoardBus<V, P, C, D>,
+    tape: &Tape,
+) -> Trace
+    requires running { cpu.old.jam ≡ None }
+    requires boundary { cpu.old.mid ≡ None }
+    requires begun { bus.old.begun ≡ true }
+    requires fits { Fits tape.now bus.old }
+    requires room { 8 ≤ room_of bus.old }
+    ensures resets { TracedReset tape.now.entries cpu.old bus.old (traced bus.new result) cpu.new }
+    ensures fits { Fits tape.now bus.new }
+{
+    let trace = trace_first(cpu, bus, tape);
+    bus.begin_reset();
+    trace_rest(cpu, bus, tape, trace, WHOLE - 1)
+}
+
+/// Does the sequence that a fetch begins, and tells its accesses.
+fn trace_fetch<V: VectorUnit, P: SoundUnit, C: CellUnit, D: DividerUnit>(
+    cpu: &mut Cpu,
+    bus: &mut BoardBus<V, P, C, D>,
+    tape: &Tape,
+) -> Trace
     requires running { cpu.old.jam ≡ None }
     requires boundary { cpu.old.mid ≡ None }
     requires between { bus.old.begun ≡ false }
     requires fits { Fits tape.now bus.old }
-    requires room { 3 ≤ room_of bus.old }
-    ensures turned { TurnedBus tape.now.entries 1 cpu.old bus.old bus.new cpu.new }
-    ensures access { access_in tape.now.entries (over_bus cpu.old bus.old) ≡ Some (made_of result.1) }
-    ensures clock { result.1.clock + 1 ≡ bus.new.wires.clock }
-    ensures sequence { result.0 ≡ sequence_due cpu.old (ticked tape.now.entries bus.old.wires) }
-    ensures counts { IfSome cpu.new.mid (λ m. m.count ≡ 1) }
+    requires room { 9 ≤ room_of bus.old }
+    ensures turned { TurnedBus tape.now.entries WHOLE cpu.old bus.old bus.new cpu.new }
+    ensures trace { result ≡ trace_of tape.now.entries (bus.new.wires.clock - bus.old.wires.clock) (over_bus cpu.old bus.old) }
     ensures fits { Fits tape.now bus.new }
 {
     bus.begin(tape);
     let sequence = due(cpu, bus);
-    let made = begin_one(cpu, sequence, bus, tape);
-    if let Sequence::Reset = sequence {
-        bus.begin_reset();
+    match sequence {
+        Sequence::Reset => {
+            let trace = trace_reset(cpu, bus, tape);
+            trace.named(sequence, 0)
+        }
+        _ => {
+            let trace = trace_whole(cpu, sequence, bus, tape);
+            let first = trace.first_byte();
+            trace.named(sequence, first)
+        }
     }
-    (sequence, made)
 }
 
-/// The next clock of the sequence under way, and its access.
-fn next_one<V: VectorUnit, P: SoundUnit, C: CellUnit, D: DividerUnit>(
+/// Does what is left of the sequence under way, and tells its accesses.
+fn trace_middle<V: VectorUnit, P: SoundUnit, C: CellUnit, D: DividerUnit>(
     cpu: &mut Cpu,
     bus: &mut BoardBus<V, P, C, D>,
     tape: &Tape,
-) -> Access
+) -> Trace
     requires middle { IsSome cpu.old.mid }
     requires between { bus.old.begun ≡ false }
     requires fits { Fits tape.now bus.old }
-    requires room { 1 ≤ room_of bus.old }
-    ensures turned { TurnedBus tape.now.entries 1 cpu.old bus.old bus.new cpu.new }
-    ensures access { access_in tape.now.entries (over_bus cpu.old bus.old) ≡ Some (made_of result) }
-    ensures clock { result.clock + 1 ≡ bus.new.wires.clock }
-    ensures counts { IfSome cpu.old.mid (λ m. IfSome cpu.new.mid (λ n. n.count ≡ m.count + 1)) }
+    requires room { WHOLE ≤ room_of bus.old }
+    ensures turned { TurnedBus tape.now.entries WHOLE cpu.old bus.old bus.new cpu.new }
+    ensures trace { result ≡ trace_of tape.now.entries (bus.new.wires.clock - bus.old.wires.clock) (over_bus cpu.old bus.old) }
     ensures fits { Fits tape.now bus.new }
 {
     let Some(mid) = cpu.state().mid else {
@@ -287,40 +358,13 @@ fn next_one<V: VectorUnit, P: SoundUnit, C: CellUnit, D: DividerUnit>(
     };
     // the bytes of the place, for the proof
     let _count = mid.count;
-    resume_one(cpu, bus, tape)
-}
-
-/// The first clock of a step.
-fn begin_trace<V: VectorUnit, P: SoundUnit, C: CellUnit, D: DividerUnit>(
-    cpu: &mut Cpu,
-    bus: &mut BoardBus<V, P, C, D>,
-    tape: &Tape,
-) -> Trace
-    requires running { cpu.old.jam ≡ None }
-    requires between { bus.old.begun ≡ false }
-    requires fits { Fits tape.now bus.old }
-    requires room { 3 ≤ room_of bus.old }
-    ensures turned { TurnedBus tape.now.entries 1 cpu.old bus.old bus.new cpu.new }
-    ensures trace { result ≡ trace_of tape.now.entries 1 (over_bus cpu.old bus.old) }
-    ensures access { IsSome (access_in tape.now.entries (over_bus cpu.old bus.old)) }
-    ensures counts { IfSome cpu.new.mid (λ m. m.count ≡ count_of cpu.old.mid + 1) }
-    ensures fits { Fits tape.now bus.new }
-{
-    match cpu.state().mid {
-        None => {
-            let (sequence, access) = fetch_one(cpu, bus, tape);
-            Trace::of(sequence, access.value, access)
-        }
-        Some(mid) => {
-            let access = next_one(cpu, bus, tape);
-            Trace::of(mid.sequence, mid.bytes[0], access)
-        }
-    }
+    let trace = trace_rest(cpu, bus, tape, Trace::new(), WHOLE);
+    trace.named(mid.sequence, mid.bytes[0])
 }
 
 /// Does what is left of the sequence under way, or else one instruction or sequence, and tells its
 /// accesses.
-fn trace_running<V: VectorUnit, P: SoundUnit, C: CellUnit, D: DividerUnit>(
+pub(crate) fn trace_running<V: VectorUnit, P: SoundUnit, C: CellUnit, D: DividerUnit>(
     cpu: &mut Cpu,
     bus: &mut BoardBus<V, P, C, D>,
     tape: &Tape,
@@ -328,18 +372,16 @@ fn trace_running<V: VectorUnit, P: SoundUnit, C: CellUnit, D: DividerUnit>(
     requires running { cpu.old.jam ≡ None }
     requires between { bus.old.begun ≡ false }
     requires fits { Fits tape.now bus.old }
-    requires range { IsInRange cpu.old bus.old }
-    requires early { cpu.old.mid ≡ None → bus.old.wires.clock < CLOCK_LIMIT }
     requires room { 9 ≤ room_of bus.old }
-    ensures run { BoundaryRun tape.now.entries (bus.old.wires.clock + 1) cpu.old bus.old bus.new cpu.new }
-    ensures trace { result ≡ step_trace tape.now.entries (over_bus cpu.old bus.old) }
+    ensures turned { TurnedBus tape.now.entries WHOLE cpu.old bus.old bus.new cpu.new }
+    ensures trace { result ≡ trace_of tape.now.entries (bus.new.wires.clock - bus.old.wires.clock) (over_bus cpu.old bus.old) }
+    ensures fits { Fits tape.now bus.new }
 {
-    let mut trace = begin_trace(cpu, bus, tape);
-    while cpu.state().mid.is_some() {
-        let access = next_one(cpu, bus, tape);
-        trace.push(access);
+    if cpu.state().mid.is_some() {
+        trace_middle(cpu, bus, tape)
+    } else {
+        trace_fetch(cpu, bus, tape)
     }
-    trace
 }
 
 /// Does what `trace_running` does; a processor that is jammed does nothing.

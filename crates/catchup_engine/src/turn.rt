@@ -10,7 +10,7 @@ use crate::bus::{BoardBus, WHOLE};
 use avg_device::VectorUnit;
 use board_base::{CLOCK_END, Pending, Sequence};
 use cpu_alu::Flags;
-use cpu_core::Cpu;
+use cpu_core::{Bus, Cpu};
 use earom_cells::CellUnit;
 use irq_watchdog::DividerUnit;
 use pokey_chip::SoundUnit;
@@ -33,25 +33,21 @@ pub(crate) fn due<V: VectorUnit, P: SoundUnit, C: CellUnit, D: DividerUnit>(
 }
 
 /// Does a whole instruction or interrupt sequence.
-fn perform<V: VectorUnit, P: SoundUnit, C: CellUnit, D: DividerUnit>(
-    cpu: &mut Cpu,
-    sequence: Sequence,
-    bus: &mut BoardBus<V, P, C, D>,
-    tape: &Tape,
-)
+#[inline(always)]
+pub(crate) fn perform<B: Bus>(cpu: &mut Cpu, sequence: Sequence, bus: &mut B, feed: &B::Feed)
     requires running { cpu.old.jam ≡ None }
     requires boundary { cpu.old.mid ≡ None }
-    requires fits { Fits tape.now bus.old }
-    requires room { WHOLE ≤ room_of bus.old }
+    requires fits { B.fits feed.now bus.old }
+    requires room { WHOLE ≤ B.room bus.old }
     requires no_reset { sequence ≢ Sequence.Reset }
-    ensures runs { Runs (BusStep tape.now.entries) (start_of sequence cpu.old) sequence bus.old bus.new cpu.new }
+    ensures runs { Runs (B.step feed.now) (start_of sequence cpu.old) sequence bus.old bus.new cpu.new }
     ensures boundary { cpu.new.mid ≡ None }
-    ensures fits { Fits tape.now bus.new }
+    ensures fits { B.fits feed.now bus.new }
 {
     match sequence {
-        Sequence::Interrupt => cpu.take_irq(bus, tape),
+        Sequence::Interrupt => cpu.take_irq(bus, feed),
         _ => {
-            let _fetched = cpu.instruction(bus, tape);
+            let _fetched = cpu.instruction(bus, feed);
         }
     }
 }

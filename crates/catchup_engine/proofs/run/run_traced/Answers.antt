@@ -1,0 +1,25 @@
+use Rattle.std.proofs.Common.{ap, sym, ◌∙◌, subst}
+use Rattle.board_base.specs.Cpu.{CpuValue}
+use Rattle.catchup_engine.proofs.TracedRuns.{AtTold, told-goes_on, told-starts}
+use Rattle.catchup_engine.proofs.run.run_traced.Goals as goal
+
+pub loop-enough-init : goal.loop-enough-init
+loop-enough-init g c = record {
+  at = told-starts g.T.Tracer.next g.T.Tracer.has_enough c.args.tape.now.entries c.args.limit c.args.cpu c.args.bus.now c.args.tracer.now c.requires.between c.requires.range;
+  fits = c.requires.fits;
+}
+
+pub loop-enough-preserved : goal.loop-enough-preserved
+loop-enough-preserved g c = record {
+  at =
+      told-goes_on g.T.Tracer.next g.T.Tracer.has_enough c.args.tape.now.entries c.args.limit c.args.cpu c.args.bus.now c.loop-enough.bus c.trace_running-trace.new.bus
+      c.loop-enough.cpu c.trace_running-trace.new.cpu c.args.tracer.now c.loop-enough.tracer c.trace-enough.new.self c.trace_running-trace.result c.trace-enough.result
+      c.requires.limit
+      (subst (λ f. AtTold g.T.Tracer.next g.T.Tracer.has_enough c.args.tape.now.entries c.args.limit c.args.cpu c.args.bus.now c.loop-enough.bus c.loop-enough.cpu
+      c.args.tracer.now c.loop-enough.tracer f) c.loop-enough-test.true c.loop-enough.invariant.at)
+      (sym c.is_done.ensures ∙ c.if-not-is_done.true) c.trace_running-trace.ensures.turned c.trace_running-trace.ensures.trace
+      (c.trace-enough.ensures.next
+      ∙ ap (λ (k : CpuValue). g.T.Tracer.next c.loop-enough.tracer c.trace_running-trace.result k.pc) (c.behind-cpu.view_is ∙ c.state.ensures.value))
+      c.trace-enough.ensures.enough;
+  fits = c.trace_running-trace.ensures.fits;
+}

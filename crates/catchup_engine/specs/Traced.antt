@@ -1,0 +1,27 @@
+-- Runs of which somebody is told turn by turn. This project's own.
+use Rattle.std.specs.Prelude.{◌≡◌, ℕ, ◌<◌, ◌≤◌, ◌⊎◌, Bool, true, false, List, zero, suc}
+use Rattle.tape_ports.specs.declared.entry.TapeEntry.{TapeEntry}
+use Rattle.catchup_engine.specs.Breaks.{turn, turned}
+use Rattle.catchup_engine.specs.Lockstep.{Board}
+use Rattle.catchup_engine.specs.Run.{is_over}
+use Rattle.catchup_engine.specs.Trace.{TraceValue, step_trace}
+
+module _ {T : Type 0} (next : T → TraceValue → ℕ → T) where
+  -- one that is told of a board's next turn: its trace, and the program counter behind it
+  abbrev pub told_once : List TapeEntry → T → Board → T
+  told_once entries w b = next w (step_trace entries b) (turn entries b).cpu.pc
+
+  -- and of its next n turns
+  unfoldable pub told : List TapeEntry → ℕ → T → Board → T
+  told entries zero w b = w
+  told entries (suc n) w b = told entries n (told_once entries w b) (turn entries b)
+
+  -- From b some turns lead to c, and one that was w and is told of each of them is v then. After none of them but the last a run
+  -- to this limit is over, or has he enough; after the last it is so.
+  pub record TracedRun (enough : T → Bool) (entries : List TapeEntry) (limit : ℕ) (b c : Board) (w v : T) : Type 0 where
+    pub count : ℕ
+    pub board : c ≡ turned entries count b
+    pub tracer : v ≡ told entries count w b
+    pub over : (k : ℕ) → k < count → is_over limit (turned entries k b) ≡ false
+    pub goes_on : (k : ℕ) → 1 ≤ k → k < count → enough (told entries k w b) ≡ false
+    pub ends : (is_over limit c ≡ true) ⊎ ((1 ≤ count) × (enough v ≡ true))
