@@ -1,2 +1,3 @@
+pub mod FollowLaws
 pub mod RestLaws
 pub mod WatchLaws

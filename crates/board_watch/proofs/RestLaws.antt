@@ -1,5 +1,5 @@
 -- An engine comes to rest again after a run.
-use Rattle.std.proofs.Common.{◌≡◌, ℕ, ◌+◌, List, refl, ap, sym, ◌∙◌, suc, zero}
+use Rattle.std.proofs.Common.{◌≡◌, ℕ, ◌+◌, Bool, List, refl, ap, sym, ◌∙◌, suc, zero}
 use Rattle.std.specs.Prelude.{◌<◌, ◌≤◌, length, IfSome}
 use Rattle.board_base.specs.declared.divider.TheConstants.{DIVIDER_PERIOD}
 use Rattle.board_base.specs.Board.{BoardValue}
@@ -9,6 +9,8 @@ use Rattle.catchup_engine.specs.Lockstep.{Board}
 use Rattle.catchup_engine.specs.Breaks.{BreakRun, turn, turned}
 use Rattle.catchup_engine.specs.EngineValue.{EngineValue, cleared}
 use Rattle.catchup_engine.specs.Run.{stepped, to_boundary, boundary_steps}
+use Rattle.catchup_engine.specs.Trace.{TraceValue}
+use Rattle.catchup_engine.specs.Traced.{TracedRun}
 use Rattle.catchup_engine.proofs.Places.{stepped-placed}
 use Rattle.catchup_engine.proofs.Runs.{stepped-add}
 use Rattle.catchup_engine.proofs.Wraps.{phase-in_range}
@@ -59,6 +61,14 @@ pub rests-broken : (entries : List TapeEntry) (limit : ℕ) (addresses : List �
     → BreakRun entries limit addresses e.board r.board
     → s ≡ (let v : EngineValue = record r { lagging = 0; calls = calls } in v) → c ≡ (let v : EngineValue = record s { board = cleared s.board } in v) → IsAtRest c
 rests-broken entries limit addresses e r s c calls rest ran settles clears =
+    let (k, same) = turned-stepped entries ran.count e.board in
+    rests-again entries k e r s c calls rest (ran.board ∙ same) settles clears
+
+-- after a run of which somebody was told
+pub rests-traced : {T : Type 0} (next : T → TraceValue → ℕ → T) (enough : T → Bool) (entries : List TapeEntry) (limit : ℕ) (w v : T) (e r s c : EngineValue) (calls : ℕ)
+    → IsAtRest e → TracedRun next enough entries limit e.board r.board w v
+    → s ≡ (let v : EngineValue = record r { lagging = 0; calls = calls } in v) → c ≡ (let v : EngineValue = record s { board = cleared s.board } in v) → IsAtRest c
+rests-traced next enough entries limit w v e r s c calls rest ran settles clears =
     let (k, same) = turned-stepped entries ran.count e.board in
     rests-again entries k e r s c calls rest (ran.board ∙ same) settles clears
 

@@ -1,3 +1,4 @@
+pub mod Follow
 pub mod Rest
 pub mod Rested
 pub mod Watch

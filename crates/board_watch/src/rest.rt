@@ -11,11 +11,13 @@ ghost use Rattle.catchup_engine.specs.EngineValue.{HasNoRecords, cleared, counte
 ghost use Rattle.catchup_engine.specs.Lockstep as lockstep;
 ghost use Rattle.catchup_engine.specs.Order.{records_of};
 ghost use Rattle.catchup_engine.specs.Run.{cause_of, to_boundary, window_limit, wrap_of, IsPlaced};
+ghost use Rattle.catchup_engine.specs.Traced.{TracedRun};
 ghost use Rattle.catchup_engine.specs.Wires.{reloaded};
 ghost use Rattle.board_base.specs.declared.divider.TheConstants.{DIVIDER_PERIOD};
 ghost use Rattle.board_watch.specs.Rest.{IsAtRest};
 ghost use Rattle.board_watch.specs.Windows.{EndsSo, clock_in, end_of, price_to, window_end, window_steps};
 
+use crate::follow::Follow;
 use crate::until::Until;
 use crate::watch::Watch;
 use avg_device::VectorUnit;
@@ -193,6 +195,64 @@ impl<'a, V: VectorUnit, P: SoundUnit, C: CellUnit, D: DividerUnit> Rested<'a, V,
                 Stop::Window => {}
                 _ => return Ok(stop),
             }
+        }
+    }
+
+    /// Runs turn by turn, tells a follower of each, and hands it their records: up to the limit, to the
+    /// end of a window, or to where it has enough.
+    fn part<F: Follow, O: Sink>(
+        &mut self,
+        tape: &Tape,
+        limit: u64,
+        follower: &mut F,
+        out: &mut O,
+    ) -> Result<Stop, SinkFault>
+        requires limit { limit ≤ CLOCK_LIMIT }
+        requires room { F.can_follow follower.old tape.now.entries limit (engine_of self.old).board }
+        ensures same { loan_of self.new ≡ loan_of self.old }
+        ensures part { (c : lockstep.Board) × (v : F) × TracedRun F.next F.has_enough tape.now.entries (window_limit limit (engine_of self.old).board) (engine_of self.old).board c follower.old v
+            × Takes (O.taken out.old) (O.taken out.new) (F.part_tells v (records_of c)) result
+            × OnOk result (follower.new ≡ F.behind_part v (records_of c))
+            × ((engine_of self.new).board ≡ cleared c) }
+        ensures cause { HasCause (O.faults out.old) (O.faults out.new) result }
+        ensures boundary { (engine_of self.new).board.cpu.mid ≡ None }
+        ensures stop { IfOk result (λ stop. stop ≡ cause_of limit (engine_of self.new).board) }
+    {
+        let stop = self.engine.run_traced(tape, limit, follower);
+        self.engine.settle();
+        let handed = follower.take_part(&self.engine.trails(), out);
+        self.engine.clear_trails();
+        let Ok(()) = handed else {
+            return Err(SinkFault);
+        };
+        Ok(stop)
+    }
+
+    /// Runs to a boundary, and tells a follower of each turn and of all records. After a fault the
+    /// engine is at rest too, and the follower is only to be dropped.
+    pub fn follow<F: Follow, O: Sink>(
+        &mut self,
+        tape: &Tape,
+        limit: u64,
+        follower: &mut F,
+        out: &mut O,
+    ) -> Result<Stop, SinkFault>
+        requires limit { limit ≤ CLOCK_LIMIT }
+        requires room { F.can_follow follower.old tape.now.entries limit (engine_of self.old).board }
+        ensures same { loan_of self.new ≡ loan_of self.old }
+        ensures taken { Takes (O.taken out.old) (O.taken out.new) (F.tells follower.old tape.now.entries limit (engine_of self.old).board) result }
+        ensures cause { HasCause (O.faults out.old) (O.faults out.new) result }
+        ensures next { OnOk result (follower.new ≡ F.behind_run follower.old tape.now.entries limit (engine_of self.old).board) }
+        ensures board { OnOk result ((engine_of self.new).board ≡ cleared (to_boundary tape.now.entries limit (engine_of self.old).board)) }
+        ensures stop { IfOk result (λ stop. stop ≡ cause_of limit (engine_of self.new).board) }
+    {
+        'parts: loop {
+            let Ok(stop) = self.part(tape, limit, follower, out) else {
+                return Err(SinkFault);
+            };
+            let Stop::Window = stop else {
+                return Ok(stop);
+            };
         }
     }
 
