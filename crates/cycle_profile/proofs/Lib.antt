@@ -1,2 +1,2 @@
-mod SumLaws
+pub mod SumLaws
 mod TextLaws

@@ -1,3 +1,3 @@
-mod FrameLaws
+pub mod FrameLaws
 mod TakeLaws
-mod WholeLaws
+pub mod WholeLaws

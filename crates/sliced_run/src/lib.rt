@@ -10,4 +10,4 @@ mod slices;
 pub use laws::{cuts_leave_the_run, log_is_one_list};
 pub use log_writer::LogWriter;
 pub use outside_fault::OutsideFault;
-pub use slices::{run_slices, store_under};
+pub use slices::{run_slices, store_under, write_last};

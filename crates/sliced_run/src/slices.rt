@@ -76,8 +76,9 @@ fn cut_slice<V: VectorUnit, P: SoundUnit, C: CellUnit, D: DividerUnit, S: Shelf,
     Ok(())
 }
 
-/// Writes the last line of a run that has ended.
-fn write_last<V: VectorUnit, P: SoundUnit, C: CellUnit, D: DividerUnit, O: Sink>(
+/// Writes the last line of a run that has ended: E with the clock, or X with the clock, pc and the
+/// opcode that jammed the processor.
+pub fn write_last<V: VectorUnit, P: SoundUnit, C: CellUnit, D: DividerUnit, O: Sink>(
     rested: &Rested<'_, V, P, C, D>,
     out: &mut O,
 ) -> Result<(), SinkFault>
