@@ -8,3 +8,6 @@ pub mod NearestLaws
 pub mod RoomLaws
 pub mod BoardLaws
 pub mod KeysLaws
+pub mod ImageLaws
+pub mod AlongLaws
+pub mod SeekLaws

@@ -80,6 +80,10 @@ pub record Keeps (old new : KeyframesValue) (b : BoardValue) : Type 0 where
   pub each : (k : ℕ) → k < BOARD_PAGES → IsPageOf old.kept b pages k
   pub live : live_of new ≡ live_of old + pages_taken (last_of old.kept) b
 
+-- the clocks rise from each board to the next
+abbrev pub HaveRisingClocks : List Keyframe → Type 0
+HaveRisingClocks kept = (i j : ℕ) (d : Keyframe) → i < j → j < length kept → (get_or kept i d).board.clock < (get_or kept j d).board.clock
+
 -- the last whose clock is not above
 pub record IsNearest (kept : List Keyframe) (clock index : ℕ) : Type 0 where
   pub within : index < length kept

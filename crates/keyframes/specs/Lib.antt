@@ -3,3 +3,4 @@ pub mod Keys
 pub mod Holders
 pub mod Store
 pub mod Inside
+pub mod Seeking

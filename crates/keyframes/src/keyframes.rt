@@ -1,5 +1,5 @@
 ghost use Rattle.std.specs.Prelude.{◌≡◌, ◌<◌, ◌≤◌, ◌+◌, List, [], IfOk, IfSome, IfNone, All, length, get_or};
-ghost use Rattle.keyframes.specs.Keys.{Keyframe, KeyframesValue, Keeps, last_of, IsNearest, MakesRoom, live_of};
+ghost use Rattle.keyframes.specs.Keys.{HaveRisingClocks, Keyframe, KeyframesValue, Keeps, last_of, IsNearest, MakesRoom, live_of};
 
 use crate::store::{FRAMES_LIMIT, Store};
 use board_base::{BoardState, OutOfMemory};
@@ -61,8 +61,10 @@ impl Keyframes {
         self.store.keep(state);
     }
 
-    /// The last kept board whose clock isn't above this one; none where there is none.
+    /// The last kept board whose clock isn't above this one; none where there is none. The clocks of the
+    /// kept boards rise.
     pub fn nearest(&self, clock: u64) -> Option<u32>
+        ensures rising { HaveRisingClocks self.now.kept }
         ensures some { IfSome result (λ index. IsNearest self.now.kept clock index) }
         ensures none { IfNone result (All (λ keyframe. clock < keyframe.board.clock) self.now.kept) }
     {

@@ -1,5 +1,9 @@
-//! What holds of the numbers of keyframes. It is the contract of a function that does nothing.
-ghost use Rattle.std.specs.Prelude.{◌≡◌};
+//! What holds of keyframes and their numbers. Each function tells one law, and does nothing.
+ghost use Rattle.std.specs.Prelude.{◌≡◌, ℕ, Bool, List};
+ghost use Rattle.board_base.specs.Board.{BoardValue, IsBoard};
+ghost use Rattle.catchup_engine.specs.Lockstep.{Board};
+ghost use Rattle.catchup_engine.specs.Wires.{wires_of};
+ghost use Rattle.keyframes.specs.Seeking.{over_image};
 
 use crate::keyframes::{FRAMES_MIN, PAGES_MIN};
 use crate::pages::{BOARD_PAGES, RAM_PAGES};
@@ -10,4 +14,11 @@ pub fn keyframe_numbers()
     ensures board { (BOARD_PAGES ≡ 16) × (RAM_PAGES ≡ 8) }
     ensures pages { PAGES_MIN ≡ 32 }
     ensures frames { (FRAMES_MIN ≡ 2) × (FRAMES_LIMIT ≡ 4096) }
+{}
+
+/// A new engine stands at the board of its state: over the image of that board the state is the board
+/// itself.
+pub fn engines_begin_at_their_board()
+    ensures new { (image : List ℕ) → (wired : Bool) → (state : BoardValue) → IsBoard state
+        → (let b : Board = record { cpu = state.cpu; wires = wires_of image wired state } in over_image b state ≡ b) }
 {}

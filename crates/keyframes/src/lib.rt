@@ -5,11 +5,13 @@ mod frame;
 pub mod keyframes;
 pub mod laws;
 mod pages;
+mod seeking;
 mod store;
 
 pub use keyframes::{FRAMES_MIN, Keyframes, PAGES_MIN};
-pub use laws::keyframe_numbers;
+pub use laws::{engines_begin_at_their_board, keyframe_numbers};
 pub use pages::BOARD_PAGES;
+pub use seeking::{keep_start, seek};
 pub use store::FRAMES_LIMIT;
 
 #[cfg(test)]

@@ -2,7 +2,7 @@ use Rattle.std.proofs.Common.{ap, ◌-◌, refl, arith}
 use Rattle.std.proofs.lemmas.List.{length-map}
 use Rattle.keyframes.specs.declared.frame.Frame.{Frame}
 use Rattle.keyframes.specs.Inside.{the_keyframe}
-use Rattle.keyframes.proofs.NearestLaws.{clock-mapped, later-mapped}
+use Rattle.keyframes.proofs.NearestLaws.{clock-mapped, later-mapped, rising-mapped}
 use Rattle.keyframes.proofs.keyframes.Keyframes.nearest.Goals as goal
 
 pub returns-then-index-clock-clause-some : goal.returns-then-index-clock-clause-some
@@ -26,3 +26,11 @@ returns-clause-none c =
     let i = c.loop-index.invariant in
     let end = c.loop-index-test.false in
     rw (← c.self.view_is) (λ k d h. later-mapped (the_keyframe c.self.inside.store.pool) (λ x. refl) c.self.inside.store.kept.items c.loop-index.index c.args.clock i.1 k d (omega (arith, end)) h)
+
+pub returns-then-index-clock-clause-rising : goal.returns-then-index-clock-clause-rising
+returns-then-index-clock-clause-rising c =
+    rw (← c.self.view_is) (rising-mapped (the_keyframe c.self.inside.store.pool) (λ x. refl) c.self.inside.store.kept.items c.self.invariant.rising)
+
+pub returns-clause-rising : goal.returns-clause-rising
+returns-clause-rising c =
+    rw (← c.self.view_is) (rising-mapped (the_keyframe c.self.inside.store.pool) (λ x. refl) c.self.inside.store.kept.items c.self.invariant.rising)

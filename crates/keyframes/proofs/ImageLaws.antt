@@ -1,0 +1,129 @@
+-- A run keeps the image of its board: its wiring, its program and the vector ROM.
+use Rattle.std.proofs.Common.{◌≡◌, ℕ, ◌-◌, ◌≤◌, ◌&&◌, nat_le, Bool, true, false, if◌then◌else◌, List, [], ◌∷◌, Option, Some, None, drop, zero, suc, refl, ap, ◌∙◌, arith}
+use Rattle.std.proofs.lemmas.Bool.Decides.{nat_tests}
+use Rattle.std.proofs.lemmas.List.{drop-set-lt}
+use Rattle.board_base.specs.declared.cpu.Sequence.{Sequence}
+use Rattle.board_base.specs.declared.cpu.Sequence.TheVariants.{Opcode, Interrupt, Reset}
+use Rattle.board_base.specs.declared.divider.Pending.{Pending}
+use Rattle.board_base.specs.declared.divider.Pending.TheVariants.{Nothing, Power, Watchdog}
+use Rattle.board_base.specs.declared.vector_memory.TheConstants.{VECTOR_RAM_LEN}
+use Rattle.board_base.specs.Cpu.{CpuValue, MidValue}
+use Rattle.board_map.specs.declared.map.Region.{Region}
+use Rattle.board_map.specs.declared.map.Region.TheVariants as region
+use Rattle.board_map.specs.Map.{Range, address_map, region_in, region_of, IsInside}
+use Rattle.cpu_core.specs.declared.replay.Next.{Next}
+use Rattle.cpu_core.specs.declared.replay.Next.TheVariants.{Read, Write, End}
+use Rattle.cpu_core.specs.Registers.{RegistersValue, registers_of}
+use Rattle.cpu_core.specs.Sequences.{next_of, start_of}
+use Rattle.cpu_core.specs.Places.{given_by}
+use Rattle.tape_ports.specs.declared.entry.Port.{Port}
+use Rattle.tape_ports.specs.declared.entry.Port.TheVariants as port
+use Rattle.tape_ports.specs.declared.entry.TapeEntry.{TapeEntry}
+use Rattle.tape_ports.specs.Due.{due_at}
+use Rattle.catchup_engine.specs.Lockstep.{Board, accessed, accessed_by, after_access, at_fetch, begun, sequence_due, step}
+use Rattle.catchup_engine.specs.Run.{clock_steps, cut_steps, stepped, to_clock, to_cut}
+use Rattle.catchup_engine.specs.Wires.{Wires, applied, byte_put, devices_ticked, port_set, put_in, reset_begun, reset_by, ticked}
+
+-- what a state doesn't tell
+pub record Image : Type 0 where
+  pub wired : Bool
+  pub program : List ℕ
+  pub rom : List ℕ
+
+abbrev pub image_of : Wires → Image
+image_of w = record { wired = w.wired; program = w.program; rom = drop VECTOR_RAM_LEN w.memory }
+
+-- each range of a map gives regions whose offsets are inside them
+abbrev AreInside : List Range → Type 0
+AreInside [] = Unit {0}
+AreInside (range ∷ ranges) = ((offset : ℕ) → offset ≤ range.last - range.first → IsInside (range.at offset)) × AreInside ranges
+
+region_inside : (ranges : List Range) (address : ℕ) → AreInside ranges → IsInside (region_in ranges address)
+region_inside [] address h = tt
+region_inside (range ∷ ranges) address h = by_test (nat_le range.first address) (nat_le address range.last) refl refl (region_inside ranges address h.1)
+  where
+    by_test : (low high : Bool) → nat_le range.first address ≡ low → nat_le address range.last ≡ high
+        → IsInside (region_in ranges address) → IsInside (if low && high then range.at (address - range.first) else region_in ranges address)
+    by_test true true e f rest =
+        let first : range.first ≤ address = grind (arith, nat_tests) in
+        let last : address ≤ range.last = grind (arith, nat_tests) in
+        h.0 (address - range.first) (omega arith)
+    by_test true false e f rest = rest
+    by_test false high e f rest = rest
+
+map_inside : AreInside address_map
+map_inside =
+    (λ offset few. omega arith, (λ offset few. omega arith, (λ offset few. omega arith, (λ offset few. omega arith, (λ offset few. omega arith, (λ offset few. tt, (λ offset few. tt, (λ offset few. tt, (λ offset few. tt, (λ offset few. tt, (λ offset few. tt, (λ offset few. tt, (λ offset few. tt, (λ offset few. omega arith, (λ offset few. tt, (λ offset few. omega arith, tt))))))))))))))))
+
+inside : (address : ℕ) → IsInside (region_of address)
+unfolding region_of
+inside address = region_inside address_map address map_inside
+
+port_set-image : (p : Port) (value : ℕ) (w : Wires) → image_of (port_set p value w) ≡ image_of w
+port_set-image port.In0 value w = refl
+port_set-image port.In3 value w = refl
+port_set-image port.In4 value w = refl
+port_set-image (port.Pot1 which) value w = refl
+port_set-image (port.Pot2 which) value w = refl
+
+applied-image : (entries : List TapeEntry) (w : Wires) → image_of (applied entries w) ≡ image_of w
+unfolding applied
+applied-image [] w = refl
+applied-image (entry ∷ entries) w = applied-image entries (port_set entry.port entry.value w) ∙ port_set-image entry.port entry.value w
+
+ticked-image : (entries : List TapeEntry) (w : Wires) → image_of (ticked entries w) ≡ image_of w
+unfolding ticked devices_ticked
+ticked-image entries w = applied-image (due_at w.clock entries) w
+
+-- a write reaches the vector RAM and not the vector ROM behind it
+put_in-image : (r : Region) (value : ℕ) (w : Wires) → IsInside r → image_of (put_in r value w) ≡ image_of w
+put_in-image (region.Ram k) value w at = refl
+put_in-image (region.VectorRam k) value w at =
+    ap (λ (rom : List ℕ). let image : Image = record { wired = w.wired; program = w.program; rom = rom } in image) (drop-set-lt VECTOR_RAM_LEN w.memory k value at)
+put_in-image _ value w at = refl
+
+accessed_by-image : (next : Next) (r : RegistersValue) (q : Sequence) (bytes : List ℕ) (w : Wires)
+    → image_of (accessed_by next r q bytes w).wires ≡ image_of w
+unfolding byte_put
+accessed_by-image (Read a) r q bytes w = refl
+accessed_by-image (Write a v) r q bytes w = put_in-image (region_of a) v w (inside a)
+accessed_by-image (End e) r q bytes w = refl
+
+accessed-image : (r : RegistersValue) (q : Sequence) (bytes : List ℕ) (w : Wires) → image_of (accessed r q bytes w).wires ≡ image_of w
+unfolding accessed
+accessed-image r q bytes w = accessed_by-image (next_of r q bytes) r q bytes w
+
+reset_by-image : (p : Pending) (w : Wires) → image_of (reset_by p w) ≡ image_of w
+reset_by-image Nothing w = refl
+reset_by-image Power w = refl
+reset_by-image Watchdog w = refl
+
+begun-image : (q : Sequence) (b : Board) → image_of (begun q b).wires ≡ image_of b.wires
+unfolding reset_begun
+begun-image Reset b = reset_by-image b.wires.divider.pending b.wires
+begun-image Opcode b = refl
+begun-image Interrupt b = refl
+
+after_access-image : (mid : Option MidValue) (c : CpuValue) (w : Wires) → image_of (after_access mid c w).wires ≡ image_of w
+unfolding at_fetch
+after_access-image None c w =
+    begun-image (sequence_due c w) (accessed (start_of (sequence_due c w) c) (sequence_due c w) [] w)
+    ∙ accessed-image (start_of (sequence_due c w) c) (sequence_due c w) [] w
+after_access-image (Some mid) c w = accessed-image (registers_of c) mid.sequence (given_by mid) w
+
+step-image : (entries : List TapeEntry) (b : Board) → image_of (step entries b).wires ≡ image_of b.wires
+unfolding step
+step-image entries b = after_access-image b.cpu.mid b.cpu (ticked entries b.wires) ∙ ticked-image entries b.wires
+
+stepped-image : (entries : List TapeEntry) (n : ℕ) (b : Board) → image_of (stepped entries n b).wires ≡ image_of b.wires
+unfolding stepped
+stepped-image entries zero b = refl
+stepped-image entries (suc n) b = stepped-image entries n (step entries b) ∙ step-image entries b
+
+pub clock-image : (entries : List TapeEntry) (cut : ℕ) (b : Board) → image_of (to_clock entries cut b).wires ≡ image_of b.wires
+unfolding to_clock
+clock-image entries cut b = stepped-image entries (clock_steps entries cut b) b
+
+pub cut-image : (entries : List TapeEntry) (cut wrap : ℕ) (b : Board) → image_of (to_cut entries cut wrap b).wires ≡ image_of b.wires
+unfolding to_cut
+cut-image entries cut wrap b = stepped-image entries (cut_steps entries cut wrap b) b

@@ -1,0 +1,233 @@
+-- The kept boards when one more is kept, and where a seek begins.
+use Rattle.std.proofs.Common.{◌≡◌, ℕ, ◌-◌, ◌<◌, ◌≤◌, List, [], ◌∷◌, ◌++◌, All, IfSome, length, get_or, take, drop, zero, suc, refl, sym, ap, ◌∙◌, subst, inl, inr, arith}
+use Rattle.std.proofs.lemmas.Bool.{cases_lt}
+use Rattle.std.proofs.lemmas.List.Elements.{All-append}
+use Rattle.std.proofs.Math.Seq.{take-append_seam}
+use Rattle.board_base.specs.declared.vector_memory.TheConstants.{VECTOR_RAM_LEN}
+use Rattle.board_base.specs.Board.{BoardValue, IsBoard}
+use Rattle.tape_ports.specs.declared.entry.TapeEntry.{TapeEntry}
+use Rattle.catchup_engine.specs.EngineValue.{cleared}
+use Rattle.catchup_engine.specs.Lockstep.{Board}
+use Rattle.catchup_engine.specs.Run.{to_clock}
+use Rattle.catchup_engine.proofs.Ends.{to_clock-split}
+use Rattle.keyframes.specs.Keys.{HaveRisingClocks, IsNearest, Keeps, Keyframe, KeyframesValue, MakesRoom, keys_thinned, last_of, thinned}
+use Rattle.keyframes.specs.Seeking.{Along, CanBeLoaded, IsOnRun, over_image, run_start, state_of}
+use Rattle.keyframes.proofs.KeysLaws.{all-one}
+use Rattle.keyframes.proofs.RoomLaws.{all-thinned}
+use Rattle.keyframes.proofs.AlongLaws.{clock-cleared, clock-past, loaded-board, loaded-start}
+
+-- the first board stays the first
+abbrev HasFirstOf : List Keyframe → List Keyframe → Type 0
+HasFirstOf old new = (0 < length new) × ((d : Keyframe) → get_or new 0 d ≡ get_or old 0 d) × ((e : Board) → run_start new e ≡ run_start old e)
+
+first-thinned : (kept : List Keyframe) → 0 < length kept → HasFirstOf kept (thinned kept)
+first-thinned [] some = absurd (omega (arith, some))
+first-thinned (a ∷ []) some = (omega arith, λ d. refl, λ e. refl)
+first-thinned (a ∷ b ∷ kept) some = (omega arith, λ d. refl, λ e. refl)
+
+first-more : (a b c : List Keyframe) → HasFirstOf a b → HasFirstOf b c → HasFirstOf a c
+first-more a b c one more = (more.0, λ d. more.1 d ∙ one.1 d, λ e. more.2 e ∙ one.2 e)
+
+first-joined : (kept : List Keyframe) (keyframe : Keyframe) → 0 < length kept → HasFirstOf kept (kept ++ keyframe ∷ [])
+first-joined [] keyframe some = absurd (omega (arith, some))
+first-joined (a ∷ kept) keyframe some = (omega arith, λ d. refl, λ e. refl)
+
+first-of-thinned : (n : ℕ) (keys : KeyframesValue) → 0 < length keys.kept → HasFirstOf keys.kept (keys_thinned n keys).kept
+first-of-thinned zero keys some = (some, λ d. refl, λ e. refl)
+first-of-thinned (suc n) keys some =
+    let one = first-thinned keys.kept some in
+    first-more keys.kept (thinned keys.kept) (keys_thinned (suc n) keys).kept one
+    (first-of-thinned n (record keys { kept = thinned keys.kept }) one.0)
+
+all-of-thinned : (P : Keyframe → Type 0) (n : ℕ) (keys : KeyframesValue) → All P keys.kept → All P (keys_thinned n keys).kept
+all-of-thinned P zero keys all = all
+all-of-thinned P (suc n) keys all = all-of-thinned P n (record keys { kept = thinned keys.kept }) (all-thinned P keys.kept all)
+
+module _ (old roomy new : KeyframesValue) (state : BoardValue) (room : MakesRoom old roomy) (keeps : Keeps roomy new state) where
+  abbrev one : Keyframe
+  one = record { board = state; pages = keeps.pages }
+
+  joined : new.kept ≡ roomy.kept ++ one ∷ []
+  joined = ap (λ (keys : KeyframesValue). keys.kept) keeps.kept
+
+  first-roomy : 0 < length old.kept → HasFirstOf old.kept roomy.kept
+  first-roomy some =
+      subst (λ (keys : KeyframesValue). HasFirstOf old.kept keys.kept) (sym room.thinned) (first-of-thinned room.thinnings old some)
+
+  first-kept : 0 < length old.kept → HasFirstOf old.kept new.kept
+  first-kept some =
+      subst (λ (kept : List Keyframe). HasFirstOf old.kept kept) (sym joined)
+      (first-more old.kept roomy.kept (roomy.kept ++ one ∷ []) (first-roomy some) (first-joined roomy.kept one (first-roomy some).0))
+
+  -- what holds of all boards and of the one that is kept holds of all
+  all-kept : (P : Keyframe → Type 0) → All P old.kept → P one → All P new.kept
+  all-kept P all last =
+      subst (All P) (sym joined)
+      (All-append P roomy.kept (one ∷ [])
+      (subst (λ (keys : KeyframesValue). All P keys.kept) (sym room.thinned) (all-of-thinned P room.thinnings old all))
+      (all-one P one last))
+
+  -- the run begins where it began
+  pub start-kept : 0 < length old.kept → (e : Board) → run_start new.kept e ≡ run_start old.kept e
+  start-kept some = (first-kept some).2
+
+  -- a board of the run is kept along it
+  pub along-kept : (entries : List TapeEntry) (b now : Board) → CanBeLoaded state → state ≡ state_of now → IsOnRun entries b now
+      → Along old.kept entries b → Along new.kept entries b
+  along-kept entries b now loadable is on_run along =
+      let first = first-kept along.some in
+      record {
+        some = first.0;
+        first = λ d. ap (λ (k : Keyframe). k.board) (first.1 d) ∙ along.first d;
+        each = all-kept (λ keyframe. keyframe.board ≡ state_of (to_clock entries keyframe.board.clock b)) along.each
+            (is ∙ ap state_of on_run ∙ ap (λ n. state_of (to_clock entries n b)) (sym (ap (λ (s : BoardValue). s.clock) is)));
+        loadable = all-kept (λ keyframe. CanBeLoaded keyframe.board) along.loadable loadable;
+      }
+
+  -- and is the last
+  pub last-is : (P : Keyframe → Type 0) → P one → IfSome (last_of new.kept) P
+  last-is P holds = subst (λ (kept : List Keyframe). IfSome (last_of kept) P) (sym joined) (last-joined roomy.kept)
+    where
+      last-joined : (kept : List Keyframe) → IfSome (last_of (kept ++ one ∷ [])) P
+      last-joined [] = holds
+      last-joined (a ∷ []) = holds
+      last-joined (a ∷ b ∷ kept) = last-joined (b ∷ kept)
+
+-- over an image a whole state is told as it is
+over_image-told : (e : Board) (state : BoardValue) → IsBoard state → state ≡ state_of (over_image e state)
+over_image-told e state is =
+    let rom = drop VECTOR_RAM_LEN e.wires.memory in
+    ap (λ (vram : List ℕ). let again : BoardValue = record state { vram = vram } in again)
+    (sym (ap (λ k. take k (state.vram ++ rom)) (sym is.vram) ∙ take-append_seam state.vram rom))
+
+-- a board that is kept alone lies along the run that begins with it
+along-alone : (keyframe : Keyframe) (entries : List TapeEntry) (e : Board) → IsBoard keyframe.board → CanBeLoaded keyframe.board
+    → Along (keyframe ∷ []) entries (over_image e keyframe.board)
+along-alone keyframe entries e is loadable =
+    let b = over_image e keyframe.board in
+    let told = over_image-told e keyframe.board is in
+    record {
+      some = omega arith;
+      first = λ d. told;
+      each = all-one (λ k. k.board ≡ state_of (to_clock entries k.board.clock b)) keyframe
+          (told ∙ sym (ap state_of (clock-past entries keyframe.board.clock b (omega arith))));
+      loadable = all-one (λ k. CanBeLoaded k.board) keyframe loadable;
+    }
+
+none-thinned : (n : ℕ) (keys : KeyframesValue) → keys.kept ≡ [] → (keys_thinned n keys).kept ≡ []
+none-thinned zero keys none = none
+none-thinned (suc n) keys none = none-thinned n (record keys { kept = thinned keys.kept }) (ap thinned none)
+
+-- the board that is kept where none was is alone
+pub kept-alone : (old roomy new : KeyframesValue) (state : BoardValue) → MakesRoom old roomy → (keeps : Keeps roomy new state) → old.kept ≡ []
+    → new.kept ≡ record { board = state; pages = keeps.pages } ∷ []
+kept-alone old roomy new state room keeps none =
+    ap (λ (keys : KeyframesValue). keys.kept) keeps.kept
+    ∙ ap (λ (kept : List Keyframe). kept ++ (record { board = state; pages = keeps.pages }) ∷ [])
+    (ap (λ (keys : KeyframesValue). keys.kept) room.thinned ∙ none-thinned room.thinnings old none)
+
+pub start-alone : (kept : List Keyframe) (keyframe : Keyframe) → kept ≡ keyframe ∷ [] → (e : Board) → run_start kept e ≡ over_image e keyframe.board
+start-alone kept keyframe is e = ap (λ (k : List Keyframe). run_start k e) is
+
+pub along-start : (kept : List Keyframe) (keyframe : Keyframe) → kept ≡ keyframe ∷ [] → IsBoard keyframe.board → CanBeLoaded keyframe.board
+    → (entries : List TapeEntry) (e : Board) → Along kept entries (run_start kept e)
+along-start kept keyframe is whole loadable entries e =
+    subst (λ (k : List Keyframe). Along k entries (run_start k e)) (sym is) (along-alone keyframe entries e whole loadable)
+
+-- an engine that has taken on a kept board stands at a board of the run
+pub record Begins (kept : List Keyframe) (entries : List TapeEntry) (e now : Board) : Type 0 where
+  pub start : run_start kept now ≡ run_start kept e
+  pub along : Along kept entries (run_start kept now)
+  pub on_run : IsOnRun entries (run_start kept now) now
+
+pub begins : (kept : List Keyframe) (entries : List TapeEntry) (e now : Board) (i : ℕ) → Along kept entries (run_start kept e) → i < length kept
+    → ((d : Keyframe) → now ≡ over_image e (get_or kept i d).board) → Begins kept entries e now
+begins kept entries e now i along within loads =
+    let d : Keyframe = record { board = state_of e; pages = [] } in
+    let is = loads d in
+    let start : run_start kept now ≡ run_start kept e = ap (run_start kept) is ∙ loaded-start kept entries e along i d within in
+    let clock : now.wires.clock ≡ (get_or kept i d).board.clock = ap (λ (b : Board). b.wires.clock) is in
+    record {
+      start = start;
+      along = subst (Along kept entries) (sym start) along;
+      on_run =
+          is ∙ loaded-board kept entries e along i d within ∙ ap (λ n. cleared (to_clock entries n (run_start kept e))) (sym clock)
+          ∙ ap (λ (b : Board). cleared (to_clock entries now.wires.clock b)) (sym start);
+    }
+
+-- what a kept board is, an engine can take on
+pub can_load : (kept : List Keyframe) (i : ℕ) (state : BoardValue) → All (λ keyframe. CanBeLoaded keyframe.board) kept → i < length kept
+    → ((d : Keyframe) → state ≡ (get_or kept i d).board) → CanBeLoaded state
+can_load kept i state all within is =
+    let d : Keyframe = record { board = state; pages = [] } in
+    subst CanBeLoaded (sym (is d)) (all i d within)
+
+-- a run to a clock before its beginning stays there
+pub before-first : (kept : List Keyframe) (entries : List TapeEntry) (b now : Board) (clock : ℕ) (d : Keyframe) → Along kept entries b
+    → now ≡ cleared (to_clock entries clock b) → clock < b.wires.clock → now.wires.clock ≡ (get_or kept 0 d).board.clock
+before-first kept entries b now clock d along is before =
+    ap (λ (c : Board). c.wires.clock) is ∙ ap (λ (c : Board). c.wires.clock) (clock-past entries clock b (omega (arith, before)))
+    ∙ sym (ap (λ (s : BoardValue). s.clock) (along.first d))
+
+-- the last is at the last place
+pub last-at : (P : Keyframe → Type 0) (kept : List Keyframe) → ((d : Keyframe) → P (get_or kept (length kept - 1) d)) → IfSome (last_of kept) P
+last-at P [] holds = tt
+last-at P (a ∷ []) holds = holds a
+last-at P (a ∷ b ∷ kept) holds =
+    last-at P (b ∷ kept) (λ d.
+    let place : length (a ∷ b ∷ kept) - 1 ≡ suc (length (b ∷ kept) - 1) = omega arith in
+    subst (λ (n : ℕ). P (get_or (a ∷ b ∷ kept) n d)) place (holds d))
+
+pub last-clock : (P : ℕ → Type 0) (kept : List Keyframe) (len last : ℕ) → len ≡ length kept
+    → ((d : Keyframe) → last ≡ (get_or kept (len - 1) d).board.clock) → P last → IfSome (last_of kept) (λ keyframe. P keyframe.board.clock)
+last-clock P kept len last is at holds =
+    last-at (λ keyframe. P keyframe.board.clock) kept (λ d. subst P (at d ∙ ap (λ n. (get_or kept (n - 1) d).board.clock) is) holds)
+
+-- where a seek begins
+module _ (kept : List Keyframe) (clock index : ℕ) (rising : HaveRisingClocks kept) (within : index < length kept)
+    (nearest : (d : Keyframe) → (get_or kept index d).board.clock ≤ clock → IsNearest kept clock index)
+    (first : (d : Keyframe) → clock < (get_or kept index d).board.clock → index ≡ 0) where
+  -- the clocks rise from there on
+  rises : (i j : ℕ) (d : Keyframe) → i ≤ j → j < length kept → (get_or kept i d).board.clock ≤ (get_or kept j d).board.clock
+  rises i j d h k = elim (cases_lt i j) [
+    | inl before ↦ let e = rising i j d before k in omega (arith, e)
+    | inr same ↦
+        let e : i ≡ j = omega (arith, h, same) in
+        let f : (get_or kept i d).board.clock ≡ (get_or kept j d).board.clock = ap (λ n. (get_or kept n d).board.clock) e in
+        omega (arith, f)
+  ]
+
+  -- no kept board at or below the clock is later
+  pub greatest : (j : ℕ) (d : Keyframe) → j < length kept → (get_or kept j d).board.clock ≤ clock
+      → (get_or kept j d).board.clock ≤ (get_or kept index d).board.clock
+  greatest j d h low = elim (cases_lt clock (get_or kept index d).board.clock) [
+    | inl above ↦ omega (arith, low, above)
+    | inr below ↦
+        elim (cases_lt index j) [
+          | inl after ↦ let e = (nearest d below).last j d after h in absurd (omega (arith, e, low))
+          | inr upto ↦ rises j index d upto within
+        ]
+  ]
+
+  -- nor is the first one
+  pub not-before-first : (d : Keyframe) → (get_or kept 0 d).board.clock ≤ (get_or kept index d).board.clock
+  not-before-first d = rises 0 index d (omega arith) within
+
+  -- from there the run comes to the same board as from its beginning
+  pub seek-board : (entries : List TapeEntry) (e now : Board) → Along kept entries (run_start kept e)
+      → ((d : Keyframe) → now ≡ over_image e (get_or kept index d).board)
+      → cleared (to_clock entries clock now) ≡ cleared (to_clock entries clock (run_start kept e))
+  seek-board entries e now along loads =
+      let d : Keyframe = record { board = state_of e; pages = [] } in
+      let b = run_start kept e in
+      let at = (get_or kept index d).board.clock in
+      let there = to_clock entries at b in
+      let loaded =
+      ap (λ (c : Board). cleared (to_clock entries clock c)) (loads d ∙ loaded-board kept entries e along index d within) ∙ clock-cleared entries clock there in
+      elim (cases_lt clock at) [
+        | inl above ↦
+            let at_first : at ≡ b.wires.clock =
+            ap (λ n. (get_or kept n d).board.clock) (first d above) ∙ ap (λ (s : BoardValue). s.clock) (along.first d) in
+            loaded ∙ ap (λ (c : Board). cleared (to_clock entries clock c)) (clock-past entries at b (omega (arith, at_first)))
+        | inr below ↦ loaded ∙ sym (ap cleared (to_clock-split entries at clock b below))
+      ]

@@ -1,0 +1,41 @@
+-- Boards kept along a run, among which a clock is sought. This project's own profile.
+use Rattle.std.specs.Prelude.{◌≡◌, ◌<◌, List, [], ◌∷◌, All, None, IfSome, length, get_or}
+use Rattle.board_base.specs.Board.{BoardValue}
+use Rattle.tape_ports.specs.declared.entry.TapeEntry.{TapeEntry}
+use Rattle.cpu_core.specs.Places.{IsMiddle}
+use Rattle.cpu_table.specs.Opcodes.{row_of}
+use Rattle.catchup_engine.specs.Lockstep.{Board}
+use Rattle.catchup_engine.specs.EngineValue.{cleared}
+use Rattle.catchup_engine.specs.Run.{to_clock}
+use Rattle.catchup_engine.specs.Wires.{board_of, reloaded}
+use Rattle.keyframes.specs.Keys.{Keyframe}
+
+-- what can be kept of a lockstep board: all but its image, its wiring and its records
+abbrev pub state_of : Board → BoardValue
+state_of b = board_of b.cpu b.wires
+
+-- a state over the image and with the wiring of a board, with no records yet
+abbrev pub over_image : Board → BoardValue → Board
+over_image e state = record { cpu = state.cpu; wires = reloaded e.wires state }
+
+-- where a run with kept boards begins: at the first of them, over the image of the engine's board
+abbrev pub run_start : List Keyframe → Board → Board
+run_start [] e = e
+run_start (first ∷ rest) e = over_image e first.board
+
+-- an engine can take the state on: its jam opcode is undocumented, and it stands at a place of a sequence or between two
+pub record CanBeLoaded (state : BoardValue) : Type 0 where
+  pub undocumented : IfSome state.cpu.jam (λ o. row_of o ≡ None)
+  pub place : IfSome state.cpu.mid (λ _. IsMiddle state.cpu)
+
+-- the kept boards lie along the run that begins at b: the first is b, each is the run's board at its own clock, and an
+-- engine can take each on
+pub record Along (kept : List Keyframe) (entries : List TapeEntry) (b : Board) : Type 0 where
+  pub some : 0 < length kept
+  pub first : (d : Keyframe) → (get_or kept 0 d).board ≡ state_of b
+  pub each : All (λ keyframe. keyframe.board ≡ state_of (to_clock entries keyframe.board.clock b)) kept
+  pub loadable : All (λ keyframe. CanBeLoaded keyframe.board) kept
+
+-- a board without records is that of the run from b at its own clock
+abbrev pub IsOnRun : List TapeEntry → Board → Board → Type 0
+IsOnRun entries b now = now ≡ cleared (to_clock entries now.wires.clock b)

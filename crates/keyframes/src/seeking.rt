@@ -1,0 +1,178 @@
+//! A clock of a run, sought among the boards that are kept along it.
+ghost use Rattle.std.specs.Prelude.{◌≡◌, ◌<◌, ◌≤◌, ◌+◌, All, IfSome, List, [], None, length, get_or};
+ghost use Rattle.cpu_core.specs.Places.{IsMiddle};
+ghost use Rattle.cpu_table.specs.Opcodes.{row_of};
+ghost use Rattle.tape_ports.specs.declared.entry.TapeEntry.{TapeEntry};
+ghost use Rattle.catchup_engine.specs.EngineValue.{HasNoRecords, cleared};
+ghost use Rattle.catchup_engine.specs.Lockstep.{Board};
+ghost use Rattle.catchup_engine.specs.Run.{cause_of, to_clock, to_cut, wrap_of};
+ghost use Rattle.keyframes.specs.Keys.{HaveRisingClocks, IsNearest, Keyframe, last_of};
+ghost use Rattle.keyframes.specs.Seeking.{Along, CanBeLoaded, IsOnRun, over_image, run_start};
+
+use crate::keyframes::Keyframes;
+use avg_device::VectorUnit;
+use board_base::{BoardState, CLOCK_LIMIT};
+use catchup_engine::{Engine, Stop};
+use earom_cells::CellUnit;
+use irq_watchdog::DividerUnit;
+use pokey_chip::SoundUnit;
+use tape_ports::Tape;
+
+/// Keeps the board at which a run begins. No other is kept yet.
+pub fn keep_start(keys: &mut Keyframes, state: &BoardState)
+    requires none { keys.old.kept ≡ [] }
+    requires undocumented { IfSome state.now.cpu.jam (λ o. row_of o ≡ None) }
+    requires place { IfSome state.now.cpu.mid (λ _. IsMiddle state.now.cpu) }
+    ensures start { (e : Board) → run_start keys.new.kept e ≡ over_image e state.now }
+    ensures along { (entries : List TapeEntry) → (e : Board) → Along keys.new.kept entries (run_start keys.new.kept e) }
+{
+    // opens the model
+    let _clock = state.clock;
+    keys.keep(state);
+}
+
+/// The place of the last kept board at or below a clock, or of the first one where there is none.
+fn start_index(keys: &Keyframes, clock: u64) -> u32
+    requires some { 0 < length keys.now.kept }
+    ensures within { result < length keys.now.kept }
+    ensures rising { HaveRisingClocks keys.now.kept }
+    ensures nearest { (d : Keyframe) → (get_or keys.now.kept result d).board.clock ≤ clock → IsNearest keys.now.kept clock result }
+    ensures first { (d : Keyframe) → clock < (get_or keys.now.kept result d).board.clock → result ≡ 0 }
+{
+    match keys.nearest(clock) {
+        Some(index) => index,
+        None => 0,
+    }
+}
+
+/// Takes on a kept board.
+fn load_kept<V: VectorUnit, P: SoundUnit, C: CellUnit, D: DividerUnit>(
+    engine: &mut Engine<V, P, C, D>,
+    keys: &Keyframes,
+    index: u32,
+)
+    requires settled { engine.old.lagging ≡ 0 }
+    requires empty { HasNoRecords engine.old.board }
+    requires within { index < length keys.now.kept }
+    requires loadable { All (λ keyframe. CanBeLoaded keyframe.board) keys.now.kept }
+    ensures board { (d : Keyframe) → engine.new.board ≡ over_image engine.old.board (get_or keys.now.kept index d).board }
+    ensures settled { engine.new.lagging ≡ 0 }
+    ensures empty { HasNoRecords engine.new.board }
+    ensures done { engine.new.done ≡ engine.old.done }
+{
+    let mut state = BoardState::power_on();
+    keys.board(index, &mut state);
+    engine.load(&state);
+}
+
+/// Runs to a clock, or to the end of a window where that comes first, and forgets the records.
+fn run_window<V: VectorUnit, P: SoundUnit, C: CellUnit, D: DividerUnit>(
+    engine: &mut Engine<V, P, C, D>,
+    tape: &Tape,
+    clock: u64,
+) -> Stop
+    requires limit { clock ≤ CLOCK_LIMIT }
+    requires settled { engine.old.lagging ≡ 0 }
+    requires empty { HasNoRecords engine.old.board }
+    ensures settled { engine.new.lagging ≡ 0 }
+    ensures empty { HasNoRecords engine.new.board }
+    ensures board { engine.new.board ≡ cleared (to_cut tape.now.entries clock (wrap_of engine.old.board) engine.old.board) }
+    ensures stop { result ≡ cause_of clock engine.new.board }
+    ensures later { result ≡ Stop.Window → engine.old.board.wires.clock < engine.new.board.wires.clock }
+    ensures before { result ≡ Stop.Window → engine.new.board.wires.clock < clock }
+    ensures done { engine.new.done + engine.old.board.wires.clock ≤ engine.old.done + engine.new.board.wires.clock }
+{
+    let stop = engine.run_to(tape, clock);
+    engine.settle();
+    engine.clear_trails();
+    stop
+}
+
+/// Keeps the board of an engine that stands `stride` clocks or more after the last kept one.
+fn keep_if_due<V: VectorUnit, P: SoundUnit, C: CellUnit, D: DividerUnit>(
+    engine: &Engine<V, P, C, D>,
+    keys: &mut Keyframes,
+    stride: u64,
+)
+    requires settled { engine.now.lagging ≡ 0 }
+    requires some { 0 < length keys.old.kept }
+    requires stride { 1 ≤ stride }
+    ensures first { (e : Board) → run_start keys.new.kept e ≡ run_start keys.old.kept e }
+    ensures along { (entries : List TapeEntry) → (b : Board) → Along keys.old.kept entries b → IsOnRun entries b engine.now.board → Along keys.new.kept entries b }
+    ensures near { IfSome (last_of keys.new.kept) (λ last. engine.now.board.wires.clock < last.board.clock + stride) }
+{
+    let last = keys.clock_of(keys.len() - 1);
+    if engine.clock().saturating_sub(last) >= stride {
+        let mut state = BoardState::power_on();
+        engine.state(&mut state);
+        keys.keep(&state);
+    }
+}
+
+/// Runs to a clock, window by window, and keeps a board after each window that ends `stride` clocks or
+/// more after the last kept one.
+fn run_keeping<V: VectorUnit, P: SoundUnit, C: CellUnit, D: DividerUnit>(
+    engine: &mut Engine<V, P, C, D>,
+    keys: &mut Keyframes,
+    tape: &Tape,
+    clock: u64,
+    stride: u64,
+)
+    requires settled { engine.old.lagging ≡ 0 }
+    requires empty { HasNoRecords engine.old.board }
+    requires along { Along keys.old.kept tape.now.entries (run_start keys.old.kept engine.old.board) }
+    requires on_run { IsOnRun tape.now.entries (run_start keys.old.kept engine.old.board) engine.old.board }
+    requires limit { clock ≤ CLOCK_LIMIT }
+    requires stride { 1 ≤ stride }
+    ensures settled { engine.new.lagging ≡ 0 }
+    ensures empty { HasNoRecords engine.new.board }
+    ensures board { engine.new.board ≡ cleared (to_clock tape.now.entries clock engine.old.board) }
+    ensures same { run_start keys.new.kept engine.new.board ≡ run_start keys.old.kept engine.old.board }
+    ensures along { Along keys.new.kept tape.now.entries (run_start keys.old.kept engine.old.board) }
+    ensures done { engine.new.done + engine.old.board.wires.clock ≤ engine.old.done + engine.new.board.wires.clock }
+    ensures near { IfSome (last_of keys.new.kept) (λ last. engine.new.board.wires.clock < last.board.clock + stride) }
+{
+    'windows: loop {
+        let stop = run_window(engine, tape, clock);
+        keep_if_due(engine, keys, stride);
+        match stop {
+            Stop::Window => {}
+            _ => return,
+        }
+    }
+}
+
+/// Brings an engine to the board of a run at a clock, which may be inside a sequence, and keeps boards
+/// on the way.
+///
+/// The run begins at the first kept board, and all kept boards lie along it. Below the clock of the
+/// first one it is that board; from a jam on it is the jammed board. The engine goes on from the last
+/// kept board at or below the clock, and keeps the board after each window that ends `stride` clocks or
+/// more after the last kept one. It takes no memory: where there is no room more, every second kept
+/// board is dropped.
+pub fn seek<V: VectorUnit, P: SoundUnit, C: CellUnit, D: DividerUnit>(
+    engine: &mut Engine<V, P, C, D>,
+    keys: &mut Keyframes,
+    tape: &Tape,
+    clock: u64,
+    stride: u64,
+)
+    requires settled { engine.old.lagging ≡ 0 }
+    requires empty { HasNoRecords engine.old.board }
+    requires along { Along keys.old.kept tape.now.entries (run_start keys.old.kept engine.old.board) }
+    requires limit { clock ≤ CLOCK_LIMIT }
+    requires stride { 1 ≤ stride }
+    ensures settled { engine.new.lagging ≡ 0 }
+    ensures empty { HasNoRecords engine.new.board }
+    ensures board { engine.new.board ≡ cleared (to_clock tape.now.entries clock (run_start keys.old.kept engine.old.board)) }
+    ensures same { run_start keys.new.kept engine.new.board ≡ run_start keys.old.kept engine.old.board }
+    ensures along { Along keys.new.kept tape.now.entries (run_start keys.new.kept engine.new.board) }
+    ensures done { All (λ keyframe. keyframe.board.clock ≤ clock
+        → engine.new.done + keyframe.board.clock ≤ engine.old.done + engine.new.board.wires.clock) keys.old.kept }
+    ensures before { clock < (run_start keys.old.kept engine.old.board).wires.clock → engine.new.done ≤ engine.old.done }
+    ensures near { IfSome (last_of keys.new.kept) (λ last. engine.new.board.wires.clock < last.board.clock + stride) }
+{
+    let index = start_index(keys, clock);
+    load_kept(engine, keys, index);
+    run_keeping(engine, keys, tape, clock, stride);
+}
