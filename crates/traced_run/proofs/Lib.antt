@@ -1,0 +1,3 @@
+mod ClockLaws
+mod StrokeLaws
+mod TextLaws

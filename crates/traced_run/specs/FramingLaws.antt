@@ -1,0 +1,304 @@
+-- Frames of a run, part by part.
+use Rattle.std.proofs.Common.{◌≡◌, ℕ, ◌+◌, ◌-◌, ◌≤◌, ◌<◌, Bool, true, false, List, [], ◌∷◌, ◌++◌, length, map, take, drop, zero, suc, refl, sym, ap, subst, ◌∙◌, arith, add-zero, length-drop}
+use Rattle.std.specs.Prelude.{All, if◌then◌else◌}
+use Rattle.std.proofs.lemmas.List.Elements.{All-weaker}
+use Rattle.board_base.specs.declared.record.Record.{Record}
+use Rattle.board_base.specs.Records.{clock_of}
+use Rattle.tape_ports.specs.declared.entry.TapeEntry.{TapeEntry}
+use Rattle.catchup_engine.specs.Breaks.{turn, turned}
+use Rattle.catchup_engine.specs.EngineValue.{HasNoRecords, cleared}
+use Rattle.catchup_engine.specs.Lockstep.{Board}
+use Rattle.catchup_engine.specs.Run.{boundary_steps, is_over, stepped, to_boundary, IsPlaced}
+use Rattle.catchup_engine.specs.Trace.{TraceValue, accesses_of, step_trace}
+use Rattle.catchup_engine.specs.Traced.{told, told_once}
+use Rattle.catchup_engine.proofs.Clocks.{stepped-clock}
+use Rattle.catchup_engine.proofs.Ended.{cleared-empty}
+use Rattle.catchup_engine.proofs.Ends.{to_boundary-clock}
+use Rattle.catchup_engine.proofs.InOrder.{stepped-made, to_boundary-made}
+use Rattle.catchup_engine.proofs.Runs.{steps-none}
+use Rattle.catchup_engine.proofs.TurnLaws.{to_boundary-none}
+use Rattle.board_watch.specs.Follow.{FollowsInParts, IsFollowedInParts, StandsStill}
+use Rattle.frame_list.specs.Events.{by_clock, mark_at, marks_in, marks_of, stroke_of, through}
+use Rattle.frame_list.specs.Frames.{FrameValue, IsBefore, begun, ended, frames_text, under_way}
+use Rattle.frame_list.proofs.FrameLaws.{strokes-most, strokes-number, under_way-append}
+use Rattle.frame_list.proofs.WholeLaws.{parts_make_the_whole}
+use Rattle.traced_run.specs.declared.framing.Framer.{Framer}
+use Rattle.traced_run.specs.BoardFrames.{run_events, run_marks}
+use Rattle.traced_run.specs.Framing.{behind_part, behind_run, framer_told, has_marks, keeps_marks, part_framed, run_framed_text, CanFrame, HasNumbers}
+use Rattle.traced_run.specs.MarkLaws.{marks-append, marks-few, marks-within, run_marks-cleared, turn-marks, unmarked}
+use Rattle.traced_run.specs.PartLaws.{accesses-add, cleared-none, end-behind, made-none, open-later, strokes-before, strokes-few, strokes-from, turned-low, turned-steps, turns-go, turns_steps}
+
+-- what a framer is when it was told of n turns: its frames stayed, and it kept the marks of all of them
+record Kept (entries : List TapeEntry) (n : ℕ) (w v : Framer) (b : Board) : Type 0 where
+  frames : v.frames ≡ w.frames
+  marks : marks_of (accesses_of entries (turns_steps entries n b) b) ≡ marks_in v.trace
+
+-- one turn
+record KeptOne (entries : List TapeEntry) (w v : Framer) (b : Board) : Type 0 where
+  frames : v.frames ≡ w.frames
+  marks : marks_in (step_trace entries b) ≡ marks_in v.trace
+
+kept-one : (entries : List TapeEntry) (w : Framer) (b : Board) → has_marks w.trace ≡ false → KeptOne entries w (told_once framer_told entries w b) b
+kept-one entries w b none = by_trace (has_marks (step_trace entries b)) refl
+  where
+    by_trace : (t : Bool) → has_marks (step_trace entries b) ≡ t → KeptOne entries w (told_once framer_told entries w b) b
+    by_trace true is =
+        let kept : told_once framer_told entries w b ≡ (let f : Framer = record w { trace = step_trace entries b } in f) =
+        ap (λ t. let f : Framer = if t then record w { trace = step_trace entries b } else w in f) is in
+        record { frames = ap (λ (f : Framer). f.frames) kept; marks = ap (λ (f : Framer). marks_in f.trace) (sym kept) }
+    by_trace false is =
+        let same : told_once framer_told entries w b ≡ w =
+        ap (λ t. let f : Framer = if t then record w { trace = step_trace entries b } else w in f) is in
+        record {
+          frames = ap (λ (f : Framer). f.frames) same;
+          marks = unmarked (step_trace entries b) is ∙ sym (unmarked w.trace none) ∙ ap (λ (f : Framer). marks_in f.trace) (sym same);
+        }
+
+-- no turn but the last gave it a mark
+kept-turns : (entries : List TapeEntry) (limit n : ℕ) (w : Framer) (b : Board) → has_marks w.trace ≡ false
+    → ((k : ℕ) → k < n → is_over limit (turned entries k b) ≡ false)
+    → ((k : ℕ) → 1 ≤ k → k < n → keeps_marks (told framer_told entries k w b) ≡ false)
+    → Kept entries n w (told framer_told entries n w b) b
+unfolding told turned accesses_of turns_steps marks_of stepped to_boundary
+kept-turns entries limit zero w b none open_yet goes = record { frames = refl; marks = sym (unmarked w.trace none) }
+kept-turns entries limit (suc zero) w b none open_yet goes =
+    let one = kept-one entries w b none in
+    let n = boundary_steps entries (b.wires.clock + 1) b in
+    record {
+      frames = one.frames;
+      marks =
+          ap (λ k. marks_of (accesses_of entries k b)) (add-zero n)
+          ∙ turn-marks entries limit b (open_yet 0 (omega arith))
+          ∙ one.marks;
+    }
+kept-turns entries limit (suc (suc m)) w b none open_yet goes =
+    let one = kept-one entries w b none in
+    let v = told_once framer_told entries w b in
+    let n = boundary_steps entries (b.wires.clock + 1) b in
+    let next = turn entries b in
+    let still : has_marks v.trace ≡ false = goes 1 (omega arith) (omega arith) in
+    let rest : Kept entries (suc m) v (told framer_told entries (suc m) v next) next =
+    kept-turns entries limit (suc m) v next still (λ k few. open_yet (suc k) (omega (arith, few)))
+    (λ k some few. goes (suc k) (omega (arith, some)) (omega (arith, few))) in
+    let first : marks_of (accesses_of entries n b) ≡ [] =
+    turn-marks entries limit b (open_yet 0 (omega arith)) ∙ one.marks ∙ unmarked v.trace still in
+    record {
+      frames = rest.frames ∙ one.frames;
+      marks =
+          ap marks_of (accesses-add entries n (turns_steps entries (suc m) next) b)
+          ∙ marks-append (accesses_of entries n b) (accesses_of entries (turns_steps entries (suc m) next) (stepped entries n b))
+          ∙ ap (λ l. l ++ marks_of (accesses_of entries (turns_steps entries (suc m) next) (stepped entries n b))) first
+          ∙ rest.marks;
+    }
+
+-- each event adds one at most to the number of the frame or to that of its strokes
+record AreFew (frame last : FrameValue) (drawn : List Record) (marks : List ℕ) : Type 0 where
+  number : last.number ≤ frame.number + length marks
+  strokes : last.strokes ≤ frame.strokes + length drawn
+
+events-few : (frame : FrameValue) (strokes : List Record) (marks : List ℕ) → AreFew frame (under_way frame (by_clock strokes marks)) strokes marks
+unfolding by_clock under_way
+events-few frame strokes [] = record {
+  number = (let same = strokes-number frame strokes in omega arith);
+  strokes = strokes-most frame strokes;
+}
+events-few frame strokes (mark ∷ marks) =
+    let n = through mark strokes in
+    let first = take n strokes in
+    let later = drop n strokes in
+    let last = under_way frame (map stroke_of first) in
+    let same = strokes-number frame first in
+    let rest = events-few (begun (last.number + 1) mark) later marks in
+    let fewer = length-drop n strokes in
+    let number = rest.number in
+    let few = rest.strokes in
+    rw (under_way-append frame (map stroke_of first) (mark_at mark ∷ by_clock later marks)) (record { number = omega arith; strokes = omega arith })
+
+-- a run of which a first part led to a board: its strokes and marks, and those of the rest
+module _ (entries : List TapeEntry) (limit n : ℕ) (b : Board) (placed : IsPlaced b) (none : HasNoRecords b)
+    (open_yet : (k : ℕ) → k < n → is_over limit (turned entries k b) ≡ false) where
+  abbrev there : Board
+  there = turned entries n b
+
+  abbrev rest : Board
+  rest = to_boundary entries limit (cleared there)
+
+  abbrev made : List ℕ
+  made = marks_of (accesses_of entries (turns_steps entries n b) b)
+
+  there-clock : there.wires.clock ≡ b.wires.clock + turns_steps entries n b
+  there-clock = ap (λ (c : Board). c.wires.clock) (turned-steps entries n b) ∙ stepped-clock entries (turns_steps entries n b) b
+
+  whole : to_boundary entries limit b ≡ to_boundary entries limit there
+  whole = turns-go entries limit n b placed open_yet
+
+  -- the strokes
+  whole-strokes : (to_boundary entries limit b).wires.strokes ≡ there.wires.strokes ++ rest.wires.strokes
+  whole-strokes = ap (λ (c : Board). c.wires.strokes) (whole ∙ end-behind entries limit there)
+
+  -- the marks
+  whole-steps : boundary_steps entries limit b ≡ turns_steps entries n b + boundary_steps entries limit there
+  whole-steps =
+      let here = to_boundary-clock entries limit b in
+      let later = to_boundary-clock entries limit there in
+      let same : (to_boundary entries limit b).wires.clock ≡ (to_boundary entries limit there).wires.clock = ap (λ (c : Board). c.wires.clock) whole in
+      let clock = there-clock in
+      omega arith
+
+  whole-marks : run_marks entries limit b ≡ made ++ run_marks entries limit (cleared there)
+  unfolding run_marks
+  whole-marks =
+      let k = turns_steps entries n b in
+      let m = boundary_steps entries limit there in
+      ap (λ j. marks_of (accesses_of entries j b)) whole-steps
+      ∙ ap marks_of (accesses-add entries k m b)
+      ∙ marks-append (accesses_of entries k b) (accesses_of entries m (stepped entries k b))
+      ∙ ap (λ (c : Board). made ++ marks_of (accesses_of entries m c)) (sym (turned-steps entries n b))
+      ∙ ap (λ l. made ++ l) (sym (run_marks-cleared entries limit there))
+
+  whole-events : run_events entries limit b ≡ by_clock (there.wires.strokes ++ rest.wires.strokes) (made ++ run_marks entries limit (cleared there))
+  unfolding run_events
+  whole-events =
+      ap (λ l. by_clock l (run_marks entries limit b)) whole-strokes
+      ∙ ap (by_clock (there.wires.strokes ++ rest.wires.strokes)) whole-marks
+
+  -- what comes up to the board, and what comes from it on
+  strokes-sooner : All (λ s. clock_of s < there.wires.clock) there.wires.strokes
+  strokes-sooner =
+      let k = turns_steps entries n b in
+      let order = stepped-made entries b.wires.clock k b (made-none b none) in
+      subst (λ (c : Board). All (λ s. clock_of s < c.wires.clock) c.wires.strokes) (sym (turned-steps entries n b))
+      (strokes-before b.wires.clock (stepped entries k b).wires.clock (stepped entries k b).wires.strokes order.strokes)
+
+  strokes-later : All (λ s. there.wires.clock ≤ clock_of s) rest.wires.strokes
+  strokes-later =
+      let order = to_boundary-made entries there.wires.clock limit (cleared there) (made-none (cleared there) (cleared-none there)) in
+      strokes-from there.wires.clock rest.wires.clock rest.wires.strokes order.strokes
+
+  marks-sooner : All (λ mark. mark < there.wires.clock) made
+  marks-sooner =
+      let clock = there-clock in
+      All-weaker (λ mark. (b.wires.clock ≤ mark) × (mark < b.wires.clock + turns_steps entries n b)) (λ mark. mark < there.wires.clock)
+      (λ mark both. (let high = both.1 in omega arith)) made (marks-within entries (turns_steps entries n b) b)
+
+  marks-later : All (λ mark. there.wires.clock ≤ mark) (run_marks entries limit (cleared there))
+  unfolding run_marks
+  marks-later =
+      let m = boundary_steps entries limit (cleared there) in
+      All-weaker (λ mark. (there.wires.clock ≤ mark) × (mark < there.wires.clock + m)) (λ mark. there.wires.clock ≤ mark) (λ mark both. both.0)
+      (marks_of (accesses_of entries m (cleared there))) (marks-within entries m (cleared there))
+
+  pub part-before : IsBefore there.wires.strokes made rest.wires.strokes (run_marks entries limit (cleared there))
+  part-before = record {
+    marks =
+        All-weaker (λ mark. mark < there.wires.clock) (λ mark. All (λ stroke. mark < clock_of stroke) rest.wires.strokes)
+        (λ mark sooner. All-weaker (λ s. there.wires.clock ≤ clock_of s) (λ s. mark < clock_of s) (λ s later. omega (arith, sooner, later)) rest.wires.strokes strokes-later)
+        made marks-sooner;
+    strokes =
+        All-weaker (λ s. clock_of s < there.wires.clock) (λ s. All (λ mark. clock_of s ≤ mark) (run_marks entries limit (cleared there)))
+        (λ s sooner. All-weaker (λ mark. there.wires.clock ≤ mark) (λ mark. clock_of s ≤ mark) (λ mark later. omega (arith, sooner, later))
+        (run_marks entries limit (cleared there)) marks-later)
+        there.wires.strokes strokes-sooner;
+  }
+
+  strokes-there : length there.wires.strokes ≤ turns_steps entries n b
+  strokes-there =
+      let k = turns_steps entries n b in
+      let few = strokes-few entries k b in
+      let same : length there.wires.strokes ≡ length (stepped entries k b).wires.strokes = ap (λ (c : Board). length c.wires.strokes) (turned-steps entries n b) in
+      let nothing : length b.wires.strokes ≡ 0 = ap (λ (l : List Record). length l) none.strokes in
+      omega arith
+
+-- a frame in numbers that the clocks bound
+numbers-small : (w : Framer) (limit : ℕ) (b : Board) → CanFrame w limit b → HasNumbers w
+numbers-small w limit b may =
+    let clock = may.clock in let number = may.number in let strokes = may.strokes in record { number = omega arith; strokes = omega arith }
+
+-- to frame a first part of a run, and then the rest, is to frame the whole
+part-framed-so : (w : Framer) (entries : List TapeEntry) (limit part n : ℕ) (b : Board) → part ≤ limit → IsPlaced b → HasNoRecords b
+    → CanFrame w limit b → ((k : ℕ) → k < n → is_over part (turned entries k b) ≡ false)
+    → ((k : ℕ) → 1 ≤ k → k < n → keeps_marks (told framer_told entries k w b) ≡ false)
+    → IsFollowedInParts framer_told keeps_marks (λ f _ limit b. CanFrame f limit b) run_framed_text behind_run (λ f _. HasNumbers f) part_framed behind_part
+    w (told framer_told entries n w b) entries limit b (turned entries n b)
+unfolding run_events
+part-framed-so w entries limit part n b low placed none may open_part goes =
+    let v = told framer_told entries n w b in
+    let c = turned entries n b in
+    let last = to_boundary entries limit (cleared c) in
+    let made = marks_of (accesses_of entries (turns_steps entries n b) b) in
+    let fresh : has_marks w.trace ≡ false = ap has_marks may.trace in
+    let open_yet : (k : ℕ) → k < n → is_over limit (turned entries k b) ≡ false = λ k few. open-later part limit (turned entries k b) low (open_part k few) in
+    let kept = kept-turns entries part n w b fresh open_part goes in
+    let clock = there-clock entries limit n b placed none open_yet in
+    let stands = turned-low entries limit n b may.low placed open_yet (record { clock = may.clock; inside = may.inside }) in
+    let few = events-few w.frames c.wires.strokes made in
+    let fewer = marks-few entries (turns_steps entries n b) b in
+    let strokes = strokes-there entries limit n b placed none open_yet in
+    let numbers = numbers-small w limit b may in
+    let number = may.number in
+    let counted = may.strokes in
+    let more = few.number in
+    let drawn = few.strokes in
+    let events : by_clock c.wires.strokes (marks_in v.trace) ≡ by_clock c.wires.strokes made = ap (by_clock c.wires.strokes) (sym kept.marks) in
+    let behind : under_way v.frames (by_clock c.wires.strokes (marks_in v.trace)) ≡ under_way w.frames (by_clock c.wires.strokes made) =
+    ap (λ (f : FrameValue). under_way f (by_clock c.wires.strokes (marks_in v.trace))) kept.frames ∙ ap (under_way w.frames) events in
+    let lines : ended v.frames (by_clock c.wires.strokes (marks_in v.trace)) ≡ ended w.frames (by_clock c.wires.strokes made) =
+    ap (λ (f : FrameValue). ended f (by_clock c.wires.strokes (marks_in v.trace))) kept.frames ∙ ap (ended w.frames) events in
+    let all : run_events entries limit (cleared b)
+    ≡ by_clock (c.wires.strokes ++ last.wires.strokes) (made ++ run_marks entries limit (cleared c)) =
+    ap (run_events entries limit) (cleared-empty b none) ∙ whole-events entries limit n b placed none open_yet in
+    let parts = parts_make_the_whole w.frames c.wires.strokes made last.wires.strokes (run_marks entries limit (cleared c))
+    (part-before entries limit n b placed none open_yet) in
+    record {
+      room = record {
+        number = (let same : v.frames.number ≡ w.frames.number = ap (λ (f : FrameValue). f.number) kept.frames in let small = numbers.number in omega arith);
+        strokes = (let same : v.frames.strokes ≡ w.frames.strokes = ap (λ (f : FrameValue). f.strokes) kept.frames in let small = numbers.strokes in omega arith);
+      };
+      rest = record {
+        trace = refl;
+        low = may.low;
+        clock = stands.clock;
+        inside = stands.inside;
+        number = (let same = ap (λ (f : FrameValue). f.number) behind in omega arith);
+        strokes = (let same = ap (λ (f : FrameValue). f.strokes) behind in omega arith);
+      };
+      text =
+          ap (λ l. frames_text (ended w.frames l)) all
+          ∙ parts.text
+          ∙ ap (λ l. frames_text l ++ frames_text (ended (under_way w.frames (by_clock c.wires.strokes made)) (run_events entries limit (cleared c)))) (sym lines)
+          ∙ ap (λ (f : FrameValue). frames_text (ended v.frames (by_clock c.wires.strokes (marks_in v.trace))) ++ frames_text (ended f (run_events entries limit (cleared c)))) (sym behind);
+      state =
+          ap (λ l. let f : Framer = record w { frames = under_way w.frames l } in f) all
+          ∙ ap (λ (g : FrameValue). let f : Framer = record w { frames = g } in f) parts.frame
+          ∙ ap (λ (g : FrameValue). let f : Framer = record w { frames = under_way g (run_events entries limit (cleared c)) } in f) (sym behind)
+          ∙ ap (λ (t : TraceValue). let f : Framer = record {
+            frames = under_way (under_way v.frames (by_clock c.wires.strokes (marks_in v.trace))) (run_events entries limit (cleared c));
+            trace = t;
+          } in f) may.trace;
+    }
+
+pub framed_in_parts : FollowsInParts framer_told keeps_marks (λ f _ limit b. CanFrame f limit b) run_framed_text behind_run (λ f _. HasNumbers f) part_framed behind_part
+framed_in_parts w v entries limit part b c low placed none may run =
+    subst (λ (f : Framer). IsFollowedInParts framer_told keeps_marks (λ f _ limit b. CanFrame f limit b) run_framed_text behind_run (λ f _. HasNumbers f) part_framed behind_part
+    w f entries limit b c) (sym run.tracer)
+    (subst (λ (d : Board). IsFollowedInParts framer_told keeps_marks (λ f _ limit b. CanFrame f limit b) run_framed_text behind_run (λ f _. HasNumbers f) part_framed behind_part
+    w (told framer_told entries run.count w b) entries limit b d) (sym run.board)
+    (part-framed-so w entries limit part run.count b low placed none may run.over run.goes_on))
+
+-- a run that is over has no events
+over-events : (entries : List TapeEntry) (limit : ℕ) (b : Board) → is_over limit b ≡ true → run_events entries limit (cleared b) ≡ []
+unfolding run_events run_marks accesses_of marks_of by_clock
+over-events entries limit b over =
+    let here : to_boundary entries limit (cleared b) ≡ cleared b = to_boundary-none entries limit (cleared b) over in
+    let steps : boundary_steps entries limit (cleared b) ≡ 0 = steps-none entries (is_over limit) ((limit - b.wires.clock) + 6) (cleared b) over in
+    ap (λ (c : Board). by_clock c.wires.strokes (run_marks entries limit (cleared b))) here
+    ∙ ap (λ n. by_clock [] (marks_of (accesses_of entries n (cleared b)))) steps
+
+pub framed_still : StandsStill run_framed_text behind_run
+unfolding ended under_way frames_text
+framed_still w entries limit b over =
+    let none = over-events entries limit b over in
+    record {
+      text = ap (λ l. frames_text (ended w.frames l)) none;
+      state = ap (λ l. let f : Framer = record w { frames = under_way w.frames l } in f) none;
+    }

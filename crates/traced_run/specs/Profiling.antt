@@ -1,0 +1,17 @@
+-- A profile as a follower of a run. This project's own.
+use Rattle.std.specs.Prelude.{ℕ, List}
+use Rattle.tape_ports.specs.declared.entry.TapeEntry.{TapeEntry}
+use Rattle.catchup_engine.specs.Lockstep.{Board}
+use Rattle.catchup_engine.specs.Trace.{TraceValue}
+use Rattle.catchup_engine.specs.Traced.{told}
+use Rattle.cycle_profile.specs.Profile.{after}
+use Rattle.traced_run.specs.declared.profiling.Profiler.{Profiler}
+use Rattle.traced_run.specs.BoardProfile.{run_turns}
+
+-- a profiler that is told of a turn
+abbrev pub profiler_told : Profiler → TraceValue → ℕ → Profiler
+profiler_told p trace pc = record { profile = after p.profile trace pc }
+
+-- and of all turns of a run
+abbrev pub behind_run : Profiler → List TapeEntry → ℕ → Board → Profiler
+behind_run p entries limit b = record { profile = told after entries (run_turns entries limit b) p.profile b }

@@ -1,0 +1,10 @@
+//! Runs told turn by turn: by frames of what was drawn, and by routines of what took the clocks.
+#![tactic(auto)]
+
+mod framing;
+mod laws;
+mod profiling;
+
+pub use framing::run_framed;
+pub use laws::{all_clocks_are_told, all_strokes_are_told};
+pub use profiling::run_profiled;
