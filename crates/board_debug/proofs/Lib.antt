@@ -1,3 +1,4 @@
+mod BoardsLaws
 pub mod ListingLaws
 pub mod SessionLaws
 pub mod TextLaws

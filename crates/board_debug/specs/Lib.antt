@@ -1,4 +1,5 @@
 pub mod BoardText
+pub mod BoardsText
 pub mod Debugged
 pub mod Looks
 pub mod Session

@@ -1,10 +1,13 @@
-//! The debugger: the text of a board, and sessions of a script's commands over a board that runs.
+//! The debugger: the text of a board, the texts of boards sought along a run, and sessions of a
+//! script's commands over a board that runs.
 #![tactic(auto)]
 
 mod board_text;
+mod boards;
 mod device_lines;
 pub mod fault;
 pub mod found;
+pub mod laws;
 mod listings;
 mod looks;
 mod processor_lines;
@@ -15,8 +18,10 @@ mod turns;
 mod write_lines;
 
 pub use board_text::write_board;
+pub use boards::{SEEK_STRIDE, write_boards};
 pub use fault::DebugFault;
 pub use found::Found;
+pub use laws::seek_numbers;
 pub use script::run_script;
 
 #[cfg(test)]

@@ -1,0 +1,18 @@
+use Rattle.std.proofs.Common.{◌≡◌, drop}
+use Rattle.catchup_engine.specs.EngineValue.{HasNoRecords}
+use Rattle.keyframes.specs.Seeking.{Along, run_start}
+use Rattle.board_debug.specs.BoardsText.{boards_text}
+use Rattle.board_debug.proofs.ListingLaws.{TakenUpTo}
+use Rattle.board_debug.proofs.boards.write_boards.Given as goal
+
+-- the texts so far were taken, and the engine can seek along the same run
+abbrev pub invariant-loop-clock : goal.invariant-loop-clock
+invariant-loop-clock g l = record {
+  text : TakenUpTo (boards_text l.fn.tape.entries l.fn.clocks (run_start l.fn.keys.kept l.fn.engine.board))
+      (boards_text l.fn.tape.entries (drop l.clock-index l.fn.clocks) (run_start l.fn.keys.kept l.fn.engine.board)) (g.O.Sink.taken l.fn.out) (g.O.Sink.taken l.out);
+  faults : g.O.Sink.faults l.out ≡ g.O.Sink.faults l.fn.out;
+  settled : l.engine.lagging ≡ 0;
+  empty : HasNoRecords l.engine.board;
+  same : run_start l.keys.kept l.engine.board ≡ run_start l.fn.keys.kept l.fn.engine.board;
+  along : Along l.keys.kept l.fn.tape.entries (run_start l.keys.kept l.engine.board);
+}
