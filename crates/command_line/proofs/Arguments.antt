@@ -2,7 +2,7 @@
 use Rattle.std.proofs.Common.{◌≡◌, ℕ, ◌+◌, ◌≤◌, ◌<◌, ◌⊎◌, inl, inr, None, Bool, true, false, not, cond, List, [], ◌∷◌, length, map, take, drop, refl, sym, ap, ◌∙◌, arith}
 use Rattle.std.specs.List.{prefix_len, take_while}
 use Rattle.std.proofs.lemmas.List.{drop-map, length-map, length-take, take-map}
-use Rattle.command_line.specs.declared.verb.Verb.TheVariants.{Debug, Pcm}
+use Rattle.command_line.specs.declared.verb.Verb.TheVariants.{Debug, Pcm, Seek}
 use Rattle.command_line.specs.CommandLine.{arguments_of, built, options_after}
 use Rattle.command_line.specs.SettingsValue.{SettingsValue}
 use Rattle.command_line.specs.Words.{is_dashed}
@@ -53,3 +53,12 @@ not_three-pcm (a ∷ b ∷ []) said other = refl
 not_three-pcm (a ∷ b ∷ c ∷ []) said (inl few) = absurd (omega arith)
 not_three-pcm (a ∷ b ∷ c ∷ []) said (inr many) = absurd (omega arith)
 not_three-pcm (a ∷ b ∷ c ∷ d ∷ more) said other = refl
+
+-- and a seek
+pub not_three-seek : (words : List (List ℕ)) (said : SettingsValue) → (length words < 3) ⊎ (4 ≤ length words) → None ≡ built Seek words said
+not_three-seek [] said other = refl
+not_three-seek (a ∷ []) said other = refl
+not_three-seek (a ∷ b ∷ []) said other = refl
+not_three-seek (a ∷ b ∷ c ∷ []) said (inl few) = absurd (omega arith)
+not_three-seek (a ∷ b ∷ c ∷ []) said (inr many) = absurd (omega arith)
+not_three-seek (a ∷ b ∷ c ∷ d ∷ more) said other = refl

@@ -1,10 +1,11 @@
 -- The numbers of a command that is read are clocks.
-use Rattle.std.proofs.Common.{◌≡◌, ℕ, ◌≤◌, ◌==◌, Bool, true, false, cond, leb, List, [], ◌∷◌, length, Option, Some, None, refl, subst, arith}
+use Rattle.std.proofs.Common.{◌≡◌, ℕ, suc, ◌≤◌, ◌==◌, Bool, true, false, cond, leb, List, [], ◌∷◌, length, Option, Some, None, ◌&&◌, refl, ap, subst, arith}
 use Rattle.std.specs.List.{All, AllPairs, slice_split}
 use Rattle.std.specs.Option.{option_and_then, option_map}
 use Rattle.std.proofs.lemmas.Bool.{leb-true}
 use Rattle.std.proofs.lemmas.List.Elements.{All-cons, All-nil, All-weaker}
 use Rattle.std.proofs.lemmas.List.Kept.{AllPairs-cons}
+use Rattle.std.proofs.lemmas.List.Splits.{length-slice_split}
 use Rattle.std.proofs.lemmas.Option.{cond_some, option_and_then_some, same_Some}
 use Rattle.board_base.specs.declared.board.TheConstants.{CLOCK_LIMIT}
 use Rattle.command_line.specs.declared.option.Opt.{Opt}
@@ -12,8 +13,8 @@ use Rattle.command_line.specs.declared.option.Opt.TheVariants.{State, Earom, Unt
 use Rattle.command_line.specs.declared.verb.Verb.{Verb}
 use Rattle.command_line.specs.declared.number.TheConstants.{CUTS}
 use Rattle.plain_text.specs.Numbers.{decimal_of}
-use Rattle.command_line.specs.Clocks.{AreClocks}
-use Rattle.command_line.specs.Numbers.{cuts_of, number_of, rising_from}
+use Rattle.command_line.specs.Clocks.{AreClocks, AreListed}
+use Rattle.command_line.specs.Numbers.{clocks_of, cuts_of, number_of, numbers_of, rises_from}
 use Rattle.command_line.specs.Settings.{first_value, no_settings, settings_from, settings_of, with_flag, with_value}
 use Rattle.command_line.specs.SettingsValue.{SettingsValue}
 use Rattle.command_line.specs.Words.{name_of, option_of, takes_value}
@@ -42,38 +43,67 @@ number_within word number is =
     let parts = cond_some (leb n CLOCK_LIMIT) n number rest in
     omega (arith, leb-true n CLOCK_LIMIT parts.0, parts.1))
 
+-- numbers that are read are within the limit, and as many as their words
+numbers_within : (words : List (List ℕ)) (numbers : List ℕ) → numbers_of words ≡ Some numbers → All (λ n. n ≤ CLOCK_LIMIT) numbers × (length numbers ≡ length words)
+unfolding numbers_of
+numbers_within [] numbers is =
+    subst (λ all. All (λ n. n ≤ CLOCK_LIMIT) all × (length all ≡ 0)) (same_Some [] numbers is) (All-nil (λ n. n ≤ CLOCK_LIMIT), refl)
+numbers_within (word ∷ words) numbers is =
+    option_and_then_some (λ number. option_map (λ more. number ∷ more) (numbers_of words)) (number_of word) numbers is
+    (λ number read rest.
+    let more = map_some (λ more. number ∷ more) (numbers_of words) numbers rest in
+    let after = numbers_within words more.0 more.1 in
+    subst (λ all. All (λ n. n ≤ CLOCK_LIMIT) all × (length all ≡ length (word ∷ words))) more.2
+    (All-cons (λ n. n ≤ CLOCK_LIMIT) number more.0 (number_within word number read) after.0, ap suc after.1))
+
+-- what holds of a list of clocks
+pub clocks_are_listed : (word : List ℕ) (clocks : List ℕ) → clocks_of word ≡ Some clocks → AreListed clocks
+clocks_are_listed word clocks is =
+    option_and_then_some (λ some. cond (leb (length some) CUTS) (Some some) None) (numbers_of (slice_split (λ byte. byte == 44) word)) clocks is
+    (λ some read rest.
+    let fits = cond_some (leb (length some) CUTS) some clocks rest in
+    let within = numbers_within (slice_split (λ byte. byte == 44) word) some read in
+    subst AreListed fits.1
+    (record {
+      some = omega (arith, within.1, length-slice_split (λ byte. byte == 44) word);
+      few = leb-true (length some) CUTS fits.0;
+      within = within.0;
+    }))
+
 -- what holds of numbers that rise from one on
 record Rising (least : ℕ) (numbers : List ℕ) : Type 0 where
-  within : All (λ n. n ≤ CLOCK_LIMIT) numbers
   above : All (λ n. least ≤ n) numbers
   rising : AllPairs (λ earlier later. earlier ≤ later) numbers
 
-rising_nil : (least : ℕ) → Rising least []
-rising_nil least = record { within = All-nil (λ n. n ≤ CLOCK_LIMIT); above = All-nil (λ n. least ≤ n); rising = λ i j d below inside. absurd (omega arith) }
+and_true : (a b : Bool) → (a && b) ≡ true → (a ≡ true) × (b ≡ true)
+and_true true b is = (refl, is)
+and_true false b is = cc
 
-rising_cons : (least number : ℕ) (numbers : List ℕ) → number ≤ CLOCK_LIMIT → least ≤ number → Rising number numbers → Rising least (number ∷ numbers)
-rising_cons least number numbers fits above rest = record {
-  within = All-cons (λ n. n ≤ CLOCK_LIMIT) number numbers fits rest.within;
-  above = All-cons (λ n. least ≤ n) number numbers above (All-weaker (λ n. number ≤ n) (λ n. least ≤ n) (λ n more. omega arith) numbers rest.above);
-  rising = AllPairs-cons (λ earlier later. earlier ≤ later) number numbers rest.above rest.rising;
-}
+rising_is : (least : ℕ) (numbers : List ℕ) → rises_from least numbers ≡ true → Rising least numbers
+unfolding rises_from
+rising_is least [] is = record { above = All-nil (λ n. least ≤ n); rising = λ i j d below inside. absurd (omega arith) }
+rising_is least (number ∷ numbers) is =
+    let parts = and_true (leb least number) (rises_from number numbers) is in
+    let first : least ≤ number = leb-true least number parts.0 in
+    let rest = rising_is number numbers parts.1 in
+    record {
+      above = All-cons (λ n. least ≤ n) number numbers first (All-weaker (λ n. number ≤ n) (λ n. least ≤ n) (λ n more. omega arith) numbers rest.above);
+      rising = AllPairs-cons (λ earlier later. earlier ≤ later) number numbers rest.above rest.rising;
+    }
 
-rising_is : (least : ℕ) (words : List (List ℕ)) (numbers : List ℕ) → rising_from least words ≡ Some numbers → Rising least numbers
-unfolding rising_from
-rising_is least [] numbers is = subst (Rising least) (same_Some [] numbers is) (rising_nil least)
-rising_is least (word ∷ words) numbers is =
-    option_and_then_some (λ number. cond (leb least number) (option_map (λ more. number ∷ more) (rising_from number words)) None) (number_of word) numbers is
-    (λ number read rest.
-    let parts = where_some (leb least number) (option_map (λ more. number ∷ more) (rising_from number words)) numbers rest in
-    let more = map_some (λ more. number ∷ more) (rising_from number words) numbers parts.1 in
-    subst (Rising least) more.2
-    (rising_cons least number more.0 (number_within word number read) (leb-true least number parts.0) (rising_is number words more.0 more.1)))
+-- what holds of cuts
+record AreCuts (cuts : List ℕ) : Type 0 where
+  within : All (λ n. n ≤ CLOCK_LIMIT) cuts
+  rising : AllPairs (λ earlier later. earlier ≤ later) cuts
 
-cuts_are : (word : List ℕ) (cuts : List ℕ) → cuts_of word ≡ Some cuts → Rising 0 cuts
+cuts_are : (word : List ℕ) (cuts : List ℕ) → cuts_of word ≡ Some cuts → AreCuts cuts
 cuts_are word cuts is =
-    option_and_then_some (λ some. cond (leb (length some) CUTS) (Some some) None) (rising_from 0 (slice_split (λ byte. byte == 44) word)) cuts is
+    option_and_then_some (λ some. cond (rises_from 0 some) (Some some) None) (clocks_of word) cuts is
     (λ some read rest.
-    subst (Rising 0) (cond_some (leb (length some) CUTS) some cuts rest).1 (rising_is 0 (slice_split (λ byte. byte == 44) word) some read))
+    let rises = cond_some (rises_from 0 some) some cuts rest in
+    let listed = clocks_are_listed word some read in
+    let rising = rising_is 0 some rises.0 in
+    subst AreCuts rises.1 (record { within = listed.within; rising = rising.rising }))
 
 -- one value more
 value_keeps : (option : Opt) (word : List ℕ) (said more : SettingsValue) → AreClocks said → with_value option word said ≡ Some more → AreClocks more

@@ -1,4 +1,4 @@
 pub mod Arguments
 pub mod ClockLaws
+pub mod Listed
 pub mod ReadOptions
-pub mod Rising

@@ -24,8 +24,13 @@ pub record PcmValue : Type 0 where
   pub run : RunValue
   pub per : ℕ
 
--- a run, two sources to assemble, a debugger's session, the name of the state to show, the number of a workload, or a run whose samples are
--- asked for
+-- the clocks to seek in a run, as they are listed
+pub record SeekValue : Type 0 where
+  pub run : RunValue
+  pub clocks : List ℕ
+
+-- a run, two sources to assemble, a debugger's session, the name of the state to show, the number of a workload, a run whose samples are
+-- asked for, one whose frames are, one in which clocks are sought, or one whose profile is asked for
 pub data CommandValue : Type 0 where
   run_of : RunValue → CommandValue
   asm_of : AsmValue → CommandValue
@@ -33,3 +38,6 @@ pub data CommandValue : Type 0 where
   show_of : List ℕ → CommandValue
   soak_of : ℕ → CommandValue
   pcm_of : PcmValue → CommandValue
+  frames_of : RunValue → CommandValue
+  seek_of : SeekValue → CommandValue
+  profile_of : RunValue → CommandValue

@@ -5,7 +5,7 @@ use Rattle.command_line.specs.declared.option.Opt.{Opt}
 use Rattle.command_line.specs.declared.option.Opt.TheVariants.{State, Earom, Until, Cuts, Save, Cost, Timers}
 use Rattle.command_line.specs.declared.option.TheConstants.{ASM_OPTIONS, DEBUG_OPTIONS, LOOK_OPTIONS, RUN_OPTIONS, SHOW_OPTIONS, SOAK_OPTIONS}
 use Rattle.command_line.specs.declared.verb.Verb.{Verb}
-use Rattle.command_line.specs.declared.verb.Verb.TheVariants.{Run, Asm, Debug, Show, Soak, Pcm}
+use Rattle.command_line.specs.declared.verb.Verb.TheVariants.{Run, Asm, Debug, Show, Soak, Pcm, Frames, Seek, Profile}
 use Rattle.command_line.specs.declared.verb.TheConstants.{VERBS}
 
 -- the word of a command
@@ -16,6 +16,9 @@ verb_word Debug = codes "debug"
 verb_word Show = codes "show"
 verb_word Soak = codes "soak"
 verb_word Pcm = codes "pcm"
+verb_word Frames = codes "frames"
+verb_word Seek = codes "seek"
+verb_word Profile = codes "profile"
 
 -- the options that a command takes
 abbrev pub options_of : Verb → List Opt
@@ -25,6 +28,9 @@ options_of Debug = DEBUG_OPTIONS
 options_of Show = SHOW_OPTIONS
 options_of Soak = SOAK_OPTIONS
 options_of Pcm = LOOK_OPTIONS
+options_of Frames = LOOK_OPTIONS
+options_of Seek = LOOK_OPTIONS
+options_of Profile = LOOK_OPTIONS
 
 -- the word of an option
 abbrev pub option_word : Opt → List ℕ

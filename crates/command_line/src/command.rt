@@ -1,12 +1,12 @@
 ghost use Rattle.std.specs.Prelude.{◌≡◌, length, map, not, string_bytes, take_while};
 ghost use Rattle.std.specs.Option.{option_map, IfSome};
 ghost use Rattle.command_line.specs.Clocks.{AreClocks, HasClocks};
-ghost use Rattle.command_line.specs.CommandLine.{arguments_of, built, command_of, options_after};
+ghost use Rattle.command_line.specs.CommandLine.{arguments_of, built, command_of, options_after, run_words};
 ghost use Rattle.command_line.specs.CommandWords.{command_value};
 ghost use Rattle.command_line.specs.Settings.{settings_of};
 ghost use Rattle.command_line.specs.Words.{is_dashed};
 
-use crate::number::{read_number, read_per};
+use crate::number::{Cuts, read_clocks, read_number, read_per};
 use crate::option::Opt;
 use crate::settings::Settings;
 use crate::verb::Verb;
@@ -27,6 +27,21 @@ impl<'a> Model for RunWords<'a> {
     ghost Value = { RunValue };
 
     ghost view = { λ r. record { image = r.image.now; tape = r.tape.now; settings = r.settings } };
+}
+
+impl<'a> RunWords<'a> {
+    /// A run of two files, where both words are names.
+    fn of(image: &'a str, tape: &'a str, settings: Settings<'a>) -> Option<RunWords<'a>>
+        requires { AreClocks settings }
+        ensures words { result ≡ run_words image.now tape.now settings.entry }
+        ensures clocks { IfSome result (λ run. AreClocks run.settings) }
+    {
+        Some(RunWords {
+            image: read_name(image)?,
+            tape: read_name(tape)?,
+            settings,
+        })
+    }
 }
 
 /// The words of an assembly: two sources, and where the image is stored.
@@ -81,6 +96,26 @@ impl<'a> Model for PcmWords<'a> {
     ghost invariant = { λ w. (1 ≤ w.per) × (w.per ≤ PER_LIMIT) };
 }
 
+/// The words of a seek: those of a run, whose options are fewer, and the clocks to seek, in any order:
+/// 1 to `CUTS` of them, each at most `CLOCK_LIMIT`.
+#[derive(Drop)]
+pub struct SeekWords<'a> {
+    pub run: RunWords<'a>,
+    pub clocks: Cuts,
+}
+
+impl<'a> Model for SeekWords<'a> {
+    ghost use Rattle.command_line.specs.CommandValue.{SeekValue};
+
+    ghost Value = { SeekValue };
+
+    ghost use Rattle.command_line.specs.Clocks.{AreListed};
+
+    ghost view = { λ w. record { run = w.run; clocks = w.clocks.items } };
+
+    ghost invariant = { λ w. AreListed w.clocks.items };
+}
+
 /// A command.
 #[derive(Drop)]
 pub enum Command<'a> {
@@ -96,6 +131,12 @@ pub enum Command<'a> {
     Soak(u64),
     /// Writes the samples of a run.
     Pcm(PcmWords<'a>),
+    /// Writes the frames of a run, whose options are those of a run that stores nothing.
+    Frames(RunWords<'a>),
+    /// Seeks clocks in a run, with the same options.
+    Seek(SeekWords<'a>),
+    /// Writes the profile of a run, with the same options.
+    Profile(RunWords<'a>),
 }
 
 /// The number of the words before the first that begins with two dashes.
@@ -152,11 +193,7 @@ fn read_run<'a>(arguments: &'a [String], settings: Settings<'a>) -> Option<Comma
     let [image, tape] = arguments else {
         return None;
     };
-    Some(Command::Run(RunWords {
-        image: read_name(image.as_str())?,
-        tape: read_name(tape.as_str())?,
-        settings,
-    }))
+    Some(Command::Run(RunWords::of(image.as_str(), tape.as_str(), settings)?))
 }
 
 /// Two sources to assemble and a name for their image, of the arguments.
@@ -184,11 +221,7 @@ fn read_debug<'a>(arguments: &'a [String], settings: Settings<'a>) -> Option<Com
         return None;
     };
     Some(Command::Debug(DebugWords {
-        run: RunWords {
-            image: read_name(image.as_str())?,
-            tape: read_name(tape.as_str())?,
-            settings,
-        },
+        run: RunWords::of(image.as_str(), tape.as_str(), settings)?,
         script: read_name(script.as_str())?,
     }))
 }
@@ -225,13 +258,48 @@ fn read_pcm<'a>(arguments: &'a [String], settings: Settings<'a>) -> Option<Comma
         return None;
     };
     Some(Command::Pcm(PcmWords {
-        run: RunWords {
-            image: read_name(image.as_str())?,
-            tape: read_name(tape.as_str())?,
-            settings,
-        },
+        run: RunWords::of(image.as_str(), tape.as_str(), settings)?,
         per: read_per(per.as_bytes())?,
     }))
+}
+
+/// A run whose frames are asked for, with its arguments.
+fn read_frames<'a>(arguments: &'a [String], settings: Settings<'a>) -> Option<Command<'a>>
+    requires { AreClocks settings }
+    ensures command { option_map command_value result ≡ built Verb.Frames (map string_bytes arguments.now) settings.entry }
+    ensures clocks { IfSome result (λ command. HasClocks (command_value command)) }
+{
+    let [image, tape] = arguments else {
+        return None;
+    };
+    Some(Command::Frames(RunWords::of(image.as_str(), tape.as_str(), settings)?))
+}
+
+/// The clocks to seek in a run, with its arguments.
+fn read_seek<'a>(arguments: &'a [String], settings: Settings<'a>) -> Option<Command<'a>>
+    requires { AreClocks settings }
+    ensures command { option_map command_value result ≡ built Verb.Seek (map string_bytes arguments.now) settings.entry }
+    ensures clocks { IfSome result (λ command. HasClocks (command_value command)) }
+{
+    let [image, tape, clocks] = arguments else {
+        return None;
+    };
+    Some(Command::Seek(SeekWords {
+        run: RunWords::of(image.as_str(), tape.as_str(), settings)?,
+        clocks: read_clocks(clocks.as_str())?,
+    }))
+}
+
+/// A run whose profile is asked for, with its arguments.
+fn read_profile<'a>(arguments: &'a [String], settings: Settings<'a>) -> Option<Command<'a>>
+    requires { AreClocks settings }
+    ensures command { option_map command_value result ≡ built Verb.Profile (map string_bytes arguments.now) settings.entry }
+    ensures clocks { IfSome result (λ command. HasClocks (command_value command)) }
+{
+    let [image, tape] = arguments else {
+        return None;
+    };
+    Some(Command::Profile(RunWords::of(image.as_str(), tape.as_str(), settings)?))
 }
 
 /// The command of the words of a command line, without the program's name.
@@ -252,5 +320,8 @@ pub fn read_command<'a>(words: &'a [String]) -> Option<Command<'a>>
         Verb::Show => read_show(arguments, &settings),
         Verb::Soak => read_soak(arguments, &settings),
         Verb::Pcm => read_pcm(arguments, settings),
+        Verb::Frames => read_frames(arguments, settings),
+        Verb::Seek => read_seek(arguments, settings),
+        Verb::Profile => read_profile(arguments, settings),
     }
 }

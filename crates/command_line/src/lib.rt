@@ -9,9 +9,9 @@ pub mod settings;
 pub mod verb;
 mod word;
 
-pub use command::{AsmWords, Command, DebugWords, PcmWords, RunWords, read_command};
+pub use command::{AsmWords, Command, DebugWords, PcmWords, RunWords, SeekWords, read_command};
 pub use laws::{command_limits, command_words};
-pub use number::{CUTS, Cuts, PER_LIMIT, read_cuts, read_number, read_per};
+pub use number::{CUTS, Cuts, PER_LIMIT, read_clocks, read_cuts, read_number, read_per};
 pub use option::Opt;
 pub use settings::Settings;
 pub use verb::{VERBS, Verb};

@@ -20,16 +20,25 @@ pub enum Verb {
     Soak,
     /// Writes the samples of a run.
     Pcm,
+    /// Writes the frames of a run.
+    Frames,
+    /// Seeks clocks in a run.
+    Seek,
+    /// Writes the profile of a run.
+    Profile,
 }
 
 /// Each command.
-pub const VERBS: [Verb; 6] = [
+pub const VERBS: [Verb; 9] = [
     Verb::Run,
     Verb::Asm,
     Verb::Debug,
     Verb::Show,
     Verb::Soak,
     Verb::Pcm,
+    Verb::Frames,
+    Verb::Seek,
+    Verb::Profile,
 ];
 
 impl Verb {
@@ -44,6 +53,9 @@ impl Verb {
             Verb::Show => "show",
             Verb::Soak => "soak",
             Verb::Pcm => "pcm",
+            Verb::Frames => "frames",
+            Verb::Seek => "seek",
+            Verb::Profile => "profile",
         }
     }
 
@@ -58,6 +70,9 @@ impl Verb {
             Verb::Show => &SHOW_OPTIONS,
             Verb::Soak => &SOAK_OPTIONS,
             Verb::Pcm => &LOOK_OPTIONS,
+            Verb::Frames => &LOOK_OPTIONS,
+            Verb::Seek => &LOOK_OPTIONS,
+            Verb::Profile => &LOOK_OPTIONS,
         }
     }
 

@@ -5,7 +5,7 @@ use Rattle.board_base.specs.Board.{BoardValue, board_at_power_on}
 use Rattle.board_base.specs.Cpu.{CpuValue}
 use Rattle.save_state.specs.declared.fault.StateFault.{StateFault}
 use Rattle.command_line.specs.CommandLine.{command_of}
-use Rattle.command_line.specs.CommandValue.{AsmValue, CommandValue, DebugValue, RunValue, asm_of, debug_of, pcm_of, run_of, show_of, soak_of}
+use Rattle.command_line.specs.CommandValue.{AsmValue, CommandValue, DebugValue, RunValue, asm_of, debug_of, frames_of, pcm_of, profile_of, run_of, seek_of, show_of, soak_of}
 use Rattle.command_line.specs.SettingsValue.{SettingsValue}
 use Rattle.outside_io.specs.Causes.{HasCause}
 use Rattle.outside_io.specs.Known.{grown}
@@ -77,6 +77,9 @@ comes-map first second (Some (debug_of debug)) told so comes = comes-over first 
 comes-map first second (Some (show_of name)) told so comes = comes-over first second (show_of name) told so comes
 comes-map first second (Some (soak_of seed)) told so comes = so (soak_outcome seed) comes
 comes-map first second (Some (pcm_of pcm)) told so comes = comes-over first second (pcm_of pcm) told so comes
+comes-map first second (Some (frames_of run)) told so comes = comes-over first second (frames_of run) told so comes
+comes-map first second (Some (seek_of seek)) told so comes = comes-over first second (seek_of seek) told so comes
+comes-map first second (Some (profile_of run)) told so comes = comes-over first second (profile_of run) told so comes
 
 -- of words that are those of this command
 of-command : (first second : Outcome → Type 0) (words : List (List ℕ)) (command : CommandValue) (told : Option Files) → Some command ≡ command_of words

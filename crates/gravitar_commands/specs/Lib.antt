@@ -3,3 +3,4 @@ pub mod Endings
 pub mod Outcome
 pub mod Sources
 pub mod Stages
+pub mod Telling

@@ -7,6 +7,7 @@ use Rattle.rom_image.specs.declared.fault.ImageFault.TheVariants.{Length}
 use Rattle.tape_ports.specs.declared.tape.TheConstants.{TAPE_LIMIT}
 use Rattle.tape_ports.specs.declared.fault.LineCause.{LineCause}
 use Rattle.tape_ports.specs.declared.fault.TapeFault.TheVariants.{TooLong, BadLine}
+use Rattle.tape_ports.specs.declared.entry.TapeEntry.{TapeEntry}
 use Rattle.tape_ports.specs.Tape.{TapeValue}
 use Rattle.tape_ports.specs.Grammar.{tape_of}
 use Rattle.save_state.specs.declared.TheConstants.{STATE_LEN}
@@ -22,10 +23,9 @@ use Rattle.debug_script.specs.declared.script.TheConstants.{SCRIPT_LIMIT}
 use Rattle.debug_script.specs.Script.{script_of}
 use Rattle.debug_script.specs.Stops.{no_stops}
 use Rattle.command_line.specs.CommandLine.{command_of}
-use Rattle.command_line.specs.CommandValue.{AsmValue, CommandValue, DebugValue, RunValue, asm_of, debug_of, pcm_of, run_of, show_of, soak_of}
+use Rattle.command_line.specs.CommandValue.{AsmValue, CommandValue, DebugValue, RunValue, asm_of, debug_of, frames_of, pcm_of, profile_of, run_of, seek_of, show_of, soak_of}
 use Rattle.command_line.specs.SettingsValue.{SettingsValue}
 use Rattle.outside_io.specs.Shelf.{Files}
-use Rattle.sampled_run.specs.BoardSamples.{sampled_bytes}
 use Rattle.soak_run.specs.SoakText.{run_text}
 use Rattle.workload_gen.specs.Roms.{image_of}
 use Rattle.workload_gen.specs.Tape as workload
@@ -37,11 +37,13 @@ use Rattle.gravitar_commands.specs.declared.assembled.Language.TheVariants.{Proc
 use Rattle.gravitar_commands.specs.declared.parts.Parts.{Parts}
 use Rattle.gravitar_commands.specs.declared.cause.Cause.{Cause}
 use Rattle.gravitar_commands.specs.declared.cause.Cause.TheVariants.{Absent, Image, Tape, State, Cells, Script}
+use Rattle.gravitar_commands.specs.declared.telling.Telling.TheVariants.{Samples, Frames, Profile}
 use Rattle.gravitar_commands.specs.Causes.{cause_text}
 use Rattle.sliced_run.specs.Events.{Event, sending}
 use Rattle.gravitar_commands.specs.Endings.{ending_by, status_of_ending}
 use Rattle.sliced_run.specs.Slices.{FitsCalls, Wanted, last_board, run_events, storing}
 use Rattle.gravitar_commands.specs.Sources.{assembled_in, both_listings, source_read}
+use Rattle.gravitar_commands.specs.Telling.{sought_text, telling_text}
 
 pub record Outcome : Type 0 where
   pub status : ℕ
@@ -54,7 +56,7 @@ refused status note = record { status = status; note = note; events = [] }
 
 -- the notes of the statuses
 abbrev pub usage_text : List ℕ
-usage_text = codes "gravitar: usage: run IMAGE TAPE, asm CPUSRC VGSRC OUT, debug IMAGE TAPE SCRIPT, show STATE, soak SEED, pcm IMAGE TAPE N\n"
+usage_text = codes "gravitar: usage: run IMAGE TAPE, asm CPUSRC VGSRC OUT, debug IMAGE TAPE SCRIPT, show STATE, soak SEED, pcm IMAGE TAPE N, frames IMAGE TAPE, seek IMAGE TAPE N,N,.., profile IMAGE TAPE\n"
 
 abbrev pub outside_text : List ℕ
 outside_text = codes "gravitar: outside fault\n"
@@ -215,14 +217,14 @@ soak_outcome seed =
     let parts = workload_of seed in
     record { status = 0; note = []; events = sending (run_text parts.tape.entries parts.tape.end (first_board false parts)) }
 
--- the samples of a run to a limit, with wired timers or without
-abbrev pub sampled_outcome : Bool → ℕ → ℕ → Parts → Outcome
-sampled_outcome wired limit per parts =
-    record { status = 0; note = []; events = sending (sampled_bytes parts.tape.entries limit per (first_board wired parts)) }
+-- a text of a run to a limit, with wired timers or without
+abbrev pub told_outcome : Bool → ℕ → (List TapeEntry → ℕ → Board → List ℕ) → Parts → Outcome
+told_outcome wired limit text parts =
+    record { status = 0; note = []; events = sending (text parts.tape.entries limit (first_board wired parts)) }
 
--- the samples that a run of these settings makes, and nothing else: its cells aren't stored, and it has no last line
-unfoldable pub pcm_outcome : SettingsValue → ℕ → Parts → Outcome
-pcm_outcome said per parts = sampled_outcome said.timers (limit_of said.until parts.tape.end) per parts
+-- that of a run of these settings, and nothing else: its cells aren't stored
+abbrev pub telling_outcome : SettingsValue → (List TapeEntry → ℕ → Board → List ℕ) → Parts → Outcome
+telling_outcome said text parts = told_outcome said.timers (limit_of said.until parts.tape.end) text parts
 
 -- both listings, and then the image, stored under its name
 unfoldable pub asm_outcome : List ℕ → Assembled → Outcome
@@ -242,7 +244,12 @@ command_outcome (debug_of debug) files reading calls =
     finished (debug_files files debug reading) (λ session. debug_outcome debug.run.settings.timers session.0 session.1)
 command_outcome (show_of name) files reading calls = finished (state_file files name reading) show_outcome
 command_outcome (soak_of seed) files reading calls = soak_outcome seed
-command_outcome (pcm_of pcm) files reading calls = finished (run_files files pcm.run reading) (pcm_outcome pcm.run.settings pcm.per)
+command_outcome (pcm_of pcm) files reading calls =
+    finished (run_files files pcm.run reading) (telling_outcome pcm.run.settings (telling_text (Samples pcm.per)))
+command_outcome (frames_of run) files reading calls = finished (run_files files run reading) (telling_outcome run.settings (telling_text Frames))
+command_outcome (seek_of seek) files reading calls =
+    finished (run_files files seek.run reading) (telling_outcome seek.run.settings (sought_text seek.clocks))
+command_outcome (profile_of run) files reading calls = finished (run_files files run reading) (telling_outcome run.settings (telling_text Profile))
 
 -- the name of a command's state file
 abbrev pub state_name : CommandValue → Option (List ℕ)
@@ -252,6 +259,9 @@ state_name (debug_of debug) = debug.run.settings.state
 state_name (show_of name) = Some name
 state_name (soak_of seed) = None
 state_name (pcm_of pcm) = pcm.run.settings.state
+state_name (frames_of run) = run.settings.state
+state_name (seek_of seek) = seek.run.settings.state
+state_name (profile_of run) = run.settings.state
 
 -- the reading is that of the state file's bytes, where there are any
 abbrev pub IsReading : Option (List ℕ) → Files → Result BoardValue StateFault → Type 0
@@ -270,6 +280,9 @@ IsNumber (debug_of debug) files reading calls = Unit {0}
 IsNumber (show_of name) files reading calls = Unit {0}
 IsNumber (soak_of seed) files reading calls = Unit {0}
 IsNumber (pcm_of pcm) files reading calls = Unit {0}
+IsNumber (frames_of run) files reading calls = Unit {0}
+IsNumber (seek_of seek) files reading calls = Unit {0}
+IsNumber (profile_of run) files reading calls = Unit {0}
 
 -- this holds of the outcome of a command. Words and files fix it but for the number of device calls, which is one that fits.
 pub record CommandComes (command : CommandValue) (files : Files) (reading : Result BoardValue StateFault) (holds : Outcome → Type 0) : Type 0 where
@@ -296,6 +309,9 @@ ComesOf (Some (debug_of debug)) told holds = ComesOver (debug_of debug) told hol
 ComesOf (Some (show_of name)) told holds = ComesOver (show_of name) told holds
 ComesOf (Some (soak_of seed)) told holds = holds (soak_outcome seed)
 ComesOf (Some (pcm_of pcm)) told holds = ComesOver (pcm_of pcm) told holds
+ComesOf (Some (frames_of run)) told holds = ComesOver (frames_of run) told holds
+ComesOf (Some (seek_of seek)) told holds = ComesOver (seek_of seek) told holds
+ComesOf (Some (profile_of run)) told holds = ComesOver (profile_of run) told holds
 
 abbrev pub Comes : List (List ℕ) → Option Files → (Outcome → Type 0) → Type 0
 Comes words told holds = ComesOf (command_of words) told holds
@@ -309,3 +325,6 @@ IsRun (Some (debug_of debug)) = ⊥
 IsRun (Some (show_of name)) = ⊥
 IsRun (Some (soak_of seed)) = ⊥
 IsRun (Some (pcm_of pcm)) = ⊥
+IsRun (Some (frames_of run)) = ⊥
+IsRun (Some (seek_of seek)) = ⊥
+IsRun (Some (profile_of run)) = ⊥

@@ -2,12 +2,14 @@
 use Rattle.std.specs.Prelude.{◌≡◌, ℕ, ◌≤◌, Bool, List, [], Option, Result, Ok, Err, take, string_bytes, ◌⊎◌}
 use Rattle.outside_io.specs.Causes.{Rose, Raised}
 use Rattle.outside_io.specs.Known.{grown}
+use Rattle.outside_io.specs.declared.answers.SinkFault.{SinkFault}
 use Rattle.outside_io.specs.Shelf.{Files, Kept}
 use Rattle.command_line.specs.SettingsValue.{SettingsValue}
 use Rattle.gravitar_commands.specs.declared.parts.Parts.{Parts}
 use Rattle.gravitar_commands.specs.declared.failure.Failure.{Failure}
 use Rattle.gravitar_commands.specs.declared.failure.Failure.TheVariants.{Bad, Absent, Outside, NoMemory}
 use Rattle.gravitar_commands.specs.declared.failure.Ending.{Ending}
+use Rattle.gravitar_commands.specs.declared.failure.Ending.TheVariants.{Done}
 use Rattle.sliced_run.specs.Events.{Did, DidFirst}
 use Rattle.gravitar_commands.specs.Endings.{status_of_ending}
 use Rattle.gravitar_commands.specs.Outcome.{Outcome, FitsRun, debug_outcome, outside_text, finished, memory_text, read_as, refused, run_outcome, script_file, script_read}
@@ -74,6 +76,18 @@ abbrev pub Ends : Outcome → Option (List ℕ) → Option (List ℕ) → Option
 Ends outcome out0 out1 stores0 stores1 (Ok ending) =
     (outcome.status ≡ status_of_ending ending) × (outcome.note ≡ []) × Did outcome.events out0 out1 stores0 stores1
 Ends outcome out0 out1 stores0 stores1 (Err failure) = FailureEnds outcome out0 out1 stores0 stores1 failure
+
+-- what becomes of a command whose text went out, or didn't
+abbrev pub written_as : Result (Unit {0}) SinkFault → Result Ending Failure
+written_as (Ok _) = Ok Done
+written_as (Err _) = Err Outside
+
+-- a text went out, or a first part of it before an outside fault, or nothing for want of memory
+abbrev pub Told : Option (List ℕ) → Option (List ℕ) → List ℕ → Result Ending Failure → Type 0
+Told out0 out1 text (Ok ending) = (ending ≡ Done) × (out1 ≡ grown out0 text)
+Told out0 out1 text (Err Outside) = (k : ℕ) × (out1 ≡ grown out0 (take k text))
+Told out0 out1 text (Err NoMemory) = out1 ≡ out0
+Told out0 out1 text (Err _) = ⊥
 
 -- nothing was written or stored, but for a success and an outside fault
 abbrev pub FailureWroteNothing : Option (List ℕ) → Option (List ℕ) → Option (List Kept) → Option (List Kept) → Failure → Type 0

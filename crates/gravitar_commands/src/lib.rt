@@ -14,9 +14,10 @@ mod limit;
 mod load;
 mod parts;
 mod program;
-mod sampling;
+mod seeking;
 mod soaking;
 mod steady;
+mod telling;
 #[cfg(test)]
 mod tests;
 mod words;

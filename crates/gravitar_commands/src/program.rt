@@ -17,8 +17,9 @@ use crate::failure::{Ending, Failure};
 use crate::limit::run_limit;
 use crate::load::{load_run, load_state};
 use crate::parts::Parts;
-use crate::sampling::perform_pcm;
+use crate::seeking::perform_seek;
 use crate::soaking::perform_soak;
+use crate::telling::{Telling, perform_telling};
 use crate::words::Words;
 use board_base::CpuState;
 use board_debug::write_board;
@@ -30,7 +31,7 @@ use std::alloc::Global;
 
 /// The note on words of no form.
 pub const USAGE: &[u8] =
-    b"gravitar: usage: run IMAGE TAPE, asm CPUSRC VGSRC OUT, debug IMAGE TAPE SCRIPT, show STATE, soak SEED, pcm IMAGE TAPE N\n";
+    b"gravitar: usage: run IMAGE TAPE, asm CPUSRC VGSRC OUT, debug IMAGE TAPE SCRIPT, show STATE, soak SEED, pcm IMAGE TAPE N, frames IMAGE TAPE, seek IMAGE TAPE N,N,.., profile IMAGE TAPE\n";
 
 /// How a run has ended.
 fn ending(cpu: &CpuState) -> Ending
@@ -147,7 +148,14 @@ fn perform<S: Shelf, O: Sink>(
         Command::Debug(words) => perform_debug(alloc, words, shelf, out),
         Command::Show(name) => perform_show(alloc, name, shelf, out),
         Command::Soak(seed) => perform_soak(alloc, *seed, out),
-        Command::Pcm(words) => perform_pcm(alloc, words, shelf, out),
+        Command::Pcm(words) => {
+            perform_telling(alloc, &words.run, Telling::Samples(words.per), shelf, out)
+        }
+        Command::Frames(words) => perform_telling(alloc, words, Telling::Frames, shelf, out),
+        Command::Seek(words) => {
+            perform_seek(alloc, &words.run, words.clocks.as_slice(), shelf, out)
+        }
+        Command::Profile(words) => perform_telling(alloc, words, Telling::Profile, shelf, out),
     }
 }
 

@@ -1,37 +1,93 @@
+//! Runs that are told otherwise than by their log.
 ghost use Rattle.std.specs.Prelude.{◌≡◌, ◌≤◌, ℕ, IfOk, IfSome, List, Option};
 ghost use Rattle.board_base.specs.declared.board.TheConstants.{CLOCK_LIMIT};
-ghost use Rattle.command_line.specs.CommandValue.{pcm_of};
-ghost use Rattle.command_line.specs.declared.number.TheConstants.{PER_LIMIT};
+ghost use Rattle.catchup_engine.specs.EngineValue.{HasNoRecords};
 ghost use Rattle.cpu_core.specs.Places.{IsProcessor};
 ghost use Rattle.outside_io.specs.Shelf.{Kept};
-ghost use Rattle.gravitar_commands.specs.Outcome.{CommandComes, ForReading, sampled_outcome};
-ghost use Rattle.gravitar_commands.specs.Stages.{Ends, EndFaults, WroteNothing, StageAbsences};
+ghost use Rattle.gravitar_commands.specs.Outcome.{ForReading, finished, run_files, told_outcome, telling_outcome};
+ghost use Rattle.gravitar_commands.specs.Stages.{Ends, EndFaults, WroteNothing, StageAbsences, StageFaults, Told, written_as};
+ghost use Rattle.gravitar_commands.specs.Telling.{CanTell, telling_text};
 
 use crate::board_devices::devices;
 use crate::failure::{Ending, Failure};
 use crate::limit::{has_timers, limit_by};
 use crate::load::load_run;
 use crate::parts::Parts;
+use avg_device::VectorUnit;
 use catchup_engine::Engine;
-use command_line::{PcmWords, RunWords};
-use outside_io::{Shelf, Sink};
+use command_line::RunWords;
+use cycle_profile::Profile;
+use earom_cells::CellUnit;
+use irq_watchdog::DividerUnit;
+use outside_io::{Shelf, Sink, SinkFault};
+use pokey_chip::SoundUnit;
 use sampled_run::run_sampled;
 use std::alloc::Global;
+use tape_ports::Tape;
+use traced_run::{run_framed, run_profiled};
 
-/// Takes the memory of a run, and then writes its samples.
-fn sample_parts<O: Sink>(
+/// What is told of a run.
+#[derive(Clone, Copy, Debug, PartialEq, Eq)]
+pub enum Telling {
+    /// Its samples, each of so many clocks.
+    Samples(u32),
+    /// Its strokes, by the writes that start the generator.
+    Frames,
+    /// Its clocks, by routine.
+    Profile,
+}
+
+/// What becomes of a command whose text went out, or didn't.
+pub(crate) fn written(took: Result<(), SinkFault>) -> Result<Ending, Failure>
+    ensures { result ≡ written_as took }
+{
+    match took {
+        Ok(()) => Ok(Ending::Done),
+        Err(_) => Err(Failure::Outside),
+    }
+}
+
+/// Runs the board of an engine, and tells it. A profile takes its memory first.
+fn tell<V: VectorUnit, P: SoundUnit, C: CellUnit, D: DividerUnit, O: Sink>(
+    alloc: Global,
+    engine: &mut Engine<V, P, C, D>,
+    tape: &Tape,
+    limit: u64,
+    telling: Telling,
+    out: &mut O,
+) -> Result<Ending, Failure>
+    requires limit { limit ≤ CLOCK_LIMIT }
+    requires told { CanTell telling }
+    requires settled { engine.old.lagging ≡ 0 }
+    requires empty { HasNoRecords engine.old.board }
+    ensures taken { Told (O.taken out.old) (O.taken out.new) (telling_text telling tape.now.entries limit engine.old.board) result }
+    ensures faults { StageFaults (O.faults out.old) (O.faults out.new) result }
+{
+    match telling {
+        Telling::Samples(per) => written(run_sampled(engine, tape, limit, per, out)),
+        Telling::Frames => written(run_framed(engine, tape, limit, out)),
+        Telling::Profile => {
+            let Ok(profile) = Profile::new(alloc, engine.cpu().pc) else {
+                return Err(Failure::NoMemory);
+            };
+            written(run_profiled(engine, tape, limit, profile, out))
+        }
+    }
+}
+
+/// Takes the memory of a run, and then tells it.
+fn tell_parts<O: Sink>(
     alloc: Global,
     wired: bool,
     limit: u64,
-    per: u32,
+    telling: Telling,
     parts: &Parts,
     out: &mut O,
 ) -> Result<Ending, Failure>
     requires place { IsProcessor parts.now.board.cpu }
     requires limit { limit ≤ CLOCK_LIMIT }
-    requires some { 1 ≤ per }
-    requires longest { per ≤ PER_LIMIT }
-    ensures outcome { (stores : Option (List Kept)) → Ends (sampled_outcome wired limit per parts.now) (O.taken out.old) (O.taken out.new) stores stores result }
+    requires told { CanTell telling }
+    ensures outcome { (stores : Option (List Kept)) → Ends (told_outcome wired limit (telling_text telling) parts.now) (O.taken out.old) (O.taken out.new) stores stores result }
     ensures done { IfOk result (λ ending. ending ≡ Ending.Done) }
     ensures quiet { (stores : Option (List Kept)) → WroteNothing (O.taken out.old) (O.taken out.new) stores stores result }
     ensures faults { (n : ℕ) → EndFaults n n (O.faults out.old) (O.faults out.new) result }
@@ -40,25 +96,22 @@ fn sample_parts<O: Sink>(
     let Ok(mut engine) = Engine::new(alloc, &parts.image, &parts.board, devices(), wired) else {
         return Err(Failure::NoMemory);
     };
-    match run_sampled(&mut engine, &parts.tape, limit, per, out) {
-        Ok(()) => Ok(Ending::Done),
-        Err(_) => Err(Failure::Outside),
-    }
+    tell(alloc, &mut engine, &parts.tape, limit, telling, out)
 }
 
-/// Loads the files of a run, and writes its samples.
-fn sample_run<S: Shelf, O: Sink>(
+/// Runs an image with a tape, and tells the run. Nothing is stored, and a board that jams ends it as
+/// any other end does. All memory is taken before the first clock.
+pub fn perform_telling<S: Shelf, O: Sink>(
     alloc: Global,
     run: &RunWords<'_>,
-    per: u32,
+    telling: Telling,
     shelf: &mut S,
     out: &mut O,
 ) -> Result<Ending, Failure>
-    requires some { 1 ≤ per }
-    requires longest { per ≤ PER_LIMIT }
+    requires told { CanTell telling }
     ensures outcome { IfSome (S.files shelf.old) (λ files. ForReading run.now.settings.state files (λ reading.
-        CommandComes (pcm_of (record { run = run.now; per = per })) files reading (λ outcome.
-        Ends outcome (O.taken out.old) (O.taken out.new) (S.stores shelf.old) (S.stores shelf.new) result))) }
+        Ends (finished (run_files files run.now reading) (telling_outcome run.now.settings (telling_text telling))) (O.taken out.old) (O.taken out.new)
+        (S.stores shelf.old) (S.stores shelf.new) result)) }
     ensures done { IfOk result (λ ending. ending ≡ Ending.Done) }
     ensures quiet { WroteNothing (O.taken out.old) (O.taken out.new) (S.stores shelf.old) (S.stores shelf.new) result }
     ensures faults { EndFaults (S.faults shelf.old) (S.faults shelf.new) (O.faults out.old) (O.faults out.new) result }
@@ -70,24 +123,5 @@ fn sample_run<S: Shelf, O: Sink>(
     };
     let limit = limit_by(&run.settings, parts.tape.end());
     let wired = has_timers(&run.settings);
-    sample_parts(alloc, wired, limit, per, &parts, out)
-}
-
-/// Writes the samples of a run of an image with a tape. Nothing is stored, and a board that jams ends
-/// the samples as any other end does. All memory is taken before the first clock.
-pub fn perform_pcm<S: Shelf, O: Sink>(
-    alloc: Global,
-    words: &PcmWords<'_>,
-    shelf: &mut S,
-    out: &mut O,
-) -> Result<Ending, Failure>
-    ensures outcome { IfSome (S.files shelf.old) (λ files. ForReading words.now.run.settings.state files (λ reading.
-        CommandComes (pcm_of words.now) files reading (λ outcome.
-        Ends outcome (O.taken out.old) (O.taken out.new) (S.stores shelf.old) (S.stores shelf.new) result))) }
-    ensures done { IfOk result (λ ending. ending ≡ Ending.Done) }
-    ensures quiet { WroteNothing (O.taken out.old) (O.taken out.new) (S.stores shelf.old) (S.stores shelf.new) result }
-    ensures faults { EndFaults (S.faults shelf.old) (S.faults shelf.new) (O.faults out.old) (O.faults out.new) result }
-    ensures absences { StageAbsences (S.absences shelf.old) (S.absences shelf.new) result }
-{
-    sample_run(alloc, &words.run, words.per, shelf, out)
+    tell_parts(alloc, wired, limit, telling, &parts, out)
 }

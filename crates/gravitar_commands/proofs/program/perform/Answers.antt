@@ -1,7 +1,8 @@
 use Rattle.std.proofs.Common.{ap}
-use Rattle.command_line.specs.CommandValue.{asm_of, debug_of, pcm_of, run_of, soak_of}
+use Rattle.command_line.specs.CommandValue.{asm_of, debug_of, frames_of, pcm_of, profile_of, run_of, seek_of, soak_of}
 use Rattle.command_line.specs.CommandWords.{command_value}
 use Rattle.gravitar_commands.proofs.StageLaws.{not-jammed, of-same}
+use Rattle.gravitar_commands.proofs.TellingLaws.{frames-told, pcm-told-as, profile-told, seek-told-as}
 use Rattle.gravitar_commands.proofs.program.perform.Goals as goal
 
 pub returns-in-Run-clause-outcome : goal.returns-in-Run-clause-outcome
@@ -51,7 +52,31 @@ returns-in-Soak-clause-jam g c = λ jam. absurd (not-jammed _ c.perform_soak.ens
 pub returns-in-Pcm-clause-outcome : goal.returns-in-Pcm-clause-outcome
 returns-in-Pcm-clause-outcome g c =
     of-same _ (g.S.Shelf.files c.args.shelf.now) (pcm_of c.in-Pcm.words) (command_value c.args.command.now) (ap command_value c.in-Pcm.is)
-    c.perform_pcm.ensures.outcome
+    (pcm-told-as (g.S.Shelf.files c.args.shelf.now) _ c.in-Pcm.words _ c.words.view_is c.perform_telling.ensures.outcome)
 
 pub returns-in-Pcm-clause-jam : goal.returns-in-Pcm-clause-jam
-returns-in-Pcm-clause-jam g c = λ jam. absurd (not-jammed _ c.perform_pcm.ensures.done jam)
+returns-in-Pcm-clause-jam g c = λ jam. absurd (not-jammed _ c.perform_telling.ensures.done jam)
+
+pub returns-in-Frames-clause-outcome : goal.returns-in-Frames-clause-outcome
+returns-in-Frames-clause-outcome g c =
+    of-same _ (g.S.Shelf.files c.args.shelf.now) (frames_of c.in-Frames.words) (command_value c.args.command.now) (ap command_value c.in-Frames.is)
+    (frames-told (g.S.Shelf.files c.args.shelf.now) _ c.in-Frames.words c.perform_telling-in-Frames.ensures.outcome)
+
+pub returns-in-Frames-clause-jam : goal.returns-in-Frames-clause-jam
+returns-in-Frames-clause-jam g c = λ jam. absurd (not-jammed _ c.perform_telling-in-Frames.ensures.done jam)
+
+pub returns-in-Profile-clause-outcome : goal.returns-in-Profile-clause-outcome
+returns-in-Profile-clause-outcome g c =
+    of-same _ (g.S.Shelf.files c.args.shelf.now) (profile_of c.in-Profile.words) (command_value c.args.command.now) (ap command_value c.in-Profile.is)
+    (profile-told (g.S.Shelf.files c.args.shelf.now) _ c.in-Profile.words c.perform_telling-in-Profile.ensures.outcome)
+
+pub returns-in-Profile-clause-jam : goal.returns-in-Profile-clause-jam
+returns-in-Profile-clause-jam g c = λ jam. absurd (not-jammed _ c.perform_telling-in-Profile.ensures.done jam)
+
+pub returns-in-Seek-clause-jam : goal.returns-in-Seek-clause-jam
+returns-in-Seek-clause-jam g c = λ jam. absurd (not-jammed _ c.perform_seek.ensures.done jam)
+
+pub returns-in-Seek-clause-outcome : goal.returns-in-Seek-clause-outcome
+returns-in-Seek-clause-outcome g c =
+    of-same _ (g.S.Shelf.files c.args.shelf.now) (seek_of c.in-Seek.words) (command_value c.args.command.now) (ap command_value c.in-Seek.is)
+    (seek-told-as (g.S.Shelf.files c.args.shelf.now) _ c.in-Seek.words _ c.words-in-Seek.view_is (rw c.as_slice.ensures.value at c.perform_seek.ensures.outcome))

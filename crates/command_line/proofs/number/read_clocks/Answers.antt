@@ -1,0 +1,43 @@
+use Rattle.std.proofs.Common.{◌≡◌, lit<, refl, sym, ap, ◌∙◌, arith}
+use Rattle.std.proofs.lemmas.Grind.{common_steps}
+use Rattle.std.proofs.lemmas.Iterator.Consumers.{YieldsList-turn, YieldsList-end}
+use Rattle.std.proofs.lemmas.Iterator.Splits.{YieldsList-from_str_split}
+use Rattle.std.proofs.lemmas.List.{length_push}
+use Rattle.command_line.specs.Numbers.{number_of}
+use Rattle.command_line.proofs.ClockLaws.{clocks_are_listed}
+use Rattle.command_line.proofs.Listed.{all_taken, refused, taken, too_many}
+use Rattle.command_line.proofs.number.read_clocks.Goals as goal
+
+pub returns-in_err-clock-clause-clocks : goal.returns-in_err-clock-clause-clocks
+returns-in_err-clock-clause-clocks c =
+    let same : c.as_bytes.result.now ≡ c.in-Some.part.now = cc in
+    let turn = YieldsList-turn (YieldsList-from_str_split 44 c.args.word.now (lit< tt) (cc) (cc) (cc)) c.loop-part.yielded _ c.loop-part.yielded_by _ _ c.in-Some.part c.in-Some.is c.next.ensures.steps in
+    let none = refused c.args.word.now c.loop-part.clocks.items _ _ turn (ap number_of (sym same) ∙ sym c.read_number.ensures ∙ c.in_err-clock.was) c.loop-part.invariant.all in
+    rw (c.from_residual.ensures, none) refl
+
+pub returns-then-is_full-clause-clocks : goal.returns-then-is_full-clause-clocks
+returns-then-is_full-clause-clocks c =
+    let same : c.as_bytes.result.now ≡ c.in-Some.part.now = cc in
+    let turn = YieldsList-turn (YieldsList-from_str_split 44 c.args.word.now (lit< tt) (cc) (cc) (cc)) c.loop-part.yielded _ c.loop-part.yielded_by _ _ c.in-Some.part c.in-Some.is c.next.ensures.steps in
+    sym (too_many c.args.word.now c.loop-part.clocks.items c.in_ok-clock.clock _ _ turn (ap number_of (sym same) ∙ sym c.read_number.ensures ∙ c.in_ok-clock.was) (grind (arith, common_steps)) c.loop-part.invariant.all)
+
+pub loop-part-preserved : goal.loop-part-preserved
+loop-part-preserved c =
+    let same : c.as_bytes.result.now ≡ c.in-Some.part.now = cc in
+    let turn = YieldsList-turn (YieldsList-from_str_split 44 c.args.word.now (lit< tt) (cc) (cc) (cc)) c.loop-part.yielded _ c.loop-part.yielded_by _ _ c.in-Some.part c.in-Some.is c.next.ensures.steps in
+    let more = taken c.loop-part.clocks.items c.in_ok-clock.clock _ _ _ turn (ap number_of (sym same) ∙ sym c.read_number.ensures ∙ c.in_ok-clock.was) in
+    record {
+      all = rw (c.push.ensures.items, length_push c.loop-part.yielded c.in-Some.part) (sym more ∙ c.loop-part.invariant.all);
+      fits = grind (arith, common_steps);
+    }
+
+pub returns-clause-clocks : goal.returns-clause-clocks
+returns-clause-clocks c =
+    let end = YieldsList-end (YieldsList-from_str_split 44 c.args.word.now (lit< tt) (cc) (cc) (cc)) c.loop-part.yielded _ c.loop-part.yielded_by _ _ c.in-None.is c.next.ensures.steps in
+    all_taken c.args.word.now c.loop-part.clocks.items _ end.1 c.loop-part.invariant.fits c.loop-part.invariant.all
+
+pub returns-clause-listed : goal.returns-clause-listed
+returns-clause-listed c =
+    let end = YieldsList-end (YieldsList-from_str_split 44 c.args.word.now (lit< tt) (cc) (cc) (cc)) c.loop-part.yielded _ c.loop-part.yielded_by _ _ c.in-None.is c.next.ensures.steps in
+    clocks_are_listed c.args.word.now c.loop-part.clocks.items
+    (sym (all_taken c.args.word.now c.loop-part.clocks.items _ end.1 c.loop-part.invariant.fits c.loop-part.invariant.all))

@@ -1,0 +1,27 @@
+-- The bytes that tell a run otherwise than by its log.
+use Rattle.std.specs.Prelude.{ℕ, ◌≤◌, List, map, min}
+use Rattle.command_line.specs.declared.number.TheConstants.{PER_LIMIT}
+use Rattle.tape_ports.specs.declared.entry.TapeEntry.{TapeEntry}
+use Rattle.catchup_engine.specs.Lockstep.{Board}
+use Rattle.board_debug.specs.BoardsText.{boards_text}
+use Rattle.sampled_run.specs.BoardSamples.{sampled_bytes}
+use Rattle.traced_run.specs.BoardFrames.{framed_text}
+use Rattle.traced_run.specs.BoardProfile.{profiled_text}
+use Rattle.gravitar_commands.specs.declared.telling.Telling.{Telling}
+use Rattle.gravitar_commands.specs.declared.telling.Telling.TheVariants.{Samples, Frames, Profile}
+
+-- a sample has 1 to 65,535 clocks
+abbrev pub CanTell : Telling → Type 0
+CanTell (Samples per) = (1 ≤ per) × (per ≤ PER_LIMIT)
+CanTell Frames = Unit {0}
+CanTell Profile = Unit {0}
+
+-- what is told of a run from a board to a limit
+abbrev pub telling_text : Telling → List TapeEntry → ℕ → Board → List ℕ
+telling_text (Samples per) entries limit b = sampled_bytes entries limit per b
+telling_text Frames entries limit b = framed_text entries limit b
+telling_text Profile entries limit b = profiled_text entries limit b
+
+-- the boards at some clocks of a run, each lowered to the limit
+abbrev pub sought_text : List ℕ → List TapeEntry → ℕ → Board → List ℕ
+sought_text clocks entries limit b = boards_text entries (map (min limit) clocks) b

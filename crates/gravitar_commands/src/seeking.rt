@@ -1,0 +1,109 @@
+//! Boards of a run at clocks that are asked for.
+ghost use Rattle.std.specs.Prelude.{◌≡◌, ◌≤◌, ℕ, All, IfOk, IfSome, List, Option, length, map, min};
+ghost use Rattle.board_base.specs.declared.board.TheConstants.{CLOCK_LIMIT};
+ghost use Rattle.board_base.specs.Board.{IsBoard};
+ghost use Rattle.cpu_core.specs.Places.{IsProcessor};
+ghost use Rattle.command_line.specs.declared.number.TheConstants.{CUTS};
+ghost use Rattle.outside_io.specs.Shelf.{Kept};
+ghost use Rattle.gravitar_commands.specs.Outcome.{ForReading, finished, run_files, told_outcome, telling_outcome};
+ghost use Rattle.gravitar_commands.specs.Stages.{Ends, EndFaults, WroteNothing, StageAbsences};
+ghost use Rattle.gravitar_commands.specs.Telling.{sought_text};
+
+use crate::board_devices::devices;
+use crate::failure::{Ending, Failure};
+use crate::limit::{has_timers, limit_by};
+use crate::load::load_run;
+use crate::parts::Parts;
+use crate::telling::written;
+use arrayvec::ArrayVec;
+use board_base::BoardState;
+use board_debug::write_boards;
+use catchup_engine::Engine;
+use command_line::{CUTS, Cuts, RunWords};
+use keyframes::{Keyframes, keep_start};
+use outside_io::{Shelf, Sink};
+use std::alloc::Global;
+
+/// The pages of 256 bytes for the boards that are kept on the way.
+pub const SEEK_PAGES: u32 = 4096;
+
+/// How many boards are kept at most.
+pub const SEEK_FRAMES: u32 = 256;
+
+/// Tells that a state is a board, and does nothing.
+fn look_at(state: &BoardState)
+    ensures { IsBoard state.now }
+{
+    // opens the model
+    let _clock = state.clock;
+}
+
+/// These clocks, each lowered to a limit.
+fn lowered(clocks: &[u64], limit: u64) -> Cuts
+    requires few { length clocks.now ≤ CUTS }
+    ensures clocks { result.items ≡ map (min limit) clocks.now }
+{
+    let mut lowered = ArrayVec::new();
+    for clock in clocks {
+        lowered.push(limit.min(*clock));
+    }
+    lowered
+}
+
+/// Takes the memory of a run and of the boards that are kept along it, and then writes those asked for.
+fn seek_parts<O: Sink>(
+    alloc: Global,
+    wired: bool,
+    limit: u64,
+    clocks: &[u64],
+    parts: &Parts,
+    out: &mut O,
+) -> Result<Ending, Failure>
+    requires place { IsProcessor parts.now.board.cpu }
+    requires limit { limit ≤ CLOCK_LIMIT }
+    requires few { length clocks.now ≤ CUTS }
+    ensures outcome { (stores : Option (List Kept)) → Ends (told_outcome wired limit (sought_text clocks.now) parts.now) (O.taken out.old) (O.taken out.new) stores stores result }
+    ensures done { IfOk result (λ ending. ending ≡ Ending.Done) }
+    ensures quiet { (stores : Option (List Kept)) → WroteNothing (O.taken out.old) (O.taken out.new) stores stores result }
+    ensures faults { (n : ℕ) → EndFaults n n (O.faults out.old) (O.faults out.new) result }
+    ensures absences { (n : ℕ) → StageAbsences n n result }
+{
+    let Ok(mut keys) = Keyframes::new(alloc, SEEK_PAGES, SEEK_FRAMES) else {
+        return Err(Failure::NoMemory);
+    };
+    let Ok(mut engine) = Engine::new(alloc, &parts.image, &parts.board, devices(), wired) else {
+        return Err(Failure::NoMemory);
+    };
+    look_at(&parts.board);
+    keep_start(&mut keys, &parts.board);
+    let clocks = lowered(clocks, limit);
+    written(write_boards(&mut engine, &mut keys, &parts.tape, clocks.as_slice(), out))
+}
+
+/// Writes the boards of a run of an image with a tape at these clocks, at most 1,000, in their order,
+/// each lowered to the run's limit. Nothing is stored, and a board that jams is shown as any other. All
+/// memory is taken before the first clock.
+pub fn perform_seek<S: Shelf, O: Sink>(
+    alloc: Global,
+    run: &RunWords<'_>,
+    clocks: &[u64],
+    shelf: &mut S,
+    out: &mut O,
+) -> Result<Ending, Failure>
+    requires few { length clocks.now ≤ CUTS }
+    ensures outcome { IfSome (S.files shelf.old) (λ files. ForReading run.now.settings.state files (λ reading.
+        Ends (finished (run_files files run.now reading) (telling_outcome run.now.settings (sought_text clocks.now))) (O.taken out.old) (O.taken out.new)
+        (S.stores shelf.old) (S.stores shelf.new) result)) }
+    ensures done { IfOk result (λ ending. ending ≡ Ending.Done) }
+    ensures quiet { WroteNothing (O.taken out.old) (O.taken out.new) (S.stores shelf.old) (S.stores shelf.new) result }
+    ensures faults { EndFaults (S.faults shelf.old) (S.faults shelf.new) (O.faults out.old) (O.faults out.new) result }
+    ensures absences { StageAbsences (S.absences shelf.old) (S.absences shelf.new) result }
+{
+    let parts = match load_run(alloc, run, shelf) {
+        Ok(parts) => parts,
+        Err(failure) => return Err(failure),
+    };
+    let limit = limit_by(&run.settings, parts.tape.end());
+    let wired = has_timers(&run.settings);
+    seek_parts(alloc, wired, limit, clocks, &parts, out)
+}
