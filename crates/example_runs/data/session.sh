@@ -12,12 +12,15 @@ gravitar asm square/square.s square/square.v square.img > square.listing
 gravitar run square.img square/square.tape > square.log
 cmp square.log square/square.log
 gravitar debug square.img square/square.tape square/square.script
+gravitar frames square.img square/square.tape > square.frames
+gravitar seek square.img square/square.tape 33000,8424,18470 > square.boards
 
 # A tune for two voices.
 gravitar asm tune/tune.s tune/tune.v tune.img > tune.listing
 gravitar run tune.img tune/tune.tape > tune.log
 cmp tune.log tune/tune.log
 gravitar pcm tune.img tune/tune.tape 34 > tune.pcm
+gravitar profile tune.img tune/tune.tape
 
 # A number in the EAROM, across two runs.
 gravitar asm score/score.s score/score.v score.img > score.listing
