@@ -13,7 +13,9 @@ gravitar run square.img square/square.tape > square.log
 cmp square.log square/square.log
 gravitar debug square.img square/square.tape square/square.script
 gravitar frames square.img square/square.tape > square.frames
+cmp square.frames square/square.frames
 gravitar seek square.img square/square.tape 33000,8424,18470 > square.boards
+cmp square.boards square/square.boards
 
 # A tune for two voices.
 gravitar asm tune/tune.s tune/tune.v tune.img > tune.listing
