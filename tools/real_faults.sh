@@ -1,0 +1,351 @@
+#!/bin/sh
+# Real faults of a real system, and what a built program does at each (docs/COMMANDS.md, "Files, answers, notes" and "What faults leave").
+#   real_faults.sh PROGRAM
+# A line a case: `ok` or `differs`, the case, and what came: the status, the note, how many bytes of text, and how many bytes stand under
+# the names that are looked at (- where there is none). Behind `differs` stands what had to come. `skipped` is what this system doesn't
+# allow: mounting, another user (setpriv), stopping at a call (strace), a pipe that doesn't wait (perl). The status is 1 where one differs.
+# A status above 128 is a signal's: 137 SIGKILL, 139 SIGSEGV, 143 SIGTERM, 152 SIGXCPU, 153 SIGXFSZ.
+set -u
+program=$(command -v "$1") || { echo "real_faults.sh: no program $1" >&2; exit 2; }
+case $program in /*) ;; *) program=$(pwd)/$program ;; esac
+examples=$(cd "$(dirname "$0")/../examples" && pwd)
+work=$(mktemp -d)
+trap 'umount "$work"/folder/disk 2>/dev/null; rm -rf "$work"' EXIT
+chmod 755 "$work"
+differs=0 status=0
+usage=$("$program" 2>&1)
+outside='gravitar: outside fault'
+
+# A fresh folder with an image, its sources, a tape to clock 10,000, one of two million clocks, cells, a board, and scripts.
+fresh() {
+    cd "$work" && rm -rf folder && mkdir folder && cd folder || exit 2
+    cp "$examples/score/score.s" c && cp "$examples/score/score.v" v && cp "$examples/score/blank.cells" e && printf '9000 END\n' >t
+    printf '2000000 END\n' >long
+    printf 'regs\ngo\n' >d
+    : >none.d
+    [ -f "$work/i" ] || { "$program" asm c v "$work/i" && "$program" run "$work/i" t --until 300 --save "$work/b"; } >"$work/whole" || exit 2
+    cp "$work/i" i && cp "$work/b" b && : >"$work/text" && : >"$work/note"
+}
+
+# Does a command: its text and its note stand beside the folder.
+does() { "$program" "$@" >"$work/text" 2>"$work/note"; status=$?; }
+# The same in a shell that has done $1 first, such as a limit; quietly, as a shell tells of signals.
+after() {
+    before=$1
+    shift
+    { (eval "$before" && exec "$program" "$@") >"$work/text" 2>"$work/note"; status=$?; } 2>/dev/null
+}
+
+size_of() { [ -e "$1" ] && wc -c <"$1" | tr -d ' ' || echo -; }
+# Holds what came against what has to come: the case, the status, the note, and a pattern of sizes: text, and then each name.
+holds() {
+    title=$1 want_status=$2 want_note=$3 want_sizes=$4
+    shift 4
+    sizes="text $(size_of "$work/text")"
+    for name; do sizes="$sizes, $name $(size_of "$name")"; done
+    note=$(head -c 300 "$work/note")
+    word=ok wanted=
+    [ "$status" = "$want_status" ] && [ "$note" = "$want_note" ] || word=differs
+    case $sizes in $want_sizes) ;; *) word=differs ;; esac
+    [ $word = ok ] || { differs=1 wanted=" (wanted: status $want_status, $want_note, $want_sizes)"; }
+    told=$(printf '%s' "$note" | tr '\n' ' ' | cut -c1-60)
+    printf '%s %s: status %s, %s%s%s\n' $word "$title" "$status" "${told:+$told, }" "$(printf '%s' "$sizes" | sed 's/0\{200\}/0../')" "$wanted"
+    : >"$work/text" && : >"$work/note"
+}
+# A fact of another form.
+fact() { if eval "$2"; then echo "ok $1: $3"; else echo "differs $1: $3"; differs=1; fi; }
+skip() { echo "skipped $1"; }
+has() { command -v "$1" >/dev/null; }
+
+output_faults() {
+    fresh
+    "$program" run i t --save s >/dev/full 2>"$work/note"; status=$?
+    holds "the output is /dev/full" 6 "$outside" "text 0, s -" s
+    "$program" run i t --save s >&- 2>"$work/note"; status=$?
+    holds "no output at all" 6 "$outside" "text 0, s -" s
+    "$program" run i t --cuts 0 --save s >&- 2>"$work/note"; status=$?
+    holds "no output, and a store in front of the first text" 6 "$outside" "text 0, s 4356" s
+    "$program" debug i t none.d >&- 2>"$work/note"; status=$?
+    holds "no output, and no text" 0 "" "text 0"
+    rm -f s
+    "$program" run i t --save s <&- >&- 2>&-; status=$?
+    holds "none of the three streams" 6 "" "text 0, s -, i 43008, t 9" s i t
+    { "$program" pcm i long 1 2>"$work/note"; echo $? >"$work/status"; } | head -c 100 >"$work/text"
+    status=$(cat "$work/status")
+    holds "a pipe that closes after 100 bytes" 6 "$outside" "text 100"
+    { sleep 0.3; "$program" run i t 2>"$work/note"; echo $? >"$work/status"; } | :
+    status=$(cat "$work/status")
+    holds "a pipe that is closed" 6 "$outside" "text 0"
+    has perl || { skip "a full pipe that doesn't wait"; return; }
+    perl -e 'use Fcntl; pipe(R, W); fcntl(W, F_SETFL, O_NONBLOCK); if (!fork) { open(STDOUT, ">&W"); exec(@ARGV) } wait; close(W);
+        open(S, ">", "../status"); print S $? >> 8; close(S); print while sysread(R, $_, 65536)' "$program" pcm i long 1 >"$work/text" 2>"$work/note"
+    status=$(cat "$work/status")
+    holds "a full pipe that doesn't wait" 6 "$outside" "text [1-9]*"
+}
+
+note_faults() {
+    fresh
+    "$program" run none t 2>&-; status=$?
+    holds "no standard error, an absent file" 5 "" "text 0"
+    "$program" run i t --until 1 >"$work/text" 2>&-; status=$?
+    holds "no standard error, a good run" 0 "" "text 4"
+    "$program" run t i 2>/dev/full; status=$?
+    holds "the standard error is /dev/full, a bad file" 4 "" "text 0"
+    "$program" run i t --save s <&- >"$work/text" 2>"$work/note"; status=$?
+    holds "no standard input" 0 "" "text *, s 4356" s
+}
+
+folders() {
+    fresh
+    mkdir folder
+    for words in "run folder t" "run i folder" "run i t --state folder" "run i t --earom folder" "debug i t folder" "show folder" "asm folder v o" "asm c folder o" "pcm folder t 8"; do
+        does $words
+        holds "a folder in a file's place: $words" 6 "$outside" "text 0, o -" o
+    done
+    does run i t --until 1 --save folder
+    holds "a board stored under a folder's name" 6 "$outside" "text 4"
+    does asm c v folder
+    holds "an image stored under a folder's name" 6 "$outside" "text [1-9]*"
+    does run i t --until 1 --save none/s
+    holds "a board stored in a folder that isn't there" 6 "$outside" "text 4, none -" none
+    does asm c v none/o
+    holds "an image stored in a folder that isn't there" 6 "$outside" "text [1-9]*, none -" none
+    does run none/i t
+    holds "a file in a folder that isn't there" 5 "gravitar: none/i: absent" "text 0"
+    does run i/x t
+    holds "a name that leads through a file" 6 "$outside" "text 0"
+    does run i t --until 1 --save t/s
+    holds "a store under a name that leads through a file" 6 "$outside" "text 4, t 9" t
+}
+
+links() {
+    fresh
+    ln -s none dangling && ln -s loop loop && ln -s i link
+    does run dangling t
+    holds "a link to nothing" 5 "gravitar: dangling: absent" "text 0"
+    does run loop t
+    holds "a link to itself" 6 "$outside" "text 0"
+    does run link t --until 1 --save dangling
+    holds "a link to the image, a store through a link to nothing" 0 "" "text 4, none 4356" none
+}
+
+names() {
+    fresh
+    long=$(printf '%0255d' 0)
+    does run "$long" t
+    holds "a name of 255 bytes, absent" 5 "gravitar: $long: absent" "text 0"
+    does run i t --until 1 --save "$long"
+    holds "a store under a name of 255 bytes" 0 "" "text 4, $long 4356" "$long"
+    does run "${long}0" t
+    holds "a name of 256 bytes" 6 "$outside" "text 0"
+    does run i t --until 1 --save "${long}0"
+    holds "a store under a name of 256 bytes" 6 "$outside" "text 4"
+    path=$(printf './%.0s' $(seq 2046))
+    does run "${path}i" t --until 1
+    holds "a path of 4,093 bytes" 0 "" "text 4"
+    does run "$path./i" t --until 1
+    holds "a path of 4,095 bytes" 0 "" "text 4"
+    does run "$path././i" t
+    holds "a path of 4,097 bytes" 6 "$outside" "text 0"
+    for words in "run '' t" "run i ''" "run i t --save ''" "run i t --state ''" "asm c v ''" "show ''"; do
+        eval "does $words"
+        holds "an empty name: $words" 2 "$usage" "text 0"
+    done
+    cp i "$(printf '\377')"
+    does run "$(printf '\377')" t
+    holds "a name that isn't UTF-8, though the file is there" 2 "$usage" "text 0"
+    does run "$(printf 'a\nb')" t
+    holds "a name with a line feed" 5 "$(printf 'gravitar: a\nb: absent')" "text 0"
+}
+
+# The rest is done as another user where this one is root, whom permissions don't bind.
+permissions() {
+    fresh
+    as=
+    if [ "$(id -u)" = 0 ]; then
+        has setpriv || { skip "permissions"; return; }
+        as="setpriv --reuid=65534 --regid=65534 --clear-groups"
+        chmod 755 .
+        $as "$program" show b >/dev/null 2>&1 || { skip "permissions: the program can't be run by another user"; return; }
+    fi
+    cp i secret && chmod 0 secret && mkdir closed && cp i closed && chmod 0 closed && mkdir fixed && cp e fixed && chmod 444 fixed/e && chmod 555 fixed
+    chmod 444 e
+    $as "$program" run secret t >"$work/text" 2>"$work/note"; status=$?
+    holds "a file that may not be read" 6 "$outside" "text 0"
+    $as "$program" run closed/i t >"$work/text" 2>"$work/note"; status=$?
+    holds "a file in a folder that may not be searched" 6 "$outside" "text 0"
+    $as "$program" run i t --until 1 --save fixed/s >"$work/text" 2>"$work/note"; status=$?
+    holds "a store in a folder that may not be written" 6 "$outside" "text 4, fixed/s -" fixed/s
+    $as "$program" run i t --until 1 --earom e >"$work/text" 2>"$work/note"; status=$?
+    holds "a store over a file that may not be written" 6 "$outside" "text 4, e 64" e
+    chmod 755 closed fixed
+}
+
+# Each file at its limit and one byte longer, in 128 MiB of addresses.
+limits() {
+    fresh
+    yes '0 P0 00' | head -n 2097151 >full.t && printf '000 END\n' >>full.t
+    for kind in i:43008 b:4356 e:64; do { cat "${kind%:*}"; printf x; } >"${kind%:*}.long"; done
+    { cat full.t; printf x; } >t.long
+    yes ';' | head -n 524288 >full.s && { cat full.s; printf x; } >s.long
+    yes '' | head -n 65536 >full.d && { cat full.d; printf x; } >d.long
+    less="ulimit -v 131072"
+    after "$less" run i full.t --until 1; holds "a tape of 16 MiB" 0 "" "text 4"
+    after "$less" run i t.long; holds "a tape of one byte more" 4 "gravitar: t.long: too long" "text 0"
+    after "$less" asm full.s full.s o; holds "two sources of 1 MiB" 0 "" "text 0, o 43008" o
+    after "$less" asm s.long v p; holds "a source of one byte more" 4 "gravitar: s.long: too long" "text 0, p -" p
+    after "$less" asm c s.long p; holds "a generator's source of one byte more" 4 "gravitar: s.long: too long" "text 0, p -" p
+    after "$less" debug i t full.d; holds "a script of 64 KiB" 0 "" "text 0"
+    after "$less" debug i t d.long; holds "a script of one byte more" 4 "gravitar: d.long: too long" "text 0"
+    after "$less" run i.long t; holds "an image of one byte more" 4 "gravitar: i.long: length 43009" "text 0"
+    after "$less" run i t --state b.long; holds "a board of one byte more" 4 "gravitar: b.long: length 4357" "text 0"
+    after "$less" run i t --earom e.long; holds "cells of one byte more" 4 "gravitar: e.long: length 65" "text 0"
+    after "$less" run /dev/zero t; holds "an image without an end" 4 "gravitar: /dev/zero: length 43009" "text 0"
+    after "$less" run i /dev/zero; holds "a tape without an end" 4 "gravitar: /dev/zero: too long" "text 0"
+    { printf ' .word '; yes '1+' | tr -d '\n' | head -c 1048560; echo 1; } >sum.s
+    after "$less" asm sum.s v p; holds "a line of a million tokens" 4 "gravitar: sum.s: line 1: out of range" "text 0, p -" p
+}
+
+# More and more memory: at first the loader finds too little; then the status is 7, or the stack can't grow, which ends it by SIGSEGV with
+# nothing written; then all is there.
+memory_steps() {
+    fresh
+    for words in "run i t --save s" "asm c v o" "debug i t d" "show b" "pcm i t 8" "frames i t" "seek i t 5,4" "profile i t"; do
+        loader=0 none=0 stack=0 good=0 other=
+        for limit in $(seq 2000 100 6000); do
+            rm -f s o
+            after "ulimit -v $limit" $words
+            case $status:$(cat "$work/note") in
+                7:"gravitar: no memory") none=$((none + 1)) ;;
+                139:) stack=$((stack + 1)) ;;
+                0:) good=$((good + 1)) ;;
+                *) loader=$((loader + 1)) ;;
+            esac
+            [ $status = 0 ] || [ "$good:$(size_of "$work/text"):$(size_of s):$(size_of o)" = 0:0:-:- ] || other="$other $limit:$status"
+        done
+        fact "memory in steps of 100 KiB from 2,000 to 6,000: $words" '[ -z "$other" ] && [ $good -gt 0 ]' "not loaded $loader, status 7 $none, SIGSEGV $stack, done $good${other:+, else$other}"
+    done
+}
+
+# Less and less stack: what ends by SIGSEGV has written nothing; 256 KiB do for all.
+stack_steps() {
+    fresh
+    for words in "run i t --cuts 5,9 --save s --timers" "asm c v o" "debug i t d" "show b" "soak 1" "pcm i t 8" "frames i t" "seek i t 5,4" "profile i t"; do
+        least=- other=
+        for limit in 320 288 256 240 224 208 192 176 160 144 128; do
+            rm -f s o
+            after "ulimit -s $limit" $words
+            case $status in
+                0) least=$limit ;;
+                139) [ -s "$work/text" ] || [ -e s ] || [ -e o ] || [ $limit -ge 256 ] && other="$other $limit" ;;
+                *) other="$other $limit:$status" ;;
+            esac
+        done
+        fact "a stack of 320 KiB down to 128: $words" '[ -z "$other" ]' "done down to $least, SIGSEGV below, with nothing written${other:+; else$other}"
+    done
+}
+
+system_limits() {
+    fresh
+    "$program" run i t --save s >"$work/whole"
+    unit=$({ (ulimit -f 4; exec head -c 8192 /dev/zero >big); size_of big; } 2>/dev/null)
+    part=$((unit / 4))
+    rm -f s big
+    after "ulimit -f 1" run i t --until 1 --save s
+    holds "a limit of a file's size, in a store" 153 "" "text 4, s $part" s
+    rm s
+    after "ulimit -f 1; trap '' XFSZ" run i t --until 1 --save s
+    holds "the same with SIGXFSZ ignored" 6 "$outside" "text 4, s $part" s
+    after "ulimit -f 1" run i t --until 1 --earom e
+    holds "the same over cells that are smaller" 0 "" "text 4, e 64" e
+    after "ulimit -f 1" pcm i t 8
+    holds "a limit of a file's size, in the text" 153 "" "text $part"
+    printf '281474976710656 END\n' >endless
+    after "ulimit -S -t 1" run i endless --until 281474976710656 --save t2
+    holds "a limit of the processor's time" 152 "" "text *, t2 -" t2
+    rm s
+    after "ulimit -n 4" run i t --until 1 --save s
+    holds "one file at a time" 0 "" "text 4, s 4356" s
+}
+
+# Mounts a small disk in the folder, where that is allowed.
+disk() { mkdir -p disk && mount -t tmpfs -o "size=$1" none disk 2>/dev/null; }
+full_disks() {
+    fresh
+    disk 8k || { skip "a full disk"; return; }
+    "$program" pcm i t 1 >disk/text 2>"$work/note"; status=$?
+    holds "a full disk for the text" 6 "$outside" "text 0, disk/text 8192" disk/text
+    "$program" pcm i t 1 2>/dev/null | head -c 8192 | cmp -s - disk/text
+    fact "a full disk for the text" "[ $? = 0 ]" "it is the first part of the whole text"
+    rm disk/text && head -c 4096 /dev/zero >disk/other
+    does run i t --until 1 --save disk/s
+    holds "a full disk for a board" 6 "$outside" "text 4, disk/s 4096" disk/s
+    rm disk/* && cp b disk/s
+    does run i t --until 1 --save disk/s
+    holds "a board over a board, on a disk with room for one" 0 "" "text 4, disk/s 4356" disk/s
+    cp e disk/e 2>/dev/null
+    does run i t --until 1 --earom disk/e
+    holds "cells that were cut by a full disk before" 4 "gravitar: disk/e: length 0" "text 0, disk/e 0" disk/e
+    umount disk && disk 4k && cp e disk/e
+    does asm c v disk/o
+    holds "a full disk for an image" 6 "$outside" "text [1-9]*, disk/o 0" disk/o
+    mount -o remount,ro disk
+    does run i t --until 1 --earom disk/e
+    holds "a disk that is read only" 6 "$outside" "text 4, disk/e 64" disk/e
+    umount disk
+}
+
+pipes() {
+    fresh
+    mkfifo p
+    cat i >p & does run p t --until 1
+    holds "a pipe as an image" 0 "" "text 4"
+    { printf '90'; sleep 0.2; printf '00 E'; sleep 0.2; printf 'ND'; } >p & does run i p --until 1
+    holds "a pipe as a tape, in three pieces" 0 "" "text 4"
+    head -c 43000 i >p & does run p t
+    holds "a pipe that ends early" 4 "gravitar: p: length 43000" "text 0"
+    : >p & does run i p
+    holds "a pipe with nothing, as a tape" 4 "gravitar: p: line 1: no end" "text 0"
+    { cat i i >p; } 2>/dev/null & does run p t
+    holds "a pipe with more than an image" 4 "gravitar: p: length 43009" "text 0"
+    cat p >all & exec 4>p
+    does run i t --cuts 5,9,9,20 --save p
+    exec 4>&-
+    wait
+    holds "five boards stored in a pipe that stays open" 0 "" "text *, all 21780" all
+}
+
+# Runs that are killed at some time, and one that is stopped and goes on.
+kills() {
+    fresh
+    cuts=$(seq -s, 1 9 8991)
+    old=0 none=0 part=0 whole=0 bad=0 n=0
+    while [ $n -lt 60 ]; do
+        rm -f s
+        "$program" run i t --cuts "$cuts" --save s >/dev/null &
+        sleep 0.0$((n % 10))$((n / 10))
+        kill -9 $! 2>/dev/null
+        wait $! 2>/dev/null
+        case $(size_of s) in -) old=$((old + 1)) ;; 0) none=$((none + 1)) ;; 4356) "$program" show s >/dev/null && whole=$((whole + 1)) || bad=$((bad + 1)) ;; *) part=$((part + 1)) ;; esac
+        n=$((n + 1))
+    done
+    fact "60 runs of 1,000 stores, killed at some time" '[ $bad = 0 ]' "under the name: nothing $old, an empty file $none, a part $part, a whole board $whole"
+    "$program" pcm i long 1 >"$work/whole"
+    "$program" pcm i long 1 >"$work/text" &
+    sleep 0.01; kill -STOP $!; sleep 0.3; kill -CONT $!; wait $!; status=$?
+    fact "a run that is stopped and goes on" 'cmp -s "$work/text" "$work/whole"' "the same text"
+}
+
+# Each call of a store, and the program killed in front of it: what stands under a name that had a board.
+calls_of_a_store() {
+    fresh
+    has strace || { skip "a kill at a call"; return; }
+    for call in openat:4356 write:0 close:4356; do
+        head -c 4356 /dev/zero >s
+        { strace -qq -o /dev/null -P s -e "inject=${call%:*}:signal=KILL:when=1" "$program" run i t --cuts 0,5 --save s >"$work/text"; status=$?; } 2>/dev/null
+        holds "killed in front of the first ${call%:*} of a store, over a file of 4,356 bytes" 137 "" "text 0, s ${call#*:}" s
+    done
+}
+
+output_faults; note_faults; folders; links; names; permissions; limits; memory_steps; stack_steps; system_limits; full_disks; pipes; kills; calls_of_a_store
+exit $differs
