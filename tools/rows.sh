@@ -122,6 +122,7 @@ command_step() {
         *...) case $came in "${note%...}"*) ;; *) differ "the note $came" ;; esac ;;
         *) [ "$came" = "$note" ] || differ "the note $came" ;;
     esac
+    ! grep -q '^@' "$work/lines" || texts
     if grep -q -e '^?' -e '^\.\.\.$' "$work/lines"; then
         awk "$fits" "$work/lines" "$work/text" || differ "the text $(head -c 300 "$work/text")"
     else
@@ -130,6 +131,15 @@ command_step() {
     { ls "$work/before"; sed -n 's/^store //p' "$work/stores"; } | sort -u >"$work/names"
     ls "$work/folder" | sort | cmp -s - "$work/names" || differ "the files"
     stores
+    [ -z "$kept_text" ] || cp "$work/text" "$work/folder/$kept_text"
+}
+
+# Puts the lines of a file in the place of each line that names it.
+texts() {
+    while IFS= read -r l; do
+        case $l in '@'*) sed 's/^/|/' "$work/before/${l#?}" ;; *) printf '%s\n' "$l" ;; esac
+    done <"$work/lines" >"$work/all_lines"
+    mv "$work/all_lines" "$work/lines"
 }
 
 # Does what the last step asks for, with its content; and then the row's end.
@@ -156,9 +166,10 @@ end_row() {
 line() {
     case $1 in
         '' | '#'*) ;;
-        '|'* | '\'* | :* | '?'* | ...) printf '%s\n' "$1" >>"$into" ;;
+        '|'* | '\'* | :* | '?'* | '@'* | ...) printf '%s\n' "$1" >>"$into" ;;
         status\ *) status=${1#* } ;;
         note\ *) note=${1#* } ;;
+        text\ *) kept_text=${1#* } ;;
         out) into=$work/lines ;;
         store\ * | same\ * | keep\ * | at\ *)
             parts=$((parts + 1)) into=$work/part.$parts
@@ -168,7 +179,7 @@ line() {
         once) flush ;;
         *)
             flush
-            step=$1 status=0 note= parts=0 into=$work/lines words=${1#'$ '}
+            step=$1 status=0 note= kept_text= parts=0 into=$work/lines words=${1#'$ '}
             rm -f "$work"/part.*
             : >"$into"
             : >"$work/stores" ;;

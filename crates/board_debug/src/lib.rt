@@ -18,7 +18,7 @@ mod turns;
 mod write_lines;
 
 pub use board_text::write_board;
-pub use boards::{SEEK_STRIDE, write_boards};
+pub use boards::{SEEK_BOARDS, SEEK_STRIDE, write_boards};
 pub use fault::DebugFault;
 pub use found::Found;
 pub use laws::seek_numbers;

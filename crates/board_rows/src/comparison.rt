@@ -23,6 +23,8 @@ pub struct Comparison<'c, 'f> {
     ends: Vec<usize>,
     /// The stores that stay as files, each with the name of its file.
     kept: Vec<(&'c str, &'c Stored)>,
+    /// The name under which the text stays as a file.
+    kept_text: Option<&'c str>,
     status: usize,
     note: Option<&'c str>,
 }
@@ -52,6 +54,7 @@ impl<'c, 'f> Comparison<'c, 'f> {
             rest: trial.out.bytes(),
             ends: Vec::new(alloc),
             kept: Vec::new(alloc),
+            kept_text: None,
             status: 0,
             note: None,
         }
@@ -62,6 +65,11 @@ impl<'c, 'f> Comparison<'c, 'f> {
         self.kept
     }
 
+    /// The name under which the text stays as a file.
+    pub fn kept_text(&self) -> Option<&'c str> {
+        self.kept_text
+    }
+
     /// How many bytes of text stand in front of each store.
     pub fn ends(&self) -> &[usize] {
         self.ends.as_slice()
@@ -69,7 +77,7 @@ impl<'c, 'f> Comparison<'c, 'f> {
 
     /// The text goes on with a content.
     fn text(&mut self, content: &[&str], report: &mut Report) -> Result<(), Stopped> {
-        if let Some(rest) = after_content(self.alloc, content, self.rest)? {
+        if let Some(rest) = after_content(self.alloc, self.folder, content, self.rest)? {
             self.rest = rest;
             return Ok(());
         }
@@ -166,6 +174,10 @@ impl<'c, 'f> Comparison<'c, 'f> {
             }
             "same" => self.stored(0, true, self.folder.bytes(rest), report),
             "keep" => self.keep(rest),
+            "text" => {
+                self.kept_text = Some(rest);
+                Ok(())
+            }
             _ => Err(Stopped::Form),
         }
     }

@@ -1,5 +1,6 @@
 //! What the lines of a content stand for: bytes, or a pattern for them.
 
+use crate::folder::Folder;
 use crate::stopped::Stopped;
 use std::alloc::Global;
 
@@ -64,8 +65,11 @@ enum Wanted<'t> {
     Number(&'t str, u64, u64),
 }
 
-/// What a line of a content wants.
-fn read_wanted<'t>(alloc: Global, line: &'t str) -> Result<Wanted<'t>, Stopped> {
+/// What a line of a content wants. A file's name behind `@` stands for its bytes.
+fn read_wanted<'t>(alloc: Global, folder: &Folder, line: &'t str) -> Result<Wanted<'t>, Stopped> {
+    if let Some(name) = line.strip_prefix("@") {
+        return Ok(Wanted::Bytes(Vec::from_slice(alloc, folder.bytes(name))?));
+    }
     let Some(pattern) = line.strip_prefix("?") else {
         return Ok(Wanted::Bytes(content_bytes(alloc, &[line])?));
     };
@@ -116,6 +120,7 @@ impl Wanted<'_> {
 /// What follows a content, where the bytes begin with it.
 pub fn after_content<'b>(
     alloc: Global,
+    folder: &Folder,
     content: &[&str],
     bytes: &'b [u8],
 ) -> Result<Option<&'b [u8]>, Stopped> {
@@ -125,7 +130,7 @@ pub fn after_content<'b>(
         if *line == "..." {
             skips = true;
         } else if let Some(bytes) = rest {
-            let wanted = read_wanted(alloc, line)?;
+            let wanted = read_wanted(alloc, folder, line)?;
             rest = if skips {
                 wanted.after_lines(bytes)
             } else {

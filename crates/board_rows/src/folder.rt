@@ -74,7 +74,7 @@ impl Folder {
     }
 
     /// Puts a copy of bytes in the place of what stands under a name.
-    fn copy_in(&mut self, name: &str, bytes: &[u8]) -> Result<(), Stopped> {
+    pub fn copy_in(&mut self, name: &str, bytes: &[u8]) -> Result<(), Stopped> {
         let bytes = Vec::from_slice(self.alloc, bytes)?;
         self.put(name, bytes)
     }

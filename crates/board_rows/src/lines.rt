@@ -31,18 +31,21 @@ impl Level {
     }
 }
 
-/// Whether a line is content: text, bytes, a number between two, or lines of any text.
+/// Whether a line is content: text, bytes, a number between two, a file's bytes, or lines of any text.
 fn is_content(line: &str) -> bool {
     line.starts_with("|")
         || line.starts_with("\\")
         || line.starts_with(":")
         || line.starts_with("?")
+        || line.starts_with("@")
         || line == "..."
 }
 
 /// Whether a word tells what a command is to give.
 fn is_wanted(word: &str) -> bool {
-    let words = ["out", "status", "note", "store", "at", "same", "keep"];
+    let words = [
+        "out", "status", "note", "store", "at", "same", "keep", "text",
+    ];
     words.contains(&word)
 }
 

@@ -46,8 +46,13 @@ impl Row {
             };
             whole.check(self.alloc, &mut self.report)?;
         }
+        let kept_text = comparison.kept_text();
         let kept = comparison.into_kept();
-        self.folder.keep(trial.shelf.stores(), kept.as_slice())
+        self.folder.keep(trial.shelf.stores(), kept.as_slice())?;
+        match kept_text {
+            Some(name) => self.folder.copy_in(name, trial.out.bytes()),
+            None => Ok(()),
+        }
     }
 
     /// Does a step: a file, a change of one, or a command.
