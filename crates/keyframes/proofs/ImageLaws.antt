@@ -115,7 +115,7 @@ step-image : (entries : List TapeEntry) (b : Board) → image_of (step entries b
 unfolding step
 step-image entries b = after_access-image b.cpu.mid b.cpu (ticked entries b.wires) ∙ ticked-image entries b.wires
 
-stepped-image : (entries : List TapeEntry) (n : ℕ) (b : Board) → image_of (stepped entries n b).wires ≡ image_of b.wires
+pub stepped-image : (entries : List TapeEntry) (n : ℕ) (b : Board) → image_of (stepped entries n b).wires ≡ image_of b.wires
 unfolding stepped
 stepped-image entries zero b = refl
 stepped-image entries (suc n) b = stepped-image entries n (step entries b) ∙ step-image entries b

@@ -1,0 +1,3 @@
+pub mod JoinedLaws
+pub mod ReadingLaws
+pub mod StretchLaws

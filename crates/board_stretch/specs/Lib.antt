@@ -1,0 +1,5 @@
+pub mod Assembling
+pub mod Joined
+pub mod Reading
+pub mod Stretches
+pub mod Texts

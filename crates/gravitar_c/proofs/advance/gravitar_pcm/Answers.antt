@@ -1,0 +1,8 @@
+use Rattle.gravitar_c.proofs.advance.gravitar_pcm.Goals as goal
+
+pub returns-clause-answer : goal.returns-clause-answer
+returns-clause-answer c = λ within some longest. record {
+  came = c.sample-came.result;
+  comes = rw (← c.is_so.ensures) c.sample-came.ensures;
+  answers = c.answer.ensures;
+}

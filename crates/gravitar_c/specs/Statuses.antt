@@ -1,0 +1,31 @@
+-- How a call ends, as a number of the header. They are this project's own.
+use Rattle.std.specs.Prelude.{ℕ}
+use Rattle.board_stretch.specs.declared.assembling.AssemblyFault.{AssemblyFault}
+use Rattle.board_stretch.specs.declared.assembling.AssemblyFault.TheVariants as source
+use Rattle.board_stretch.specs.declared.fault.StretchFault.{StretchFault}
+use Rattle.board_stretch.specs.declared.fault.StretchFault.TheVariants as stretch
+use Rattle.gravitar_c.specs.declared.report.Status.{Status}
+use Rattle.gravitar_c.specs.declared.report.Status.TheVariants.{Done, Jammed, BadImage, BadBoard, BadTape, BadNumber, NoRoom, NoMemory, BadProcessorSource, BadGeneratorSource}
+
+abbrev pub number_of : Status → ℕ
+number_of Done = 0
+number_of Jammed = 1
+number_of BadImage = 2
+number_of BadBoard = 3
+number_of BadTape = 4
+number_of BadNumber = 5
+number_of NoRoom = 6
+number_of NoMemory = 7
+number_of BadProcessorSource = 8
+number_of BadGeneratorSource = 9
+
+abbrev pub status_of_stretch : StretchFault → Status
+status_of_stretch (stretch.Image fault) = BadImage
+status_of_stretch (stretch.Board fault) = BadBoard
+status_of_stretch (stretch.Tape fault) = BadTape
+status_of_stretch stretch.NoMemory = NoMemory
+
+abbrev pub status_of_assembly : AssemblyFault → Status
+status_of_assembly (source.Processor fault) = BadProcessorSource
+status_of_assembly (source.Generator fault) = BadGeneratorSource
+status_of_assembly source.NoMemory = NoMemory

@@ -1,0 +1,127 @@
+//! Stretches of a run.
+ghost use Rattle.std.specs.Prelude.{◌≡◌, ◌≤◌, ◌<◌, ◌⊎◌, IfOk, length};
+ghost use Rattle.board_base.specs.declared.board.TheConstants.{CLOCK_LIMIT};
+ghost use Rattle.board_watch.specs.Windows.{clock_in};
+ghost use Rattle.save_state.specs.declared.TheConstants.{STATE_LEN};
+ghost use Rattle.sound_pcm.specs.declared.mixer.TheConstants.{MAX_PER};
+ghost use Rattle.board_stretch.specs.Stretches.{IsAdvanced, IsSampled};
+ghost use Rattle.gravitar_c.specs.Answers.{AnswersOver, AnswersStretch, Refuses, call_of, end_asked, is_asked, report_of};
+ghost use Rattle.gravitar_c.specs.declared.report.Status.TheVariants.{BadNumber};
+
+use crate::answer::{give, report_number, tell_stretch};
+use crate::report::{GravitarReport, Status};
+use board_base::CLOCK_LIMIT;
+use board_stretch::{Start, Stretch, StretchFault, advance, sample};
+use board_watch::Until;
+use sound_pcm::MAX_PER;
+use std::alloc::Global;
+
+/// Whether a number stands for yes.
+fn is_so(number: u32) -> bool
+    ensures { result ≡ is_asked number }
+{
+    0 < number
+}
+
+/// How far a stretch goes.
+fn end(boundary: u32, clock: u64) -> Until
+    ensures until { result ≡ end_asked boundary clock }
+    ensures clock { clock_in result ≡ clock }
+{
+    if is_so(boundary) {
+        Until::Boundary(clock)
+    } else {
+        Until::Clock(clock)
+    }
+}
+
+/// Answers a stretch, or its refusal.
+fn answer(
+    alloc: Global,
+    came: Result<Stretch, StretchFault>,
+    board: &mut [u8],
+    buffer: &mut [u8],
+    report: &mut GravitarReport,
+) -> u32
+    requires board { IfOk came (λ _. length board.old ≡ STATE_LEN) }
+    ensures { AnswersStretch came (call_of board.old board.new buffer.old buffer.new report.new result) }
+{
+    match came {
+        Ok(stretch) => give(&stretch, board, buffer, report),
+        Err(fault) => tell_stretch(alloc, &fault, buffer, report),
+    }
+}
+
+/// Runs an image with a tape from a saved board to a clock, or where `boundary` isn't 0 to the first
+/// boundary that isn't before it, and puts the board at the end in its place. The buffer gets the lines
+/// of the records on the way, as the log of `gravitar run` has them, without a last line.
+///
+/// `image` is 43,008 bytes, `board` 4,356, `tape` a text, `clock` 2^48 at most; with `timers` other than
+/// 0 the POKEYs' requests reach the interrupt line. Where bytes are refused, the buffer gets the words
+/// of it. Where the buffer is too short, `used` tells what is wanted. A call that isn't done leaves the board as it was.
+#[unsafe(no_mangle)]
+pub extern "C" fn gravitar_advance(
+    alloc: Global,
+    image: &[u8],
+    board: &mut [u8],
+    tape: &[u8],
+    clock: u64,
+    boundary: u32,
+    timers: u32,
+    text: &mut [u8],
+    report: &mut GravitarReport,
+) -> u32
+    ensures range { CLOCK_LIMIT < clock → Refuses BadNumber (report_of 0 0 clock) (call_of board.old board.new text.old text.new report.new result) }
+    ensures answer { clock ≤ CLOCK_LIMIT → AnswersOver image.now board.old tape.now (IsAdvanced (is_asked timers) (end_asked boundary clock))
+        (call_of board.old board.new text.old text.new report.new result) }
+{
+    if CLOCK_LIMIT < clock {
+        return report_number(Status::BadNumber, 0, clock, report);
+    }
+    let until = end(boundary, clock);
+    let start = Start {
+        image,
+        board,
+        tape,
+        timers: is_so(timers),
+    };
+    let came = advance(alloc, start, until);
+    answer(alloc, came, board, text, report)
+}
+
+/// Runs an image with a tape from a saved board to the first boundary that isn't before a clock, and
+/// puts the board at the end in its place. The buffer gets a sample for each `per` clocks, 1 to 65,535:
+/// the sum of both POKEYs' eight levels over them, as four bytes, the lowest first. Clocks at the end
+/// that are no whole group give none. All else is as in `gravitar_advance`.
+#[unsafe(no_mangle)]
+pub extern "C" fn gravitar_pcm(
+    alloc: Global,
+    image: &[u8],
+    board: &mut [u8],
+    tape: &[u8],
+    clock: u64,
+    per: u32,
+    timers: u32,
+    samples: &mut [u8],
+    report: &mut GravitarReport,
+) -> u32
+    ensures range { CLOCK_LIMIT < clock → Refuses BadNumber (report_of 0 0 clock) (call_of board.old board.new samples.old samples.new report.new result) }
+    ensures group { clock ≤ CLOCK_LIMIT → (per < 1) ⊎ (MAX_PER < per) → Refuses BadNumber (report_of 0 0 per) (call_of board.old board.new samples.old samples.new report.new result) }
+    ensures answer { clock ≤ CLOCK_LIMIT → 1 ≤ per → per ≤ MAX_PER → AnswersOver image.now board.old tape.now (IsSampled (is_asked timers) clock per)
+        (call_of board.old board.new samples.old samples.new report.new result) }
+{
+    if CLOCK_LIMIT < clock {
+        return report_number(Status::BadNumber, 0, clock, report);
+    }
+    if per < 1 || MAX_PER < per {
+        return report_number(Status::BadNumber, 0, u64::from(per), report);
+    }
+    let start = Start {
+        image,
+        board,
+        tape,
+        timers: is_so(timers),
+    };
+    let came = sample(alloc, start, clock, per);
+    answer(alloc, came, board, samples, report)
+}

@@ -1,0 +1,95 @@
+/* gravitar: a colour vector arcade board as calls of plain bytes and numbers.
+ *
+ * A board is 4,356 bytes, those of `gravitar run --save`. Nothing is kept between two calls, and no
+ * pointer. So calls may run side by side, a board is copied by memcpy, and a run that is done in
+ * stretches is the run that is done at once.
+ *
+ * Every pointer has to point to that many bytes (a length of 0 still wants a pointer that isn't null),
+ * and what a call writes (board, buffer, report) may not overlap anything else that it is given. The
+ * caller owns all of it. malloc, realloc and free are called inside, and nothing is left allocated.
+ * docs/EMBED.md shows a program in C, one in Python and one in Rust.
+ */
+#ifndef GRAVITAR_H
+#define GRAVITAR_H
+
+#include <stddef.h>
+#include <stdint.h>
+
+#ifdef __cplusplus
+extern "C" {
+#endif
+
+#define GRAVITAR_VERSION 1
+#define GRAVITAR_BOARD_LEN 4356
+#define GRAVITAR_IMAGE_LEN 43008
+#define GRAVITAR_CLOCK_LIMIT (UINT64_C(1) << 48)
+
+/* What a call returns. From GRAVITAR_BAD_IMAGE on nothing was done: board and image are as they were. */
+enum gravitar_status {
+    GRAVITAR_DONE = 0,
+    GRAVITAR_JAMMED = 1,               /* done, and an undocumented opcode has stopped the processor */
+    GRAVITAR_BAD_IMAGE = 2,            /* place: how many bytes it has */
+    GRAVITAR_BAD_BOARD = 3,            /* place: how many bytes it has, its version, or the offset of a field out of its range */
+    GRAVITAR_BAD_TAPE = 4,             /* place: the line, from 1; 0 where it is longer than 16 MiB */
+    GRAVITAR_BAD_NUMBER = 5,           /* place: the number */
+    GRAVITAR_NO_ROOM = 6,              /* used: how many bytes are wanted */
+    GRAVITAR_NO_MEMORY = 7,
+    GRAVITAR_BAD_PROCESSOR_SOURCE = 8, /* place: the line, from 1; 0 where it is too long */
+    GRAVITAR_BAD_GENERATOR_SOURCE = 9  /* place: the line, from 1; 0 where it is too long */
+};
+
+/* Numbers of an answer. Each call that takes one sets all three. */
+struct gravitar_report {
+    uint64_t clock; /* the clock of the board at the end, or 0 */
+    uint64_t used;  /* bytes of the buffer */
+    uint64_t place; /* where something is wrong, by the status, or 0 */
+};
+
+/* The version of these calls, GRAVITAR_VERSION. */
+uint32_t gravitar_version(void);
+
+/* Puts the board at power-on into a buffer of GRAVITAR_BOARD_LEN bytes or more.
+ * GRAVITAR_DONE or GRAVITAR_NO_ROOM. */
+uint32_t gravitar_power_on(uint8_t *board, size_t board_len);
+
+/* Runs an image with a tape from a board to a clock: with `boundary` 0 to just that clock, inside an
+ * instruction too, else to the first boundary between instructions that isn't before it. The board at the
+ * end is put in the place of the one before. A board that stands there already stays as it is.
+ *
+ * image: GRAVITAR_IMAGE_LEN bytes. board: GRAVITAR_BOARD_LEN bytes, changed in place. tape: a text, of
+ * which entries below the board's clock are not applied; its END line is only a line. clock:
+ * GRAVITAR_CLOCK_LIMIT at most. timers: not 0 where the POKEYs' timers reach the interrupt line; a board
+ * doesn't keep it, so it is told in each call.
+ *
+ * text gets the lines of the records on the way, as the log of `gravitar run` has them but for its last
+ * line (docs/FORMATS.md), and used their bytes. Where it is too short, nothing is done, and used is what
+ * it takes. Where bytes are refused, text gets the words of it, as many as there is room for.
+ *
+ * GRAVITAR_DONE, JAMMED, BAD_IMAGE, BAD_BOARD, BAD_TAPE, BAD_NUMBER, NO_ROOM or NO_MEMORY. */
+uint32_t gravitar_advance(const uint8_t *image, size_t image_len, uint8_t *board, size_t board_len,
+                          const uint8_t *tape, size_t tape_len, uint64_t clock, uint32_t boundary,
+                          uint32_t timers, uint8_t *text, size_t text_len,
+                          struct gravitar_report *report);
+
+/* The same to the first boundary that isn't before the clock, with samples in place of lines: for each
+ * `per` clocks, 1 to 65535, the sum of both POKEYs' eight levels over them, as four bytes, the lowest
+ * first. Clocks at the end that are no whole group give none. */
+uint32_t gravitar_pcm(const uint8_t *image, size_t image_len, uint8_t *board, size_t board_len,
+                      const uint8_t *tape, size_t tape_len, uint64_t clock, uint32_t per,
+                      uint32_t timers, uint8_t *samples, size_t samples_len,
+                      struct gravitar_report *report);
+
+/* Assembles the processor's source and then the generator's (docs/ASSEMBLER.md) into an image, of which
+ * all other bytes are 0. image: GRAVITAR_IMAGE_LEN bytes or more. Where a source is refused, note gets the
+ * words of it, used their bytes, and the image stays as it was.
+ *
+ * GRAVITAR_DONE, BAD_PROCESSOR_SOURCE, BAD_GENERATOR_SOURCE, NO_ROOM or NO_MEMORY. */
+uint32_t gravitar_assemble(const uint8_t *processor, size_t processor_len, const uint8_t *generator,
+                           size_t generator_len, uint8_t *image, size_t image_len, uint8_t *note,
+                           size_t note_len, struct gravitar_report *report);
+
+#ifdef __cplusplus
+}
+#endif
+
+#endif
