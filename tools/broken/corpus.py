@@ -1,6 +1,7 @@
 """The good commands and files from which the broken ones are made: those of the rows and of the examples, and what the program makes of them."""
 import fcntl
 import os
+import pathlib
 import shutil
 import subprocess
 import tempfile
@@ -60,7 +61,7 @@ class Corpus:
     def take_examples(self, examples):
         """Does the commands of the examples; slashes in names become dots."""
         files = {}
-        for path in sorted(examples.glob("*/*")):
+        for path in filter(pathlib.Path.is_file, sorted(examples.glob("*/*"))):
             files[b".".join(str(p).encode() for p in path.parts[-2:])] = path.read_bytes()
         for line in EXAMPLES.split("\n"):
             if line:

@@ -2,7 +2,7 @@
 import re
 
 STEPS = (b"file", b"patch", b"length", b"copy", b"$")
-EXPECTED = (b"status", b"note", b"store", b"at", b"same", b"keep", b"out")
+EXPECTED = (b"status", b"note", b"store", b"at", b"same", b"keep", b"text", b"out")
 SPAN = re.compile(rb"\{(\d+)\.\.(\d+)\}")
 
 
