@@ -7,8 +7,9 @@ ghost use Rattle.outside_io.specs.Shelf.{Loads, LoadFaults, LoadAbsences, KeepsO
 
 use crate::answers::{Failed, Loaded, ShelfFault};
 use crate::outside::Shelf;
-use crate::pieces::{read_opened, write_created};
+use crate::pieces::{read_opened, write_over};
 use std::fs;
+use std::fs::OpenOptions;
 use std::marker::Model;
 use std::rt::Files;
 
@@ -74,8 +75,9 @@ impl<'a, R: Files> Shelf for FileShelf<'a, R> {
         }
     }
 
-    /// What stood under the name is cut off first: after an `Err` a part of the bytes may stand
-    /// there.
+    /// It writes over what stands under the name, so that a disk without room still takes as many bytes as
+    /// before, and then cuts off the rest of that. After an `Err` the file is as it was, or ends with a
+    /// first part of the bytes.
     fn store(&mut self, name: &str, bytes: &[u8]) -> Result<(), Failed>
         ensures stored { OnOk result (untold_stores ≡ grown untold_stores ((name.now, bytes.now) ∷ [])) }
         ensures not_stored { OnErr result (untold_stores ≡ untold_stores) }
@@ -85,7 +87,11 @@ impl<'a, R: Files> Shelf for FileShelf<'a, R> {
         ensures absences { self.old.absences ≤ self.new.absences }
         ensures after { self.new ≡ after_file_store self.old result }
     {
-        match write_created(fs::create(self.rt, name), bytes) {
+        let opened = OpenOptions::new()
+            .write(true)
+            .create(true)
+            .open(self.rt, name);
+        match write_over(opened, bytes) {
             Ok(()) => Ok(()),
             Err(_) => {
                 self.faults = self.faults.saturating_add(1);

@@ -1,28 +1,38 @@
 //! Loops over the calls of std, each of which moves some bytes of a piece.
-ghost use Rattle.std.specs.Prelude.{◌≡◌, ◌≢◌, ℕ, ◌+◌, ◌≤◌, ◌↔◌, [], take, Ok, Err, OnOk, OnErr, IsOk, IsErr, IfOk, IsErrAnd, IfSome, vec_len};
+ghost use Rattle.std.specs.Prelude.{◌≡◌, ◌≢◌, ◌+◌, ◌<◌, ◌≤◌, ◌↔◌, [], take, length, Ok, Err, OnOk, IsOk, IsErr, IfOk, IfErr, IsErrAnd, IfSome, vec_len};
 ghost use Rattle.std.specs.IoError.{error_kind};
 ghost use Rattle.std.specs.Io.KnownBytes.{Appends};
 
 use crate::answers::{Failed, Loaded, ShelfFault};
+use std::fs::OpenFile;
 use std::io;
 use std::io::{ErrorKind, Read, Write};
 
 /// How many bytes one read asks for at most.
 const CHUNK: usize = 4096;
 
+/// A piece that wasn't taken whole: so many bytes of it were.
+#[derive(Clone, Copy, Debug, PartialEq, Eq)]
+pub(crate) struct Short {
+    pub(crate) taken: usize,
+}
+
 /// Writes a whole piece, in as many calls as it takes. A call that takes nothing fails, and so each
 /// turn takes a byte at least.
-pub(crate) fn write_whole<W: Write>(to: &mut W, bytes: &[u8]) -> Result<(), Failed>
+pub(crate) fn write_whole<W: Write>(to: &mut W, bytes: &[u8]) -> Result<(), Short>
     ensures whole { OnOk result (Appends (W.contents to.old) (W.contents to.new) bytes.now) }
-    ensures part { OnErr result ((k : ℕ) × Appends (W.contents to.old) (W.contents to.new) (take k bytes.now)) }
-    ensures empty { bytes.now ≡ [] → IsOk result }
+    ensures part { IfErr result (λ short. Appends (W.contents to.old) (W.contents to.new) (take short.taken bytes.now)) }
+    ensures short { IfErr result (λ short. short.taken < length bytes.now) }
 {
     let mut rest = bytes;
     while !rest.is_empty() {
         match to.write(rest) {
-            Ok(0) => return Err(Failed),
+            Ok(0) | Err(_) => {
+                return Err(Short {
+                    taken: bytes.len() - rest.len(),
+                });
+            }
             Ok(count) => rest = &rest[count..],
-            Err(_) => return Err(Failed),
         }
     }
     Ok(())
@@ -80,15 +90,35 @@ pub(crate) fn read_opened<F: Read + Drop>(
     }
 }
 
-/// Writes a piece to a file that was to be made. Every error is a fault.
-pub(crate) fn write_created<F: Write + Drop>(
-    created: io::Result<F>,
+/// Writes a piece over a file that was to be opened, from its start, and cuts off what lies behind. Every
+/// error is a fault. After one the file is as it was, or ends with a first part of the piece.
+pub(crate) fn write_over<F: Write + OpenFile + Drop>(
+    opened: io::Result<F>,
     bytes: &[u8],
 ) -> Result<(), Failed>
-    ensures { OnOk result (IsOk created) }
+    ensures { OnOk result (IsOk opened) }
 {
-    match created {
-        Ok(mut file) => write_whole(&mut file, bytes),
-        Err(_) => Err(Failed),
+    let Ok(mut file) = opened else {
+        return Err(Failed);
+    };
+    match write_whole(&mut file, bytes) {
+        Ok(()) => cut_behind(&file, bytes.len()),
+        Err(Short { taken: 0 }) => Err(Failed),
+        Err(Short { taken }) => {
+            // What was in the file behind these bytes is of no use, and may look like a part of them.
+            let _ = cut_behind(&file, taken);
+            Err(Failed)
+        }
     }
+}
+
+/// Cuts a file behind its first bytes where it is longer, as no pipe and no device is.
+fn cut_behind<F: OpenFile>(file: &F, len: usize) -> Result<(), Failed> {
+    let len = len as u64;
+    let cut = match file.metadata() {
+        Ok(found) if found.len() <= len => Ok(()),
+        Ok(_) => file.set_len(len),
+        Err(error) => Err(error),
+    };
+    cut.map_err(|_| Failed)
 }

@@ -121,6 +121,15 @@ fn a_file_shelf_keeps_real_files(rt: HostRuntime) -> Result<(), Fail> {
         );
         assert_eq!(rt; into.as_slice(), bytes, "{name} with limit {limit}");
     }
+    for bytes in [b"abc".as_slice(), b"", b"abcdef", b"ghijkl"] {
+        assert_eq!(rt; shelf.store(found.as_str(), bytes), Ok(()));
+        let mut into = Vec::new(rt.alloc());
+        assert_eq!(rt;
+            shelf.load(found.as_str(), 10, &mut into),
+            Ok(Loaded::Found)
+        );
+        assert_eq!(rt; into.as_slice(), bytes, "a store of {} bytes", bytes.len());
+    }
     assert_eq!(rt; shelf.store(astray.as_str(), b"0123456789"), Err(Failed));
     fs::remove_dir_all(&rt, folder.as_str())?;
     Ok(())
