@@ -41,7 +41,7 @@ enum gravitar_status {
 /* Numbers of an answer. Each call that takes one sets all three. */
 struct gravitar_report {
     uint64_t clock; /* the clock of the board at the end, or 0 */
-    uint64_t used;  /* bytes of the buffer */
+    uint64_t used;  /* bytes that were put into the buffer, or that it wants */
     uint64_t place; /* where something is wrong, by the status, or 0 */
 };
 
@@ -54,7 +54,7 @@ uint32_t gravitar_power_on(uint8_t *board, size_t board_len);
 
 /* Runs an image with a tape from a board to a clock: with `boundary` 0 to just that clock, inside an
  * instruction too, else to the first boundary between instructions that isn't before it. The board at the
- * end is put in the place of the one before. A board that stands there already stays as it is.
+ * end is put in the place of the one before. A board that has come so far already stays as it is.
  *
  * image: GRAVITAR_IMAGE_LEN bytes. board: GRAVITAR_BOARD_LEN bytes, changed in place. tape: a text, of
  * which entries below the board's clock are not applied; its END line is only a line. clock:
@@ -80,8 +80,9 @@ uint32_t gravitar_pcm(const uint8_t *image, size_t image_len, uint8_t *board, si
                       struct gravitar_report *report);
 
 /* Assembles the processor's source and then the generator's (docs/ASSEMBLER.md) into an image, of which
- * all other bytes are 0. image: GRAVITAR_IMAGE_LEN bytes or more. Where a source is refused, note gets the
- * words of it, used their bytes, and the image stays as it was.
+ * all other bytes are 0. image: GRAVITAR_IMAGE_LEN bytes or more, of which used is how many were put there,
+ * or with GRAVITAR_NO_ROOM are wanted. Where a source is refused, note gets the words of it, as many as
+ * there is room for, used tells their bytes, and the image stays as it was.
  *
  * GRAVITAR_DONE, BAD_PROCESSOR_SOURCE, BAD_GENERATOR_SOURCE, NO_ROOM or NO_MEMORY. */
 uint32_t gravitar_assemble(const uint8_t *processor, size_t processor_len, const uint8_t *generator,

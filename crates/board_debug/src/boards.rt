@@ -23,34 +23,21 @@ pub const SEEK_STRIDE: u64 = 61_440;
 /// How many boards are kept along a run that is so short that they lie closer.
 pub const SEEK_BOARDS: u64 = 250;
 
-/// The greatest of some clocks, or 0 where there is none.
-fn last_of(clocks: &[u64]) -> u64
-    ensures greatest { All (λ clock. clock ≤ result) clocks.now }
-{
-    let mut last = 0;
-    for clock in clocks {
-        if last < *clock {
-            last = *clock;
-        }
-    }
-    last
-}
-
-/// After how many clocks the next board is kept, on the way to the last of some clocks: so many that
-/// all boards that are kept on the way have room, but for a long way.
+/// After how many clocks the next board is kept, on the way from a start to the last of some clocks.
 fn stride_to(clocks: &[u64], start: u64) -> u64
     ensures some { 1 ≤ result }
     ensures most { result ≤ SEEK_STRIDE }
 {
-    let way = last_of(clocks).saturating_sub(start);
-    (way / SEEK_BOARDS).clamp(1, SEEK_STRIDE)
+    let last = clocks.iter().copied().max().unwrap_or(start);
+    (last.saturating_sub(start) / SEEK_BOARDS).clamp(1, SEEK_STRIDE)
 }
 
 /// Writes the texts of the boards of a run at some clocks, in the order in which they are asked for.
 ///
 /// The run begins at the first kept board, and below its clock that board is shown. Each board is
-/// sought from the last kept one at or below its clock, and boards are kept on the way, one each 61,440
-/// clocks at least, and closer where the last clock is near enough. It takes no memory. After a fault of `out` a first part of the text was taken.
+/// sought from the last kept one at or below its clock, and boards are kept on the way, at most 61,440
+/// clocks and a window apart, and closer where the last clock is near. It takes no memory. After a fault
+/// of `out` a first part of the text was taken.
 pub fn write_boards<V: VectorUnit, P: SoundUnit, C: CellUnit, D: DividerUnit, O: Sink>(
     engine: &mut Engine<V, P, C, D>,
     keys: &mut Keyframes,

@@ -1,6 +1,5 @@
 -- Bytes are read in one way, and a board is read again from its bytes.
-use Rattle.std.proofs.Common.{◌≡◌, ℕ, ◌≤◌, Bool, List, length, take, drop, ◌++◌, Option, Some, None, IfSome, IsSomeAnd, Result, Ok, inl, sym, ap, ◌∙◌, arith, take-append-drop}
-use Rattle.std.proofs.Math.Seq.{drop-append_seam}
+use Rattle.std.proofs.Common.{◌≡◌, ℕ, ◌≤◌, Bool, List, length, take, drop, ◌++◌, Option, Some, None, IfSome, IsSomeAnd, Result, Ok, inl, refl, sym, ap, ◌∙◌, arith}
 use Rattle.std.proofs.lemmas.List.{length-take-le}
 use Rattle.board_base.specs.declared.vector_memory.TheConstants.{VECTOR_RAM_LEN, VECTOR_ROM_LEN}
 use Rattle.board_base.specs.Board.{BoardValue}
@@ -11,10 +10,12 @@ use Rattle.catchup_engine.specs.Run.{IsPlaced}
 use Rattle.catchup_engine.specs.Wires.{board_of}
 use Rattle.cpu_core.specs.Places.{IsPlace, given_by}
 use Rattle.cpu_core.specs.Registers.{RegistersValue, registers_of}
+use Rattle.keyframes.proofs.AlongLaws.{rom-after}
 use Rattle.keyframes.proofs.ImageLaws.{Image, image_of}
 use Rattle.save_state.proofs.OneBoard.{one_board}
 use Rattle.save_state.specs.Reading.{IsWhole}
 use Rattle.sliced_run.specs.Slices.{saved_bytes}
+use Rattle.sliced_run.proofs.SlicesLaws.{reload-same}
 use Rattle.tape_ports.specs.Tape.{TapeValue}
 use Rattle.board_stretch.specs.declared.parts.Parts.{Parts}
 use Rattle.board_stretch.specs.Reading.{ReadsParts}
@@ -44,7 +45,7 @@ pub entries-same : (image board other tape : List ℕ) (p q : Parts) → ReadsPa
     → q.tape.entries ≡ p.tape.entries
 entries-same image board other tape p q r s = ap (λ (t : TapeValue). t.entries) (tape-same image board other tape p q r s)
 
--- a board of this image, with no records
+-- a board's state over an image, with no records
 laid : Board → Image → Board
 laid b image = record {
   cpu = b.cpu;
@@ -55,12 +56,6 @@ laid b image = record {
   };
 }
 
-laid-own : (b : Board) → laid b (image_of b.wires) ≡ cleared b
-unfolding laid
-laid-own b =
-    ap (λ (memory : List ℕ). let again : Board = record { cpu = b.cpu; wires = record (cleared b).wires { memory = memory } } in again)
-    (take-append-drop VECTOR_RAM_LEN b.wires.memory)
-
 -- the image of a first board is that of its parts
 first-image : (timers : Bool) (p : Parts) → IsWhole p.board
     → image_of (first_board timers p).wires
@@ -68,7 +63,7 @@ first-image : (timers : Bool) (p : Parts) → IsWhole p.board
 first-image timers p whole =
     let rom = take VECTOR_ROM_LEN p.image in
     ap (λ (r : List ℕ). let i : Image = record { wired = timers; program = drop VECTOR_ROM_LEN p.image; rom = r } in i)
-    (ap (λ k. drop k (p.board.vram ++ rom)) (sym whole.board.vram) ∙ drop-append_seam p.board.vram rom)
+    (rom-after VECTOR_RAM_LEN p.board.vram rom whole.board.vram)
 
 -- a board over the image of some parts, saved and read again over the same image, is the board without its records
 pub begins-again : (image board bytes tape : List ℕ) (timers : Bool) (p q : Parts) (half : Board)
@@ -82,7 +77,7 @@ begins-again image board bytes tape timers p q half r s saved whole over =
     ap (λ (b : BoardValue). let parts : Parts = record { image = q.image; board = b; tape = q.tape } in first_board timers parts) boards
     ∙ ap (λ (i : List ℕ). let parts : Parts = record { image = i; board = again; tape = q.tape } in first_board timers parts) same
     ∙ ap (laid half) (sym (over ∙ first-image timers p r.1.2))
-    ∙ laid-own half
+    ∙ reload-same (cleared half) (record { strokes = refl; levels1 = refl; levels2 = refl; written = refl })
 
 -- a whole board stands where a run can bring it
 placed-at : (r : RegistersValue) (mid : Option MidValue) (A : Type 0) → IfSome mid (λ _. A × IsSomeAnd mid (IsPlace r)) → IfSome mid IsMid

@@ -10,18 +10,17 @@ use Rattle.rom_image.specs.declared.image.TheConstants.{IMAGE_LEN}
 use Rattle.board_stretch.specs.declared.assembling.AssemblyFault.{AssemblyFault}
 use Rattle.board_stretch.specs.declared.assembling.AssemblyFault.TheVariants.{Processor, Generator, NoMemory}
 
--- these two sources give this image: the processor's is put into one of zeros, and then the generator's into that
-pub record MakeImage (processor generator image : List ℕ) : Type 0 where
-  pub half : List ℕ
-  pub first : List ListingLine
-  pub second : List ListingLine
-  pub of_processor : assembled cpu_statement PROGRAM_ROM processor (replicate IMAGE_LEN 0) ≡ Ok (half, first)
-  pub of_generator : source_assembled generator half ≡ Ok (image, second)
-
--- the processor's source is good, and gives this half of an image
+-- the processor's source is good, and put into an image of zeros gives this one
 pub record MakesHalf (processor half : List ℕ) : Type 0 where
   pub listing : List ListingLine
   pub of_processor : assembled cpu_statement PROGRAM_ROM processor (replicate IMAGE_LEN 0) ≡ Ok (half, listing)
+
+-- the generator's source is good too, and put into that one gives this image
+pub record MakeImage (processor generator image : List ℕ) : Type 0 where
+  pub half : List ℕ
+  pub first : MakesHalf processor half
+  pub listing : List ListingLine
+  pub of_generator : source_assembled generator half ≡ Ok (image, listing)
 
 -- what comes of two sources: their image, or the fault of the first that is none
 abbrev pub Assembles : List ℕ → List ℕ → Result (List ℕ) AssemblyFault → Type 0

@@ -4,9 +4,10 @@ ghost use Rattle.board_stretch.specs.Assembling.{Assembles};
 use asm_text::AsmFault;
 use rom_image::Image;
 use std::alloc::Global;
+use thiserror::Error;
 
 /// Why two sources give no image: the first that is refused, or want of memory.
-#[derive(Clone, Copy, Debug, PartialEq, Eq)]
+#[derive(Clone, Copy, Debug, PartialEq, Eq, Error)]
 pub enum AssemblyFault {
     /// The processor's source is refused.
     Processor(AsmFault),

@@ -55,8 +55,8 @@ fn advance_parts(
 /// Runs an image with a tape from a saved board to a clock, or to the first boundary that isn't before
 /// it. It tells the lines of the records on the way, as the log of `run` has them, without a last line.
 ///
-/// Entries of the tape whose clocks are done aren't applied, and its END is only a line. A board at or
-/// behind that clock stays as it is, and a jammed one too.
+/// Entries of the tape whose clocks are done aren't applied, and its END is only a line. A board that has
+/// come so far stays as it is, and a jammed one too.
 pub fn advance(alloc: Global, start: Start<'_>, until: Until) -> Result<Stretch, StretchFault>
     requires limit { clock_in until ≤ CLOCK_LIMIT }
     ensures { Comes start.entry.image.now start.entry.board.now start.entry.tape.now (IsAdvanced start.entry.timers until) result }

@@ -1,5 +1,5 @@
 -- What a call answers. This project's own.
-use Rattle.std.specs.Prelude.{◌≡◌, ◌<◌, ◌⊎◌, ℕ, Bool, List, ◌++◌, length, take, drop, nat_lt, Result, Ok, Err, if◌then◌else◌}
+use Rattle.std.specs.Prelude.{◌≡◌, ◌≤◌, ◌<◌, ◌⊎◌, ℕ, Bool, List, ◌++◌, length, take, drop, nat_lt, Result, Ok, Err, if◌then◌else◌}
 use Rattle.board_watch.specs.declared.until.Until.{Until}
 use Rattle.board_watch.specs.declared.until.Until.TheVariants.{Boundary, Clock}
 use Rattle.rom_image.specs.declared.image.TheConstants.{IMAGE_LEN}
@@ -60,7 +60,7 @@ pub record Gives (s : Stretch) (c : Call) : Type 0 where
   pub report : c.report ≡ report_of s.clock (length s.told.items) 0
   pub place : c.after ≡ s.board
   pub buffer : c.filled ≡ put_in s.told.items c.buffer
-  pub room : ¬ (length c.buffer < length s.told.items)
+  pub room : length s.told.items ≤ length c.buffer
 
 -- the buffer is too short for it
 pub record WantsRoom (s : Stretch) (c : Call) : Type 0 where
