@@ -4,9 +4,9 @@ use Rattle.std.proofs.Math.Seq.{drop-cons}
 use Rattle.std.proofs.lemmas.List.{drop_all}
 use Rattle.board_base.specs.Board.{BoardValue}
 use Rattle.tape_ports.specs.declared.entry.TapeEntry.{TapeEntry}
-use Rattle.catchup_engine.specs.EngineValue.{cleared}
-use Rattle.catchup_engine.specs.Lockstep.{Board}
-use Rattle.catchup_engine.specs.Run.{to_clock}
+use Rattle.lockstep_board.specs.Order.{cleared}
+use Rattle.lockstep_board.specs.Lockstep.{Board}
+use Rattle.lockstep_board.specs.Run.{to_clock}
 use Rattle.keyframes.specs.Seeking.{state_of}
 use Rattle.board_debug.specs.BoardText.{board_text}
 use Rattle.board_debug.specs.BoardsText.{boards_text}

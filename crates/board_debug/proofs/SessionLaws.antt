@@ -4,7 +4,7 @@ use Rattle.std.specs.Option.{option_map}
 use Rattle.std.proofs.Math.Seq.{drop-cons}
 use Rattle.std.proofs.lemmas.List.{drop_all}
 use Rattle.tape_ports.specs.Tape.{TapeValue}
-use Rattle.catchup_engine.specs.Lockstep.{Board}
+use Rattle.lockstep_board.specs.Lockstep.{Board}
 use Rattle.debug_script.specs.declared.command.Command.{Command}
 use Rattle.debug_script.specs.Stops.{Fit, StopsValue, are_few, stops_after}
 use Rattle.board_debug.specs.declared.found.Found.{Found}

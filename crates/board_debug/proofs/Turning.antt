@@ -5,15 +5,14 @@ use Rattle.std.specs.Option.{option_map}
 use Rattle.std.proofs.lemmas.Bool.{leb-false, lt-leb}
 use Rattle.tape_ports.specs.declared.entry.TapeEntry.{TapeEntry}
 use Rattle.tape_ports.specs.Tape.{TapeValue}
-use Rattle.catchup_engine.specs.Breaks.{BreakRun, TurnsTo, is_at_any, turn, turned}
-use Rattle.catchup_engine.specs.EngineValue.{HasNoRecords, cleared}
-use Rattle.catchup_engine.specs.Lockstep.{Board}
-use Rattle.catchup_engine.specs.Order.{records_of}
-use Rattle.catchup_engine.specs.Run.{IsPlaced, is_over, to_boundary}
-use Rattle.catchup_engine.proofs.Behind.{behind-cleared}
-use Rattle.catchup_engine.proofs.Ended.{cleared-empty}
+use Rattle.lockstep_board.specs.Breaks.{BreakRun, TurnsTo, is_at_any, turn, turned}
+use Rattle.lockstep_board.specs.Order.{HasNoRecords, cleared, records_of}
+use Rattle.lockstep_board.specs.Lockstep.{Board}
+use Rattle.lockstep_board.specs.Run.{IsPlaced, is_over, to_boundary}
+use Rattle.lockstep_board.proofs.Behind.{behind-cleared}
+use Rattle.lockstep_board.proofs.Ended.{cleared-empty}
 use Rattle.catchup_engine.proofs.RunsOn.{open-before}
-use Rattle.catchup_engine.proofs.TurnLaws.{turn-behind, turn-boundary, turn-later, turned-next, turned-placed, turns-to}
+use Rattle.lockstep_board.proofs.TurnLaws.{turn-behind, turn-boundary, turn-later, turned-next, turned-placed, turns-to}
 use Rattle.debug_script.specs.Stops.{StopsValue}
 use Rattle.board_debug.specs.declared.found.Found.{Found}
 use Rattle.board_debug.specs.declared.found.Found.TheVariants.{Jam, End, Step, Until}

@@ -3,7 +3,7 @@ use Rattle.std.proofs.Common.{◌≡◌, ℕ, ◌==◌, ◌<◌, not, find, get_
 use Rattle.std.specs.Option.{option_map}
 use Rattle.std.proofs.lemmas.Bool.{eq-eqb, ne_eqb}
 use Rattle.std.proofs.lemmas.List.{get_or-map}
-use Rattle.catchup_engine.specs.Lockstep.{Board}
+use Rattle.lockstep_board.specs.Lockstep.{Board}
 use Rattle.board_debug.specs.declared.found.Found.TheVariants.{Watch}
 use Rattle.board_debug.specs.Looks.{watch_look, watched_byte}
 

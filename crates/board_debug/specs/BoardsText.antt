@@ -1,8 +1,8 @@
 -- The texts of boards of a run, each at a clock that is asked for. This project's own profile.
 use Rattle.std.specs.Prelude.{ℕ, List, flat_map}
 use Rattle.tape_ports.specs.declared.entry.TapeEntry.{TapeEntry}
-use Rattle.catchup_engine.specs.Lockstep.{Board}
-use Rattle.catchup_engine.specs.Run.{to_clock}
+use Rattle.lockstep_board.specs.Lockstep.{Board}
+use Rattle.lockstep_board.specs.Run.{to_clock}
 use Rattle.keyframes.specs.Seeking.{state_of}
 use Rattle.board_debug.specs.BoardText.{board_text}
 

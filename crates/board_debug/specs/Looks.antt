@@ -2,8 +2,8 @@
 use Rattle.std.specs.Prelude.{◌≡◌, ℕ, ◌==◌, Bool, not, ◌&&◌, List, [], ◌∷◌, ◌++◌, find, map, codes, decimal, nat_le, unwrap_or, Option, Some, None, if◌then◌else◌}
 use Rattle.std.specs.Option.{option_map}
 use Rattle.text_line.specs.Words.{line, hex_byte, hex_word}
-use Rattle.catchup_engine.specs.Lockstep.{Board}
-use Rattle.catchup_engine.specs.Memory.{memory_byte}
+use Rattle.lockstep_board.specs.Lockstep.{Board}
+use Rattle.lockstep_board.specs.Memory.{memory_byte}
 use Rattle.debug_script.specs.Stops.{StopsValue}
 use Rattle.board_debug.specs.declared.found.Found.{Found}
 use Rattle.board_debug.specs.declared.looks.Before.{Before}

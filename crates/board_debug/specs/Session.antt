@@ -2,11 +2,11 @@
 use Rattle.std.specs.Prelude.{ℕ, ◌+◌, ◌-◌, List, [], ◌∷◌, ◌++◌, Option, Some, None, zero, suc}
 use Rattle.tape_ports.specs.declared.entry.TapeEntry.{TapeEntry}
 use Rattle.tape_ports.specs.Tape.{TapeValue}
-use Rattle.catchup_engine.specs.Breaks.{turn}
-use Rattle.catchup_engine.specs.EngineValue.{cleared}
-use Rattle.catchup_engine.specs.Lockstep.{Board}
-use Rattle.catchup_engine.specs.Memory.{memory_byte}
-use Rattle.catchup_engine.specs.Wires.{board_of}
+use Rattle.lockstep_board.specs.Breaks.{turn}
+use Rattle.lockstep_board.specs.Order.{cleared}
+use Rattle.lockstep_board.specs.Lockstep.{Board}
+use Rattle.lockstep_board.specs.Memory.{memory_byte}
+use Rattle.lockstep_board.specs.Wires.{board_of}
 use Rattle.debug_lines.specs.Bytes.{Seen, mem_text}
 use Rattle.debug_lines.specs.Instructions.{dis_text}
 use Rattle.debug_lines.specs.Statements.{vdis_text}

@@ -2,7 +2,7 @@
 ghost use Rattle.std.specs.Prelude.{◌≡◌, ◌≤◌, All};
 ghost use Rattle.outside_io.specs.Causes.{HasCause};
 ghost use Rattle.outside_io.specs.Sink.{Takes};
-ghost use Rattle.catchup_engine.specs.EngineValue.{HasNoRecords};
+ghost use Rattle.lockstep_board.specs.Order.{HasNoRecords};
 ghost use Rattle.keyframes.specs.Seeking.{Along, run_start};
 ghost use Rattle.board_debug.specs.BoardsText.{boards_text};
 

@@ -1,6 +1,6 @@
 //! What a session looks at between two turns.
 ghost use Rattle.std.specs.Prelude.{◌≡◌, ◌==◌, find, map, length, true, unwrap_or};
-ghost use Rattle.catchup_engine.specs.Lockstep as lockstep;
+ghost use Rattle.lockstep_board.specs.Lockstep as lockstep;
 ghost use Rattle.board_watch.specs.Rested.{engine_of};
 ghost use Rattle.board_debug.specs.Looks.{IsBefore, break_look, jam_look, look_after, look_before, look_until, vg_look, watch_look, watched_byte};
 

@@ -1,5 +1,5 @@
 ghost use Rattle.std.specs.Prelude.{◌≡◌, ◌≤◌, length};
-ghost use Rattle.catchup_engine.specs.EngineValue.{HasNoRecords};
+ghost use Rattle.lockstep_board.specs.Order.{HasNoRecords};
 ghost use Rattle.debug_script.specs.declared.script.TheConstants.{SCRIPT_LIMIT};
 ghost use Rattle.board_debug.specs.Debugged.{Debugs};
 

@@ -3,7 +3,7 @@ ghost use Rattle.std.specs.Prelude.{◌≡◌, OnOk};
 ghost use Rattle.std.specs.Option.{option_map};
 ghost use Rattle.outside_io.specs.Causes.{HasCause};
 ghost use Rattle.outside_io.specs.Sink.{Takes};
-ghost use Rattle.catchup_engine.specs.Wires.{board_of};
+ghost use Rattle.lockstep_board.specs.Wires.{board_of};
 ghost use Rattle.debug_script.specs.Stops.{Fit, no_stops};
 ghost use Rattle.board_watch.specs.Rested.{engine_of, loan_of};
 ghost use Rattle.board_debug.specs.Session.{board_after, command_text, reached_by, session_board, session_text, shown_text};

@@ -1,5 +1,5 @@
 ghost use Rattle.std.specs.Prelude.{◌≡◌, IfOk};
-ghost use Rattle.catchup_engine.specs.EngineValue.{HasNoRecords};
+ghost use Rattle.lockstep_board.specs.Order.{HasNoRecords};
 
 use crate::{DebugFault, run_script, write_board};
 use avg_device::FastVg;

@@ -4,13 +4,12 @@ use Rattle.board_watch.specs.declared.until.Until.{Until}
 use Rattle.board_watch.specs.declared.until.Until.TheVariants.{Boundary, Clock}
 use Rattle.board_watch.specs.Windows.{end_of, steps_to}
 use Rattle.board_watch.proofs.WatchLaws.{from-behind, steps-cleared}
-use Rattle.catchup_engine.specs.EngineValue.{cleared}
-use Rattle.catchup_engine.specs.Lockstep.{Board}
-use Rattle.catchup_engine.specs.Order.{Recorded, behind}
-use Rattle.catchup_engine.specs.Run.{IsPlaced, stepped, to_boundary, to_clock}
-use Rattle.catchup_engine.proofs.Behind.{to_boundary-behind, to_clock-behind}
-use Rattle.catchup_engine.proofs.Ends.{boundary-clock-steps, boundary-split-steps, to_clock-split-steps}
-use Rattle.catchup_engine.proofs.Runs.{stepped-add}
+use Rattle.lockstep_board.specs.Order.{cleared, Recorded, behind}
+use Rattle.lockstep_board.specs.Lockstep.{Board}
+use Rattle.lockstep_board.specs.Run.{IsPlaced, stepped, to_boundary, to_clock}
+use Rattle.lockstep_board.proofs.Behind.{to_boundary-behind, to_clock-behind}
+use Rattle.lockstep_board.proofs.Ends.{boundary-clock-steps, boundary-split-steps, to_clock-split-steps}
+use Rattle.lockstep_board.proofs.Runs.{stepped-add}
 use Rattle.keyframes.proofs.ImageLaws.{stepped-image}
 use Rattle.sliced_run.specs.Slice.{slice_text, text_of_steps}
 use Rattle.sliced_run.specs.Slices.{saved_bytes}

@@ -4,10 +4,10 @@ use Rattle.std.proofs.lemmas.List.{length-take-le}
 use Rattle.board_base.specs.declared.vector_memory.TheConstants.{VECTOR_RAM_LEN, VECTOR_ROM_LEN}
 use Rattle.board_base.specs.Board.{BoardValue}
 use Rattle.board_base.specs.Cpu.{IsMid, MidValue}
-use Rattle.catchup_engine.specs.EngineValue.{cleared}
-use Rattle.catchup_engine.specs.Lockstep.{Board}
-use Rattle.catchup_engine.specs.Run.{IsPlaced}
-use Rattle.catchup_engine.specs.Wires.{board_of}
+use Rattle.lockstep_board.specs.Order.{cleared}
+use Rattle.lockstep_board.specs.Lockstep.{Board}
+use Rattle.lockstep_board.specs.Run.{IsPlaced}
+use Rattle.lockstep_board.specs.Wires.{board_of}
 use Rattle.cpu_core.specs.Places.{IsPlace, given_by}
 use Rattle.cpu_core.specs.Registers.{RegistersValue, registers_of}
 use Rattle.keyframes.proofs.AlongLaws.{rom-after}

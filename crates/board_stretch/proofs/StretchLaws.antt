@@ -1,8 +1,8 @@
 -- Laws of stretches.
 use Rattle.std.proofs.Common.{◌≡◌, ℕ, List, [], Some, ap, subst, ◌∙◌, is_some}
-use Rattle.catchup_engine.specs.EngineValue.{cleared}
-use Rattle.catchup_engine.specs.Lockstep.{Board}
-use Rattle.catchup_engine.specs.Wires.{board_of}
+use Rattle.lockstep_board.specs.Order.{cleared}
+use Rattle.lockstep_board.specs.Lockstep.{Board}
+use Rattle.lockstep_board.specs.Wires.{board_of}
 use Rattle.save_state.specs.Reading.{IsWhole}
 use Rattle.outside_io.specs.Known.{grown}
 use Rattle.sliced_run.proofs.SlicesLaws.{saved-cleared}

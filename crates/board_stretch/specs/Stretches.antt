@@ -4,8 +4,8 @@ use Rattle.std.specs.Option.{is_some}
 use Rattle.board_watch.specs.declared.until.Until.{Until}
 use Rattle.board_watch.specs.declared.until.Until.TheVariants.{Boundary}
 use Rattle.board_watch.specs.Windows.{end_of}
-use Rattle.catchup_engine.specs.Lockstep.{Board}
-use Rattle.catchup_engine.specs.Wires.{board_of, wires_of}
+use Rattle.lockstep_board.specs.Lockstep.{Board}
+use Rattle.lockstep_board.specs.Wires.{board_of, wires_of}
 use Rattle.save_state.specs.Reading.{IsWhole}
 use Rattle.sampled_run.specs.BoardSamples.{sampled_bytes}
 use Rattle.sliced_run.specs.Slice.{slice_text}

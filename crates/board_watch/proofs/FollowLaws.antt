@@ -8,18 +8,17 @@ use Rattle.tape_ports.specs.declared.entry.TapeEntry.{TapeEntry}
 use Rattle.outside_io.specs.Known.{grown}
 use Rattle.outside_io.proofs.KnownLaws.{grown-nothing, grown-twice}
 use Rattle.outside_io.proofs.TakesLaws.{took_first, took_then}
-use Rattle.catchup_engine.specs.declared.stop.Stop.TheVariants.{Jammed, Limit, Window}
-use Rattle.catchup_engine.specs.Breaks.{turn, turned}
-use Rattle.catchup_engine.specs.EngineValue.{HasNoRecords, cleared}
-use Rattle.catchup_engine.specs.Lockstep.{Board}
-use Rattle.catchup_engine.specs.Order.{Recorded, records_of}
-use Rattle.catchup_engine.specs.Run.{cause_at, cause_of, is_over, to_boundary, window_limit, wrap_of, IsPlaced}
+use Rattle.lockstep_board.specs.declared.stop.Stop.TheVariants.{Jammed, Limit, Window}
+use Rattle.lockstep_board.specs.Breaks.{turn, turned}
+use Rattle.lockstep_board.specs.Order.{HasNoRecords, cleared, Recorded, records_of}
+use Rattle.lockstep_board.specs.Lockstep.{Board}
+use Rattle.lockstep_board.specs.Run.{cause_at, cause_of, is_over, to_boundary, window_limit, wrap_of, IsPlaced}
 use Rattle.catchup_engine.specs.Trace.{TraceValue}
 use Rattle.catchup_engine.specs.Traced.{TracedRun}
-use Rattle.catchup_engine.proofs.Behind.{to_boundary-behind, behind-cleared}
-use Rattle.catchup_engine.proofs.Ends.{boundary-split, to_boundary-clock, to_boundary-over}
+use Rattle.lockstep_board.proofs.Behind.{to_boundary-behind, behind-cleared}
+use Rattle.lockstep_board.proofs.Ends.{boundary-split, to_boundary-clock, to_boundary-over}
 use Rattle.catchup_engine.proofs.RunsOn.{open-before}
-use Rattle.catchup_engine.proofs.TurnLaws.{turn-later, turn-placed, to_boundary-none, to_boundary-turn}
+use Rattle.lockstep_board.proofs.TurnLaws.{turn-later, turn-placed, to_boundary-none, to_boundary-turn}
 use Rattle.board_watch.specs.Follow.{FollowsInParts, IsFollowedInParts, StandsStill}
 
 module _ (entries : List TapeEntry) where

@@ -5,16 +5,17 @@ use Rattle.board_base.specs.declared.divider.TheConstants.{DIVIDER_PERIOD}
 use Rattle.board_base.specs.Board.{BoardValue}
 use Rattle.cpu_core.specs.Places.{given_by}
 use Rattle.tape_ports.specs.declared.entry.TapeEntry.{TapeEntry}
-use Rattle.catchup_engine.specs.Lockstep.{Board}
-use Rattle.catchup_engine.specs.Breaks.{BreakRun, turn, turned}
-use Rattle.catchup_engine.specs.EngineValue.{EngineValue, cleared}
-use Rattle.catchup_engine.specs.Run.{stepped, to_boundary, boundary_steps}
+use Rattle.lockstep_board.specs.Lockstep.{Board}
+use Rattle.lockstep_board.specs.Breaks.{BreakRun, turn, turned}
+use Rattle.catchup_engine.specs.EngineValue.{EngineValue}
+use Rattle.lockstep_board.specs.Order.{cleared}
+use Rattle.lockstep_board.specs.Run.{stepped, to_boundary, boundary_steps}
 use Rattle.catchup_engine.specs.Trace.{TraceValue}
 use Rattle.catchup_engine.specs.Traced.{TracedRun}
-use Rattle.catchup_engine.proofs.Places.{stepped-placed}
-use Rattle.catchup_engine.proofs.Runs.{stepped-add}
-use Rattle.catchup_engine.proofs.Wraps.{phase-in_range}
-use Rattle.catchup_engine.specs.Wires.{reloaded}
+use Rattle.lockstep_board.proofs.Places.{stepped-placed}
+use Rattle.lockstep_board.proofs.Runs.{stepped-add}
+use Rattle.lockstep_board.proofs.Wraps.{phase-in_range}
+use Rattle.lockstep_board.specs.Wires.{reloaded}
 use Rattle.board_watch.specs.Rest.{IsAtRest}
 
 -- an engine whose devices are brought to the present has the board that it had

@@ -4,20 +4,20 @@ use Rattle.tape_ports.specs.declared.entry.TapeEntry.{TapeEntry}
 use Rattle.outside_io.specs.Known.{grown}
 use Rattle.outside_io.proofs.KnownLaws.{grown-nothing, grown-twice}
 use Rattle.outside_io.proofs.TakesLaws.{took_first, took_then}
-use Rattle.catchup_engine.specs.declared.stop.Stop.TheVariants.{Window}
-use Rattle.catchup_engine.specs.Lockstep.{Board}
-use Rattle.catchup_engine.specs.Run.{stepped, is_over, is_at, to_boundary, to_cut, window_limit, wrap_of, cause_of, IsPlaced}
-use Rattle.catchup_engine.specs.Budget.{budget, wraps}
-use Rattle.catchup_engine.specs.EngineValue.{EngineValue, HasNoRecords, cleared}
-use Rattle.catchup_engine.specs.Order.{Recorded, AreMadeBetween, behind, records_of}
-use Rattle.catchup_engine.proofs.Ended.{at-stop, over-stop}
-use Rattle.catchup_engine.proofs.Runs.{steps-none, stepped-add}
-use Rattle.catchup_engine.proofs.Ends.{boundary-split-steps, to_clock-cut-steps}
-use Rattle.catchup_engine.proofs.Behind.{stepped-behind, boundary_steps-behind, clock_steps-behind, budget-behind, counted-behind, behind-cleared}
-use Rattle.catchup_engine.proofs.Budgets.{counted-add, budget-add}
-use Rattle.catchup_engine.proofs.Clocks.{stepped-clock}
-use Rattle.catchup_engine.proofs.InOrder.{stepped-made}
-use Rattle.catchup_engine.proofs.Wraps.{wrap-counted}
+use Rattle.lockstep_board.specs.declared.stop.Stop.TheVariants.{Window}
+use Rattle.lockstep_board.specs.Lockstep.{Board}
+use Rattle.lockstep_board.specs.Run.{stepped, is_over, is_at, to_boundary, to_cut, window_limit, wrap_of, cause_of, IsPlaced}
+use Rattle.lockstep_board.specs.Budget.{budget, wraps}
+use Rattle.catchup_engine.specs.EngineValue.{EngineValue}
+use Rattle.lockstep_board.specs.Order.{HasNoRecords, cleared, Recorded, AreMadeBetween, behind, records_of}
+use Rattle.lockstep_board.proofs.Ended.{at-stop, over-stop}
+use Rattle.lockstep_board.proofs.Runs.{steps-none, stepped-add}
+use Rattle.lockstep_board.proofs.Ends.{boundary-split-steps, to_clock-cut-steps}
+use Rattle.lockstep_board.proofs.Behind.{stepped-behind, boundary_steps-behind, clock_steps-behind, budget-behind, counted-behind, behind-cleared}
+use Rattle.lockstep_board.proofs.Budgets.{counted-add, budget-add}
+use Rattle.lockstep_board.proofs.Clocks.{stepped-clock}
+use Rattle.lockstep_board.proofs.InOrder.{stepped-made}
+use Rattle.lockstep_board.proofs.Wraps.{wrap-counted}
 use Rattle.board_watch.specs.declared.until.Until.{Until}
 use Rattle.board_watch.specs.declared.until.Until.TheVariants.{Clock, Boundary}
 use Rattle.board_watch.specs.Rest.{IsAtRest}

@@ -1,10 +1,9 @@
 -- Tracers that take the records of a run too, and what the laws of one say. This project's own.
 use Rattle.std.specs.Prelude.{◌≡◌, ℕ, ◌≤◌, Bool, true, List, [], ◌++◌}
 use Rattle.tape_ports.specs.declared.entry.TapeEntry.{TapeEntry}
-use Rattle.catchup_engine.specs.EngineValue.{HasNoRecords, cleared}
-use Rattle.catchup_engine.specs.Lockstep.{Board}
-use Rattle.catchup_engine.specs.Order.{Recorded, records_of}
-use Rattle.catchup_engine.specs.Run.{IsPlaced, is_over}
+use Rattle.lockstep_board.specs.Order.{HasNoRecords, cleared, Recorded, records_of}
+use Rattle.lockstep_board.specs.Lockstep.{Board}
+use Rattle.lockstep_board.specs.Run.{IsPlaced, is_over}
 use Rattle.catchup_engine.specs.Trace.{TraceValue}
 use Rattle.catchup_engine.specs.Traced.{TracedRun}
 

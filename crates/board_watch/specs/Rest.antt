@@ -1,8 +1,9 @@
 -- An engine at rest: as it stands between two runs, to be saved, shown, or gone on from. This project's own.
 use Rattle.std.specs.Prelude.{◌≡◌, ◌<◌}
 use Rattle.board_base.specs.declared.divider.TheConstants.{DIVIDER_PERIOD}
-use Rattle.catchup_engine.specs.EngineValue.{EngineValue, HasNoRecords}
-use Rattle.catchup_engine.specs.Run.{IsPlaced}
+use Rattle.catchup_engine.specs.EngineValue.{EngineValue}
+use Rattle.lockstep_board.specs.Order.{HasNoRecords}
+use Rattle.lockstep_board.specs.Run.{IsPlaced}
 
 -- no record is left, no device lags behind the processor, and the processor and the divider stand where a run can bring them
 pub record IsAtRest (e : EngineValue) : Type 0 where

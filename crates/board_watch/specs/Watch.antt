@@ -1,7 +1,7 @@
 -- Watchers of the records of a run, and what the law of a watcher says. This project's own.
 use Rattle.std.specs.Prelude.{◌≡◌, ℕ, List, ◌++◌}
 use Rattle.board_base.specs.declared.record.Record.{Record}
-use Rattle.catchup_engine.specs.Order.{Recorded, AreMadeBetween}
+use Rattle.lockstep_board.specs.Order.{Recorded, AreMadeBetween}
 
 -- the records of four trails
 abbrev pub recorded : List Record → List Record → List Record → List Record → Recorded

@@ -1,11 +1,10 @@
 -- A run to a clock or to a boundary, window by window. This project's own.
 use Rattle.std.specs.Prelude.{◌≡◌, ℕ, ◌+◌, ◌*◌, List, None}
 use Rattle.tape_ports.specs.declared.entry.TapeEntry.{TapeEntry}
-use Rattle.catchup_engine.specs.Lockstep.{Board}
-use Rattle.catchup_engine.specs.Run.{stepped, boundary_steps, clock_steps, cut_steps, window_limit, wrap_of}
-use Rattle.catchup_engine.specs.Budget.{budget, counted, wraps}
-use Rattle.catchup_engine.specs.EngineValue.{cleared}
-use Rattle.catchup_engine.specs.Order.{records_of}
+use Rattle.lockstep_board.specs.Lockstep.{Board}
+use Rattle.lockstep_board.specs.Run.{stepped, boundary_steps, clock_steps, cut_steps, window_limit, wrap_of}
+use Rattle.lockstep_board.specs.Budget.{budget, counted, wraps}
+use Rattle.lockstep_board.specs.Order.{cleared, records_of}
 use Rattle.board_watch.specs.declared.until.Until.{Until}
 use Rattle.board_watch.specs.declared.until.Until.TheVariants.{Clock, Boundary}
 use Rattle.board_watch.specs.Watch.{AreParts, joined}

@@ -2,8 +2,8 @@ ghost use Rattle.std.specs.Prelude.{◌≡◌, ℕ, List, OnOk};
 ghost use Rattle.outside_io.specs.Causes.{HasCause};
 ghost use Rattle.outside_io.specs.Sink.{Takes};
 ghost use Rattle.tape_ports.specs.declared.entry.TapeEntry.{TapeEntry};
-ghost use Rattle.catchup_engine.specs.Lockstep.{Board};
-ghost use Rattle.catchup_engine.specs.Order.{Recorded};
+ghost use Rattle.lockstep_board.specs.Lockstep.{Board};
+ghost use Rattle.lockstep_board.specs.Order.{Recorded};
 ghost use Rattle.board_watch.specs.Follow.{FollowsInParts, StandsStill};
 ghost use Rattle.board_watch.specs.Watch.{recorded};
 

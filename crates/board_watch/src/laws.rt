@@ -1,10 +1,9 @@
 //! Laws of runs in windows. Each is the contract of a function that does nothing.
 ghost use Rattle.std.specs.Prelude.{List};
 ghost use Rattle.tape_ports.specs.declared.entry.TapeEntry.{TapeEntry};
-ghost use Rattle.catchup_engine.specs.Lockstep.{Board};
-ghost use Rattle.catchup_engine.specs.EngineValue.{HasNoRecords};
-ghost use Rattle.catchup_engine.specs.Order.{AreMadeBetween, records_of};
-ghost use Rattle.catchup_engine.specs.Run.{IsPlaced};
+ghost use Rattle.lockstep_board.specs.Lockstep.{Board};
+ghost use Rattle.lockstep_board.specs.Order.{HasNoRecords, AreMadeBetween, records_of};
+ghost use Rattle.lockstep_board.specs.Run.{IsPlaced};
 ghost use Rattle.board_watch.specs.declared.until.Until.{Until as until_value};
 ghost use Rattle.board_watch.specs.Windows.{IsFirstWindow, end_of};
 

@@ -5,14 +5,14 @@ ghost use Rattle.outside_io.specs.Causes.{HasCause};
 ghost use Rattle.outside_io.specs.Sink.{Takes};
 ghost use Rattle.cpu_core.specs.Places.{IsMiddle, given_by};
 ghost use Rattle.cpu_table.specs.Opcodes.{row_of};
-ghost use Rattle.catchup_engine.specs.Breaks.{BreakRun, turn};
-ghost use Rattle.catchup_engine.specs.Budget.{budget};
-ghost use Rattle.catchup_engine.specs.EngineValue.{HasNoRecords, cleared, counted_on};
-ghost use Rattle.catchup_engine.specs.Lockstep as lockstep;
-ghost use Rattle.catchup_engine.specs.Order.{records_of};
-ghost use Rattle.catchup_engine.specs.Run.{cause_of, to_boundary, window_limit, wrap_of, IsPlaced};
+ghost use Rattle.lockstep_board.specs.Breaks.{BreakRun, turn};
+ghost use Rattle.lockstep_board.specs.Budget.{budget};
+ghost use Rattle.catchup_engine.specs.EngineValue.{counted_on};
+ghost use Rattle.lockstep_board.specs.Order.{HasNoRecords, cleared, records_of};
+ghost use Rattle.lockstep_board.specs.Lockstep as lockstep;
+ghost use Rattle.lockstep_board.specs.Run.{cause_of, to_boundary, window_limit, wrap_of, IsPlaced};
 ghost use Rattle.catchup_engine.specs.Traced.{TracedRun};
-ghost use Rattle.catchup_engine.specs.Wires.{reloaded};
+ghost use Rattle.lockstep_board.specs.Wires.{reloaded};
 ghost use Rattle.board_base.specs.declared.divider.TheConstants.{DIVIDER_PERIOD};
 ghost use Rattle.board_watch.specs.Rest.{IsAtRest};
 ghost use Rattle.board_watch.specs.Windows.{EndsSo, clock_in, end_of, price_to, window_end, window_steps};
@@ -65,7 +65,7 @@ fn look_at_place<V: VectorUnit, P: SoundUnit, C: CellUnit, D: DividerUnit>(
 
 /// Runs the board to the end of a run, or to the first boundary after the divider's next wrap where
 /// that comes first.
-#[tactic(auto, unfolding(catchup_engine::specs::Run::to_boundary, catchup_engine::specs::Run::to_cut))]
+#[tactic(auto, unfolding(lockstep_board::specs::Run::to_boundary, lockstep_board::specs::Run::to_cut))]
 fn advance<V: VectorUnit, P: SoundUnit, C: CellUnit, D: DividerUnit>(
     engine: &mut Engine<V, P, C, D>,
     tape: &Tape,

@@ -1,7 +1,7 @@
 ghost use Rattle.std.specs.Prelude.{◌≡◌, ℕ, List, OnOk};
 ghost use Rattle.outside_io.specs.Causes.{HasCause};
 ghost use Rattle.outside_io.specs.Sink.{Takes};
-ghost use Rattle.catchup_engine.specs.Order.{Recorded};
+ghost use Rattle.lockstep_board.specs.Order.{Recorded};
 ghost use Rattle.board_watch.specs.Watch.{TakesInParts, recorded};
 
 use board_base::Trails;

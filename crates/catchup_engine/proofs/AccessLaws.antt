@@ -4,9 +4,9 @@ use Rattle.board_base.specs.declared.record.Record.{Record}
 use Rattle.board_map.specs.Map.{region_of}
 use Rattle.cpu_core.specs.Course.{write_of}
 use Rattle.tape_ports.specs.declared.entry.TapeEntry.{TapeEntry}
-use Rattle.catchup_engine.specs.Wires.{Wires, byte_put}
+use Rattle.lockstep_board.specs.Wires.{Wires, byte_put}
 use Rattle.catchup_engine.specs.Bus.{BusValue, BusStep, Stays, at_clock, done_clock, in_clock, room_of}
-use Rattle.catchup_engine.proofs.Clocks.{put_in-clock, ticked-clock, ticked-written}
+use Rattle.lockstep_board.proofs.Clocks.{put_in-clock, ticked-clock, ticked-written}
 
 -- the clock in which an access comes is the one that counts as done, or the next
 in_clock-clock : (entries : List TapeEntry) (begun : Bool) (w : Wires) → (in_clock entries begun w).clock ≤ w.clock

@@ -6,14 +6,15 @@ use Rattle.board_base.specs.Cpu.{CpuValue, MidValue}
 use Rattle.cpu_core.specs.Places.{IsMiddle}
 use Rattle.tape_ports.specs.declared.entry.TapeEntry.{TapeEntry}
 use Rattle.catchup_engine.specs.Bus.{BusValue}
-use Rattle.catchup_engine.specs.Lockstep.{Board, step}
-use Rattle.catchup_engine.specs.Run.{is_over}
-use Rattle.catchup_engine.specs.Breaks.{is_at_any, BreakRun}
-use Rattle.catchup_engine.specs.Runs.{over_bus, StepsTo, RunsOn, TurnsOn, TurnsRun, BoundaryRun, BreakRunBus, IsInRange}
-use Rattle.catchup_engine.specs.Turn.{Through, TurnedBus}
+use Rattle.lockstep_board.specs.Lockstep.{Board, step}
+use Rattle.lockstep_board.specs.Run.{is_over}
+use Rattle.lockstep_board.specs.Breaks.{is_at_any, BreakRun}
+use Rattle.catchup_engine.specs.Runs.{over_bus, RunsOn, TurnsOn, TurnsRun, BoundaryRun, BreakRunBus, IsInRange}
+use Rattle.lockstep_board.specs.Steps.{StepsTo, Through}
+use Rattle.catchup_engine.specs.Turn.{TurnedBus}
 use Rattle.catchup_engine.proofs.RunsOn.{starts, goes_on, runs-asked, runs-join, AtBoundary, boundary-starts, boundary-resumes, boundary-goes_on, boundary-ends, open-before, none-is, some-of}
-use Rattle.catchup_engine.proofs.Runs.{through-reached}
-use Rattle.catchup_engine.proofs.TurnLaws.{break-one, breaks-append, turn-jammed}
+use Rattle.lockstep_board.proofs.Runs.{through-reached}
+use Rattle.lockstep_board.proofs.TurnLaws.{break-one, breaks-append, turn-jammed}
 
 over-at : (jam : Option ℕ) (mid : Option MidValue) (limit clock : ℕ) → mid ≡ None → limit ≤ clock
     → is_some jam || (is_none mid && nat_le limit clock) ≡ true

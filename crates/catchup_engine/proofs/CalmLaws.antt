@@ -16,15 +16,15 @@ use Rattle.cpu_core.specs.Registers.{RegistersValue}
 use Rattle.cpu_core.specs.Sequences.{Moves, Runs}
 use Rattle.catchup_engine.specs.declared.calm.Calm.{Calm}
 use Rattle.catchup_engine.specs.declared.bus.TheConstants.{WHOLE}
-use Rattle.catchup_engine.specs.Breaks.{is_at_any}
+use Rattle.lockstep_board.specs.Breaks.{is_at_any}
 use Rattle.catchup_engine.specs.Bus.{BusValue, Does, at_clock}
 use Rattle.catchup_engine.specs.Calm.{AreCalm, IsCalm, KeepsLines, LeavesLines}
-use Rattle.catchup_engine.specs.Lockstep.{is_reset, sequence_due}
+use Rattle.lockstep_board.specs.Lockstep.{is_reset, sequence_due}
 use Rattle.catchup_engine.specs.Quiet.{later, passed}
-use Rattle.catchup_engine.specs.Run.{is_over}
+use Rattle.lockstep_board.specs.Run.{is_over}
 use Rattle.catchup_engine.specs.Runs.{over_bus}
 use Rattle.catchup_engine.specs.Turn.{is_opcode, reads_opcode}
-use Rattle.catchup_engine.specs.Wires.{Wires, byte_put, devices_ticked, has_request, line_of, put_in}
+use Rattle.lockstep_board.specs.Wires.{Wires, byte_put, devices_ticked, has_request, line_of, put_in}
 
 both-not : (a b : Bool) → (not a && not b) ≡ true → (a ≡ false) × (b ≡ false)
 both-not false false e = (refl, refl)

@@ -1,6 +1,6 @@
 -- The bus's clock, and the clocks in which nothing comes.
 use Rattle.std.proofs.Common.{◌≡◌, ◌+◌, ◌-◌, ◌≤◌, refl, arith}
-use Rattle.catchup_engine.specs.Wires.{Wires}
+use Rattle.lockstep_board.specs.Wires.{Wires}
 use Rattle.catchup_engine.specs.Bus.{at_clock}
 
 -- a clock that is done and taken back is the clock before

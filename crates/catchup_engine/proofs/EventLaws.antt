@@ -3,11 +3,12 @@ use Rattle.std.proofs.Common.{◌≡◌, ℕ, ◌+◌, List, refl, ap, ◌∙◌
 use Rattle.tape_ports.specs.declared.entry.TapeEntry.{TapeEntry}
 use Rattle.tape_ports.specs.Due.{due_at}
 use Rattle.tape_ports.specs.Tape.{TapeValue}
-use Rattle.catchup_engine.specs.Budget.{wraps}
-use Rattle.catchup_engine.specs.Wires.{Wires, applied, devices_ticked, ticked}
+use Rattle.lockstep_board.specs.Budget.{wraps}
+use Rattle.lockstep_board.specs.Wires.{Wires, applied, devices_ticked, ticked}
 use Rattle.catchup_engine.specs.Bus.{BusValue, IsTapePlace, done_clock}
-use Rattle.catchup_engine.proofs.Clocks.{ticked-clock, ticked-written}
-use Rattle.catchup_engine.proofs.TapeLaws.{applied-clock, applied-divider}
+use Rattle.lockstep_board.proofs.Clocks.{ticked-clock, ticked-written}
+use Rattle.catchup_engine.proofs.TapeLaws.{applied-clock}
+use Rattle.lockstep_board.proofs.Wraps.{applied-divider}
 
 -- the entries of a clock, and then its ticks
 pub ticked-is : (entries : List TapeEntry) (w v : Wires) → v ≡ applied (due_at w.clock entries) w → devices_ticked v ≡ ticked entries w

@@ -7,8 +7,8 @@ use Rattle.board_base.specs.declared.divider.Pending.{Pending}
 use Rattle.board_base.specs.declared.divider.Pending.TheVariants.{Nothing, Power, Watchdog}
 use Rattle.board_base.specs.Cpu.{CpuValue, MidValue}
 use Rattle.catchup_engine.specs.declared.bus.TheConstants.{WHOLE}
-use Rattle.catchup_engine.specs.Lockstep.{is_reset, sequence_due}
-use Rattle.catchup_engine.specs.Wires.{devices_ticked}
+use Rattle.lockstep_board.specs.Lockstep.{is_reset, sequence_due}
+use Rattle.lockstep_board.specs.Wires.{devices_ticked}
 use Rattle.catchup_engine.specs.Bus.{BusValue}
 use Rattle.catchup_engine.specs.Turn.{ReadsOpcode, is_opcode, reads_opcode}
 

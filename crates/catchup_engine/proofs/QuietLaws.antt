@@ -19,11 +19,12 @@ use Rattle.tape_ports.specs.declared.entry.TapeEntry.{TapeEntry}
 use Rattle.tape_ports.specs.Tape.{TapeValue}
 use Rattle.board_map.specs.Map.{region_of}
 use Rattle.catchup_engine.specs.declared.bus.TheConstants.{PROGRAM_START, WHOLE}
-use Rattle.catchup_engine.specs.Budget.{reaches_device}
-use Rattle.catchup_engine.specs.Lags.{DeviceLags, all_lag, lagging_at, lags}
+use Rattle.lockstep_board.specs.Budget.{reaches_device}
+use Rattle.catchup_engine.specs.Lags.{DeviceLags, all_lag, lagging_at}
+use Rattle.device_lanes.specs.Lags.{lags}
 use Rattle.catchup_engine.specs.Bus.{BusStep, BusValue, Does, Fits, Stays, at_clock, begin_price, done_clock, in_clock, room_of}
 use Rattle.catchup_engine.specs.Quiet.{IsCounted, later, passed, quiet_room}
-use Rattle.catchup_engine.specs.Wires.{Wires, byte_put, byte_read, devices_ticked}
+use Rattle.lockstep_board.specs.Wires.{Wires, byte_put, byte_read, devices_ticked}
 use Rattle.catchup_engine.proofs.AccessLaws.{write-step}
 use Rattle.catchup_engine.proofs.ClockLaws.{clock-back}
 use Rattle.catchup_engine.proofs.MapLaws.{region-program, region-ram}

@@ -4,16 +4,17 @@ use Rattle.std.proofs.lemmas.Bool.{leb-false, lt-leb}
 use Rattle.board_base.specs.Cpu.{CpuValue, MidValue}
 use Rattle.cpu_core.specs.Places.{IsMiddle}
 use Rattle.tape_ports.specs.declared.entry.TapeEntry.{TapeEntry}
-use Rattle.catchup_engine.specs.Budget.{budget, counted}
+use Rattle.lockstep_board.specs.Budget.{budget, counted}
 use Rattle.catchup_engine.specs.Bus.{BusValue}
-use Rattle.catchup_engine.specs.Lockstep.{Board, step}
-use Rattle.catchup_engine.specs.Breaks.{is_at_any}
-use Rattle.catchup_engine.specs.Run.{stepped, is_over, is_cut, boundary_steps, cut_steps}
-use Rattle.catchup_engine.specs.Runs.{over_bus, StepsTo, RunsOn, TurnsRun, BoundaryRun, CutRun, IsInRange}
-use Rattle.catchup_engine.specs.Turn.{IsInside, Through, TurnedBus}
-use Rattle.catchup_engine.proofs.Budgets.{budget-add}
-use Rattle.catchup_engine.proofs.Clocks.{step-clock, through-clock}
-use Rattle.catchup_engine.proofs.Runs.{reached-append, reached-asked, stepped-is, steps_until-is, through-reached, to_boundary-is, to_cut-is}
+use Rattle.lockstep_board.specs.Lockstep.{Board, step}
+use Rattle.lockstep_board.specs.Breaks.{is_at_any}
+use Rattle.lockstep_board.specs.Run.{stepped, is_over, is_cut, boundary_steps, cut_steps}
+use Rattle.catchup_engine.specs.Runs.{over_bus, RunsOn, TurnsRun, BoundaryRun, CutRun, IsInRange}
+use Rattle.lockstep_board.specs.Steps.{StepsTo, IsInside, Through}
+use Rattle.catchup_engine.specs.Turn.{TurnedBus}
+use Rattle.lockstep_board.proofs.Budgets.{budget-add}
+use Rattle.lockstep_board.proofs.Clocks.{step-clock, through-clock}
+use Rattle.lockstep_board.proofs.Runs.{reached-append, reached-asked, stepped-is, steps_until-is, through-reached, to_boundary-is, to_cut-is}
 
 no-budget : (entries : List TapeEntry) (b : Board) → budget entries 0 b ≡ 0
 unfolding counted

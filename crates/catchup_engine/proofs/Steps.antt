@@ -12,11 +12,11 @@ use Rattle.cpu_core.specs.Places.{standing, stopped, paused}
 use Rattle.cpu_core.proofs.LengthLemmas.{six_before_end}
 use Rattle.cpu_core.proofs.PlaceLemmas.{given_paused}
 use Rattle.tape_ports.specs.declared.entry.TapeEntry.{TapeEntry}
-use Rattle.catchup_engine.specs.Wires.{Wires, ticked}
-use Rattle.catchup_engine.specs.Lockstep.{Board, accessed, accessed_by, clocked, made_by, access_in, step}
+use Rattle.lockstep_board.specs.Wires.{Wires, ticked}
+use Rattle.lockstep_board.specs.Lockstep.{Board, accessed, accessed_by, clocked, made_by, access_in, step}
 use Rattle.catchup_engine.specs.Bus.{BusValue, BusStep, Stays, in_clock, begin_price}
-use Rattle.catchup_engine.specs.Budget.{budget, counted, device_access, price, reaches_device, ticks_price}
-use Rattle.catchup_engine.specs.Turn.{IsInside, Through}
+use Rattle.lockstep_board.specs.Budget.{budget, counted, device_access, price, reaches_device, ticks_price}
+use Rattle.lockstep_board.specs.Steps.{IsInside, Through}
 
 -- a processor after these bytes of a sequence, and wires
 abbrev pub board_after : RegistersValue → Sequence → List ℕ → Wires → Board

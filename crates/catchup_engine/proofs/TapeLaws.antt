@@ -15,7 +15,7 @@ use Rattle.tape_ports.specs.Due.{due_at}
 use Rattle.tape_ports.specs.Ports.{IsPort}
 use Rattle.tape_ports.specs.Tape.{TapeValue, IsTape, count_before}
 use Rattle.catchup_engine.specs.Events.{next_event_of}
-use Rattle.catchup_engine.specs.Wires.{Wires, applied, devices_ticked, port_set, ticked}
+use Rattle.lockstep_board.specs.Wires.{Wires, applied, devices_ticked, port_set, ticked}
 use Rattle.catchup_engine.specs.Bus.{BusValue, ComesNext, Does, Fits, IsTapePlace}
 
 -- where the entries before a place are before a clock and the others aren't, that place is their number
@@ -91,18 +91,6 @@ pub applied-clock : (es : List TapeEntry) (w : Wires) → (applied es w).clock �
 unfolding applied
 applied-clock [] w = refl
 applied-clock (e ∷ es) w = applied-clock es (port_set e.port e.value w) ∙ port_set-clock e.port e.value w
-
-port_set-divider : (p : Port) (value : ℕ) (w : Wires) → (port_set p value w).divider ≡ w.divider
-port_set-divider port.In0 value w = refl
-port_set-divider port.In3 value w = refl
-port_set-divider port.In4 value w = refl
-port_set-divider (port.Pot1 which) value w = refl
-port_set-divider (port.Pot2 which) value w = refl
-
-pub applied-divider : (es : List TapeEntry) (w : Wires) → (applied es w).divider ≡ w.divider
-unfolding applied
-applied-divider [] w = refl
-applied-divider (e ∷ es) w = applied-divider es (port_set e.port e.value w) ∙ port_set-divider e.port e.value w
 
 -- one entry more
 pub applied-more : (k : ℕ) (es : List TapeEntry) (d : TapeEntry) (w : Wires) → k < length es

@@ -4,18 +4,18 @@ use Rattle.std.proofs.lemmas.Bool.{cases_lt}
 use Rattle.board_base.specs.Cpu.{CpuValue, MidValue}
 use Rattle.cpu_core.specs.Places.{IsMiddle}
 use Rattle.tape_ports.specs.declared.entry.TapeEntry.{TapeEntry}
-use Rattle.catchup_engine.specs.Breaks.{turn, turned}
+use Rattle.lockstep_board.specs.Breaks.{turn, turned}
 use Rattle.catchup_engine.specs.Bus.{BusValue}
-use Rattle.catchup_engine.specs.Lockstep.{Board, step}
-use Rattle.catchup_engine.specs.Run.{is_over}
+use Rattle.lockstep_board.specs.Lockstep.{Board, step}
+use Rattle.lockstep_board.specs.Run.{is_over}
 use Rattle.catchup_engine.specs.Runs.{over_bus, IsInRange, RunsOn, TracedBusRun}
 use Rattle.catchup_engine.specs.Trace.{TraceValue, step_trace, trace_of}
 use Rattle.catchup_engine.specs.Traced.{told, told_once}
 use Rattle.catchup_engine.specs.Turn.{TurnedBus}
-use Rattle.catchup_engine.proofs.Runs.{through-reached}
+use Rattle.lockstep_board.proofs.Runs.{through-reached}
 use Rattle.catchup_engine.proofs.RunsOn.{goes_on, starts}
 use Rattle.catchup_engine.proofs.Traces.{over-running, trace-ends, trace-told}
-use Rattle.catchup_engine.proofs.TurnLaws.{turned-next}
+use Rattle.lockstep_board.proofs.TurnLaws.{turned-next}
 
 -- the clocks to a limit, and one for a sequence that is under way
 abbrev pub clocks_left : ℕ → CpuValue → BusValue → ℕ

@@ -16,14 +16,14 @@ use Rattle.tape_ports.specs.declared.entry.TapeEntry.{TapeEntry}
 use Rattle.catchup_engine.specs.declared.trace.Access.{Access}
 use Rattle.catchup_engine.specs.Bus.{BusStep, BusValue, at_clock, done_clock, in_clock, room_of}
 use Rattle.catchup_engine.specs.EngineValue.{Rooms}
-use Rattle.catchup_engine.specs.Lockstep.{Board, access_in, due_access, made_by, sequence_due, step}
-use Rattle.catchup_engine.specs.Run.{boundary_steps, is_over}
+use Rattle.lockstep_board.specs.Lockstep.{Board, access_in, due_access, made_by, sequence_due, step}
+use Rattle.lockstep_board.specs.Run.{boundary_steps, is_over}
 use Rattle.catchup_engine.specs.Runs.{over_bus, BoundaryRun, IsInRange}
 use Rattle.catchup_engine.specs.Trace.{TracedReset, TracedStep, TracedValue, TraceValue, access_at, accesses_in, accesses_of, byte_of, first_byte, first_value, no_trace, opcode_by, pushed, sequence_at, seven_of, step_trace, trace_of, traced}
 use Rattle.catchup_engine.specs.Turn.{Goes, TurnedBus}
-use Rattle.catchup_engine.specs.Wires.{Wires, ticked}
-use Rattle.catchup_engine.proofs.Clocks.{step-clock}
-use Rattle.catchup_engine.proofs.Runs.{steps_until-is, through-reached}
+use Rattle.lockstep_board.specs.Wires.{Wires, ticked}
+use Rattle.lockstep_board.proofs.Clocks.{step-clock}
+use Rattle.lockstep_board.proofs.Runs.{steps_until-is, through-reached}
 use Rattle.catchup_engine.proofs.RunsOn.{boundary-ends, boundary-starts, open-before, turn-runs}
 use Rattle.catchup_engine.proofs.Seen.{advances-seen, moves-seen, runs-seen}
 use Rattle.catchup_engine.proofs.Steps.{board_after, in_clock-between, moves-length, moves-went, paused-is, stays-of, step-access}

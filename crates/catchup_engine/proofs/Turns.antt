@@ -14,14 +14,15 @@ use Rattle.cpu_core.specs.Places.{standing, stopped, paused, given_by, Advances,
 use Rattle.cpu_core.proofs.LengthLemmas.{six_before_end}
 use Rattle.cpu_core.proofs.PlaceLemmas.{place_due}
 use Rattle.tape_ports.specs.declared.entry.TapeEntry.{TapeEntry}
-use Rattle.catchup_engine.specs.Wires.{Wires, line_of, reset_begun, ticked}
-use Rattle.catchup_engine.specs.Lockstep.{Board, accessed, access_in, begun, clocked, due_access, at_fetch, made_by, sequence_due, step}
-use Rattle.catchup_engine.specs.Budget.{begins_reset, budget, counted, device_access, price, reaches_device, reset_count, ticks_price}
+use Rattle.lockstep_board.specs.Wires.{Wires, line_of, reset_begun, ticked}
+use Rattle.lockstep_board.specs.Lockstep.{Board, accessed, access_in, begun, clocked, due_access, at_fetch, made_by, sequence_due, step}
+use Rattle.lockstep_board.specs.Budget.{begins_reset, budget, counted, device_access, price, reaches_device, reset_count, ticks_price}
 use Rattle.catchup_engine.specs.Bus.{BusValue, BusStep, Does, Fits, at_clock, done_clock, in_clock}
 use Rattle.tape_ports.specs.Tape.{TapeValue}
 use Rattle.catchup_engine.proofs.TapeLaws.{ticked-quiet}
-use Rattle.catchup_engine.specs.Turn.{Goes, ReadsOpcode, Resets, Through, Turned, TurnedBus}
-use Rattle.catchup_engine.proofs.Clocks.{step-clock, through-clock, step-written, through-written, reset_by-clock}
+use Rattle.catchup_engine.specs.Turn.{Goes, ReadsOpcode, Resets, Turned, TurnedBus}
+use Rattle.lockstep_board.specs.Steps.{Through}
+use Rattle.lockstep_board.proofs.Clocks.{step-clock, through-clock, step-written, through-written, reset_by-clock}
 use Rattle.catchup_engine.proofs.Steps.{board_after, accessed-is, in_clock-between, moves-length, moves-went, same-access, stays-of, Went}
 
 -- the first clock of a turn: one step of the board, and an access of the bus

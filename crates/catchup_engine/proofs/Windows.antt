@@ -1,9 +1,9 @@
 -- Why a run ended.
 use Rattle.std.proofs.Common.{◌≡◌, ℕ, ◌≤◌, ◌<◌, Bool, true, ◌&&◌, ◌||◌, nat_le, is_some, is_none, min, Option, Some, None, arith}
 use Rattle.std.proofs.lemmas.Bool.Decides.{nat_tests}
-use Rattle.catchup_engine.specs.declared.stop.Stop.TheVariants.{Window}
-use Rattle.catchup_engine.specs.Lockstep.{Board}
-use Rattle.catchup_engine.specs.Run.{is_over, is_cut, cause_of, cause_at}
+use Rattle.lockstep_board.specs.declared.stop.Stop.TheVariants.{Window}
+use Rattle.lockstep_board.specs.Lockstep.{Board}
+use Rattle.lockstep_board.specs.Run.{is_over, is_cut, cause_of, cause_at}
 
 by_jam : (jam : Option ℕ) (none : Bool) (limit wrap : ℕ) (b : Board) → is_some jam || (none && nat_le (min limit wrap) b.wires.clock) ≡ true
     → cause_at jam limit b ≡ Window → wrap ≤ b.wires.clock

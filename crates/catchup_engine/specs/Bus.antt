@@ -6,8 +6,8 @@ use Rattle.board_map.specs.Map.{region_of}
 use Rattle.cpu_core.specs.Course.{Access, read_of, write_of}
 use Rattle.tape_ports.specs.declared.entry.TapeEntry.{TapeEntry}
 use Rattle.tape_ports.specs.Tape.{TapeValue, IsTape}
-use Rattle.catchup_engine.specs.Wires.{Wires, ticked, byte_read, byte_put}
-use Rattle.catchup_engine.specs.Budget.{reaches_device, ticks_price}
+use Rattle.lockstep_board.specs.Wires.{Wires, ticked, byte_read, byte_put}
+use Rattle.lockstep_board.specs.Budget.{reaches_device, ticks_price}
 use Rattle.catchup_engine.specs.EngineValue.{Rooms}
 use Rattle.catchup_engine.specs.Lags.{DeviceLags, lagging_at}
 

@@ -3,7 +3,7 @@ use Rattle.std.specs.Prelude.{◌≡◌, ℕ, ◌+◌, ◌≤◌, ◌<◌, List,
 use Rattle.board_base.specs.declared.divider.Pending.TheVariants.{Nothing}
 use Rattle.catchup_engine.specs.declared.calm.Calm.{Calm}
 use Rattle.catchup_engine.specs.Bus.{BusValue}
-use Rattle.catchup_engine.specs.Wires.{Wires, devices_ticked}
+use Rattle.lockstep_board.specs.Wires.{Wires, devices_ticked}
 
 -- the ticks of a clock leave the divider's interrupt and its reset
 pub record LeavesLines (w : Wires) : Type 0 where

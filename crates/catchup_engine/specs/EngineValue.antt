@@ -1,7 +1,7 @@
 -- The engine, as contracts see it.
 use Rattle.std.specs.Prelude.{◌≡◌, ℕ, ◌+◌, ◌-◌, ◌^◌, ◌≤◌, min, []}
 use Rattle.catchup_engine.specs.declared.bus.TheConstants.{TRAIL_ROOM}
-use Rattle.catchup_engine.specs.Lockstep.{Board}
+use Rattle.lockstep_board.specs.Lockstep.{Board}
 
 -- how many records each trail has room for
 pub record Rooms : Type 0 where
@@ -25,17 +25,6 @@ pub record EngineValue : Type 0 where
   pub rooms : Rooms
   pub calls : ℕ
   pub done : ℕ
-
--- no record has been made since the last clearing
-pub record HasNoRecords (b : Board) : Type 0 where
-  pub strokes : b.wires.strokes ≡ []
-  pub levels1 : b.wires.levels1 ≡ []
-  pub levels2 : b.wires.levels2 ≡ []
-  pub written : b.wires.written ≡ []
-
--- the board with its records forgotten
-abbrev pub cleared : Board → Board
-cleared b = record b { wires = record b.wires { strokes = []; levels1 = []; levels2 = []; written = [] } }
 
 -- a count after so many more
 abbrev pub counted_on : ℕ → ℕ → ℕ

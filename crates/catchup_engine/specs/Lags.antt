@@ -5,16 +5,7 @@ use Rattle.board_base.specs.declared.board.TheConstants.{CLOCK_END}
 use Rattle.board_base.specs.Pokey.{PokeyValue}
 use Rattle.board_map.specs.declared.map.Region.{Region}
 use Rattle.pokey_chip.specs.Quiet.{requests_after}
-use Rattle.catchup_engine.specs.Uses.{Device, Vector, Sound1, Sound2, Cells, Divider, uses_of}
-
--- one for a device that was moved up to an earlier clock
-abbrev pub lags : ℕ → ℕ → ℕ
-lags done clock = from_bool (nat_lt done clock)
-
--- a POKEY that was moved up to the clock done has a request from the clock at on
-abbrev pub AsksAt : ℕ → ℕ → PokeyValue → Type 0
-AsksAt done at p =
-    (clock : ℕ) → done ≤ clock → clock ≤ CLOCK_END → (requests_after (clock - done) p == 7) ≡ not (nat_le at clock)
+use Rattle.lockstep_board.specs.Uses.{Device, Vector, Sound1, Sound2, Cells, Divider, uses_of}
 
 -- for each device 1 where it lags, and else 0
 pub record DeviceLags : Type 0 where

@@ -9,7 +9,7 @@ use Rattle.pokey_chip.specs.Tick.{levels_made, pokey_tick}
 use Rattle.tape_ports.specs.Tape.{TapeValue}
 use Rattle.catchup_engine.specs.Bus.{BusValue, Fits, room_of}
 use Rattle.catchup_engine.specs.Lags.{all_lag}
-use Rattle.catchup_engine.specs.Wires.{Wires}
+use Rattle.lockstep_board.specs.Wires.{Wires}
 
 -- the wires n such clocks later
 unfoldable pub later : ℕ → Wires → Wires

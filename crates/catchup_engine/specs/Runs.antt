@@ -3,10 +3,11 @@ use Rattle.std.specs.Prelude.{◌≡◌, ℕ, ◌+◌, ◌-◌, ◌≤◌, ◌<�
 use Rattle.board_base.specs.declared.board.TheConstants.{CLOCK_LIMIT}
 use Rattle.board_base.specs.Cpu.{CpuValue}
 use Rattle.tape_ports.specs.declared.entry.TapeEntry.{TapeEntry}
-use Rattle.catchup_engine.specs.Lockstep.{Board, step}
-use Rattle.catchup_engine.specs.Run.{is_over, is_cut, to_boundary, to_cut, boundary_steps, cut_steps}
-use Rattle.catchup_engine.specs.Breaks.{is_at_any, BreakRun}
-use Rattle.catchup_engine.specs.Budget.{budget}
+use Rattle.lockstep_board.specs.Lockstep.{Board, step}
+use Rattle.lockstep_board.specs.Run.{is_over, is_cut, to_boundary, to_cut, boundary_steps, cut_steps}
+use Rattle.lockstep_board.specs.Breaks.{is_at_any, BreakRun}
+use Rattle.lockstep_board.specs.Budget.{budget}
+use Rattle.lockstep_board.specs.Steps.{StepsTo}
 use Rattle.catchup_engine.specs.Bus.{BusValue, room_of}
 use Rattle.catchup_engine.specs.Trace.{TraceValue}
 use Rattle.catchup_engine.specs.Traced.{TracedRun}
@@ -20,11 +21,6 @@ over_bus c s = record { cpu = c; wires = s.wires }
 pub record IsInRange (c : CpuValue) (s : BusValue) : Type 0 where
   pub clock : s.wires.clock ≤ CLOCK_LIMIT + 16
   pub middle : IsSome c.mid → s.wires.clock ≤ CLOCK_LIMIT
-
--- n steps lead to the board last, none of them from a board that is as asked
-abbrev pub StepsTo : List TapeEntry → (Board → Bool) → ℕ → Board → Board → Type 0
-StepsTo entries asked zero b last = last ≡ b
-StepsTo entries asked (suc n) b last = (asked b ≡ false) × StepsTo entries asked n (step entries b) last
 
 -- from the processor c and the bus s some steps have led to e and t, none of them from a board that is as asked
 pub record RunsOn (entries : List TapeEntry) (asked : Board → Bool) (c : CpuValue) (s t : BusValue) (e : CpuValue) : Type 0 where

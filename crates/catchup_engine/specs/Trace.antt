@@ -11,9 +11,9 @@ use Rattle.cpu_core.specs.Sequences.{start_of}
 use Rattle.tape_ports.specs.declared.entry.TapeEntry.{TapeEntry}
 use Rattle.catchup_engine.specs.declared.trace.Access.{Access}
 use Rattle.catchup_engine.specs.Bus.{BusStep, BusValue, Does, at_clock}
-use Rattle.catchup_engine.specs.Lockstep.{Board, access_in, sequence_due, step}
-use Rattle.catchup_engine.specs.Run.{boundary_steps, is_jammed}
-use Rattle.catchup_engine.specs.Wires.{Wires, reset_begun, ticked}
+use Rattle.lockstep_board.specs.Lockstep.{Board, access_in, sequence_due, step}
+use Rattle.lockstep_board.specs.Run.{boundary_steps, is_jammed}
+use Rattle.lockstep_board.specs.Wires.{Wires, reset_begun, ticked}
 
 -- the sequence, its opcode, the number of its accesses, and seven accesses of which the first are those made
 pub record TraceValue : Type 0 where

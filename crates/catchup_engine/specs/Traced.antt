@@ -1,9 +1,9 @@
 -- Runs of which somebody is told turn by turn. This project's own.
 use Rattle.std.specs.Prelude.{◌≡◌, ℕ, ◌<◌, ◌≤◌, ◌⊎◌, Bool, true, false, List, zero, suc}
 use Rattle.tape_ports.specs.declared.entry.TapeEntry.{TapeEntry}
-use Rattle.catchup_engine.specs.Breaks.{turn, turned}
-use Rattle.catchup_engine.specs.Lockstep.{Board}
-use Rattle.catchup_engine.specs.Run.{is_over}
+use Rattle.lockstep_board.specs.Breaks.{turn, turned}
+use Rattle.lockstep_board.specs.Lockstep.{Board}
+use Rattle.lockstep_board.specs.Run.{is_over}
 use Rattle.catchup_engine.specs.Trace.{TraceValue, step_trace}
 
 module _ {T : Type 0} (next : T → TraceValue → ℕ → T) where

@@ -7,20 +7,11 @@ use Rattle.cpu_core.specs.Places.{Advances}
 use Rattle.cpu_core.specs.Sequences.{Moves, start_of}
 use Rattle.tape_ports.specs.declared.entry.TapeEntry.{TapeEntry}
 use Rattle.catchup_engine.specs.declared.bus.TheConstants.{WHOLE}
-use Rattle.catchup_engine.specs.Wires.{devices_ticked, reset_begun}
-use Rattle.catchup_engine.specs.Lockstep.{Board, sequence_due, step}
-use Rattle.catchup_engine.specs.Budget.{budget}
+use Rattle.lockstep_board.specs.Wires.{devices_ticked, reset_begun}
+use Rattle.lockstep_board.specs.Lockstep.{Board, sequence_due, step}
+use Rattle.lockstep_board.specs.Budget.{budget}
+use Rattle.lockstep_board.specs.Steps.{Through}
 use Rattle.catchup_engine.specs.Bus.{BusStep, BusValue, at_clock}
-
--- the processor isn't jammed, and stands inside a sequence
-pub record IsInside (b : Board) : Type 0 where
-  pub running : b.cpu.jam ≡ None
-  pub middle : IsSome b.cpu.mid
-
--- n steps lead through boards inside a sequence
-abbrev pub Through : List TapeEntry → ℕ → Board → Board → Type 0
-Through entries zero b last = last ≡ b
-Through entries (suc n) b last = IsInside b × Through entries n (step entries b) last
 
 -- One step, and then as many through the inside of the sequence; with the bytes that came before they are no more than a whole sequence has.
 -- Each makes one record on the board's trail at most, and the device calls are within their budget.

@@ -8,10 +8,10 @@ mod ports;
 mod regions;
 mod state;
 
-use crate::lane::{CellLane, DividerLane, SoundLane, VectorLane};
 use avg_device::VectorUnit;
 use board_base::{Trail, VectorMemory};
 use cpu_core::Bus;
+use device_lanes::{CellLane, DividerLane, SoundLane, VectorLane};
 use earom_cells::CellUnit;
 use irq_watchdog::DividerUnit;
 use pokey_chip::SoundUnit;
@@ -69,7 +69,7 @@ impl<V: VectorUnit, P: SoundUnit, C: CellUnit, D: DividerUnit> Model for BoardBu
     ghost use Rattle.pokey_chip.specs.Tick.{levels_made, pokey_tick};
     ghost use Rattle.catchup_engine.specs.declared.bus.TheConstants.{TRAIL_ROOM};
     ghost use Rattle.catchup_engine.specs.Bus.{BusValue};
-    ghost use Rattle.catchup_engine.specs.Lags.{lags, AsksAt};
+    ghost use Rattle.device_lanes.specs.Lags.{lags, AsksAt};
 
     ghost Value = { BusValue };
 

@@ -3,7 +3,7 @@ ghost use Rattle.std.specs.Prelude.{◌≡◌, ◌<◌, ◌&&◌, ◌||◌, is_n
 ghost use Rattle.board_base.specs.declared.divider.Pending.TheVariants.{Nothing};
 ghost use Rattle.cpu_alu.specs.Flags.{is_masked};
 ghost use Rattle.catchup_engine.specs.Calm.{IsCalm, LeavesLines};
-ghost use Rattle.catchup_engine.specs.Wires.{devices_ticked};
+ghost use Rattle.lockstep_board.specs.Wires.{devices_ticked};
 
 use crate::bus::BoardBus;
 use avg_device::VectorUnit;

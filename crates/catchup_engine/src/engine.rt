@@ -1,19 +1,19 @@
 ghost use Rattle.std.specs.Prelude.{◌≡◌, ◌+◌, ◌-◌, ◌≤◌, ◌<◌, ◌==◌, ◌||◌, true, false, None, IfSome, IfOk, min};
 ghost use Rattle.cpu_core.specs.Places.{IsMiddle};
 ghost use Rattle.cpu_table.specs.Opcodes.{row_of};
-ghost use Rattle.catchup_engine.specs.Breaks.{is_at_any, BreakRun};
-ghost use Rattle.catchup_engine.specs.Budget.{budget};
-ghost use Rattle.catchup_engine.specs.EngineValue.{HasNoRecords, HasRoom, cleared, counted_on};
-ghost use Rattle.catchup_engine.specs.Memory.{memory_byte};
-ghost use Rattle.catchup_engine.specs.Run.{boundary_steps, cause_of, cut_steps, is_over, to_boundary, to_cut, window_limit, wrap_of};
+ghost use Rattle.lockstep_board.specs.Breaks.{is_at_any, BreakRun};
+ghost use Rattle.lockstep_board.specs.Budget.{budget};
+ghost use Rattle.catchup_engine.specs.EngineValue.{HasRoom, counted_on};
+ghost use Rattle.lockstep_board.specs.Order.{HasNoRecords, cleared};
+ghost use Rattle.lockstep_board.specs.Memory.{memory_byte};
+ghost use Rattle.lockstep_board.specs.Run.{boundary_steps, cause_of, cut_steps, is_over, to_boundary, to_cut, window_limit, wrap_of};
 ghost use Rattle.catchup_engine.specs.Trace.{step_trace};
 ghost use Rattle.catchup_engine.specs.Traced.{TracedRun};
-ghost use Rattle.catchup_engine.specs.Wires.{board_of, reloaded, wires_of};
+ghost use Rattle.lockstep_board.specs.Wires.{board_of, reloaded, wires_of};
 
 use crate::bus::BoardBus;
 use crate::devices::Devices;
 use crate::run::{run_to_break, run_to_cut, run_traced, run_until};
-use crate::stop::Stop;
 use crate::trace::{Trace, trace_sequence};
 use crate::tracer::Tracer;
 use avg_device::VectorUnit;
@@ -21,6 +21,7 @@ use board_base::{BoardState, CLOCK_LIMIT, CpuState, DIVIDER_PERIOD, OutOfMemory,
 use cpu_core::Cpu;
 use earom_cells::CellUnit;
 use irq_watchdog::DividerUnit;
+use lockstep_board::Stop;
 use pokey_chip::SoundUnit;
 use rom_image::Image;
 use std::alloc::Global;

@@ -1,10 +1,10 @@
 //! Runs of the processor over the bus, turn by turn.
 ghost use Rattle.std.specs.Prelude.{◌≡◌, ◌+◌, ◌≤◌, ◌<◌, ◌⊎◌, ◌&&◌, ◌||◌, not, [], false, None, IfSome};
 ghost use Rattle.cpu_core.specs.Places.{IsMiddle};
-ghost use Rattle.catchup_engine.specs.Breaks.{is_at_any};
+ghost use Rattle.lockstep_board.specs.Breaks.{is_at_any};
 ghost use Rattle.catchup_engine.specs.Bus.{Fits};
 ghost use Rattle.catchup_engine.specs.Calm.{IsCalm};
-ghost use Rattle.catchup_engine.specs.Run.{is_over, is_cut};
+ghost use Rattle.lockstep_board.specs.Run.{is_over, is_cut};
 ghost use Rattle.catchup_engine.specs.Turn.{reads_opcode};
 ghost use Rattle.catchup_engine.specs.Runs.{over_bus, BoundaryRun, BreakRunBus, CutRun, HasRoomTo, IsInRange, QuietRun, TracedBusRun, TurnsRun};
 

@@ -3,7 +3,7 @@ ghost use Rattle.std.specs.Prelude.{◌≡◌, ◌≢◌, ◌+◌, ◌<◌, ◌�
 ghost use Rattle.cpu_core.specs.Places.{Advances};
 ghost use Rattle.cpu_core.specs.Sequences.{start_of, Runs};
 ghost use Rattle.catchup_engine.specs.Bus.{BusStep, Fits, room_of};
-ghost use Rattle.catchup_engine.specs.Lockstep.{sequence_due};
+ghost use Rattle.lockstep_board.specs.Lockstep.{sequence_due};
 ghost use Rattle.catchup_engine.specs.Turn.{Resets, TurnedBus, reads_opcode};
 
 use crate::bus::{BoardBus, WHOLE};

@@ -1,7 +1,7 @@
 -- What a sequence is charged. It is this project's own.
 use Rattle.std.specs.Prelude.{ℕ, take}
 use Rattle.std.specs.List.{count_by}
-use Rattle.catchup_engine.specs.Budget.{reaches_device}
+use Rattle.lockstep_board.specs.Budget.{reaches_device}
 use Rattle.catchup_engine.specs.Trace.{TraceValue, made_of}
 
 -- the accesses of a trace that reach a device

@@ -1,6 +1,6 @@
 //! What a sequence is charged: its device accesses.
 ghost use Rattle.std.specs.Prelude.{◌≡◌};
-ghost use Rattle.catchup_engine.specs.Budget.{reaches_device, reads_device, writes_device};
+ghost use Rattle.lockstep_board.specs.Budget.{reaches_device, reads_device, writes_device};
 ghost use Rattle.catchup_engine.specs.Trace.{made_of};
 ghost use Rattle.cycle_profile.specs.Charge.{device_accesses};
 
@@ -36,7 +36,7 @@ fn writes(region: Region) -> bool
 }
 
 /// Does the access reach a device?
-#[tactic(auto, unfolding(catchup_engine::specs::Budget::reaches_device))]
+#[tactic(auto, unfolding(lockstep_board::specs::Budget::reaches_device))]
 fn reaches(access: &Access) -> bool
     ensures { result ≡ reaches_device (made_of access.now) }
 {

@@ -1,6 +1,6 @@
 -- What is counted of the records of a board.
 use Rattle.std.specs.Prelude.{fold}
-use Rattle.catchup_engine.specs.Order.{Recorded}
+use Rattle.lockstep_board.specs.Order.{Recorded}
 use Rattle.device_bench.specs.declared.board.BoardTally.{BoardTally}
 use Rattle.device_bench.specs.Tally.{empty_tally, with_record}
 

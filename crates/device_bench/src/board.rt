@@ -1,7 +1,6 @@
 ghost use Rattle.std.specs.Prelude.{◌≡◌, ◌≤◌, [], ⊤};
-ghost use Rattle.catchup_engine.specs.EngineValue.{HasNoRecords, cleared};
-ghost use Rattle.catchup_engine.specs.Order.{records_of};
-ghost use Rattle.catchup_engine.specs.Run.{to_boundary};
+ghost use Rattle.lockstep_board.specs.Order.{HasNoRecords, cleared, records_of};
+ghost use Rattle.lockstep_board.specs.Run.{to_boundary};
 ghost use Rattle.board_watch.specs.Rested.{engine_of, loan_of};
 ghost use Rattle.device_bench.specs.Boards.{empty_tallies, tallies_of, with_records};
 ghost use Rattle.device_bench.specs.BoardLaws.{tallied_in_parts};

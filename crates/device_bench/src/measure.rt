@@ -1,5 +1,5 @@
 ghost use Rattle.std.specs.Prelude.{◌≡◌, ◌≤◌};
-ghost use Rattle.catchup_engine.specs.EngineValue.{HasNoRecords};
+ghost use Rattle.lockstep_board.specs.Order.{HasNoRecords};
 
 use crate::board::{BoardTally, run_windows};
 use crate::picture::draw;

@@ -25,8 +25,9 @@ use Rattle.workload_gen.specs.Roms.{image_of}
 use Rattle.workload_gen.specs.Tape.{tape_of}
 use Rattle.gravitar_commands.specs.declared.cause.Cause.TheVariants.{Script}
 use Rattle.gravitar_commands.specs.Causes.{cause_text}
-use Rattle.catchup_engine.specs.EngineValue.{cleared, counted_on}
-use Rattle.catchup_engine.specs.Lockstep.{Board}
+use Rattle.catchup_engine.specs.EngineValue.{counted_on}
+use Rattle.lockstep_board.specs.Order.{cleared}
+use Rattle.lockstep_board.specs.Lockstep.{Board}
 use Rattle.gravitar_commands.specs.declared.assembled.Assembled.{Assembled}
 use Rattle.gravitar_commands.specs.declared.parts.Parts.{Parts}
 use Rattle.gravitar_commands.specs.declared.failure.Ending.{Ending}

@@ -13,8 +13,8 @@ use Rattle.outside_io.specs.Known.{grown}
 use Rattle.outside_io.specs.Shelf.{Files, Kept}
 use Rattle.outside_io.specs.Sink.{Takes}
 use Rattle.tape_ports.specs.declared.entry.TapeEntry.{TapeEntry}
-use Rattle.catchup_engine.specs.Lockstep.{Board}
-use Rattle.catchup_engine.specs.Wires.{wires_of}
+use Rattle.lockstep_board.specs.Lockstep.{Board}
+use Rattle.lockstep_board.specs.Wires.{wires_of}
 use Rattle.keyframes.specs.Seeking.{over_image}
 use Rattle.keyframes.proofs.AlongLaws.{rom-after}
 use Rattle.board_base.specs.declared.vector_memory.TheConstants.{VECTOR_RAM_LEN, VECTOR_ROM_LEN}

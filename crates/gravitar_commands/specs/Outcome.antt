@@ -29,8 +29,8 @@ use Rattle.outside_io.specs.Shelf.{Files}
 use Rattle.soak_run.specs.SoakText.{run_text}
 use Rattle.workload_gen.specs.Roms.{image_of}
 use Rattle.workload_gen.specs.Tape as workload
-use Rattle.catchup_engine.specs.Wires.{wires_of}
-use Rattle.catchup_engine.specs.Lockstep.{Board}
+use Rattle.lockstep_board.specs.Wires.{wires_of}
+use Rattle.lockstep_board.specs.Lockstep.{Board}
 use Rattle.gravitar_commands.specs.declared.assembled.Assembled.{Assembled}
 use Rattle.gravitar_commands.specs.declared.assembled.Language.{Language}
 use Rattle.gravitar_commands.specs.declared.assembled.Language.TheVariants.{Processor, Generator}

@@ -2,7 +2,7 @@
 use Rattle.std.specs.Prelude.{ℕ, ◌≤◌, List, map, min}
 use Rattle.command_line.specs.declared.number.TheConstants.{PER_LIMIT}
 use Rattle.tape_ports.specs.declared.entry.TapeEntry.{TapeEntry}
-use Rattle.catchup_engine.specs.Lockstep.{Board}
+use Rattle.lockstep_board.specs.Lockstep.{Board}
 use Rattle.board_debug.specs.BoardsText.{boards_text}
 use Rattle.sampled_run.specs.BoardSamples.{sampled_bytes}
 use Rattle.traced_run.specs.BoardFrames.{framed_text}

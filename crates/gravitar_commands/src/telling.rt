@@ -1,7 +1,7 @@
 //! Runs that are told otherwise than by their log.
 ghost use Rattle.std.specs.Prelude.{◌≡◌, ◌≤◌, ℕ, IfOk, IfSome, List, Option};
 ghost use Rattle.board_base.specs.declared.board.TheConstants.{CLOCK_LIMIT};
-ghost use Rattle.catchup_engine.specs.EngineValue.{HasNoRecords};
+ghost use Rattle.lockstep_board.specs.Order.{HasNoRecords};
 ghost use Rattle.cpu_core.specs.Places.{IsProcessor};
 ghost use Rattle.outside_io.specs.Shelf.{Kept};
 ghost use Rattle.gravitar_commands.specs.Outcome.{ForReading, finished, run_files, told_outcome, telling_outcome};

@@ -6,17 +6,16 @@ use Rattle.std.proofs.lemmas.List.{append_cancel_left}
 use Rattle.board_base.specs.declared.vector_memory.TheConstants.{VECTOR_RAM_LEN}
 use Rattle.board_base.specs.Board.{BoardValue}
 use Rattle.tape_ports.specs.declared.entry.TapeEntry.{TapeEntry}
-use Rattle.catchup_engine.specs.declared.stop.Stop.TheVariants.{Window}
-use Rattle.catchup_engine.specs.EngineValue.{cleared}
-use Rattle.catchup_engine.specs.Lockstep.{Board, step}
-use Rattle.catchup_engine.specs.Order.{records_of}
-use Rattle.catchup_engine.specs.Run.{cause_of, cut_steps, is_at, is_cut, stepped, to_clock, to_cut}
-use Rattle.catchup_engine.specs.Runs.{StepsTo}
-use Rattle.catchup_engine.proofs.Behind.{behind-cleared, to_clock-behind}
-use Rattle.catchup_engine.proofs.Clocks.{step-clock, stepped-clock}
-use Rattle.catchup_engine.proofs.Ended.{at-stop}
-use Rattle.catchup_engine.proofs.Ends.{to_clock-cut, to_clock-split}
-use Rattle.catchup_engine.proofs.Runs.{steps-none, steps-reached, steps_until-is}
+use Rattle.lockstep_board.specs.declared.stop.Stop.TheVariants.{Window}
+use Rattle.lockstep_board.specs.Order.{cleared, records_of}
+use Rattle.lockstep_board.specs.Lockstep.{Board, step}
+use Rattle.lockstep_board.specs.Run.{cause_of, cut_steps, is_at, is_cut, stepped, to_clock, to_cut}
+use Rattle.lockstep_board.specs.Steps.{StepsTo}
+use Rattle.lockstep_board.proofs.Behind.{behind-cleared, to_clock-behind}
+use Rattle.lockstep_board.proofs.Clocks.{step-clock, stepped-clock}
+use Rattle.lockstep_board.proofs.Ended.{at-stop}
+use Rattle.lockstep_board.proofs.Ends.{to_clock-cut, to_clock-split}
+use Rattle.lockstep_board.proofs.Runs.{steps-none, steps-reached, steps_until-is}
 use Rattle.keyframes.specs.Keys.{Keyframe}
 use Rattle.keyframes.specs.Seeking.{Along, IsOnRun, over_image, run_start, state_of}
 use Rattle.keyframes.proofs.ImageLaws.{Image, clock-image, cut-image, image_of}

@@ -20,9 +20,9 @@ use Rattle.tape_ports.specs.declared.entry.Port.{Port}
 use Rattle.tape_ports.specs.declared.entry.Port.TheVariants as port
 use Rattle.tape_ports.specs.declared.entry.TapeEntry.{TapeEntry}
 use Rattle.tape_ports.specs.Due.{due_at}
-use Rattle.catchup_engine.specs.Lockstep.{Board, accessed, accessed_by, after_access, at_fetch, begun, sequence_due, step}
-use Rattle.catchup_engine.specs.Run.{clock_steps, cut_steps, stepped, to_clock, to_cut}
-use Rattle.catchup_engine.specs.Wires.{Wires, applied, byte_put, devices_ticked, port_set, put_in, reset_begun, reset_by, ticked}
+use Rattle.lockstep_board.specs.Lockstep.{Board, accessed, accessed_by, after_access, at_fetch, begun, sequence_due, step}
+use Rattle.lockstep_board.specs.Run.{clock_steps, cut_steps, stepped, to_clock, to_cut}
+use Rattle.lockstep_board.specs.Wires.{Wires, applied, byte_put, devices_ticked, port_set, put_in, reset_begun, reset_by, ticked}
 
 -- what a state doesn't tell
 pub record Image : Type 0 where

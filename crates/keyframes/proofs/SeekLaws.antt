@@ -6,10 +6,10 @@ use Rattle.std.proofs.Math.Seq.{take-append_seam}
 use Rattle.board_base.specs.declared.vector_memory.TheConstants.{VECTOR_RAM_LEN}
 use Rattle.board_base.specs.Board.{BoardValue, IsBoard}
 use Rattle.tape_ports.specs.declared.entry.TapeEntry.{TapeEntry}
-use Rattle.catchup_engine.specs.EngineValue.{cleared}
-use Rattle.catchup_engine.specs.Lockstep.{Board}
-use Rattle.catchup_engine.specs.Run.{to_clock}
-use Rattle.catchup_engine.proofs.Ends.{to_clock-split}
+use Rattle.lockstep_board.specs.Order.{cleared}
+use Rattle.lockstep_board.specs.Lockstep.{Board}
+use Rattle.lockstep_board.specs.Run.{to_clock}
+use Rattle.lockstep_board.proofs.Ends.{to_clock-split}
 use Rattle.keyframes.specs.Keys.{HaveRisingClocks, IsNearest, Keeps, Keyframe, KeyframesValue, MakesRoom, keys_thinned, last_of, thinned}
 use Rattle.keyframes.specs.Seeking.{Along, CanBeLoaded, IsOnRun, over_image, run_start, state_of}
 use Rattle.keyframes.proofs.KeysLaws.{all-one}

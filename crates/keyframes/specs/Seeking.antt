@@ -4,10 +4,10 @@ use Rattle.board_base.specs.Board.{BoardValue}
 use Rattle.tape_ports.specs.declared.entry.TapeEntry.{TapeEntry}
 use Rattle.cpu_core.specs.Places.{IsMiddle}
 use Rattle.cpu_table.specs.Opcodes.{row_of}
-use Rattle.catchup_engine.specs.Lockstep.{Board}
-use Rattle.catchup_engine.specs.EngineValue.{cleared}
-use Rattle.catchup_engine.specs.Run.{to_clock}
-use Rattle.catchup_engine.specs.Wires.{board_of, reloaded}
+use Rattle.lockstep_board.specs.Lockstep.{Board}
+use Rattle.lockstep_board.specs.Order.{cleared}
+use Rattle.lockstep_board.specs.Run.{to_clock}
+use Rattle.lockstep_board.specs.Wires.{board_of, reloaded}
 use Rattle.keyframes.specs.Keys.{Keyframe}
 
 -- what can be kept of a lockstep board: all but its image, its wiring and its records

@@ -1,8 +1,8 @@
 //! What holds of keyframes and their numbers. Each function tells one law, and does nothing.
 ghost use Rattle.std.specs.Prelude.{◌≡◌, ℕ, Bool, List};
 ghost use Rattle.board_base.specs.Board.{BoardValue, IsBoard};
-ghost use Rattle.catchup_engine.specs.Lockstep.{Board};
-ghost use Rattle.catchup_engine.specs.Wires.{wires_of};
+ghost use Rattle.lockstep_board.specs.Lockstep.{Board};
+ghost use Rattle.lockstep_board.specs.Wires.{wires_of};
 ghost use Rattle.keyframes.specs.Seeking.{over_image};
 
 use crate::keyframes::{FRAMES_MIN, PAGES_MIN};

@@ -3,9 +3,9 @@ ghost use Rattle.std.specs.Prelude.{◌≡◌, ◌<◌, ◌≤◌, ◌+◌, All,
 ghost use Rattle.cpu_core.specs.Places.{IsMiddle};
 ghost use Rattle.cpu_table.specs.Opcodes.{row_of};
 ghost use Rattle.tape_ports.specs.declared.entry.TapeEntry.{TapeEntry};
-ghost use Rattle.catchup_engine.specs.EngineValue.{HasNoRecords, cleared};
-ghost use Rattle.catchup_engine.specs.Lockstep.{Board};
-ghost use Rattle.catchup_engine.specs.Run.{cause_of, to_clock, to_cut, wrap_of};
+ghost use Rattle.lockstep_board.specs.Order.{HasNoRecords, cleared};
+ghost use Rattle.lockstep_board.specs.Lockstep.{Board};
+ghost use Rattle.lockstep_board.specs.Run.{cause_of, to_clock, to_cut, wrap_of};
 ghost use Rattle.keyframes.specs.Keys.{HaveRisingClocks, IsNearest, Keyframe, last_of};
 ghost use Rattle.keyframes.specs.Seeking.{Along, CanBeLoaded, IsOnRun, over_image, run_start};
 

@@ -1,7 +1,7 @@
 ghost use Rattle.std.specs.Prelude.{◌≡◌, ◌<◌, IfOk, List};
 ghost use Rattle.tape_ports.specs.declared.entry.TapeEntry.{TapeEntry};
-ghost use Rattle.catchup_engine.specs.EngineValue.{HasNoRecords};
-ghost use Rattle.catchup_engine.specs.Lockstep.{Board};
+ghost use Rattle.lockstep_board.specs.Order.{HasNoRecords};
+ghost use Rattle.lockstep_board.specs.Lockstep.{Board};
 ghost use Rattle.keyframes.specs.Seeking.{Along, run_start};
 
 use crate::{Keyframes, keep_start, seek};

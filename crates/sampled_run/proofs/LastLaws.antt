@@ -27,10 +27,10 @@ use Rattle.tape_ports.specs.declared.entry.Port.{Port}
 use Rattle.tape_ports.specs.declared.entry.Port.TheVariants as port
 use Rattle.tape_ports.specs.declared.entry.TapeEntry.{TapeEntry}
 use Rattle.tape_ports.specs.Due.{due_at}
-use Rattle.catchup_engine.specs.Wires.{Wires, applied, port_set, devices_ticked, ticked, put_in, byte_put, reset_by, reset_begun}
-use Rattle.catchup_engine.specs.Lockstep.{Board, accessed, accessed_by, sequence_due, begun, at_fetch, after_access, step}
-use Rattle.catchup_engine.specs.Run.{stepped}
-use Rattle.catchup_engine.specs.EngineValue.{HasNoRecords}
+use Rattle.lockstep_board.specs.Wires.{Wires, applied, port_set, devices_ticked, ticked, put_in, byte_put, reset_by, reset_begun}
+use Rattle.lockstep_board.specs.Lockstep.{Board, accessed, accessed_by, sequence_due, begun, at_fetch, after_access, step}
+use Rattle.lockstep_board.specs.Run.{stepped}
+use Rattle.lockstep_board.specs.Order.{HasNoRecords}
 use Rattle.sound_pcm.specs.declared.mixer.TheConstants.{MAX_LEVEL}
 use Rattle.sound_pcm.specs.Mixing.{HoldsLevels}
 use Rattle.sound_pcm.specs.Samples as samples

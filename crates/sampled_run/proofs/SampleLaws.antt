@@ -8,15 +8,14 @@ use Rattle.board_base.specs.declared.board.TheConstants.{CLOCK_LIMIT}
 use Rattle.board_base.specs.declared.record.Record.{Record}
 use Rattle.board_base.specs.Records.{clock_of}
 use Rattle.tape_ports.specs.declared.entry.TapeEntry.{TapeEntry}
-use Rattle.catchup_engine.specs.Lockstep.{Board}
-use Rattle.catchup_engine.specs.Run.{boundary_steps, stepped, to_boundary}
-use Rattle.catchup_engine.specs.EngineValue.{HasNoRecords, cleared}
-use Rattle.catchup_engine.specs.Order.{AreMadeBetween, behind, records_of}
-use Rattle.catchup_engine.proofs.Behind.{behind-cleared, stepped-behind}
-use Rattle.catchup_engine.proofs.Clocks.{stepped-clock}
-use Rattle.catchup_engine.proofs.Ends.{boundary_steps-few}
-use Rattle.catchup_engine.proofs.InOrder.{stepped-made}
-use Rattle.catchup_engine.proofs.Runs.{stepped-add}
+use Rattle.lockstep_board.specs.Lockstep.{Board}
+use Rattle.lockstep_board.specs.Run.{boundary_steps, stepped, to_boundary}
+use Rattle.lockstep_board.specs.Order.{HasNoRecords, cleared, AreMadeBetween, behind, records_of}
+use Rattle.lockstep_board.proofs.Behind.{behind-cleared, stepped-behind}
+use Rattle.lockstep_board.proofs.Clocks.{stepped-clock}
+use Rattle.lockstep_board.proofs.Ends.{boundary_steps-few}
+use Rattle.lockstep_board.proofs.InOrder.{stepped-made}
+use Rattle.lockstep_board.proofs.Runs.{stepped-add}
 use Rattle.sound_pcm.specs.declared.mixer.TheConstants.{MAX_LEVEL}
 use Rattle.sound_pcm.specs.Mixing.{AreLevels, MixerValue, samples_of}
 use Rattle.sound_pcm.specs.Samples.{bytes_of, levels_after, levels_at, levels_of, weight, weights}

@@ -2,8 +2,8 @@
 use Rattle.std.specs.Prelude.{◌≡◌, ℕ, ◌+◌, ◌*◌, ◌/◌, List, map, suc}
 use Rattle.std.specs.List.{sum, range_with_len}
 use Rattle.tape_ports.specs.declared.entry.TapeEntry.{TapeEntry}
-use Rattle.catchup_engine.specs.Lockstep.{Board}
-use Rattle.catchup_engine.specs.Run.{boundary_steps, stepped}
+use Rattle.lockstep_board.specs.Lockstep.{Board}
+use Rattle.lockstep_board.specs.Run.{boundary_steps, stepped}
 use Rattle.sound_pcm.specs.Mixing.{MixerValue}
 use Rattle.sound_pcm.specs.Samples.{bytes_of}
 

@@ -8,7 +8,7 @@ use Rattle.board_base.specs.declared.record.Record.{Record}
 use Rattle.board_base.specs.Records.{clock_of, MadeBetween}
 use Rattle.board_base.proofs.RecordLaws.{made-within}
 use Rattle.std.proofs.lemmas.List.Elements.{All-nil, All-cons}
-use Rattle.catchup_engine.specs.Order.{Recorded}
+use Rattle.lockstep_board.specs.Order.{Recorded}
 use Rattle.board_watch.specs.Watch.{TakesInParts}
 use Rattle.sound_pcm.specs.Mixing.{HoldsLevels, MixerValue, mixed, samples_of}
 use Rattle.sound_pcm.specs.Samples.{bytes_of}

@@ -1,8 +1,8 @@
 ghost use Rattle.std.specs.Prelude.{◌≡◌, ◌+◌, ◌≤◌, OnOk};
 ghost use Rattle.outside_io.specs.Causes.{HasCause};
 ghost use Rattle.outside_io.specs.Sink.{Takes};
-ghost use Rattle.catchup_engine.specs.EngineValue.{HasNoRecords, cleared};
-ghost use Rattle.catchup_engine.specs.Run.{to_boundary};
+ghost use Rattle.lockstep_board.specs.Order.{HasNoRecords, cleared};
+ghost use Rattle.lockstep_board.specs.Run.{to_boundary};
 ghost use Rattle.board_watch.specs.Rested.{engine_of, loan_of};
 ghost use Rattle.sound_pcm.specs.Mixing.{AreLevels};
 ghost use Rattle.sound_pcm.specs.declared.mixer.TheConstants.{MAX_PER};

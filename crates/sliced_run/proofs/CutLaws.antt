@@ -4,15 +4,15 @@ use Rattle.std.proofs.Math.Seq.{drop-length}
 use Rattle.std.proofs.lemmas.List.{drop_more}
 use Rattle.tape_ports.specs.declared.entry.TapeEntry.{TapeEntry}
 use Rattle.outside_io.specs.Shelf.{Kept}
-use Rattle.catchup_engine.specs.EngineValue.{EngineValue, cleared, counted_on}
-use Rattle.catchup_engine.specs.Lockstep.{Board}
-use Rattle.catchup_engine.specs.Order.{Recorded, behind}
-use Rattle.catchup_engine.specs.Run.{IsPlaced, boundary_steps, clock_steps, to_clock, stepped, to_boundary}
-use Rattle.catchup_engine.proofs.Behind.{to_clock-behind, to_boundary-behind}
-use Rattle.catchup_engine.proofs.Budgets.{budget-parts}
-use Rattle.catchup_engine.proofs.Ends.{boundary-clock-steps}
-use Rattle.catchup_engine.proofs.Places.{stepped-placed}
-use Rattle.catchup_engine.proofs.Runs.{stepped-add}
+use Rattle.catchup_engine.specs.EngineValue.{EngineValue, counted_on}
+use Rattle.lockstep_board.specs.Order.{cleared, Recorded, behind}
+use Rattle.lockstep_board.specs.Lockstep.{Board}
+use Rattle.lockstep_board.specs.Run.{IsPlaced, boundary_steps, clock_steps, to_clock, stepped, to_boundary}
+use Rattle.lockstep_board.proofs.Behind.{to_clock-behind, to_boundary-behind}
+use Rattle.lockstep_board.proofs.Budgets.{budget-parts}
+use Rattle.lockstep_board.proofs.Ends.{boundary-clock-steps}
+use Rattle.lockstep_board.proofs.Places.{stepped-placed}
+use Rattle.lockstep_board.proofs.Runs.{stepped-add}
 use Rattle.board_watch.specs.declared.until.Until.TheVariants.{Clock, Boundary}
 use Rattle.sliced_run.specs.Events.{Event, Did, DidFirst, sending}
 use Rattle.board_watch.specs.Rest.{IsAtRest}

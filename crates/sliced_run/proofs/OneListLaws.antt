@@ -12,13 +12,12 @@ use Rattle.board_base.specs.Records.{clock_of, MadeBetween}
 use Rattle.tape_ports.specs.declared.entry.TapeEntry.{TapeEntry}
 use Rattle.log_text.specs.LogText.{PartRecord, log_text, from_part, made_by, place_of, IsNotAfter, IsInOrder}
 use Rattle.log_text.proofs.LogLaws.{merged_is_one_log}
-use Rattle.catchup_engine.specs.Lockstep as lockstep
-use Rattle.catchup_engine.specs.Run.{stepped, to_boundary, boundary_steps}
-use Rattle.catchup_engine.specs.EngineValue.{HasNoRecords, cleared}
-use Rattle.catchup_engine.specs.Order.{Recorded, behind, records_of, AddsOneClock}
-use Rattle.catchup_engine.proofs.Behind.{step-behind, behind-cleared}
-use Rattle.catchup_engine.proofs.Clocks.{step-clock}
-use Rattle.catchup_engine.proofs.InOrder.{adds-one}
+use Rattle.lockstep_board.specs.Lockstep as lockstep
+use Rattle.lockstep_board.specs.Run.{stepped, to_boundary, boundary_steps}
+use Rattle.lockstep_board.specs.Order.{HasNoRecords, cleared, Recorded, behind, records_of, AddsOneClock}
+use Rattle.lockstep_board.proofs.Behind.{step-behind, behind-cleared}
+use Rattle.lockstep_board.proofs.Clocks.{step-clock}
+use Rattle.lockstep_board.proofs.InOrder.{adds-one}
 use Rattle.sliced_run.specs.OneList.{added, records_of_clock, one_list, run_list, text_of_lists}
 
 -- the text of two lists

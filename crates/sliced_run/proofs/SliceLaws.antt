@@ -4,10 +4,9 @@ use Rattle.board_base.specs.declared.part.Part.TheVariants.{Generator, Pokey1, P
 use Rattle.board_base.proofs.RecordLaws.{trail-made}
 use Rattle.log_text.specs.LogText.{log_text}
 use Rattle.tape_ports.specs.declared.entry.TapeEntry.{TapeEntry}
-use Rattle.catchup_engine.specs.Lockstep as lockstep
-use Rattle.catchup_engine.specs.Run.{stepped}
-use Rattle.catchup_engine.specs.EngineValue.{HasNoRecords, cleared}
-use Rattle.catchup_engine.specs.Order.{records_of}
+use Rattle.lockstep_board.specs.Lockstep as lockstep
+use Rattle.lockstep_board.specs.Run.{stepped}
+use Rattle.lockstep_board.specs.Order.{HasNoRecords, cleared, records_of}
 use Rattle.board_watch.specs.declared.until.Until.{Until}
 use Rattle.board_watch.specs.Windows.{end_of, steps_to}
 use Rattle.board_watch.proofs.WatchLaws.{run-made}

@@ -3,16 +3,16 @@ use Rattle.std.proofs.Common.{◌≡◌, ℕ, Bool, Option, Some, None, List, �
 use Rattle.board_base.specs.declared.vector_memory.TheConstants.{VECTOR_RAM_LEN}
 use Rattle.tape_ports.specs.declared.entry.TapeEntry.{TapeEntry}
 use Rattle.board_base.specs.Board.{BoardValue}
-use Rattle.catchup_engine.specs.EngineValue.{EngineValue, HasNoRecords, cleared, counted_on}
-use Rattle.catchup_engine.specs.Lockstep.{Board}
-use Rattle.catchup_engine.specs.Run.{to_clock, to_boundary}
-use Rattle.catchup_engine.specs.Wires.{board_of, reloaded}
+use Rattle.catchup_engine.specs.EngineValue.{EngineValue, counted_on}
+use Rattle.lockstep_board.specs.Order.{HasNoRecords, cleared, Recorded, behind}
+use Rattle.lockstep_board.specs.Lockstep.{Board}
+use Rattle.lockstep_board.specs.Run.{to_clock, to_boundary}
+use Rattle.lockstep_board.specs.Wires.{board_of, reloaded}
 use Rattle.board_watch.specs.declared.until.Until.TheVariants.{Clock, Boundary}
 use Rattle.board_watch.specs.Windows.{end_of}
 use Rattle.sliced_run.specs.LastLine.{last_text}
 use Rattle.sliced_run.specs.Slices.{saved_bytes, cost_line, ending_text}
-use Rattle.catchup_engine.specs.Order.{Recorded, behind}
-use Rattle.catchup_engine.proofs.Ended.{cleared-empty}
+use Rattle.lockstep_board.proofs.Ended.{cleared-empty}
 use Rattle.board_watch.proofs.WatchLaws.{from-behind}
 
 -- a board that is read back over the same wires is the same board

@@ -1,10 +1,10 @@
 -- A run that is cut is the run.
 use Rattle.std.proofs.Common.{◌≡◌, ℕ, ◌≤◌, min, List, [], ◌∷◌, ◌++◌, Option, Some, None, refl, sym, ap, ◌∙◌, arith, append_assoc, append-nil}
 use Rattle.tape_ports.specs.declared.entry.TapeEntry.{TapeEntry}
-use Rattle.catchup_engine.specs.Lockstep.{Board}
-use Rattle.catchup_engine.specs.Run.{IsPlaced, boundary_steps, clock_steps, to_clock, to_boundary}
-use Rattle.catchup_engine.proofs.Ends.{boundary-clock, boundary-clock-steps}
-use Rattle.catchup_engine.proofs.Places.{to_clock-placed}
+use Rattle.lockstep_board.specs.Lockstep.{Board}
+use Rattle.lockstep_board.specs.Run.{IsPlaced, boundary_steps, clock_steps, to_clock, to_boundary}
+use Rattle.lockstep_board.proofs.Ends.{boundary-clock, boundary-clock-steps}
+use Rattle.lockstep_board.proofs.Places.{to_clock-placed}
 use Rattle.board_watch.specs.declared.until.Until.TheVariants.{Clock, Boundary}
 use Rattle.sliced_run.specs.Events.{sending, text_of}
 use Rattle.sliced_run.specs.Slice.{slice_text, text_of_steps}

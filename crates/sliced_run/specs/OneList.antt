@@ -4,8 +4,8 @@ use Rattle.board_base.specs.declared.record.Record.{Record}
 use Rattle.board_base.specs.declared.part.Part.TheVariants.{Generator, Pokey1, Pokey2, Board}
 use Rattle.log_text.specs.LogText.{PartRecord, from_part, merged_text}
 use Rattle.tape_ports.specs.declared.entry.TapeEntry.{TapeEntry}
-use Rattle.catchup_engine.specs.Lockstep as lockstep
-use Rattle.catchup_engine.specs.Run.{boundary_steps}
+use Rattle.lockstep_board.specs.Lockstep as lockstep
+use Rattle.lockstep_board.specs.Run.{boundary_steps}
 
 -- what a list has more than it had before
 abbrev pub added : List Record → List Record → List Record

@@ -4,8 +4,8 @@ use Rattle.board_base.specs.declared.part.Part.TheVariants.{Generator, Pokey1, P
 use Rattle.board_base.specs.Records.{IsTrailOf}
 use Rattle.tape_ports.specs.declared.entry.TapeEntry.{TapeEntry}
 use Rattle.log_text.specs.LogText.{log_text, merged_text}
-use Rattle.catchup_engine.specs.Lockstep as lockstep
-use Rattle.catchup_engine.specs.Order.{Recorded}
+use Rattle.lockstep_board.specs.Lockstep as lockstep
+use Rattle.lockstep_board.specs.Order.{Recorded}
 use Rattle.board_watch.specs.declared.until.Until.{Until}
 use Rattle.board_watch.specs.Windows.{steps_to}
 use Rattle.sliced_run.specs.OneList.{one_list}

@@ -5,11 +5,11 @@ use Rattle.std.specs.Option.{option_map}
 use Rattle.tape_ports.specs.declared.entry.TapeEntry.{TapeEntry}
 use Rattle.log_text.specs.LogText.{cost_text}
 use Rattle.save_state.specs.StateBytes.{state_bytes}
-use Rattle.catchup_engine.specs.Budget.{counted, device_accesses, entries_applied, requests, resets_begun, wraps}
+use Rattle.lockstep_board.specs.Budget.{counted, device_accesses, entries_applied, requests, resets_begun, wraps}
 use Rattle.catchup_engine.specs.EngineValue.{counted_on}
-use Rattle.catchup_engine.specs.Lockstep.{Board}
-use Rattle.catchup_engine.specs.Run.{boundary_steps, to_clock, to_boundary}
-use Rattle.catchup_engine.specs.Wires.{board_of}
+use Rattle.lockstep_board.specs.Lockstep.{Board}
+use Rattle.lockstep_board.specs.Run.{boundary_steps, to_clock, to_boundary}
+use Rattle.lockstep_board.specs.Wires.{board_of}
 use Rattle.board_watch.specs.declared.until.Until.TheVariants.{Clock, Boundary}
 use Rattle.outside_io.specs.Shelf.{Kept}
 use Rattle.sliced_run.specs.Events.{Event, DidFirst, sending, stored}

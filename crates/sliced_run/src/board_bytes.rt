@@ -1,6 +1,6 @@
 ghost use Rattle.std.specs.Prelude.{◌≡◌};
 ghost use Rattle.catchup_engine.specs.EngineValue.{counted_on};
-ghost use Rattle.catchup_engine.specs.Wires.{board_of};
+ghost use Rattle.lockstep_board.specs.Wires.{board_of};
 ghost use Rattle.save_state.specs.Reading.{IsWhole};
 ghost use Rattle.board_watch.specs.Rested.{engine_of, loan_of};
 ghost use Rattle.sliced_run.specs.Slices.{saved_bytes};

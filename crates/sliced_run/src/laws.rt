@@ -1,9 +1,9 @@
 ghost use Rattle.std.specs.Prelude.{◌≡◌, ℕ, List, []};
 ghost use Rattle.tape_ports.specs.declared.entry.TapeEntry.{TapeEntry};
 ghost use Rattle.log_text.specs.LogText.{log_text};
-ghost use Rattle.catchup_engine.specs.Lockstep.{Board};
-ghost use Rattle.catchup_engine.specs.EngineValue.{HasNoRecords};
-ghost use Rattle.catchup_engine.specs.Run.{IsPlaced, to_boundary};
+ghost use Rattle.lockstep_board.specs.Lockstep.{Board};
+ghost use Rattle.lockstep_board.specs.Order.{HasNoRecords};
+ghost use Rattle.lockstep_board.specs.Run.{IsPlaced, to_boundary};
 ghost use Rattle.sliced_run.specs.Events.{text_of};
 ghost use Rattle.sliced_run.specs.Slices.{Wanted, last_board, run_events};
 ghost use Rattle.sliced_run.specs.OneList.{run_list, text_of_lists};

@@ -1,7 +1,7 @@
 ghost use Rattle.std.specs.Prelude.{◌≡◌, ◌≤◌, ◌+◌, OnOk};
 ghost use Rattle.outside_io.specs.Causes.{HasCause};
 ghost use Rattle.outside_io.specs.Sink.{Takes};
-ghost use Rattle.catchup_engine.specs.EngineValue.{cleared};
+ghost use Rattle.lockstep_board.specs.Order.{cleared};
 ghost use Rattle.board_watch.specs.Windows.{clock_in, end_of, price_to};
 ghost use Rattle.board_watch.specs.Rested.{engine_of, loan_of};
 ghost use Rattle.sliced_run.specs.Slice.{AreTrails, slice_text, text_of_records};

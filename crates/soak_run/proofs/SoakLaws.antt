@@ -3,12 +3,11 @@ use Rattle.std.proofs.Common.{◌≡◌, ℕ, ◌+◌, ◌-◌, ◌≤◌, List,
 use Rattle.board_base.specs.declared.record.Record.{Record}
 use Rattle.board_base.specs.declared.board.TheConstants.{CLOCK_LIMIT}
 use Rattle.tape_ports.specs.declared.entry.TapeEntry.{TapeEntry}
-use Rattle.catchup_engine.specs.Lockstep.{Board, step}
-use Rattle.catchup_engine.specs.Run.{stepped, to_boundary, boundary_steps}
-use Rattle.catchup_engine.specs.EngineValue.{HasNoRecords}
-use Rattle.catchup_engine.specs.Order.{Recorded, records_of}
-use Rattle.catchup_engine.proofs.Ends.{boundary_steps-few, to_boundary-clock}
-use Rattle.catchup_engine.proofs.InOrder.{adds-one}
+use Rattle.lockstep_board.specs.Lockstep.{Board, step}
+use Rattle.lockstep_board.specs.Run.{stepped, to_boundary, boundary_steps}
+use Rattle.lockstep_board.specs.Order.{HasNoRecords, Recorded, records_of}
+use Rattle.lockstep_board.proofs.Ends.{boundary_steps-few, to_boundary-clock}
+use Rattle.lockstep_board.proofs.InOrder.{adds-one}
 use Rattle.soak_run.specs.Counter.{HasRoom}
 use Rattle.soak_run.specs.Sizes.{AreFew}
 use Rattle.soak_run.specs.Summary.{no_records, summary_of}

@@ -6,7 +6,7 @@ use Rattle.std.proofs.Math.Seq.{take-suc}
 use Rattle.std.proofs.lemmas.List.Sums.{sum_by_push}
 use Rattle.board_base.specs.declared.record.Record.{Record}
 use Rattle.board_base.specs.declared.record.Record.TheVariants.{Stroke, Levels, Latch, WatchdogReset}
-use Rattle.catchup_engine.specs.Order.{Recorded}
+use Rattle.lockstep_board.specs.Order.{Recorded}
 use Rattle.soak_run.specs.declared.summary.Summary.{Summary}
 use Rattle.soak_run.specs.declared.summary.Tally.{Tally}
 use Rattle.soak_run.specs.CounterLaws.{summary, summary-same}

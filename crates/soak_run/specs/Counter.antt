@@ -1,6 +1,6 @@
 -- A counter of the records of a run. This project's own.
 use Rattle.std.specs.Prelude.{ℕ, ◌+◌, ◌≤◌, length}
-use Rattle.catchup_engine.specs.Order.{Recorded}
+use Rattle.lockstep_board.specs.Order.{Recorded}
 use Rattle.soak_run.specs.declared.summary.Summary.{Summary}
 use Rattle.soak_run.specs.Sizes.{most_records}
 use Rattle.soak_run.specs.Summary.{summary_of, together}

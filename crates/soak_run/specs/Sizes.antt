@@ -1,7 +1,7 @@
 -- How large the numbers of a summary are at most, so that none of them passes 64 bits.
 use Rattle.std.specs.Prelude.{ℕ, ◌*◌, ◌≤◌, length}
 use Rattle.board_base.specs.declared.board.TheConstants.{CLOCK_LIMIT}
-use Rattle.catchup_engine.specs.Order.{Recorded}
+use Rattle.lockstep_board.specs.Order.{Recorded}
 use Rattle.soak_run.specs.declared.summary.Summary.{Summary}
 use Rattle.soak_run.specs.declared.summary.Tally.{Tally}
 

@@ -1,9 +1,8 @@
 ghost use Rattle.std.specs.Prelude.{◌≡◌, ◌≤◌};
 ghost use Rattle.outside_io.specs.Causes.{HasCause};
 ghost use Rattle.outside_io.specs.Sink.{Takes};
-ghost use Rattle.catchup_engine.specs.EngineValue.{HasNoRecords, cleared};
-ghost use Rattle.catchup_engine.specs.Order.{records_of};
-ghost use Rattle.catchup_engine.specs.Run.{to_boundary};
+ghost use Rattle.lockstep_board.specs.Order.{HasNoRecords, cleared, records_of};
+ghost use Rattle.lockstep_board.specs.Run.{to_boundary};
 ghost use Rattle.board_watch.specs.Rested.{engine_of, loan_of};
 ghost use Rattle.soak_run.specs.SoakText.{run_text};
 ghost use Rattle.soak_run.specs.Summary.{summary_of};

@@ -13,17 +13,17 @@ use Rattle.cpu_table.specs.declared.instruction.Mode.{Mode}
 use Rattle.cpu_table.specs.Opcodes.{row_of}
 use Rattle.tape_ports.specs.declared.entry.TapeEntry.{TapeEntry}
 use Rattle.cpu_core.specs.Ranges.{IsByte}
-use Rattle.catchup_engine.specs.Breaks.{turn, turned}
-use Rattle.catchup_engine.specs.Lockstep.{Board}
-use Rattle.catchup_engine.specs.Ranges.{IsBoardInRange}
-use Rattle.catchup_engine.specs.Run.{boundary_steps, is_over, to_boundary, IsPlaced}
+use Rattle.lockstep_board.specs.Breaks.{turn, turned}
+use Rattle.lockstep_board.specs.Lockstep.{Board}
+use Rattle.lockstep_board.specs.Ranges.{IsBoardInRange}
+use Rattle.lockstep_board.specs.Run.{boundary_steps, is_over, to_boundary, IsPlaced}
 use Rattle.catchup_engine.specs.Trace.{TraceValue, no_trace, step_trace, trace_of}
 use Rattle.catchup_engine.specs.Traced.{told, told_once}
-use Rattle.catchup_engine.proofs.BoardRange.{stepped-in_range}
-use Rattle.catchup_engine.proofs.Clocks.{stepped-clock}
-use Rattle.catchup_engine.proofs.Ends.{boundary_steps-few, to_boundary-clock, to_boundary-over}
+use Rattle.lockstep_board.proofs.BoardRange.{stepped-in_range}
+use Rattle.lockstep_board.proofs.Clocks.{stepped-clock}
+use Rattle.lockstep_board.proofs.Ends.{boundary_steps-few, to_boundary-clock, to_boundary-over}
 use Rattle.catchup_engine.proofs.Traces.{over-running}
-use Rattle.catchup_engine.proofs.TurnLaws.{turn-placed, turns-to}
+use Rattle.lockstep_board.proofs.TurnLaws.{turn-placed, turns-to}
 use Rattle.cycle_profile.specs.declared.profile.TheConstants.{ADDRESSES, LONGEST_LIST}
 use Rattle.cycle_profile.specs.Counts.{more_entered}
 use Rattle.cycle_profile.specs.Profile.{AddsUp, IsProfile, ProfileValue, after, after_turn, changed, charged, last_of, newest, returned}

@@ -5,9 +5,9 @@ use Rattle.board_base.specs.declared.part.Part.TheVariants.{Generator}
 use Rattle.board_base.specs.Records.{Makes}
 use Rattle.board_base.proofs.RecordLaws.{trail-made}
 use Rattle.tape_ports.specs.declared.entry.TapeEntry.{TapeEntry}
-use Rattle.catchup_engine.specs.Lockstep.{Board}
-use Rattle.catchup_engine.specs.Run.{to_boundary}
-use Rattle.catchup_engine.proofs.InOrder.{to_boundary-made}
+use Rattle.lockstep_board.specs.Lockstep.{Board}
+use Rattle.lockstep_board.specs.Run.{to_boundary}
+use Rattle.lockstep_board.proofs.InOrder.{to_boundary-made}
 use Rattle.frame_list.specs.Frames.{begun}
 use Rattle.frame_list.proofs.WholeLaws.{each_stroke_in_one_frame}
 use Rattle.traced_run.specs.BoardFrames.{AllStrokesAreTold, run_events, run_frames, run_marks}

@@ -8,10 +8,10 @@ use Rattle.outside_io.specs.Sink.{Takes}
 use Rattle.outside_io.proofs.KnownLaws.{grown-nothing}
 use Rattle.outside_io.proofs.TakesLaws.{took_first, took_then, takes-then}
 use Rattle.tape_ports.specs.declared.entry.TapeEntry.{TapeEntry}
-use Rattle.catchup_engine.specs.EngineValue.{HasNoRecords, cleared}
-use Rattle.catchup_engine.specs.Lockstep.{Board}
-use Rattle.catchup_engine.specs.Run.{to_boundary}
-use Rattle.catchup_engine.proofs.Ended.{cleared-empty}
+use Rattle.lockstep_board.specs.Order.{HasNoRecords, cleared}
+use Rattle.lockstep_board.specs.Lockstep.{Board}
+use Rattle.lockstep_board.specs.Run.{to_boundary}
+use Rattle.lockstep_board.proofs.Ended.{cleared-empty}
 use Rattle.catchup_engine.specs.Traced.{told}
 use Rattle.cycle_profile.specs.Profile.{ProfileValue, after}
 use Rattle.cycle_profile.specs.Text.{profile_text}

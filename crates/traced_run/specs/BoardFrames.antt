@@ -2,9 +2,9 @@
 use Rattle.std.specs.Prelude.{◌≡◌, ℕ, List, ◌++◌, length}
 use Rattle.std.specs.List.{sum_by}
 use Rattle.tape_ports.specs.declared.entry.TapeEntry.{TapeEntry}
-use Rattle.catchup_engine.specs.EngineValue.{HasNoRecords}
-use Rattle.catchup_engine.specs.Lockstep.{Board}
-use Rattle.catchup_engine.specs.Run.{boundary_steps, to_boundary}
+use Rattle.lockstep_board.specs.Order.{HasNoRecords}
+use Rattle.lockstep_board.specs.Lockstep.{Board}
+use Rattle.lockstep_board.specs.Run.{boundary_steps, to_boundary}
 use Rattle.catchup_engine.specs.Trace.{accesses_of}
 use Rattle.frame_list.specs.Events.{Event, by_clock, marks_of}
 use Rattle.frame_list.specs.Frames.{FrameValue, begun, frames_of, frames_text}

@@ -2,9 +2,9 @@
 use Rattle.std.specs.Prelude.{◌≡◌, ℕ, ◌+◌, ◌-◌, ◌≤◌, List, [], ◌∷◌, ◌++◌, replicate, if◌then◌else◌, zero, suc}
 use Rattle.board_base.specs.declared.board.TheConstants.{CLOCK_LIMIT}
 use Rattle.tape_ports.specs.declared.entry.TapeEntry.{TapeEntry}
-use Rattle.catchup_engine.specs.Breaks.{turn}
-use Rattle.catchup_engine.specs.Lockstep.{Board}
-use Rattle.catchup_engine.specs.Run.{is_over, to_boundary, IsPlaced}
+use Rattle.lockstep_board.specs.Breaks.{turn}
+use Rattle.lockstep_board.specs.Lockstep.{Board}
+use Rattle.lockstep_board.specs.Run.{is_over, to_boundary, IsPlaced}
 use Rattle.catchup_engine.specs.Traced.{told}
 use Rattle.cycle_profile.specs.declared.profile.TheConstants.{ADDRESSES}
 use Rattle.cycle_profile.specs.Counts.{no_counts}

@@ -3,9 +3,8 @@ use Rattle.std.specs.Prelude.{◌≡◌, ℕ, ◌+◌, ◌<◌, ◌≤◌, ◌^�
 use Rattle.std.specs.List.{list_any}
 use Rattle.board_base.specs.declared.board.TheConstants.{CLOCK_LIMIT}
 use Rattle.tape_ports.specs.declared.entry.TapeEntry.{TapeEntry}
-use Rattle.catchup_engine.specs.EngineValue.{cleared}
-use Rattle.catchup_engine.specs.Lockstep.{Board}
-use Rattle.catchup_engine.specs.Order.{Recorded}
+use Rattle.lockstep_board.specs.Order.{cleared, Recorded}
+use Rattle.lockstep_board.specs.Lockstep.{Board}
 use Rattle.catchup_engine.specs.Trace.{TraceValue, no_trace}
 use Rattle.frame_list.specs.Events.{Event, by_clock, marks_in, starts_generator}
 use Rattle.frame_list.specs.Frames.{ended, frames_text, under_way}

@@ -5,18 +5,18 @@ use Rattle.std.proofs.lemmas.List.Elements.{All-weaker}
 use Rattle.board_base.specs.declared.record.Record.{Record}
 use Rattle.board_base.specs.Records.{clock_of}
 use Rattle.tape_ports.specs.declared.entry.TapeEntry.{TapeEntry}
-use Rattle.catchup_engine.specs.Breaks.{turn, turned}
-use Rattle.catchup_engine.specs.EngineValue.{HasNoRecords, cleared}
-use Rattle.catchup_engine.specs.Lockstep.{Board}
-use Rattle.catchup_engine.specs.Run.{boundary_steps, is_over, stepped, to_boundary, IsPlaced}
+use Rattle.lockstep_board.specs.Breaks.{turn, turned}
+use Rattle.lockstep_board.specs.Order.{HasNoRecords, cleared}
+use Rattle.lockstep_board.specs.Lockstep.{Board}
+use Rattle.lockstep_board.specs.Run.{boundary_steps, is_over, stepped, to_boundary, IsPlaced}
 use Rattle.catchup_engine.specs.Trace.{TraceValue, accesses_of, step_trace}
 use Rattle.catchup_engine.specs.Traced.{told, told_once}
-use Rattle.catchup_engine.proofs.Clocks.{stepped-clock}
-use Rattle.catchup_engine.proofs.Ended.{cleared-empty}
-use Rattle.catchup_engine.proofs.Ends.{to_boundary-clock}
-use Rattle.catchup_engine.proofs.InOrder.{stepped-made, to_boundary-made}
-use Rattle.catchup_engine.proofs.Runs.{steps-none}
-use Rattle.catchup_engine.proofs.TurnLaws.{to_boundary-none}
+use Rattle.lockstep_board.proofs.Clocks.{stepped-clock}
+use Rattle.lockstep_board.proofs.Ended.{cleared-empty}
+use Rattle.lockstep_board.proofs.Ends.{to_boundary-clock}
+use Rattle.lockstep_board.proofs.InOrder.{stepped-made, to_boundary-made}
+use Rattle.lockstep_board.proofs.Runs.{steps-none}
+use Rattle.lockstep_board.proofs.TurnLaws.{to_boundary-none}
 use Rattle.board_watch.specs.Follow.{FollowsInParts, IsFollowedInParts, StandsStill}
 use Rattle.frame_list.specs.Events.{by_clock, mark_at, marks_in, marks_of, stroke_of, through}
 use Rattle.frame_list.specs.Frames.{FrameValue, IsBefore, begun, ended, frames_text, under_way}

@@ -7,13 +7,12 @@ use Rattle.cpu_core.specs.Course as course
 use Rattle.cpu_core.specs.Course.{read_of, write_of}
 use Rattle.tape_ports.specs.declared.entry.TapeEntry.{TapeEntry}
 use Rattle.catchup_engine.specs.declared.trace.Access.{Access}
-use Rattle.catchup_engine.specs.EngineValue.{cleared}
-use Rattle.catchup_engine.specs.Lockstep.{Board, access_in, step}
-use Rattle.catchup_engine.specs.Order.{Recorded, behind, records_of}
-use Rattle.catchup_engine.specs.Run.{boundary_steps, is_over}
+use Rattle.lockstep_board.specs.Order.{cleared, Recorded, behind, records_of}
+use Rattle.lockstep_board.specs.Lockstep.{Board, access_in, step}
+use Rattle.lockstep_board.specs.Run.{boundary_steps, is_over}
 use Rattle.catchup_engine.specs.Trace.{TraceValue, access_at, accesses_in, accesses_of, no_access, no_trace, seven_of, step_trace, trace_of}
-use Rattle.catchup_engine.proofs.Behind.{behind-cleared, boundary_steps-behind}
-use Rattle.catchup_engine.proofs.Clocks.{step-clock}
+use Rattle.lockstep_board.proofs.Behind.{behind-cleared, boundary_steps-behind}
+use Rattle.lockstep_board.proofs.Clocks.{step-clock}
 use Rattle.catchup_engine.proofs.Traces.{over-running}
 use Rattle.frame_list.specs.Events.{mark_of, marks_in, marks_of, starts_generator}
 use Rattle.traced_run.specs.BoardFrames.{run_marks}

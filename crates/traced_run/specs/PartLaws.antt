@@ -15,19 +15,18 @@ use Rattle.tape_ports.specs.declared.entry.Port.TheVariants as port
 use Rattle.tape_ports.specs.declared.entry.TapeEntry.{TapeEntry}
 use Rattle.tape_ports.specs.Due.{due_at}
 use Rattle.catchup_engine.specs.declared.trace.Access.{Access}
-use Rattle.catchup_engine.specs.Breaks.{turn, turned}
-use Rattle.catchup_engine.specs.EngineValue.{HasNoRecords, cleared}
-use Rattle.catchup_engine.specs.Lockstep.{Board, access_in, sequence_due, step}
-use Rattle.catchup_engine.specs.Order.{Recorded, AreMadeBetween, behind, records_of}
-use Rattle.catchup_engine.specs.Run.{boundary_steps, is_jammed, is_over, stepped, to_boundary, IsPlaced}
+use Rattle.lockstep_board.specs.Breaks.{turn, turned}
+use Rattle.lockstep_board.specs.Order.{HasNoRecords, cleared, Recorded, AreMadeBetween, behind, records_of}
+use Rattle.lockstep_board.specs.Lockstep.{Board, access_in, sequence_due, step}
+use Rattle.lockstep_board.specs.Run.{boundary_steps, is_jammed, is_over, stepped, to_boundary, IsPlaced}
 use Rattle.catchup_engine.specs.Trace.{TraceValue, accesses_in, accesses_of, no_trace, sequence_at, step_trace, trace_of}
-use Rattle.catchup_engine.specs.Wires.{Wires, applied, devices_ticked, line_of, port_set, ticked}
-use Rattle.catchup_engine.proofs.Behind.{access_in-behind, behind-cleared, boundary_steps-behind, step-behind, to_boundary-behind}
-use Rattle.catchup_engine.proofs.Ends.{boundary-split, boundary_steps-few, to_boundary-clock, to_boundary-over}
-use Rattle.catchup_engine.proofs.InOrder.{adds-one}
-use Rattle.catchup_engine.proofs.Runs.{stepped-add}
+use Rattle.lockstep_board.specs.Wires.{Wires, applied, devices_ticked, line_of, port_set, ticked}
+use Rattle.lockstep_board.proofs.Behind.{access_in-behind, behind-cleared, boundary_steps-behind, step-behind, to_boundary-behind}
+use Rattle.lockstep_board.proofs.Ends.{boundary-split, boundary_steps-few, to_boundary-clock, to_boundary-over}
+use Rattle.lockstep_board.proofs.InOrder.{adds-one}
+use Rattle.lockstep_board.proofs.Runs.{stepped-add}
 use Rattle.catchup_engine.proofs.Traces.{over-running}
-use Rattle.catchup_engine.proofs.TurnLaws.{to_boundary-none, to_boundary-turn, turn-boundary, turn-placed}
+use Rattle.lockstep_board.proofs.TurnLaws.{to_boundary-none, to_boundary-turn, turn-boundary, turn-placed}
 
 over-later : (jam : Option ℕ) (boundary : Bool) (x y clock : ℕ) → x ≤ y → is_some jam || (boundary && nat_le x clock) ≡ false
     → is_some jam || (boundary && nat_le y clock) ≡ false

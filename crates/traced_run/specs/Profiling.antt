@@ -1,7 +1,7 @@
 -- A profile as a follower of a run. This project's own.
 use Rattle.std.specs.Prelude.{ℕ, List}
 use Rattle.tape_ports.specs.declared.entry.TapeEntry.{TapeEntry}
-use Rattle.catchup_engine.specs.Lockstep.{Board}
+use Rattle.lockstep_board.specs.Lockstep.{Board}
 use Rattle.catchup_engine.specs.Trace.{TraceValue}
 use Rattle.catchup_engine.specs.Traced.{told}
 use Rattle.cycle_profile.specs.Profile.{after}

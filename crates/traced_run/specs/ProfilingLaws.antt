@@ -4,16 +4,15 @@ use Rattle.std.specs.Prelude.{if◌then◌else◌}
 use Rattle.std.proofs.lemmas.Bool.Decides.{nat_tests}
 use Rattle.board_base.specs.Cpu.{MidValue}
 use Rattle.tape_ports.specs.declared.entry.TapeEntry.{TapeEntry}
-use Rattle.catchup_engine.specs.Breaks.{turn, turned}
-use Rattle.catchup_engine.specs.EngineValue.{cleared}
-use Rattle.catchup_engine.specs.Lockstep.{Board}
-use Rattle.catchup_engine.specs.Order.{Recorded, behind, records_of}
-use Rattle.catchup_engine.specs.Run.{is_over, IsPlaced}
+use Rattle.lockstep_board.specs.Breaks.{turn, turned}
+use Rattle.lockstep_board.specs.Order.{cleared, Recorded, behind, records_of}
+use Rattle.lockstep_board.specs.Lockstep.{Board}
+use Rattle.lockstep_board.specs.Run.{is_over, IsPlaced}
 use Rattle.catchup_engine.specs.Trace.{TraceValue, step_trace}
 use Rattle.catchup_engine.specs.Traced.{told, told_once}
-use Rattle.catchup_engine.proofs.Behind.{behind-cleared}
+use Rattle.lockstep_board.proofs.Behind.{behind-cleared}
 use Rattle.catchup_engine.proofs.Traces.{over-running}
-use Rattle.catchup_engine.proofs.TurnLaws.{turn-behind, turn-boundary, turn-later, turn-placed}
+use Rattle.lockstep_board.proofs.TurnLaws.{turn-behind, turn-boundary, turn-later, turn-placed}
 use Rattle.board_watch.specs.Follow.{FollowsInParts, StandsStill}
 use Rattle.cycle_profile.specs.Profile.{ProfileValue, after}
 use Rattle.traced_run.specs.declared.profiling.Profiler.{Profiler}

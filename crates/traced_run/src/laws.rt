@@ -3,8 +3,8 @@
 ghost use Rattle.std.specs.Prelude.{ℕ, List, All};
 ghost use Rattle.tape_ports.specs.declared.entry.TapeEntry.{TapeEntry};
 ghost use Rattle.cpu_core.specs.Ranges.{IsByte};
-ghost use Rattle.catchup_engine.specs.Lockstep.{Board};
-ghost use Rattle.catchup_engine.specs.Ranges.{IsBoardInRange};
+ghost use Rattle.lockstep_board.specs.Lockstep.{Board};
+ghost use Rattle.lockstep_board.specs.Ranges.{IsBoardInRange};
 ghost use Rattle.traced_run.specs.BoardFrames.{AllStrokesAreTold};
 ghost use Rattle.traced_run.specs.BoardProfile.{AllClocksAreTold, AddressesAddUp};
 

@@ -1,10 +1,10 @@
 //! The clocks of the board: their ticks, and how far it is to what comes of itself.
 ghost use Rattle.std.specs.Prelude.{◌≡◌, ◌+◌, ◌-◌, ◌*◌, ◌≤◌, ◌<◌, true, false, nat_le};
-ghost use Rattle.catchup_engine.specs.Budget.{ticks_price, wraps};
+ghost use Rattle.lockstep_board.specs.Budget.{ticks_price, wraps};
 ghost use Rattle.catchup_engine.specs.Calm.{LeavesLines};
 ghost use Rattle.catchup_engine.specs.Quiet.{passed};
 ghost use Rattle.catchup_engine.specs.Bus.{Does, Fits, begin_price, done_clock, in_clock};
-ghost use Rattle.catchup_engine.specs.Wires.{devices_ticked, ticked};
+ghost use Rattle.lockstep_board.specs.Wires.{devices_ticked, ticked};
 
 use crate::bus::{BoardBus, TRAIL_ROOM, WHOLE};
 use avg_device::VectorUnit;
@@ -16,7 +16,7 @@ use tape_ports::Tape;
 
 impl<V: VectorUnit, P: SoundUnit, C: CellUnit, D: DividerUnit> BoardBus<V, P, C, D> {
     /// The clocks done.
-    #[tactic(auto, using(crate::proofs::DividerLaws::lines, crate::proofs::DividerLaws::next_lines), unfolding(crate::specs::Wires::devices_ticked))]
+    #[tactic(auto, using(crate::proofs::DividerLaws::lines, crate::proofs::DividerLaws::next_lines), unfolding(lockstep_board::specs::Wires::devices_ticked))]
     pub fn clock(&self) -> u64
         ensures value { result ≡ self.now.wires.clock }
         ensures last { result ≤ CLOCK_END }
@@ -47,7 +47,7 @@ impl<V: VectorUnit, P: SoundUnit, C: CellUnit, D: DividerUnit> BoardBus<V, P, C,
 
     /// The clock before which a whole sequence may begin in which nothing comes of itself.
     #[inline(always)]
-    #[tactic(auto, using(crate::proofs::DividerLaws::lines, crate::proofs::DividerLaws::next_lines), unfolding(crate::specs::Wires::devices_ticked))]
+    #[tactic(auto, using(crate::proofs::DividerLaws::lines, crate::proofs::DividerLaws::next_lines), unfolding(lockstep_board::specs::Wires::devices_ticked))]
     pub fn quiet_until(&self) -> u64
         ensures value { result ≡ self.now.event_at - 6 }
         ensures ticks { self.now.wires.clock < self.now.event_at → LeavesLines self.now.wires }
@@ -56,7 +56,7 @@ impl<V: VectorUnit, P: SoundUnit, C: CellUnit, D: DividerUnit> BoardBus<V, P, C,
     }
 
     /// The ticks of a clock, which counts as done then. Only a wrap moves a device.
-    #[tactic(auto, using(board_base::proofs::TickLaws::next_clock, pokey_chip::proofs::RecordLemmas::lagging, crate::proofs::DividerLaws::lines), unfolding(crate::specs::Wires::devices_ticked))]
+    #[tactic(auto, using(board_base::proofs::TickLaws::next_clock, pokey_chip::proofs::RecordLemmas::lagging, crate::proofs::DividerLaws::lines), unfolding(lockstep_board::specs::Wires::devices_ticked))]
     pub(super) fn tick(&mut self)
         requires begun { self.old.begun ≡ false }
         requires clock { self.old.wires.clock < CLOCK_END }

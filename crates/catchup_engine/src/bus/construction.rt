@@ -1,13 +1,13 @@
 //! A board over an image, and another one in its place.
 ghost use Rattle.std.specs.Prelude.{◌≡◌, ◌+◌, ◌-◌, ◌≤◌, ◌^◌, false, length, drop, take, min, IfOk, ◌++◌, []};
 ghost use Rattle.catchup_engine.specs.Lags.{lagging_of, none_lags};
-ghost use Rattle.catchup_engine.specs.Wires.{reloaded, wires_of};
+ghost use Rattle.lockstep_board.specs.Wires.{reloaded, wires_of};
 
 use crate::bus::{BoardBus, TRAIL_ROOM};
 use crate::devices::Devices;
-use crate::lane::{CellLane, DividerLane, SoundLane, VectorLane};
 use avg_device::VectorUnit;
 use board_base::{BoardState, OutOfMemory, Trail, VECTOR_ROM_LEN, VectorMemory};
+use device_lanes::{CellLane, DividerLane, SoundLane, VectorLane};
 use earom_cells::CellUnit;
 use irq_watchdog::DividerUnit;
 use pokey_chip::SoundUnit;

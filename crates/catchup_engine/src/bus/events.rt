@@ -3,10 +3,10 @@ ghost use Rattle.std.specs.Prelude.{◌≡◌, ◌+◌, ◌*◌, ◌≤◌, ◌<
 ghost use Rattle.tape_ports.specs.Due.{due_at};
 ghost use Rattle.tape_ports.specs.Ports.{IsPort};
 ghost use Rattle.tape_ports.specs.Tape.{IsTape};
-ghost use Rattle.catchup_engine.specs.Budget.{ticks_price};
+ghost use Rattle.lockstep_board.specs.Budget.{ticks_price};
 ghost use Rattle.catchup_engine.specs.Events.{deadlines_of, next_event_of};
 ghost use Rattle.catchup_engine.specs.Bus.{ComesNext, Does, Fits, IsTapePlace, done_clock};
-ghost use Rattle.catchup_engine.specs.Wires.{applied, ticked};
+ghost use Rattle.lockstep_board.specs.Wires.{applied, ticked};
 
 use crate::bus::BoardBus;
 use avg_device::VectorUnit;
@@ -44,7 +44,7 @@ impl<V: VectorUnit, P: SoundUnit, C: CellUnit, D: DividerUnit> BoardBus<V, P, C,
     }
 
     /// Does a clock's entries and ticks, whether something comes in it or not.
-    #[tactic(auto, using(crate::proofs::EventLaws::events), unfolding(crate::specs::Wires::ticked, crate::specs::Budget::ticks_price))]
+    #[tactic(auto, using(crate::proofs::EventLaws::events), unfolding(lockstep_board::specs::Wires::ticked, lockstep_board::specs::Budget::ticks_price))]
     pub(super) fn clock_with_events(&mut self, tape: &Tape)
         requires fits { Fits tape.now self.old }
         requires begun { self.old.begun ≡ false }

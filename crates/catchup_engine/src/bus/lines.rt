@@ -2,7 +2,7 @@
 ghost use Rattle.std.specs.Prelude.{◌≡◌, ◌&&◌, not, ◌+◌, ◌-◌, ◌≤◌, ◌<◌, ◌||◌, length, ◌++◌, ◌∷◌, []};
 ghost use Rattle.catchup_engine.specs.Bus.{Does, at_clock};
 ghost use Rattle.irq_watchdog.specs.Tick.{reset_taken};
-ghost use Rattle.catchup_engine.specs.Wires.{devices_ticked, line_of, reset_begun};
+ghost use Rattle.lockstep_board.specs.Wires.{devices_ticked, line_of, reset_begun};
 
 use crate::bus::BoardBus;
 use avg_device::VectorUnit;
@@ -13,7 +13,7 @@ use pokey_chip::SoundUnit;
 
 impl<V: VectorUnit, P: SoundUnit, C: CellUnit, D: DividerUnit> BoardBus<V, P, C, D> {
     /// The interrupt line.
-    #[tactic(auto, using(crate::proofs::DividerLaws::lines), unfolding(crate::specs::Wires::line_of))]
+    #[tactic(auto, using(crate::proofs::DividerLaws::lines), unfolding(lockstep_board::specs::Wires::line_of))]
     pub fn line(&self) -> bool
         ensures { result ≡ line_of self.now.wires }
     {
@@ -22,7 +22,7 @@ impl<V: VectorUnit, P: SoundUnit, C: CellUnit, D: DividerUnit> BoardBus<V, P, C,
 
     /// The interrupt line after the next clock's ticks, where nothing comes in it.
     #[inline(always)]
-    #[tactic(auto, using(crate::proofs::DividerLaws::next_lines), unfolding(crate::specs::Wires::line_of, crate::specs::Wires::devices_ticked))]
+    #[tactic(auto, using(crate::proofs::DividerLaws::next_lines), unfolding(lockstep_board::specs::Wires::line_of, lockstep_board::specs::Wires::devices_ticked))]
     pub fn next_line(&self) -> bool
         requires quiet { self.now.wires.clock < self.now.event_at }
         requires clock { self.now.wires.clock < CLOCK_END }
@@ -52,7 +52,7 @@ impl<V: VectorUnit, P: SoundUnit, C: CellUnit, D: DividerUnit> BoardBus<V, P, C,
 
     /// The reset that is pending after the next clock's ticks, where nothing comes in it.
     #[inline(always)]
-    #[tactic(auto, using(crate::proofs::DividerLaws::next_lines), unfolding(crate::specs::Wires::devices_ticked))]
+    #[tactic(auto, using(crate::proofs::DividerLaws::next_lines), unfolding(lockstep_board::specs::Wires::devices_ticked))]
     pub fn next_pending(&self) -> Pending
         requires quiet { self.now.wires.clock < self.now.event_at }
         ensures { result ≡ (devices_ticked self.now.wires).divider.pending }
@@ -62,7 +62,7 @@ impl<V: VectorUnit, P: SoundUnit, C: CellUnit, D: DividerUnit> BoardBus<V, P, C,
 
     /// Begins the pending reset, in the clock that counts as done: one by the watchdog halts the
     /// generator, clears the output latch and is recorded.
-    #[tactic(auto, using(board_base::proofs::TickLaws::level, crate::proofs::DividerLaws::lines), unfolding(crate::specs::Wires::reset_begun))]
+    #[tactic(auto, using(board_base::proofs::TickLaws::level, crate::proofs::DividerLaws::lines), unfolding(lockstep_board::specs::Wires::reset_begun))]
     pub fn begin_reset(&mut self)
         requires room { length self.old.wires.written < self.old.rooms.board }
         requires begun { 1 ≤ self.old.wires.clock }

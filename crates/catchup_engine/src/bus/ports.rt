@@ -1,7 +1,7 @@
 //! What the tape sets: the ports, and the pots of the POKEYs.
 ghost use Rattle.tape_ports.specs.Ports.{IsPort};
 ghost use Rattle.catchup_engine.specs.Bus.{Does};
-ghost use Rattle.catchup_engine.specs.Wires.{port_set};
+ghost use Rattle.lockstep_board.specs.Wires.{port_set};
 
 use crate::bus::BoardBus;
 use avg_device::VectorUnit;

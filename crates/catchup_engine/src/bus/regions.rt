@@ -2,15 +2,15 @@
 ghost use Rattle.std.specs.Prelude.{◌≡◌, ◌+◌, ◌-◌, ◌*◌, ◌≤◌, ◌<◌, length, slice_index, slice_set, ◌++◌, ◌∷◌, []};
 ghost use Rattle.std.specs.Int.{from_bool};
 ghost use Rattle.cpu_core.specs.Course.{read_of, write_of};
-ghost use Rattle.catchup_engine.specs.Budget.{reaches_device};
+ghost use Rattle.lockstep_board.specs.Budget.{reaches_device};
 ghost use Rattle.board_map.specs.Map.{region_of};
 ghost use Rattle.catchup_engine.specs.Lags.{lagging_at};
 ghost use Rattle.catchup_engine.specs.Bus.{Does, at_clock};
-ghost use Rattle.catchup_engine.specs.Memory.{memory_byte};
+ghost use Rattle.lockstep_board.specs.Memory.{memory_byte};
 ghost use Rattle.avg_device.specs.Tick.{vg_go, vg_reset};
 ghost use Rattle.earom_cells.specs.Tick.{controlled, latched};
 ghost use Rattle.irq_watchdog.specs.Tick.{acknowledged, watchdog_cleared};
-ghost use Rattle.catchup_engine.specs.Wires.{byte_put, byte_read, in0_byte};
+ghost use Rattle.lockstep_board.specs.Wires.{byte_put, byte_read, in0_byte};
 
 use crate::bus::{BoardBus, PROGRAM_START};
 use avg_device::VectorUnit;
@@ -172,7 +172,7 @@ impl<V: VectorUnit, P: SoundUnit, C: CellUnit, D: DividerUnit> BoardBus<V, P, C,
 
     /// The byte that a read of an address gives, in the clock that counts as done.
     #[inline(never)]
-    #[tactic(auto, using(board_base::proofs::TickLaws::level, crate::proofs::SettledLaws::brought), unfolding(crate::specs::Wires::byte_read, crate::specs::Budget::reaches_device))]
+    #[tactic(auto, using(board_base::proofs::TickLaws::level, crate::proofs::SettledLaws::brought), unfolding(lockstep_board::specs::Wires::byte_read, lockstep_board::specs::Budget::reaches_device))]
     pub fn byte(&mut self, addr: u16) -> u8
         ensures byte { result ≡ byte_read addr (at_clock (self.old.wires.clock - 1) self.old.wires) }
         ensures does { Does self.old self.new self.old.wires (2 * from_bool (reaches_device (read_of addr result))) }
@@ -201,7 +201,7 @@ impl<V: VectorUnit, P: SoundUnit, C: CellUnit, D: DividerUnit> BoardBus<V, P, C,
 
     /// Writes a byte to an address, in the clock that counts as done.
     #[inline(never)]
-    #[tactic(auto, using(board_base::proofs::TickLaws::level), unfolding(crate::specs::Wires::byte_put, crate::specs::Budget::reaches_device))]
+    #[tactic(auto, using(board_base::proofs::TickLaws::level), unfolding(lockstep_board::specs::Wires::byte_put, lockstep_board::specs::Budget::reaches_device))]
     pub fn put(&mut self, addr: u16, value: u8)
         requires room { length self.old.wires.written < self.old.rooms.board }
         requires begun { 1 ≤ self.old.wires.clock }
@@ -230,7 +230,7 @@ impl<V: VectorUnit, P: SoundUnit, C: CellUnit, D: DividerUnit> BoardBus<V, P, C,
     }
 
     /// The byte at an address of the RAM, the vector RAM or a ROM.
-    #[tactic(auto, unfolding(crate::specs::Memory::memory_byte))]
+    #[tactic(auto, unfolding(lockstep_board::specs::Memory::memory_byte))]
     pub fn byte_at(&self, addr: u16) -> Option<u8>
         ensures { result ≡ memory_byte addr self.now.wires }
     {

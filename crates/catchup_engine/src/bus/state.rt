@@ -1,7 +1,7 @@
 //! The board at rest: its devices brought to the present, its state, and its records.
 ghost use Rattle.std.specs.Prelude.{◌≡◌, ◌+◌, ◌≤◌, ◌==◌, IsSome, []};
 ghost use Rattle.catchup_engine.specs.Lags.{lagging_of, none_lags};
-ghost use Rattle.catchup_engine.specs.Wires.{board_of};
+ghost use Rattle.lockstep_board.specs.Wires.{board_of};
 
 use crate::bus::{BoardBus, TRAIL_ROOM};
 use avg_device::VectorUnit;

@@ -1,5 +1,5 @@
 use Rattle.std.proofs.Common.{◌≡◌, drop}
-use Rattle.catchup_engine.specs.EngineValue.{HasNoRecords}
+use Rattle.lockstep_board.specs.Order.{HasNoRecords}
 use Rattle.keyframes.specs.Seeking.{Along, run_start}
 use Rattle.board_debug.specs.BoardsText.{boards_text}
 use Rattle.board_debug.proofs.ListingLaws.{TakenUpTo}

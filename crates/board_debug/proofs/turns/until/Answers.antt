@@ -1,5 +1,5 @@
 use Rattle.std.proofs.Common.{refl, sym, ◌∙◌, arith}
-use Rattle.catchup_engine.specs.Run.{window_limit}
+use Rattle.lockstep_board.specs.Run.{window_limit}
 use Rattle.board_debug.proofs.Turning.{left-less, until-found, until-waits, until-window}
 use Rattle.board_debug.proofs.turns.until.Goals as goal
 

@@ -1,6 +1,7 @@
 use Rattle.std.proofs.Common.{◌≡◌, ap, ◌∙◌}
 use Rattle.board_watch.specs.Windows.{end_of}
-use Rattle.catchup_engine.specs.EngineValue.{EngineValue, cleared}
+use Rattle.catchup_engine.specs.EngineValue.{EngineValue}
+use Rattle.lockstep_board.specs.Order.{cleared}
 use Rattle.sliced_run.specs.Slice.{slice_text}
 use Rattle.sliced_run.proofs.SliceLaws.{run-text, run-trails}
 use Rattle.board_stretch.proofs.StretchLaws.{ends-behind, told-whole}

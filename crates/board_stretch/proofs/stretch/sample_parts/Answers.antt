@@ -1,8 +1,9 @@
 use Rattle.std.proofs.Common.{◌≡◌, ap, ◌∙◌}
 use Rattle.board_watch.specs.declared.until.Until.TheVariants.{Boundary}
 use Rattle.board_watch.specs.Windows.{end_of}
-use Rattle.catchup_engine.specs.EngineValue.{EngineValue, cleared}
-use Rattle.catchup_engine.specs.Run.{to_boundary}
+use Rattle.catchup_engine.specs.EngineValue.{EngineValue}
+use Rattle.lockstep_board.specs.Order.{cleared}
+use Rattle.lockstep_board.specs.Run.{to_boundary}
 use Rattle.sampled_run.specs.BoardSamples.{sampled_bytes}
 use Rattle.board_stretch.specs.Stretches.{first_board}
 use Rattle.board_stretch.proofs.StretchLaws.{ends-behind, told-whole}

@@ -1,5 +1,5 @@
 use Rattle.std.proofs.Common.{sym, ◌∙◌}
-use Rattle.catchup_engine.specs.Wires.{devices_ticked}
+use Rattle.lockstep_board.specs.Wires.{devices_ticked}
 use Rattle.catchup_engine.proofs.CalmLaws.{calm-lasts, goes-on, none-pending}
 use Rattle.catchup_engine.proofs.OpcodeLaws.{reads-opcode}
 use Rattle.catchup_engine.proofs.run.goes_on.Goals as goal

@@ -1,7 +1,7 @@
 use Rattle.std.proofs.Common.{arith, sym, ◌∙◌}
 use Rattle.std.proofs.lemmas.Bool.{or_parts}
-use Rattle.catchup_engine.specs.Breaks.{is_at_any}
-use Rattle.catchup_engine.specs.Run.{is_over}
+use Rattle.lockstep_board.specs.Breaks.{is_at_any}
+use Rattle.lockstep_board.specs.Run.{is_over}
 use Rattle.catchup_engine.specs.Runs.{over_bus}
 use Rattle.catchup_engine.specs.Turn.{TurnedBus}
 use Rattle.catchup_engine.proofs.BreaksOn.{turns-start, turns-go_on}

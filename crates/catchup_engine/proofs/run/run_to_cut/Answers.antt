@@ -1,5 +1,5 @@
 use Rattle.std.proofs.Common.{◌≡◌, false, min, arith, ap, sym, ◌∙◌}
-use Rattle.catchup_engine.specs.Run.{is_cut}
+use Rattle.lockstep_board.specs.Run.{is_cut}
 use Rattle.catchup_engine.specs.Runs.{over_bus}
 use Rattle.catchup_engine.proofs.RunsOn.{AtCut, cut-starts, cut-goes_on, cut-turns, cut-ends}
 use Rattle.catchup_engine.proofs.run.run_to_cut.Given

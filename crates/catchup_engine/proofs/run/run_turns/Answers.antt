@@ -1,6 +1,6 @@
 use Rattle.std.proofs.Common.{◌≡◌, ◌||◌, false, sym, ◌∙◌}
-use Rattle.catchup_engine.specs.Breaks.{is_at_any}
-use Rattle.catchup_engine.specs.Run.{is_over}
+use Rattle.lockstep_board.specs.Breaks.{is_at_any}
+use Rattle.lockstep_board.specs.Run.{is_over}
 use Rattle.catchup_engine.specs.Runs.{over_bus}
 use Rattle.catchup_engine.proofs.BreaksOn.{turns-start, turns-go_on, turns-join}
 use Rattle.catchup_engine.proofs.run.run_turns.Goals as goal

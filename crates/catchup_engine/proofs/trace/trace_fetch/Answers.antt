@@ -2,7 +2,7 @@ use Rattle.std.proofs.Common.{ap, sym, ◌∙◌, arith}
 use Rattle.cpu_core.specs.Sequences.{start_of}
 use Rattle.catchup_engine.specs.Runs.{over_bus}
 use Rattle.catchup_engine.specs.Trace.{first_byte, opcode_by, no_trace, traced}
-use Rattle.catchup_engine.specs.Lockstep.{access_in}
+use Rattle.lockstep_board.specs.Lockstep.{access_in}
 use Rattle.catchup_engine.proofs.Traces.{bus-runs, fetch-byte, fetch-sequence, reset-opcode, reset-told, trace-named, whole-told}
 use Rattle.catchup_engine.proofs.Turns.{begins-by, fetch-turn, runs-advance}
 use Rattle.catchup_engine.proofs.trace.trace_fetch.Goals as goal

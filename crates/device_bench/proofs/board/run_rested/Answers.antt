@@ -1,4 +1,4 @@
-use Rattle.catchup_engine.specs.Run.{to_boundary}
+use Rattle.lockstep_board.specs.Run.{to_boundary}
 use Rattle.device_bench.proofs.board.run_rested.Goals as goal
 
 pub returns-clause-board : goal.returns-clause-board

@@ -1,7 +1,7 @@
 use Rattle.std.proofs.Common.{List, ℕ, ◌++◌, ap, take}
 use Rattle.board_base.specs.declared.vector_memory.TheConstants.{VECTOR_RAM_LEN, VECTOR_ROM_LEN}
-use Rattle.catchup_engine.specs.Lockstep.{Board}
-use Rattle.catchup_engine.specs.Wires.{wires_of}
+use Rattle.lockstep_board.specs.Lockstep.{Board}
+use Rattle.lockstep_board.specs.Wires.{wires_of}
 use Rattle.keyframes.proofs.AlongLaws.{rom-after}
 use Rattle.keyframes.proofs.laws.engines_begin_at_their_board.Goals as goal
 

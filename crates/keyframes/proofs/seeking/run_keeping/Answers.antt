@@ -1,5 +1,5 @@
 use Rattle.std.proofs.Common.{◌∙◌, arith, refl}
-use Rattle.catchup_engine.specs.Run.{cause_of, wrap_of}
+use Rattle.lockstep_board.specs.Run.{cause_of, wrap_of}
 use Rattle.keyframes.specs.Seeking.{run_start}
 use Rattle.keyframes.proofs.AlongLaws.{start-same, window-image, window-last, window-on_run, window-rest}
 use Rattle.keyframes.proofs.seeking.run_keeping.Goals as goal

@@ -1,6 +1,6 @@
 use Rattle.std.proofs.Common.{◌≡◌, ◌+◌, ◌-◌, ◌≤◌}
-use Rattle.catchup_engine.specs.EngineValue.{HasNoRecords, cleared}
-use Rattle.catchup_engine.specs.Run.{to_clock}
+use Rattle.lockstep_board.specs.Order.{HasNoRecords, cleared}
+use Rattle.lockstep_board.specs.Run.{to_clock}
 use Rattle.keyframes.specs.Seeking.{Along, IsOnRun, run_start}
 use Rattle.keyframes.proofs.seeking.run_keeping.Given as goal
 

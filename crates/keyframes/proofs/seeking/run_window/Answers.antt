@@ -1,7 +1,7 @@
 use Rattle.std.proofs.Common.{◌∙◌, ap, arith}
 use Rattle.catchup_engine.specs.EngineValue.{EngineValue}
-use Rattle.catchup_engine.specs.Lockstep.{Board}
-use Rattle.catchup_engine.specs.Run.{wrap_of}
+use Rattle.lockstep_board.specs.Lockstep.{Board}
+use Rattle.lockstep_board.specs.Run.{wrap_of}
 use Rattle.keyframes.proofs.AlongLaws.{cut-later}
 use Rattle.keyframes.proofs.seeking.run_window.Goals as goal
 

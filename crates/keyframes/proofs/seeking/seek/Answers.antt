@@ -1,5 +1,5 @@
 use Rattle.std.proofs.Common.{[], ap, arith, subst, sym, ◌∙◌}
-use Rattle.catchup_engine.specs.Lockstep.{Board}
+use Rattle.lockstep_board.specs.Lockstep.{Board}
 use Rattle.keyframes.specs.Keys.{Keyframe}
 use Rattle.keyframes.specs.Seeking.{Along, run_start, state_of}
 use Rattle.keyframes.proofs.SeekLaws.{before-first, begins, greatest, not-before-first, seek-board}

@@ -1,4 +1,4 @@
-use Rattle.catchup_engine.specs.Run.{to_boundary}
+use Rattle.lockstep_board.specs.Run.{to_boundary}
 use Rattle.sampled_run.proofs.SampleLaws.{run-room, run-sampled}
 use Rattle.sampled_run.proofs.samples.run_rested.Goals as goal
 

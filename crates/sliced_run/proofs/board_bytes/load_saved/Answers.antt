@@ -1,5 +1,5 @@
 use Rattle.std.proofs.Common.{◌≡◌, inl}
-use Rattle.catchup_engine.specs.Wires.{board_of}
+use Rattle.lockstep_board.specs.Wires.{board_of}
 use Rattle.sliced_run.specs.Slices.{saved_bytes}
 use Rattle.sliced_run.proofs.SlicesLaws.{loaded-same}
 use Rattle.sliced_run.proofs.board_bytes.load_saved.Goals as goal

@@ -1,7 +1,7 @@
 use Rattle.std.proofs.Common.{refl, ap, ◌∙◌}
 use Rattle.std.specs.Option.{option_map}
 use Rattle.catchup_engine.specs.EngineValue.{EngineValue}
-use Rattle.catchup_engine.specs.Run.{to_clock}
+use Rattle.lockstep_board.specs.Run.{to_clock}
 use Rattle.board_watch.specs.declared.until.Until.TheVariants.{Clock}
 use Rattle.sliced_run.specs.Events.{sending}
 use Rattle.sliced_run.specs.Slice.{slice_text}

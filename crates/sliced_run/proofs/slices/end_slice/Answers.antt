@@ -1,6 +1,6 @@
 use Rattle.std.proofs.Common.{◌++◌, refl}
 use Rattle.std.specs.Option.{option_map}
-use Rattle.catchup_engine.specs.Run.{to_boundary}
+use Rattle.lockstep_board.specs.Run.{to_boundary}
 use Rattle.board_watch.specs.declared.until.Until.TheVariants.{Boundary}
 use Rattle.sliced_run.specs.Events.{sending}
 use Rattle.sliced_run.specs.Slice.{slice_text}

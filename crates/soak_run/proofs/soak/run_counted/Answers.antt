@@ -1,6 +1,6 @@
 use Rattle.std.proofs.Common.{ap, ◌∙◌}
-use Rattle.catchup_engine.specs.Order.{records_of}
-use Rattle.catchup_engine.specs.Run.{to_boundary}
+use Rattle.lockstep_board.specs.Order.{records_of}
+use Rattle.lockstep_board.specs.Run.{to_boundary}
 use Rattle.soak_run.specs.Counter.{CounterValue}
 use Rattle.soak_run.specs.Summary.{summary_of}
 use Rattle.soak_run.proofs.SoakLaws.{run-room}

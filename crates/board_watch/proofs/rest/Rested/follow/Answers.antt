@@ -1,6 +1,6 @@
 use Rattle.std.proofs.Common.{ap, refl, sym, ◌∙◌}
-use Rattle.catchup_engine.specs.EngineValue.{cleared}
-use Rattle.catchup_engine.proofs.Ended.{over-stop}
+use Rattle.lockstep_board.specs.Order.{cleared}
+use Rattle.lockstep_board.proofs.Ended.{over-stop}
 use Rattle.board_watch.proofs.FollowLaws.{cut-part, followed-over, followed-part, followed-start, part-smaller, window-open}
 use Rattle.board_watch.proofs.rest.Rested.follow.Goals as goal
 

@@ -1,6 +1,6 @@
 use Rattle.std.proofs.Common.{ap}
 use Rattle.catchup_engine.specs.EngineValue.{EngineValue}
-use Rattle.catchup_engine.specs.Run.{window_limit}
+use Rattle.lockstep_board.specs.Run.{window_limit}
 use Rattle.board_watch.proofs.FollowLaws.{part-room}
 use Rattle.board_watch.proofs.RestLaws.{rests-traced}
 use Rattle.board_watch.proofs.rest.Rested.part.Goals as goal

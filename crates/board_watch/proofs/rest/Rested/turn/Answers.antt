@@ -1,5 +1,5 @@
 use Rattle.std.proofs.Common.{◌+◌}
-use Rattle.catchup_engine.proofs.TurnLaws.{turn-later}
+use Rattle.lockstep_board.proofs.TurnLaws.{turn-later}
 use Rattle.board_watch.proofs.RestLaws.{rests-bounded}
 use Rattle.board_watch.proofs.rest.Rested.turn.Goals as goal
 

@@ -1,4 +1,4 @@
-use Rattle.catchup_engine.specs.Run.{window_limit}
+use Rattle.lockstep_board.specs.Run.{window_limit}
 use Rattle.board_watch.proofs.RestLaws.{rests-bounded}
 use Rattle.board_watch.proofs.rest.Rested.turns.Goals as goal
 

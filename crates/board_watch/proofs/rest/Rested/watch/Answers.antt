@@ -1,5 +1,5 @@
 use Rattle.std.proofs.Common.{Ok, ap, ◌∙◌, arith, refl}
-use Rattle.catchup_engine.specs.Run.{cause_of}
+use Rattle.lockstep_board.specs.Run.{cause_of}
 use Rattle.board_watch.specs.Windows.{clock_in}
 use Rattle.board_watch.proofs.WatchLaws.{board-last, cut-window, last-window, room-window, state-last, took-last, watched-start, watched-window, window-paid, wrap-paid}
 use Rattle.board_watch.proofs.rest.Rested.watch.Goals as goal

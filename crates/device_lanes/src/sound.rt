@@ -1,0 +1,216 @@
+//! The POKEYs.
+ghost use Rattle.std.specs.Prelude.{◌≡◌, ◌+◌, ◌-◌, ◌^◌, ◌≤◌, ◌<◌, ◌&&◌, ◌++◌, true, length, min};
+ghost use Rattle.board_base.specs.Counts.{Counted};
+ghost use Rattle.board_base.specs.Ticks.{times};
+ghost use Rattle.pokey_chip.specs.Registers.{pot_set, register_read, register_written};
+ghost use Rattle.pokey_chip.specs.Tick.{levels_made, pokey_tick};
+ghost use Rattle.device_lanes.specs.Lags.{lags, AsksAt};
+ghost use Rattle.lockstep_board.specs.Wires.{has_request};
+
+use board_base::{CLOCK_END, PokeyState, Trail};
+use pokey_chip::SoundUnit;
+
+/// A POKEY that was moved up to the clock `done`, its levels, whether its timer requests reach the
+/// interrupt line, and where they do, the clock from which on it makes one.
+#[derive(Drop)]
+pub struct SoundLane<P: SoundUnit> {
+    pub unit: P,
+    pub done: u64,
+    pub wired: bool,
+    pub request_at: u64,
+    pub trail: Trail,
+}
+
+impl<P: SoundUnit> SoundLane<P> {
+    /// A POKEY in a state at a clock.
+    pub fn new(
+        mut unit: P,
+        state: &PokeyState,
+        clock: u64,
+        wired: bool,
+        trail: Trail,
+    ) -> SoundLane<P>
+        requires clocks { clock ≤ CLOCK_END }
+        ensures done { result.done ≡ clock }
+        ensures wired { result.wired ≡ wired }
+        ensures state { P.device result.unit ≡ state.now }
+        ensures trail { result.trail ≡ trail }
+        ensures asked { AsksAt result.done result.request_at (P.device result.unit) }
+        ensures counted { Counted (P.calls unit) (P.calls result.unit) }
+    {
+        unit.load(state);
+        let mut lane = SoundLane {
+            unit,
+            done: clock,
+            wired,
+            request_at: 0,
+            trail,
+        };
+        lane.ask();
+        lane
+    }
+
+    /// Takes on a state at a clock.
+    pub fn load(&mut self, state: &PokeyState, clock: u64)
+        requires clocks { clock ≤ CLOCK_END }
+        ensures done { self.new.done ≡ clock }
+        ensures wired { self.new.wired ≡ self.old.wired }
+        ensures state { P.device self.new.unit ≡ state.now }
+        ensures trail { self.new.trail ≡ self.old.trail }
+        ensures asked { AsksAt self.new.done self.new.request_at (P.device self.new.unit) }
+        ensures counted { Counted (P.calls self.old.unit) (P.calls self.new.unit) }
+    {
+        self.unit.load(state);
+        self.done = clock;
+        self.ask();
+    }
+
+    /// Moves it up to a clock.
+    #[tactic(auto, using(crate::proofs::LaneLaws::pokey))]
+    pub fn level(&mut self, clock: u64)
+        requires before { self.old.done ≤ clock }
+        requires room { clock ≤ self.old.done + self.old.trail.spare }
+        requires clocks { clock ≤ CLOCK_END }
+        ensures done { self.new.done ≡ clock }
+        ensures state { P.device self.new.unit ≡ times pokey_tick (clock - self.old.done) (P.device self.old.unit) }
+        ensures records { self.new.trail.records ≡ self.old.trail.records
+            ++ levels_made self.old.done (clock - self.old.done) (P.device self.old.unit) }
+        ensures until { self.old.done + self.old.trail.spare ≤ self.new.done + self.new.trail.spare }
+        ensures total { self.new.trail.spare + length self.new.trail.records ≡ self.old.trail.spare + length self.old.trail.records }
+        ensures room { self.new.trail.room ≡ self.old.trail.room }
+        ensures calls { P.calls self.new.unit ≤ P.calls self.old.unit + lags self.old.done clock }
+        ensures more { min (P.calls self.old.unit) (2 ^ 64 - 1) ≤ P.calls self.new.unit }
+        ensures wired { self.new.wired ≡ self.old.wired }
+        ensures asked { AsksAt self.old.done self.old.request_at (P.device self.old.unit) → AsksAt self.new.done self.new.request_at (P.device self.new.unit) }
+    {
+        let n = clock - self.done;
+        if n > 0 {
+            self.unit.advance(self.done, n, &mut self.trail);
+            self.done = clock;
+        }
+    }
+
+    /// Reads a register at a clock, up to which it is moved before.
+    #[inline(never)]
+    pub fn read_register(&mut self, clock: u64, reg: u8) -> u8
+        requires before { self.old.done ≤ clock }
+        requires room { clock ≤ self.old.done + self.old.trail.spare }
+        requires clocks { clock ≤ CLOCK_END }
+        requires reg { reg < 16 }
+        ensures byte { result ≡ register_read reg (times pokey_tick (clock - self.old.done) (P.device self.old.unit)) }
+        ensures done { self.new.done ≡ clock }
+        ensures state { P.device self.new.unit ≡ times pokey_tick (clock - self.old.done) (P.device self.old.unit) }
+        ensures records { self.new.trail.records ≡ self.old.trail.records
+            ++ levels_made self.old.done (clock - self.old.done) (P.device self.old.unit) }
+        ensures until { self.old.done + self.old.trail.spare ≤ self.new.done + self.new.trail.spare }
+        ensures total { self.new.trail.spare + length self.new.trail.records ≡ self.old.trail.spare + length self.old.trail.records }
+        ensures room { self.new.trail.room ≡ self.old.trail.room }
+        ensures calls { P.calls self.new.unit ≤ P.calls self.old.unit + lags self.old.done clock }
+        ensures more { min (P.calls self.old.unit) (2 ^ 64 - 1) ≤ P.calls self.new.unit }
+        ensures wired { self.new.wired ≡ self.old.wired }
+        ensures asked { AsksAt self.old.done self.old.request_at (P.device self.old.unit) → AsksAt self.new.done self.new.request_at (P.device self.new.unit) }
+    {
+        self.level(clock);
+        self.unit.read(reg)
+    }
+
+    /// Writes a register at a clock, up to which it is moved before.
+    #[inline(never)]
+    pub fn write_register(&mut self, clock: u64, reg: u8, value: u8)
+        requires before { self.old.done ≤ clock }
+        requires room { clock ≤ self.old.done + self.old.trail.spare }
+        requires clocks { clock ≤ CLOCK_END }
+        requires reg { reg < 16 }
+        ensures done { self.new.done ≡ clock }
+        ensures state { P.device self.new.unit ≡ register_written reg value (times pokey_tick (clock - self.old.done) (P.device self.old.unit)) }
+        ensures records { self.new.trail.records ≡ self.old.trail.records
+            ++ levels_made self.old.done (clock - self.old.done) (P.device self.old.unit) }
+        ensures until { self.old.done + self.old.trail.spare ≤ self.new.done + self.new.trail.spare }
+        ensures total { self.new.trail.spare + length self.new.trail.records ≡ self.old.trail.spare + length self.old.trail.records }
+        ensures room { self.new.trail.room ≡ self.old.trail.room }
+        ensures calls { P.calls self.new.unit ≤ P.calls self.old.unit + 2 }
+        ensures more { min (P.calls self.old.unit) (2 ^ 64 - 1) ≤ P.calls self.new.unit }
+        ensures wired { self.new.wired ≡ self.old.wired }
+        ensures asked { self.new.wired ≡ true → AsksAt self.new.done self.new.request_at (P.device self.new.unit) }
+    {
+        self.level(clock);
+        self.unit.write(reg, value);
+        self.ask_again();
+    }
+
+    /// Sets the target of a pot at a clock, up to which it is moved before.
+    pub fn set_pot(&mut self, clock: u64, which: u8, value: u8)
+        requires before { self.old.done ≤ clock }
+        requires room { clock ≤ self.old.done + self.old.trail.spare }
+        requires clocks { clock ≤ CLOCK_END }
+        requires pot { which < 8 }
+        ensures done { self.new.done ≡ clock }
+        ensures state { P.device self.new.unit ≡ pot_set which value (times pokey_tick (clock - self.old.done) (P.device self.old.unit)) }
+        ensures records { self.new.trail.records ≡ self.old.trail.records
+            ++ levels_made self.old.done (clock - self.old.done) (P.device self.old.unit) }
+        ensures until { self.old.done + self.old.trail.spare ≤ self.new.done + self.new.trail.spare }
+        ensures total { self.new.trail.spare + length self.new.trail.records ≡ self.old.trail.spare + length self.old.trail.records }
+        ensures room { self.new.trail.room ≡ self.old.trail.room }
+        ensures calls { P.calls self.new.unit ≤ P.calls self.old.unit + 2 }
+        ensures more { min (P.calls self.old.unit) (2 ^ 64 - 1) ≤ P.calls self.new.unit }
+        ensures wired { self.new.wired ≡ self.old.wired }
+        ensures asked { self.new.wired ≡ true → AsksAt self.new.done self.new.request_at (P.device self.new.unit) }
+    {
+        self.level(clock);
+        self.unit.set_pot(which, value);
+        self.ask_again();
+    }
+
+    /// Asks it anew after a change, where its requests are asked for.
+    fn ask_again(&mut self)
+        requires clocks { self.old.done ≤ CLOCK_END }
+        ensures unit { self.new.unit ≡ self.old.unit }
+        ensures done { self.new.done ≡ self.old.done }
+        ensures wired { self.new.wired ≡ self.old.wired }
+        ensures trail { self.new.trail ≡ self.old.trail }
+        ensures asked { self.new.wired ≡ true → AsksAt self.new.done self.new.request_at (P.device self.new.unit) }
+    {
+        if self.wired {
+            self.ask();
+        }
+    }
+
+    /// Asks it from which clock on it makes a request.
+    #[tactic(auto, using(crate::proofs::LaneLaws::asking))]
+    fn ask(&mut self)
+        requires clocks { self.old.done ≤ CLOCK_END }
+        ensures unit { self.new.unit ≡ self.old.unit }
+        ensures done { self.new.done ≡ self.old.done }
+        ensures wired { self.new.wired ≡ self.old.wired }
+        ensures trail { self.new.trail ≡ self.old.trail }
+        ensures asked { AsksAt self.new.done self.new.request_at (P.device self.new.unit) }
+    {
+        self.request_at = match self.unit.quiet() {
+            Some(clocks) => self.done.saturating_add(clocks),
+            None => u64::MAX,
+        };
+    }
+
+    /// Whether it pulls the interrupt line at a clock.
+    #[inline(always)]
+    pub fn pulls(&self, clock: u64) -> bool
+        requires clock { clock ≤ CLOCK_END }
+        requires before { self.now.done ≤ clock }
+        ensures { (self.now.wired ≡ true → AsksAt self.now.done self.now.request_at (P.device self.now.unit))
+            → result ≡ (self.now.wired && has_request (times pokey_tick (clock - self.now.done) (P.device self.now.unit))) }
+    {
+        self.wired && self.request_at <= clock
+    }
+
+    /// Whether it pulls the interrupt line after the ticks of the clock that comes next after so many.
+    #[inline(always)]
+    #[tactic(auto, using(crate::proofs::LaneLaws::next_requests))]
+    pub fn pulls_next(&self, clock: u64) -> bool
+        requires clock { clock < CLOCK_END }
+        requires before { self.now.done ≤ clock }
+        ensures { (self.now.wired ≡ true → AsksAt self.now.done self.now.request_at (P.device self.now.unit))
+            → result ≡ (self.now.wired && has_request (pokey_tick (times pokey_tick (clock - self.now.done) (P.device self.now.unit)))) }
+    {
+        self.wired && self.request_at <= clock + 1
+    }
+}

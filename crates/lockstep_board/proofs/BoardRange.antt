@@ -1,0 +1,547 @@
+-- A step keeps a board in its range.
+use Rattle.std.proofs.Common.{◌≡◌, ◌≤◌, ℕ, ◌+◌, ◌-◌, ◌%◌, ◌^◌, ◌<◌, ◌==◌, ◌&&◌, ◌++◌, nat_le, nat_lt, Bool, true, false, if◌then◌else◌, List, [], ◌∷◌, length, slice_set, Option, Some, None, All, IfSome, IsSomeAnd, zero, suc, refl, subst, ◌∙◌, arith, length-append}
+use Rattle.std.proofs.lemmas.Bool.Decides.{nat_tests}
+use Rattle.std.proofs.lemmas.List.{length-set}
+use Rattle.std.proofs.lemmas.List.Elements.{All-filter, All-head, All-push, All-set, All-tail, All-take}
+use Rattle.board_base.specs.declared.cpu.Sequence.{Sequence}
+use Rattle.board_base.specs.declared.cpu.Sequence.TheVariants.{Opcode, Interrupt, Reset}
+use Rattle.board_base.specs.declared.divider.Pending.{Pending}
+use Rattle.board_base.specs.declared.divider.Pending.TheVariants.{Nothing, Power, Watchdog}
+use Rattle.board_base.specs.declared.vector_memory.TheConstants.{VECTOR_RAM_LEN}
+use Rattle.board_base.specs.Cpu.{CpuValue, MidValue}
+use Rattle.board_base.specs.Divider.{IsDivider}
+use Rattle.board_base.specs.Pokey.{PokeyValue}
+use Rattle.board_map.specs.declared.map.Region.{Region}
+use Rattle.board_map.specs.declared.map.Region.TheVariants as region
+use Rattle.board_map.specs.Map.{Range, address_map, region_in, region_of, IsInside}
+use Rattle.cpu_alu.specs.Flags.{is_masked}
+use Rattle.cpu_core.specs.declared.replay.Next.{Next}
+use Rattle.cpu_core.specs.declared.replay.Next.TheVariants.{Read, Write, End}
+use Rattle.cpu_core.specs.Registers.{RegistersValue, registers_of}
+use Rattle.cpu_core.specs.Sequences.{next_of, start_of}
+use Rattle.cpu_core.specs.Places.{IsMiddle, IsPlace, IsProcessor, given_by}
+use Rattle.cpu_core.specs.Ranges.{AreRegistersInRange, IsByte, IsMidInRange, IsProcessorInRange, WritesByte}
+use Rattle.cpu_core.proofs.ProcessorRange.{end_in, standing_in, start_in, start_masks, written_in}
+use Rattle.pokey_chip.specs.Registers.{all_pot, pot_of, register_read}
+use Rattle.pokey_chip.specs.Tick.{long_register}
+use Rattle.pokey_chip.proofs.PotLemmas.{number_fits}
+use Rattle.tape_ports.specs.declared.entry.Port.{Port}
+use Rattle.tape_ports.specs.declared.entry.Port.TheVariants as port
+use Rattle.tape_ports.specs.declared.entry.TapeEntry.{TapeEntry}
+use Rattle.tape_ports.specs.Due.{due_at}
+use Rattle.lockstep_board.specs.Lockstep.{Board, accessed, accessed_by, after_access, at_fetch, begun, sequence_due, step}
+use Rattle.lockstep_board.specs.Ranges.{AreBytes, AreWiresInRange, IsBoardInRange, IsPokeyInRange}
+use Rattle.lockstep_board.specs.Run.{stepped}
+use Rattle.lockstep_board.specs.Wires.{Wires, applied, byte_in, byte_put, byte_read, devices_ticked, in0_byte, port_set, put_in, reset_begun, reset_by, ticked}
+use Rattle.lockstep_board.proofs.DividerRange.{divider_tick-in_range}
+use Rattle.lockstep_board.proofs.EaromRange.{byte_at, controlled-in_range, earom_tick-in_range, latched-in_range}
+use Rattle.lockstep_board.proofs.GeneratorRange.{vg_go-in_range, vg_reset-in_range, vg_tick-in_range}
+use Rattle.lockstep_board.proofs.PokeyRange.{pokey_tick-in_range, pot_set-in_range, register_written-in_range}
+
+-- each range of a map gives regions whose offsets are inside them
+abbrev AreInside : List Range → Type 0
+AreInside [] = Unit {0}
+AreInside (range ∷ ranges) = ((offset : ℕ) → offset ≤ range.last - range.first → IsInside (range.at offset)) × AreInside ranges
+
+region_inside : (ranges : List Range) (address : ℕ) → AreInside ranges → IsInside (region_in ranges address)
+region_inside [] address h = tt
+region_inside (range ∷ ranges) address h = by_test (nat_le range.first address) (nat_le address range.last) refl refl (region_inside ranges address h.1)
+  where
+    by_test : (low high : Bool) → nat_le range.first address ≡ low → nat_le address range.last ≡ high
+        → IsInside (region_in ranges address) → IsInside (if low && high then range.at (address - range.first) else region_in ranges address)
+    by_test true true e f rest =
+        let first : range.first ≤ address = grind (arith, nat_tests) in
+        let last : address ≤ range.last = grind (arith, nat_tests) in
+        h.0 (address - range.first) (omega arith)
+    by_test true false e f rest = rest
+    by_test false high e f rest = rest
+
+map_inside : AreInside address_map
+map_inside =
+    (λ offset few. omega arith, (λ offset few. omega arith, (λ offset few. omega arith, (λ offset few. omega arith, (λ offset few. omega arith, (λ offset few. tt, (λ offset few. tt, (λ offset few. tt, (λ offset few. tt, (λ offset few. tt, (λ offset few. tt, (λ offset few. tt, (λ offset few. tt, (λ offset few. omega arith, (λ offset few. tt, (λ offset few. omega arith, tt))))))))))))))))
+
+inside : (address : ℕ) → IsInside (region_of address)
+unfolding region_of
+inside address = region_inside address_map address map_inside
+
+set_bytes : (len : ℕ) (bytes : List ℕ) (k value : ℕ) → IsByte value → AreBytes len bytes → AreBytes len (slice_set bytes k value)
+set_bytes len bytes k value byte h = record {
+  count = length-set bytes k value ∙ h.count;
+  each = All-set IsByte bytes k value byte h.each;
+}
+
+port_set_in : (p : Port) (value : ℕ) (w : Wires) → IsByte value → AreWiresInRange w → AreWiresInRange (port_set p value w)
+port_set_in port.In0 value w byte h =
+    record {
+      out = h.out;
+      in0 = omega arith;
+      in3 = h.in3;
+      in4 = h.in4;
+      divider = h.divider;
+      vg = h.vg;
+      sound1 = h.sound1;
+      sound2 = h.sound2;
+      earom = h.earom;
+      ram = h.ram;
+      memory = h.memory;
+      program = h.program;
+    }
+port_set_in port.In3 value w byte h =
+    record {
+      out = h.out;
+      in0 = h.in0;
+      in3 = byte;
+      in4 = h.in4;
+      divider = h.divider;
+      vg = h.vg;
+      sound1 = h.sound1;
+      sound2 = h.sound2;
+      earom = h.earom;
+      ram = h.ram;
+      memory = h.memory;
+      program = h.program;
+    }
+port_set_in port.In4 value w byte h =
+    record {
+      out = h.out;
+      in0 = h.in0;
+      in3 = h.in3;
+      in4 = byte;
+      divider = h.divider;
+      vg = h.vg;
+      sound1 = h.sound1;
+      sound2 = h.sound2;
+      earom = h.earom;
+      ram = h.ram;
+      memory = h.memory;
+      program = h.program;
+    }
+port_set_in (port.Pot1 which) value w byte h =
+    record {
+      out = h.out;
+      in0 = h.in0;
+      in3 = h.in3;
+      in4 = h.in4;
+      divider = h.divider;
+      vg = h.vg;
+      sound1 = pot_set-in_range which value w.sound1 byte h.sound1;
+      sound2 = h.sound2;
+      earom = h.earom;
+      ram = h.ram;
+      memory = h.memory;
+      program = h.program;
+    }
+port_set_in (port.Pot2 which) value w byte h =
+    record {
+      out = h.out;
+      in0 = h.in0;
+      in3 = h.in3;
+      in4 = h.in4;
+      divider = h.divider;
+      vg = h.vg;
+      sound1 = h.sound1;
+      sound2 = pot_set-in_range which value w.sound2 byte h.sound2;
+      earom = h.earom;
+      ram = h.ram;
+      memory = h.memory;
+      program = h.program;
+    }
+
+-- an entry's value is a byte
+abbrev HasByte : TapeEntry → Type 0
+HasByte entry = IsByte entry.value
+
+applied_in : (entries : List TapeEntry) (w : Wires) → All HasByte entries → AreWiresInRange w → AreWiresInRange (applied entries w)
+unfolding applied
+applied_in [] w all h = h
+applied_in (entry ∷ entries) w all h =
+    applied_in entries (port_set entry.port entry.value w) (All-tail HasByte entry entries all)
+    (port_set_in entry.port entry.value w (All-head HasByte entry entries all) h)
+
+devices_ticked_in : (w : Wires) → AreWiresInRange w → AreWiresInRange (devices_ticked w)
+unfolding devices_ticked
+devices_ticked_in w h =
+    record {
+      out = h.out;
+      in0 = h.in0;
+      in3 = h.in3;
+      in4 = h.in4;
+      divider = divider_tick-in_range w.divider h.divider;
+      vg = vg_tick-in_range w.memory w.clock w.vg h.memory.each h.vg;
+      sound1 = pokey_tick-in_range w.sound1 h.sound1;
+      sound2 = pokey_tick-in_range w.sound2 h.sound2;
+      earom = earom_tick-in_range w.earom h.earom;
+      ram = h.ram;
+      memory = h.memory;
+      program = h.program;
+    }
+
+ticked_in : (entries : List TapeEntry) (w : Wires) → All HasByte entries → AreWiresInRange w → AreWiresInRange (ticked entries w)
+unfolding ticked
+ticked_in entries w all h =
+    devices_ticked_in (applied (due_at w.clock entries) w)
+    (applied_in (due_at w.clock entries) w (All-filter (λ entry. entry.clock == w.clock) HasByte entries all) h)
+
+either_byte : (b : Bool) (m n : ℕ) → IsByte m → IsByte n → IsByte (if b then m else n)
+either_byte true m n h k = h
+either_byte false m n h k = k
+
+all_pot_in : (p : PokeyValue) → IsPokeyInRange p → IsByte (all_pot p)
+unfolding all_pot
+all_pot_in p h =
+    let eight : length p.targets ≡ 8 = h.device.targets in
+    subst (λ n. all_pot p < 2 ^ n) eight (number_fits (λ target. nat_lt p.pot target) p.targets)
+
+register_read_in : (reg : ℕ) (p : PokeyValue) → IsPokeyInRange p → IsByte (register_read reg p)
+unfolding register_read
+register_read_in reg p h =
+    let few : p.pot ≤ 228 = h.device.pot in
+    let requests : p.irqst < 8 = h.device.irqst in
+    let pot : IsByte (pot_of p reg) = omega arith in
+    let random : IsByte (long_register p % 256) = omega arith in
+    let status : IsByte (248 + p.irqst) = omega arith in
+    let other : IsByte 255 = omega arith in
+    either_byte _ _ _ pot (either_byte _ _ _ (all_pot_in p h) (either_byte _ _ _ random (either_byte _ _ _ status other)))
+
+in0_byte_in : (w : Wires) → AreWiresInRange w → IsByte (in0_byte w)
+in0_byte_in w h = bits w.in0 _ _ h.in0
+  where
+    bits : (n : ℕ) (halted high : Bool) → n < 64 → IsByte (n + (if halted then 64 else 0) + (if high then 128 else 0))
+    bits n true true h = omega arith
+    bits n true false h = omega arith
+    bits n false true h = omega arith
+    bits n false false h = omega arith
+
+byte_in_in : (r : Region) (w : Wires) → AreWiresInRange w → IsByte (byte_in r w)
+byte_in_in (region.Ram k) w h = byte_at w.ram k h.ram.each
+byte_in_in (region.VectorRam k) w h = byte_at w.memory k h.memory.each
+byte_in_in (region.VectorRom k) w h = byte_at w.memory (VECTOR_RAM_LEN + k) h.memory.each
+byte_in_in (region.Sound1 reg) w h = register_read_in reg w.sound1 h.sound1
+byte_in_in (region.Sound2 reg) w h = register_read_in reg w.sound2 h.sound2
+byte_in_in region.EaromOut w h = h.earom.out
+byte_in_in region.In0 w h = in0_byte_in w h
+byte_in_in region.In3 w h = h.in3
+byte_in_in region.In4 w h = h.in4
+byte_in_in (region.ProgramRom k) w h = byte_at w.program k h.program.each
+byte_in_in _ w h = omega arith
+
+byte_read_in : (address : ℕ) (w : Wires) → AreWiresInRange w → IsByte (byte_read address w)
+unfolding byte_read
+byte_read_in address w h = byte_in_in (region_of address) w h
+
+put_in_in : (r : Region) (value : ℕ) (w : Wires) → IsInside r → IsByte value → AreWiresInRange w → AreWiresInRange (put_in r value w)
+put_in_in (region.Ram k) value w at byte h =
+    record {
+      out = h.out;
+      in0 = h.in0;
+      in3 = h.in3;
+      in4 = h.in4;
+      divider = h.divider;
+      vg = h.vg;
+      sound1 = h.sound1;
+      sound2 = h.sound2;
+      earom = h.earom;
+      ram = set_bytes _ w.ram k value byte h.ram;
+      memory = h.memory;
+      program = h.program;
+    }
+put_in_in (region.VectorRam k) value w at byte h =
+    record {
+      out = h.out;
+      in0 = h.in0;
+      in3 = h.in3;
+      in4 = h.in4;
+      divider = h.divider;
+      vg = h.vg;
+      sound1 = h.sound1;
+      sound2 = h.sound2;
+      earom = h.earom;
+      ram = h.ram;
+      memory = set_bytes _ w.memory k value byte h.memory;
+      program = h.program;
+    }
+put_in_in (region.Sound1 reg) value w at byte h =
+    record {
+      out = h.out;
+      in0 = h.in0;
+      in3 = h.in3;
+      in4 = h.in4;
+      divider = h.divider;
+      vg = h.vg;
+      sound1 = register_written-in_range reg value w.sound1 byte h.sound1;
+      sound2 = h.sound2;
+      earom = h.earom;
+      ram = h.ram;
+      memory = h.memory;
+      program = h.program;
+    }
+put_in_in (region.Sound2 reg) value w at byte h =
+    record {
+      out = h.out;
+      in0 = h.in0;
+      in3 = h.in3;
+      in4 = h.in4;
+      divider = h.divider;
+      vg = h.vg;
+      sound1 = h.sound1;
+      sound2 = register_written-in_range reg value w.sound2 byte h.sound2;
+      earom = h.earom;
+      ram = h.ram;
+      memory = h.memory;
+      program = h.program;
+    }
+put_in_in region.In4 value w at byte h =
+    record {
+      out = byte;
+      in0 = h.in0;
+      in3 = h.in3;
+      in4 = h.in4;
+      divider = h.divider;
+      vg = h.vg;
+      sound1 = h.sound1;
+      sound2 = h.sound2;
+      earom = h.earom;
+      ram = h.ram;
+      memory = h.memory;
+      program = h.program;
+    }
+put_in_in region.Go value w at byte h =
+    record {
+      out = h.out;
+      in0 = h.in0;
+      in3 = h.in3;
+      in4 = h.in4;
+      divider = h.divider;
+      vg = vg_go-in_range w.vg h.vg;
+      sound1 = h.sound1;
+      sound2 = h.sound2;
+      earom = h.earom;
+      ram = h.ram;
+      memory = h.memory;
+      program = h.program;
+    }
+put_in_in region.VgReset value w at byte h =
+    record {
+      out = h.out;
+      in0 = h.in0;
+      in3 = h.in3;
+      in4 = h.in4;
+      divider = h.divider;
+      vg = vg_reset-in_range w.vg h.vg;
+      sound1 = h.sound1;
+      sound2 = h.sound2;
+      earom = h.earom;
+      ram = h.ram;
+      memory = h.memory;
+      program = h.program;
+    }
+put_in_in region.Acknowledge value w at byte h =
+    let d : IsDivider w.divider = h.divider in
+    record {
+      out = h.out;
+      in0 = h.in0;
+      in3 = h.in3;
+      in4 = h.in4;
+      divider = record { phase = d.phase; dog = d.dog };
+      vg = h.vg;
+      sound1 = h.sound1;
+      sound2 = h.sound2;
+      earom = h.earom;
+      ram = h.ram;
+      memory = h.memory;
+      program = h.program;
+    }
+put_in_in region.EaromControl value w at byte h =
+    record {
+      out = h.out;
+      in0 = h.in0;
+      in3 = h.in3;
+      in4 = h.in4;
+      divider = h.divider;
+      vg = h.vg;
+      sound1 = h.sound1;
+      sound2 = h.sound2;
+      earom = controlled-in_range value w.earom h.earom;
+      ram = h.ram;
+      memory = h.memory;
+      program = h.program;
+    }
+put_in_in (region.EaromLatch cell) value w at byte h =
+    record {
+      out = h.out;
+      in0 = h.in0;
+      in3 = h.in3;
+      in4 = h.in4;
+      divider = h.divider;
+      vg = h.vg;
+      sound1 = h.sound1;
+      sound2 = h.sound2;
+      earom = latched-in_range cell value w.earom at byte h.earom;
+      ram = h.ram;
+      memory = h.memory;
+      program = h.program;
+    }
+put_in_in region.Watchdog value w at byte h =
+    let d : IsDivider w.divider = h.divider in
+    record {
+      out = h.out;
+      in0 = h.in0;
+      in3 = h.in3;
+      in4 = h.in4;
+      divider = record { phase = d.phase; dog = omega arith };
+      vg = h.vg;
+      sound1 = h.sound1;
+      sound2 = h.sound2;
+      earom = h.earom;
+      ram = h.ram;
+      memory = h.memory;
+      program = h.program;
+    }
+put_in_in _ value w at byte h = h
+
+byte_put_in : (address value : ℕ) (w : Wires) → IsByte value → AreWiresInRange w → AreWiresInRange (byte_put address value w)
+unfolding byte_put
+byte_put_in address value w byte h = put_in_in (region_of address) value w (inside address) byte h
+
+reset_by_in : (p : Pending) (w : Wires) → AreWiresInRange w → AreWiresInRange (reset_by p w)
+reset_by_in Watchdog w h =
+    let d : IsDivider w.divider = h.divider in
+    record {
+      out = omega arith;
+      in0 = h.in0;
+      in3 = h.in3;
+      in4 = h.in4;
+      divider = record { phase = d.phase; dog = d.dog };
+      vg = vg_reset-in_range w.vg h.vg;
+      sound1 = h.sound1;
+      sound2 = h.sound2;
+      earom = h.earom;
+      ram = h.ram;
+      memory = h.memory;
+      program = h.program;
+    }
+reset_by_in Power w h =
+    let d : IsDivider w.divider = h.divider in
+    record {
+      out = h.out;
+      in0 = h.in0;
+      in3 = h.in3;
+      in4 = h.in4;
+      divider = record { phase = d.phase; dog = d.dog };
+      vg = h.vg;
+      sound1 = h.sound1;
+      sound2 = h.sound2;
+      earom = h.earom;
+      ram = h.ram;
+      memory = h.memory;
+      program = h.program;
+    }
+reset_by_in Nothing w h =
+    let d : IsDivider w.divider = h.divider in
+    record {
+      out = h.out;
+      in0 = h.in0;
+      in3 = h.in3;
+      in4 = h.in4;
+      divider = record { phase = d.phase; dog = d.dog };
+      vg = h.vg;
+      sound1 = h.sound1;
+      sound2 = h.sound2;
+      earom = h.earom;
+      ram = h.ram;
+      memory = h.memory;
+      program = h.program;
+    }
+
+begun_in : (q : Sequence) (b : Board) → IsBoardInRange b → IsBoardInRange (begun q b)
+unfolding reset_begun
+begun_in Reset b h = record { cpu = h.cpu; wires = reset_by_in b.wires.divider.pending b.wires h.wires }
+begun_in Interrupt b h = h
+begun_in Opcode b h = h
+
+some-push : (bytes : List ℕ) (v : ℕ) → 1 ≤ length (bytes ++ v ∷ [])
+some-push bytes v = let long = length-append bytes (v ∷ []) in omega arith
+
+-- the next access of a sequence, made
+accessed_by_in : (next : Next) (r : RegistersValue) (q : Sequence) (bytes : List ℕ) (w : Wires) → next_of r q bytes ≡ next
+    → AreRegistersInRange r → All IsByte bytes → (q ≡ Reset → is_masked r.p ≡ true) → AreWiresInRange w → IsBoardInRange (accessed_by next r q bytes w)
+accessed_by_in (Read address) r q bytes w is regs all mask h = record {
+  cpu = standing_in r q (bytes ++ byte_read address w ∷ []) regs
+      (All-push IsByte bytes (byte_read address w) all (byte_read_in address w h)) (some-push bytes (byte_read address w)) mask;
+  wires = h;
+}
+accessed_by_in (Write address value) r q bytes w is regs all mask h =
+    let byte : IsByte value = subst WritesByte is (written_in r q bytes regs all) in
+    record {
+      cpu = standing_in r q (bytes ++ value ∷ []) regs (All-push IsByte bytes value all byte) (some-push bytes value) mask;
+      wires = byte_put_in address value w byte h;
+    }
+accessed_by_in (End e) r q bytes w is regs all mask h = record { cpu = end_in r q bytes e is regs all; wires = h }
+
+accessed_in : (r : RegistersValue) (q : Sequence) (bytes : List ℕ) (w : Wires) → AreRegistersInRange r → All IsByte bytes
+    → (q ≡ Reset → is_masked r.p ≡ true) → AreWiresInRange w → IsBoardInRange (accessed r q bytes w)
+unfolding accessed
+accessed_in r q bytes w regs all mask h = accessed_by_in (next_of r q bytes) r q bytes w refl regs all mask h
+
+at_fetch_in : (c : CpuValue) (w : Wires) → IsProcessorInRange c → AreWiresInRange w → IsBoardInRange (at_fetch c w)
+unfolding at_fetch
+at_fetch_in c w cpu h =
+    let q = sequence_due c w in
+    begun_in q (accessed (start_of q c) q [] w)
+    (accessed_in (start_of q c) q [] w (start_in q c cpu) (λ k d past. absurd (omega arith)) (start_masks q c) h)
+
+mid_in : (mid : Option MidValue) (m : MidValue) → mid ≡ Some m → IfSome mid IsMidInRange → IsMidInRange m
+mid_in None m is h = absurd (cc)
+mid_in (Some n) m is h = let same : n ≡ m = cc in subst IsMidInRange same h
+
+some-is : (P : MidValue → Type 0) (mid : Option MidValue) (m : MidValue) → mid ≡ Some m → IsSomeAnd mid P → P m
+some-is P None m e k = absurd (cc)
+some-is P (Some n) m e k = let same : n ≡ m = cc in subst P same k
+
+middle_of : (mid : Option MidValue) (P : Type 0) (m : MidValue) → mid ≡ Some m → IfSome mid (λ _. P) → P
+middle_of None P m e k = absurd (cc)
+middle_of (Some n) P m e k = k
+
+place_of : (c : CpuValue) (m : MidValue) → c.mid ≡ Some m → IsProcessor c → IsPlace (registers_of c) m
+place_of c m is h = some-is (IsPlace (registers_of c)) c.mid m is (middle_of c.mid (IsMiddle c) m is h.place).1
+
+after_access_in : (mid : Option MidValue) (c : CpuValue) (w : Wires) → c.mid ≡ mid → IsProcessorInRange c → AreWiresInRange w
+    → IsBoardInRange (after_access mid c w)
+after_access_in None c w is cpu h = at_fetch_in c w cpu h
+after_access_in (Some m) c w is cpu h =
+    let range : IsMidInRange m = mid_in c.mid m is cpu.mid in
+    let place : IsPlace (registers_of c) m = place_of c m is cpu.stands in
+    accessed_in (registers_of c) m.sequence (given_by m) w cpu.registers (All-take IsByte m.count m.bytes range.bytes) place.masked h
+
+-- a step keeps a board in its range
+pub step-in_range : (entries : List TapeEntry) (b : Board) → All (λ entry. IsByte entry.value) entries → IsBoardInRange b → IsBoardInRange (step entries b)
+unfolding step
+step-in_range entries b all h =
+    let moved = after_access_in b.cpu.mid b.cpu (ticked entries b.wires) refl h.cpu (ticked_in entries b.wires all h.wires) in
+    let w = moved.wires in
+    record {
+      cpu = moved.cpu;
+      wires = record {
+        out = w.out;
+        in0 = w.in0;
+        in3 = w.in3;
+        in4 = w.in4;
+        divider = w.divider;
+        vg = w.vg;
+        sound1 = w.sound1;
+        sound2 = w.sound2;
+        earom = w.earom;
+        ram = w.ram;
+        memory = w.memory;
+        program = w.program;
+      };
+    }
+
+-- and so do n steps
+pub stepped-in_range : (entries : List TapeEntry) (n : ℕ) (b : Board) → All (λ entry. IsByte entry.value) entries → IsBoardInRange b
+    → IsBoardInRange (stepped entries n b)
+unfolding stepped
+stepped-in_range entries zero b all h = h
+stepped-in_range entries (suc n) b all h = stepped-in_range entries n (step entries b) all (step-in_range entries b all h)
+
+pub ruleset in_range = (step-in_range, stepped-in_range)

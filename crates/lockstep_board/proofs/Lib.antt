@@ -1,0 +1,15 @@
+pub mod Behind
+pub mod BoardRange
+pub mod Budgets
+pub mod Clocks
+pub mod DividerRange
+pub mod EaromRange
+pub mod Ended
+pub mod Ends
+pub mod GeneratorRange
+pub mod InOrder
+pub mod Places
+pub mod PokeyRange
+pub mod Runs
+pub mod TurnLaws
+pub mod Wraps

@@ -1,0 +1,91 @@
+-- The device calls that a run may cost, counted over the clocks of the lockstep board. This project's own profile.
+use Rattle.std.specs.Prelude.{ℕ, ◌+◌, ◌*◌, List, length, Bool, not, ◌&&◌, ◌==◌, Option, Some, None, if◌then◌else◌, zero, suc}
+use Rattle.std.specs.Int.{from_bool}
+use Rattle.board_base.specs.declared.divider.TheConstants.{DIVIDER_PERIOD}
+use Rattle.board_base.specs.declared.cpu.Sequence.{Sequence}
+use Rattle.board_base.specs.declared.cpu.Sequence.TheVariants.{Opcode, Interrupt, Reset}
+use Rattle.board_base.specs.Cpu.{CpuValue, MidValue}
+use Rattle.board_base.specs.Pokey.{PokeyValue}
+use Rattle.board_map.specs.declared.map.Region.{Region}
+use Rattle.board_map.specs.Map.{region_of}
+use Rattle.cpu_core.specs.Course.{Access, read_of, write_of}
+use Rattle.pokey_chip.specs.Tick.{pokey_tick}
+use Rattle.tape_ports.specs.declared.entry.TapeEntry.{TapeEntry}
+use Rattle.tape_ports.specs.Due.{due_at}
+use Rattle.lockstep_board.specs.Uses.{uses_of, is_some_device}
+use Rattle.lockstep_board.specs.Wires.{Wires, applied, has_request, ticked}
+use Rattle.lockstep_board.specs.Lockstep.{Board, sequence_due, access_in, step}
+
+-- a read that reaches a device
+abbrev pub reads_device : Region → Bool
+reads_device r = is_some_device (uses_of r).reads
+
+-- a write that reaches a device
+abbrev pub writes_device : Region → Bool
+writes_device r = is_some_device (uses_of r).writes
+
+-- an access that reaches a device
+unfoldable pub reaches_device : Access → Bool
+reaches_device (read_of address value) = reads_device (region_of address)
+reaches_device (write_of address value) = writes_device (region_of address)
+
+-- one for an access that reaches a device
+abbrev pub device_access : Option Access → ℕ
+device_access None = 0
+device_access (Some access) = from_bool (reaches_device access)
+
+-- the device accesses of a board's next clock, one or none
+abbrev pub device_accesses : List TapeEntry → Board → ℕ
+device_accesses entries b = device_access (access_in entries b)
+
+-- the wraps of the divider in the clock of these wires, one or none
+abbrev pub wraps : Wires → ℕ
+wraps w = from_bool (w.divider.phase + 1 == DIVIDER_PERIOD)
+
+-- the entries applied in it
+abbrev pub entries_applied : List TapeEntry → Wires → ℕ
+entries_applied entries w = length (due_at w.clock entries)
+
+-- a POKEY makes a request by a tick where it had none
+abbrev pub requests_of : PokeyValue → ℕ
+requests_of p = from_bool (not (has_request p) && has_request (pokey_tick p))
+
+-- the POKEYs that make a request by the ticks of a clock whose entries are applied, where they are wired
+abbrev pub requests_made : Wires → ℕ
+requests_made w = if w.wired then requests_of w.sound1 + requests_of w.sound2 else 0
+
+abbrev pub requests : List TapeEntry → Wires → ℕ
+requests entries w = requests_made (applied (due_at w.clock entries) w)
+
+-- one for a reset
+abbrev pub reset_count : Sequence → ℕ
+reset_count Reset = 1
+reset_count Interrupt = 0
+reset_count Opcode = 0
+
+-- a fetch begins a reset
+abbrev pub begins_reset : Option MidValue → CpuValue → Wires → ℕ
+begins_reset None c w = reset_count (sequence_due c w)
+begins_reset (Some mid) c w = 0
+
+-- the reset sequences begun in a board's next clock, one or none
+abbrev pub resets_begun : List TapeEntry → Board → ℕ
+resets_begun entries b = begins_reset b.cpu.mid b.cpu (ticked entries b.wires)
+
+-- a count over the next n clocks of a board
+unfoldable pub counted : List TapeEntry → (Board → ℕ) → ℕ → Board → ℕ
+counted entries of_clock zero b = 0
+counted entries of_clock (suc n) b = of_clock b + counted entries of_clock n (step entries b)
+
+-- the calls that a clock's wraps, entries and requests may cost
+unfoldable pub ticks_price : List TapeEntry → Wires → ℕ
+ticks_price entries w = 5 * (wraps w + entries_applied entries w + requests entries w)
+
+-- the calls that a clock may cost: two for a device access, and five each for a wrap, an entry, a request of a wired POKEY
+-- and a reset
+unfoldable pub price : List TapeEntry → Board → ℕ
+price entries b = 2 * device_accesses entries b + 5 * resets_begun entries b + ticks_price entries b.wires
+
+-- the calls that the next n clocks may cost
+abbrev pub budget : List TapeEntry → ℕ → Board → ℕ
+budget entries n b = counted entries (price entries) n b

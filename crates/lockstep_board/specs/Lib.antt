@@ -1,0 +1,10 @@
+pub mod Breaks
+pub mod Budget
+pub mod Lockstep
+pub mod Memory
+pub mod Order
+pub mod Ranges
+pub mod Run
+pub mod Steps
+pub mod Uses
+pub mod Wires
