@@ -18,6 +18,7 @@ sys.dont_write_bytecode = True
 
 import argparse
 import collections
+import contextlib
 import os
 import pathlib
 import pickle
@@ -57,9 +58,10 @@ class Runner:
 
     def stop(self, *_):
         """The time of a command is over."""
-        if self.child:
-            self.late = True
-            os.kill(self.child, signal.SIGKILL)
+        with contextlib.suppress(ProcessLookupError):  # It may just have ended.
+            if self.child:
+                os.kill(self.child, signal.SIGKILL)
+                self.late = True
 
     def lay(self, files):
         """Lays these files into the empty folder, with an old time, so that a store shows."""

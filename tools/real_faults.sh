@@ -256,6 +256,9 @@ system_limits() {
     rm s
     after "ulimit -f 1; trap '' XFSZ" run i t --until 1 --save s
     holds "the same with SIGXFSZ ignored" 6 "$outside" "text 4, s $part" s
+    head -c 9000 /dev/zero >s
+    after "ulimit -f 1; trap '' XFSZ" run i t --until 1 --save s
+    holds "the same over a longer file: nothing stays behind the first part" 6 "$outside" "text 4, s $part" s
     after "ulimit -f 1" run i t --until 1 --earom e
     holds "the same over cells that are smaller" 0 "" "text 4, e 64" e
     after "ulimit -f 1" pcm i t 8
@@ -282,7 +285,10 @@ full_disks() {
     holds "a full disk for a board" 6 "$outside" "text 4, disk/s 4096" disk/s
     rm disk/* && cp b disk/s
     does run i t --until 1 --save disk/s
-    holds "a board over a board, on a disk with room for one" 0 "" "text 4, disk/s 4356" disk/s
+    holds "a board over a board, on a disk that is full with it" 0 "" "text 4, disk/s 4356" disk/s
+    head -c 8192 /dev/zero >disk/s
+    does run i t --until 1 --earom e --save disk/s
+    holds "a board over a longer file, on a disk that is full with that" 0 "" "text 4, disk/s 4356" disk/s
     cp e disk/e 2>/dev/null
     does run i t --until 1 --earom disk/e
     holds "cells that were cut by a full disk before" 4 "gravitar: disk/e: length 0" "text 0, disk/e 0" disk/e
@@ -340,10 +346,16 @@ kills() {
 calls_of_a_store() {
     fresh
     has strace || { skip "a kill at a call"; return; }
-    for call in openat:4356 write:0 close:4356; do
+    for call in openat:4356 write:4356 close:4356; do
         head -c 4356 /dev/zero >s
         { strace -qq -o /dev/null -P s -e "inject=${call%:*}:signal=KILL:when=1" "$program" run i t --cuts 0,5 --save s >"$work/text"; status=$?; } 2>/dev/null
         holds "killed in front of the first ${call%:*} of a store, over a file of 4,356 bytes" 137 "" "text 0, s ${call#*:}" s
+    done
+    for error in ENOSPC EIO; do
+        cp e cells
+        strace -qq -o /dev/null -P "$(pwd -P)/cells" -e "inject=write:error=$error:when=1" "$program" run i t --until 1 --earom cells >"$work/text" 2>"$work/note"; status=$?
+        cmp -s e cells || : >cells
+        holds "a store over cells that the disk refuses by $error: they stay" 6 "$outside" "text 4, cells 64" cells
     done
 }
 

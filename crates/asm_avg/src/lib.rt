@@ -12,6 +12,3 @@ pub use asm_core::{Listing, ListingLine};
 pub use assembly::{VECTOR_ROM, assemble};
 pub use avg::Avg;
 pub use mnemonic::Mnemonic;
-
-#[cfg(test)]
-mod tests;

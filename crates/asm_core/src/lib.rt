@@ -28,6 +28,3 @@ pub use names::Names;
 pub use placed::Placed;
 pub use row::Row;
 pub use word::{Word, begins_with, is_plain, split_item};
-
-#[cfg(test)]
-mod tests;

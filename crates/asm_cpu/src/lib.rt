@@ -11,6 +11,3 @@ mod statement;
 pub use asm_core::{Listing, ListingLine};
 pub use mnemonics::mnemonic;
 pub use source::{PROGRAM_ROM, assemble};
-
-#[cfg(test)]
-mod tests;

@@ -6,6 +6,3 @@ mod text;
 
 pub use listing_text::push_listing;
 pub use text::Text;
-
-#[cfg(test)]
-mod tests;

@@ -16,6 +16,3 @@ pub use numeral::number;
 pub use piece::is_register;
 pub use scan::{TEXT_LIMIT, push_line, tokens};
 pub use token::{Kind, Token};
-
-#[cfg(test)]
-mod tests;

@@ -7,6 +7,3 @@ mod word;
 
 pub use decoding::{second, spell, word_kind};
 pub use word::VgWord;
-
-#[cfg(test)]
-mod tests;

@@ -15,6 +15,3 @@ mod unit;
 pub use fast::FastVg;
 pub use plain::PlainVg;
 pub use unit::{VectorUnit, one_record_a_clock};
-
-#[cfg(test)]
-mod tests;

@@ -4,6 +4,3 @@
 mod beam;
 
 pub use beam::{delta, draw_clocks, move_beam};
-
-#[cfg(test)]
-mod tests;

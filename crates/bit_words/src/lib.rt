@@ -4,6 +4,3 @@
 mod bit;
 
 pub use bit::is_set;
-
-#[cfg(test)]
-mod tests;

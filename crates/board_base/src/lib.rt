@@ -32,6 +32,3 @@ pub use time::sooner;
 pub use trail::{Trail, Trails};
 pub use vector_memory::{VECTOR_LEN, VECTOR_RAM_LEN, VECTOR_ROM_LEN, VectorMemory};
 pub use vg::VgState;
-
-#[cfg(test)]
-mod tests;

@@ -23,6 +23,3 @@ pub use fault::DebugFault;
 pub use found::Found;
 pub use laws::seek_numbers;
 pub use script::run_script;
-
-#[cfg(test)]
-mod tests;

@@ -8,6 +8,3 @@ pub mod map;
 pub use address::region;
 pub use laws::region_edges;
 pub use map::Region;
-
-#[cfg(test)]
-mod tests;

@@ -3,7 +3,6 @@
 #![tactic(auto)]
 
 mod assembling;
-mod devices;
 mod ended;
 mod fault;
 mod fault_text;
@@ -18,6 +17,3 @@ pub use fault::StretchFault;
 pub use laws::stretches_are_the_run;
 pub use parts::Start;
 pub use stretch::{advance, power_on, sample};
-
-#[cfg(test)]
-mod tests;

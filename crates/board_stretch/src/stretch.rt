@@ -7,14 +7,13 @@ ghost use Rattle.save_state.specs.StateBytes.{state_bytes};
 ghost use Rattle.sound_pcm.specs.declared.mixer.TheConstants.{MAX_PER};
 ghost use Rattle.board_stretch.specs.Stretches.{Comes, IsAdvanced, IsSampled};
 
-use crate::devices::devices;
 use crate::ended::{Stretch, ended};
 use crate::fault::StretchFault;
 use crate::growing::GrowingSink;
 use crate::parts::{Parts, Start, read_parts};
 use board_base::{BoardState, CLOCK_LIMIT};
 use board_watch::{Rested, Until};
-use catchup_engine::Engine;
+use catchup_engine::{Devices, Engine};
 use sampled_run::run_sampled;
 use save_state::STATE_LEN;
 use sliced_run::LogWriter;
@@ -41,7 +40,8 @@ fn advance_parts(
     ensures done { IfOk result (λ s. IsAdvanced timers until parts.now s) }
     ensures memory { IfErr result (λ fault. fault ≡ StretchFault.NoMemory) }
 {
-    let Ok(mut engine) = Engine::new(alloc, &parts.image, &parts.board, devices(), timers) else {
+    let Ok(mut engine) = Engine::new(alloc, &parts.image, &parts.board, Devices::fast(), timers)
+    else {
         return Err(StretchFault::NoMemory);
     };
     let mut lines = GrowingSink::new(alloc);
@@ -83,7 +83,8 @@ fn sample_parts(
     ensures done { IfOk result (λ s. IsSampled timers limit per parts.now s) }
     ensures memory { IfErr result (λ fault. fault ≡ StretchFault.NoMemory) }
 {
-    let Ok(mut engine) = Engine::new(alloc, &parts.image, &parts.board, devices(), timers) else {
+    let Ok(mut engine) = Engine::new(alloc, &parts.image, &parts.board, Devices::fast(), timers)
+    else {
         return Err(StretchFault::NoMemory);
     };
     let mut samples = GrowingSink::new(alloc);

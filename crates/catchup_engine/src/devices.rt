@@ -1,7 +1,9 @@
-use avg_device::VectorUnit;
-use earom_cells::CellUnit;
-use irq_watchdog::DividerUnit;
-use pokey_chip::SoundUnit;
+ghost use Rattle.std.specs.Prelude.{◌≡◌, ◌+◌};
+
+use avg_device::{FastVg, VectorUnit};
+use earom_cells::{CellUnit, Earom};
+use irq_watchdog::{Divider, DividerUnit};
+use pokey_chip::{FastPokey, SoundUnit};
 
 /// The five devices of a board.
 #[derive(Drop)]
@@ -11,4 +13,20 @@ pub struct Devices<V: VectorUnit, P: SoundUnit, C: CellUnit, D: DividerUnit> {
     pub sound2: P,
     pub cells: C,
     pub divider: D,
+}
+
+impl Devices<FastVg, FastPokey, Earom, Divider> {
+    /// Those that move in large steps where there are two kinds, none of them called yet. They take no
+    /// memory.
+    pub fn fast() -> Devices<FastVg, FastPokey, Earom, Divider>
+        ensures { result.vector.calls + result.sound1.calls + result.sound2.calls + result.cells.calls + result.divider.calls ≡ 0 }
+    {
+        Devices {
+            vector: FastVg::new(),
+            sound1: FastPokey::new(),
+            sound2: FastPokey::new(),
+            cells: Earom::new(),
+            divider: Divider::new(),
+        }
+    }
 }

@@ -18,6 +18,3 @@ pub use laws::engine_numbers;
 pub use lockstep_board::Stop;
 pub use trace::{Access, Trace};
 pub use tracer::Tracer;
-
-#[cfg(test)]
-mod tests;

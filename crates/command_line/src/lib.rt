@@ -15,6 +15,3 @@ pub use number::{CUTS, Cuts, PER_LIMIT, read_clocks, read_cuts, read_number, rea
 pub use option::Opt;
 pub use settings::Settings;
 pub use verb::{VERBS, Verb};
-
-#[cfg(test)]
-mod tests;

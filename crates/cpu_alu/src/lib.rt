@@ -14,6 +14,3 @@ pub use arithmetic::{adc, compare, sbc};
 pub use flags::Flags;
 pub use logic::{bit, nz};
 pub use shifts::{asl, lsr, rol, ror};
-
-#[cfg(test)]
-mod tests;

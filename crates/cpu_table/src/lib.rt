@@ -9,6 +9,3 @@ mod table;
 pub use decoding::{decode, length};
 pub use instruction::{Mode, Op};
 pub use table::{encode, entry};
-
-#[cfg(test)]
-mod tests;

@@ -11,6 +11,3 @@ mod write;
 pub use counts::Counts;
 pub use laws::{clocks_add_up, profile_numbers};
 pub use profile::{ADDRESSES, LONGEST_LIST, Profile};
-
-#[cfg(test)]
-mod tests;

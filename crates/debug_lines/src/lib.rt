@@ -16,6 +16,3 @@ pub use laws::{
 };
 pub use mem::{ROW, mem_line};
 pub use vdis::vdis_line;
-
-#[cfg(test)]
-mod tests;

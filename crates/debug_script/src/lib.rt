@@ -13,6 +13,3 @@ pub use fault::ScriptFault;
 pub use laws::script_limits;
 pub use script::{SCRIPT_LIMIT, read_script};
 pub use stops::{STOPS, Stops};
-
-#[cfg(test)]
-mod tests;

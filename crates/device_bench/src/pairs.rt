@@ -44,17 +44,6 @@ const PARTS: [u64; 4] = [7000, 97, 331, 71];
 /// The clocks between two entries of a busy tape are fewer than one of these.
 const GAPS: [u16; 4] = [2, 9, 60, 255];
 
-/// The devices of the program: the fast ones where there are two kinds.
-pub fn fast_devices() -> Devices<FastVg, FastPokey, Earom, Divider> {
-    Devices {
-        vector: FastVg::new(),
-        sound1: FastPokey::new(),
-        sound2: FastPokey::new(),
-        cells: Earom::new(),
-        divider: Divider::new(),
-    }
-}
-
 /// The devices that move clock by clock where there are two kinds.
 pub fn plain_devices() -> Devices<PlainVg, PlainPokey, Earom, Divider> {
     Devices {
@@ -110,7 +99,7 @@ fn board_at(alloc: Global, image: &Image, tape: &Tape, course: Course) -> Result
     ensures place { IfOk result (λ board. IfSome board.cpu.mid (λ _. IsMiddle board.cpu)) }
 {
     let mut board = BoardState::power_on();
-    let mut engine = Engine::new(alloc, image, &board, fast_devices(), course.wired)?;
+    let mut engine = Engine::new(alloc, image, &board, Devices::fast(), course.wired)?;
     engine.run_to(tape, course.start.min(CLOCK_LIMIT));
     engine.settle();
     engine.state(&mut board);
@@ -121,7 +110,7 @@ fn board_at(alloc: Global, image: &Image, tape: &Tape, course: Course) -> Result
 /// after each part, up to the end.
 fn is_same(alloc: Global, image: &Image, tape: &Tape, course: Course) -> Result<bool, Fault> {
     let board = board_at(alloc, image, tape, course)?;
-    let mut fast = Engine::new(alloc, image, &board, fast_devices(), course.wired)?;
+    let mut fast = Engine::new(alloc, image, &board, Devices::fast(), course.wired)?;
     let mut plain = Engine::new(alloc, image, &board, plain_devices(), course.wired)?;
     for look in 0..MOST_LOOKS {
         if fast.clock() >= course.end {

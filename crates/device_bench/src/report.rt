@@ -5,7 +5,7 @@ use crate::board::BoardTally;
 use crate::measure::{
     Fault, Timed, timed_counting, timed_drawing, timed_playing, timed_running, timed_shifts,
 };
-use crate::pairs::{fast_devices, plain_devices};
+use crate::pairs::plain_devices;
 use crate::picture::{long_vectors, short_vectors};
 use crate::processor::ROUND_CLOCKS;
 use crate::programs::Program;
@@ -305,7 +305,7 @@ fn both_boards<R: io::Print + CpuClock>(
     println!(rt; "{}", program.name())?;
     let image = program.image(alloc)?;
     let plain = board(rt, alloc, report, "plain devices", &image, plain_devices())?;
-    let fast = board(rt, alloc, report, "fast devices", &image, fast_devices())?;
+    let fast = board(rt, alloc, report, "fast devices", &image, Devices::fast())?;
     report.ratio(rt, "fast devices to plain devices", fast, plain)?;
     Ok(())
 }

@@ -6,6 +6,3 @@ pub mod unit;
 
 pub use cells::Earom;
 pub use unit::CellUnit;
-
-#[cfg(test)]
-mod tests;

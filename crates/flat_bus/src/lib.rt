@@ -9,6 +9,3 @@ mod unlogged;
 pub use bus::FlatBus;
 pub use logged::{Direction, Logged};
 pub use unlogged::UnloggedBus;
-
-#[cfg(test)]
-mod tests;

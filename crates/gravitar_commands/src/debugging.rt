@@ -6,14 +6,13 @@ ghost use Rattle.outside_io.specs.Shelf.{Kept};
 ghost use Rattle.gravitar_commands.specs.Outcome.{CommandComes, ForReading};
 ghost use Rattle.gravitar_commands.specs.Stages.{Ends, EndFaults, GivesScript, WroteNothing, StageAbsences, StageFaults, session_outcome};
 
-use crate::board_devices::devices;
 use crate::cause::Cause;
 use crate::failure::{Ending, Failure};
 use crate::limit::has_timers;
 use crate::load::{bad, fetch, load_run};
 use crate::parts::Parts;
 use board_debug::{DebugFault, run_script};
-use catchup_engine::Engine;
+use catchup_engine::{Devices, Engine};
 use command_line::{DebugWords, RunWords};
 use debug_script::{SCRIPT_LIMIT, ScriptFault};
 use outside_io::{Shelf, Sink};
@@ -53,7 +52,8 @@ fn run_session<O: Sink>(
     ensures faults { (n : ℕ) → EndFaults n n (O.faults out.old) (O.faults out.new) result }
     ensures absences { (n : ℕ) → StageAbsences n n result }
 {
-    let Ok(mut engine) = Engine::new(alloc, &parts.image, &parts.board, devices(), wired) else {
+    let Ok(mut engine) = Engine::new(alloc, &parts.image, &parts.board, Devices::fast(), wired)
+    else {
         return Err(Failure::NoMemory);
     };
     match run_script(alloc, &mut engine, &parts.tape, script, out) {

@@ -5,7 +5,6 @@
 mod answer;
 mod assembled;
 mod assembling;
-mod board_devices;
 mod cause;
 mod cause_text;
 mod debugging;
@@ -18,8 +17,6 @@ mod seeking;
 mod soaking;
 mod steady;
 mod telling;
-#[cfg(test)]
-mod tests;
 mod words;
 
 pub use answer::NO_MEMORY;

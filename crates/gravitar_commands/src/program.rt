@@ -11,7 +11,6 @@ ghost use Rattle.gravitar_commands.specs.Stages.{Ends, EndFaults, WroteNothing, 
 
 use crate::answer::{ending_status, note, status};
 use crate::assembling::perform_asm;
-use crate::board_devices::devices;
 use crate::debugging::perform_debug;
 use crate::failure::{Ending, Failure};
 use crate::limit::run_limit;
@@ -23,7 +22,7 @@ use crate::telling::{Telling, perform_telling};
 use crate::words::Words;
 use board_base::CpuState;
 use board_debug::write_board;
-use catchup_engine::Engine;
+use catchup_engine::{Devices, Engine};
 use command_line::{Command, RunWords, Settings};
 use outside_io::{Shelf, Sink};
 use sliced_run::run_slices;
@@ -63,7 +62,7 @@ fn run_parts<S: Shelf, O: Sink>(
         alloc,
         &parts.image,
         &parts.board,
-        devices(),
+        Devices::fast(),
         settings.timers,
     ) {
         Err(_) => Err(Failure::NoMemory),

@@ -9,7 +9,6 @@ ghost use Rattle.gravitar_commands.specs.Outcome.{ForReading, finished, run_file
 ghost use Rattle.gravitar_commands.specs.Stages.{Ends, EndFaults, WroteNothing, StageAbsences};
 ghost use Rattle.gravitar_commands.specs.Telling.{sought_text};
 
-use crate::board_devices::devices;
 use crate::failure::{Ending, Failure};
 use crate::limit::{has_timers, limit_by};
 use crate::load::load_run;
@@ -18,7 +17,7 @@ use crate::telling::written;
 use arrayvec::ArrayVec;
 use board_base::BoardState;
 use board_debug::write_boards;
-use catchup_engine::Engine;
+use catchup_engine::{Devices, Engine};
 use command_line::{CUTS, Cuts, RunWords};
 use keyframes::{Keyframes, keep_start};
 use outside_io::{Shelf, Sink};
@@ -71,7 +70,8 @@ fn seek_parts<O: Sink>(
     let Ok(mut keys) = Keyframes::new(alloc, SEEK_PAGES, SEEK_FRAMES) else {
         return Err(Failure::NoMemory);
     };
-    let Ok(mut engine) = Engine::new(alloc, &parts.image, &parts.board, devices(), wired) else {
+    let Ok(mut engine) = Engine::new(alloc, &parts.image, &parts.board, Devices::fast(), wired)
+    else {
         return Err(Failure::NoMemory);
     };
     look_at(&parts.board);

@@ -3,10 +3,9 @@ ghost use Rattle.outside_io.specs.Shelf.{Kept};
 ghost use Rattle.gravitar_commands.specs.Outcome.{soak_outcome};
 ghost use Rattle.gravitar_commands.specs.Stages.{Ends, EndFaults, WroteNothing, StageAbsences};
 
-use crate::board_devices::devices;
 use crate::failure::{Ending, Failure};
 use board_base::BoardState;
-use catchup_engine::Engine;
+use catchup_engine::{Devices, Engine};
 use outside_io::Sink;
 use soak_run::run_soak;
 use std::alloc::Global;
@@ -25,7 +24,7 @@ pub fn perform_soak<O: Sink>(alloc: Global, seed: u64, out: &mut O) -> Result<En
         return Err(Failure::NoMemory);
     };
     let board = BoardState::power_on();
-    let Ok(mut engine) = Engine::new(alloc, &image, &board, devices(), false) else {
+    let Ok(mut engine) = Engine::new(alloc, &image, &board, Devices::fast(), false) else {
         return Err(Failure::NoMemory);
     };
     match run_soak(&mut engine, &tape, tape.end(), out) {

@@ -8,13 +8,12 @@ ghost use Rattle.gravitar_commands.specs.Outcome.{ForReading, finished, run_file
 ghost use Rattle.gravitar_commands.specs.Stages.{Ends, EndFaults, WroteNothing, StageAbsences, StageFaults, Told, written_as};
 ghost use Rattle.gravitar_commands.specs.Telling.{CanTell, telling_text};
 
-use crate::board_devices::devices;
 use crate::failure::{Ending, Failure};
 use crate::limit::{has_timers, limit_by};
 use crate::load::load_run;
 use crate::parts::Parts;
 use avg_device::VectorUnit;
-use catchup_engine::Engine;
+use catchup_engine::{Devices, Engine};
 use command_line::RunWords;
 use cycle_profile::Profile;
 use earom_cells::CellUnit;
@@ -93,7 +92,8 @@ fn tell_parts<O: Sink>(
     ensures faults { (n : ℕ) → EndFaults n n (O.faults out.old) (O.faults out.new) result }
     ensures absences { (n : ℕ) → StageAbsences n n result }
 {
-    let Ok(mut engine) = Engine::new(alloc, &parts.image, &parts.board, devices(), wired) else {
+    let Ok(mut engine) = Engine::new(alloc, &parts.image, &parts.board, Devices::fast(), wired)
+    else {
         return Err(Failure::NoMemory);
     };
     tell(alloc, &mut engine, &parts.tape, limit, telling, out)

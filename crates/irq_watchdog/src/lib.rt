@@ -6,6 +6,3 @@ pub mod unit;
 
 pub use interrupt_divider::Divider;
 pub use unit::DividerUnit;
-
-#[cfg(test)]
-mod tests;

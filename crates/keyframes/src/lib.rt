@@ -13,6 +13,3 @@ pub use laws::{engines_begin_at_their_board, keyframe_numbers};
 pub use pages::BOARD_PAGES;
 pub use seeking::{keep_start, seek};
 pub use store::FRAMES_LIMIT;
-
-#[cfg(test)]
-mod tests;

@@ -10,6 +10,3 @@ mod record_line;
 pub use block::{BLOCK, Block, block_size};
 pub use last::{write_cost, write_end, write_jam};
 pub use merged::{logs_join, one_log, write_merged};
-
-#[cfg(test)]
-mod tests;

@@ -25,6 +25,3 @@ pub use steady_shelf::SteadyShelf;
 pub use steady_sink::SteadySink;
 pub use stored::Stored;
 pub use text_sink::TextSink;
-
-#[cfg(test)]
-mod tests;

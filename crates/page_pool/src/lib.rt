@@ -6,6 +6,3 @@ pub mod pool;
 
 pub use laws::{held_pages_stay, page_numbers};
 pub use pool::{Full, PAGE_LEN, POOL_LIMIT, Page, PagePool};
-
-#[cfg(test)]
-mod tests;

@@ -8,6 +8,3 @@ pub mod number;
 pub use laws::number_limits;
 pub use line::{read_line, read_word};
 pub use number::{DIGITS, read_digits, read_value};
-
-#[cfg(test)]
-mod tests;

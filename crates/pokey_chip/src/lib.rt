@@ -24,6 +24,3 @@ pub use fast::FastPokey;
 pub use laws::{control_bits, register_numbers};
 pub use plain::PlainPokey;
 pub use unit::{SoundUnit, one_record_a_clock};
-
-#[cfg(test)]
-mod tests;

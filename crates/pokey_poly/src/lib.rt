@@ -4,6 +4,3 @@
 mod poly;
 
 pub use poly::{Poly, REACH};
-
-#[cfg(test)]
-mod tests;

@@ -7,6 +7,3 @@ mod prescaler;
 
 pub use countdown::skip;
 pub use prescaler::{clocks_to_underflow, prescaler_after, pulses_in};
-
-#[cfg(test)]
-mod tests;

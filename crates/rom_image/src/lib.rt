@@ -8,6 +8,3 @@ pub mod laws;
 pub use fault::ImageFault;
 pub use image::{IMAGE_LEN, Image, PROGRAM_ROM_LEN};
 pub use laws::image_numbers;
-
-#[cfg(test)]
-mod tests;

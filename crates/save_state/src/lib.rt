@@ -21,6 +21,3 @@ pub use writing::write;
 
 /// The number of bytes of a saved board.
 pub const STATE_LEN: usize = 4356;
-
-#[cfg(test)]
-mod tests;

@@ -8,6 +8,3 @@ mod text;
 
 pub use soak::run_soak;
 pub use summary::Summary;
-
-#[cfg(test)]
-mod tests;

@@ -10,6 +10,3 @@ mod sooner;
 
 pub use laws::{in_parts, mixer_numbers, whole_groups};
 pub use mixer::{MAX_LEVEL, MAX_PER, Mixer};
-
-#[cfg(test)]
-mod tests;

@@ -11,6 +11,3 @@ pub use entry::{Port, TapeEntry};
 pub use fault::{LineCause, TapeFault};
 pub use laws::{entries_of_a_clock, tape_by_its_lines, tape_limits};
 pub use tape::{TAPE_LIMIT, Tape};
-
-#[cfg(test)]
-mod tests;

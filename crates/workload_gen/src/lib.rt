@@ -11,6 +11,3 @@ mod workload;
 
 pub use laws::{bytes_by_their_addresses, sizes_of_a_workload};
 pub use workload::make;
-
-#[cfg(test)]
-mod tests;

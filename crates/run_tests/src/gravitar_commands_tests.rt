@@ -1,0 +1,99 @@
+use gravitar_commands::{USAGE, Words, gravitar, steady_status};
+use outside_io::{MemoryShelf, MemorySink, SteadyShelf};
+use rom_image::IMAGE_LEN;
+use std::alloc::{AllocError, Global};
+use std::process::Abort;
+use std::test::Fail;
+
+/// The store of 05 in the latch, and a jump to itself.
+const LATCH: &[u8] = &[0xA9, 0x05, 0x8D, 0x00, 0x88, 0x4C, 0x05, 0x90];
+
+/// An undocumented opcode.
+const JAM: &[u8] = &[0x02];
+
+/// Puts bytes in the place of those from an offset on.
+fn overwrite(bytes: &mut Vec<u8>, at: usize, part: &[u8]) {
+    for (i, byte) in part.iter().enumerate() {
+        if let Some(place) = bytes.get_mut(at.wrapping_add(i)) {
+            *place = *byte;
+        }
+    }
+}
+
+/// An image with a program at 9000, the reset vector 9000, and zeros.
+fn program_image(alloc: Global, program: &[u8]) -> Result<Vec<u8>, AllocError> {
+    let mut image = vec![in alloc; 0u8; IMAGE_LEN]?;
+    overwrite(&mut image, 0x3800, program);
+    overwrite(&mut image, 0xA7FC, &[0x00, 0x90]);
+    Ok(image)
+}
+
+/// The words of a line, by its single spaces.
+fn words_of(alloc: Global, line: &str) -> Result<Words, Fail> {
+    let mut words = Words::new(alloc);
+    for word in line.split(' ') {
+        words.push(word)?;
+    }
+    Ok(words)
+}
+
+/// Does a command over the latch's image and a tape, and compares its status, its text and its note.
+fn check<R: Abort + Alloc<A = Global>>(
+    rt: &R,
+    line: &str,
+    status: u8,
+    text: &[u8],
+    note: &[u8],
+) -> Result<(), Fail> {
+    let image = program_image(rt.alloc(), LATCH)?;
+    let mut shelf = MemoryShelf::new(rt.alloc(), 4, 5000, &[])?;
+    shelf.put("i", &image)?;
+    shelf.put("t", b"20 END\n")?;
+    let words = words_of(rt.alloc(), line)?;
+    let mut out = MemorySink::new(rt.alloc(), 1000, &[])?;
+    let mut notes = MemorySink::new(rt.alloc(), 1000, &[])?;
+    let answer = gravitar(rt.alloc(), &words, &mut shelf, &mut out, &mut notes);
+    assert_eq!(rt; answer, status, "{line}: the status");
+    assert!(rt; out.bytes() == text, "{line}: the text");
+    assert!(rt; notes.bytes() == note, "{line}: the note");
+    Ok(())
+}
+
+#[test]
+fn a_log_and_samples_are_written_where_there_is_memory(rt: HostRuntime) -> Result<(), Fail> {
+    check(&rt, "run i t", 0, b"L 12 05\nE 22\n", b"")?;
+    // Two groups of eight of the 22 clocks are whole, and no POKEY sounds.
+    check(&rt, "pcm i t 8", 0, &[0; 8], b"")?;
+    check(&rt, "pcm i t 0", 2, b"", USAGE)
+}
+
+/// The files of these lines.
+fn steady_shelf(alloc: Global) -> Result<SteadyShelf, Fail> {
+    let image = program_image(alloc, LATCH)?;
+    let jams = program_image(alloc, JAM)?;
+    let mut shelf = SteadyShelf::new(alloc);
+    shelf.put("i", &image)?;
+    shelf.put("jams", &jams)?;
+    shelf.put("t", b"20 END\n")?;
+    Ok(shelf)
+}
+
+#[test]
+fn files_and_an_output_that_never_fail_give_the_same_status(rt: HostRuntime) -> Result<(), Fail> {
+    let mut shelf = steady_shelf(rt.alloc())?;
+    let rows: [(&str, u8, &[u8]); 5] = [
+        ("run i t", 0, b""),
+        ("run jams t", 3, b""),
+        ("pcm jams t 1", 0, b""),
+        ("run t t", 4, b"gravitar: t: length 7\n"),
+        ("run x t", 5, b"gravitar: x: absent\n"),
+    ];
+    for (line, status, note) in rows {
+        let words = words_of(rt.alloc(), line)?;
+        let mut notes = MemorySink::new(rt.alloc(), 1000, &[])?;
+        let answer = steady_status(rt.alloc(), &words, &mut shelf, &mut notes);
+        assert_eq!(rt; answer, status, "{line}");
+        assert!(rt; notes.bytes() == note, "{line}: the note");
+    }
+    Ok(())
+}

@@ -1,0 +1,23 @@
+//! Tests of runs: the engine, what watches it, and the commands, each in the file of its crate's name.
+#![tactic(auto)]
+
+#[cfg(test)]
+mod board_debug_tests;
+#[cfg(test)]
+mod board_stretch_tests;
+#[cfg(test)]
+mod catchup_engine_tests;
+#[cfg(test)]
+mod cycle_profile_tests;
+#[cfg(test)]
+mod frame_list_tests;
+#[cfg(test)]
+mod gravitar_commands_tests;
+#[cfg(test)]
+mod keyframes_tests;
+#[cfg(test)]
+mod log_text_tests;
+#[cfg(test)]
+mod soak_run_tests;
+#[cfg(test)]
+mod sound_pcm_tests;
