@@ -1,4 +1,4 @@
-use Rattle.outside_io.proofs.PieceLaws.{wrote_more, wrote_part, took_nothing}
+use Rattle.outside_io.proofs.PieceLaws.{wrote_more}
 use Rattle.outside_io.proofs.pieces.write_whole.Goals as goal
 
 pub loop-rest-preserved : goal.loop-rest-preserved
