@@ -21,7 +21,7 @@ fn filled(alloc: Global, records: &[Record]) -> Result<Trail, OutOfMemory>
 }
 
 /// Whether these can be the records of a POKEY from one clock to another.
-#[tactic(auto, using(sound_pcm::proofs::TestLaws::holds_more))]
+#[tactic(auto, using(crate::proofs::SoundLaws::holds_more))]
 fn may_take(from: u64, records: &[Record], upto: u64) -> bool
     ensures made1 { IsTrue result → MadeBetween Part.Pokey1 from records.now upto }
     ensures made2 { IsTrue result → MadeBetween Part.Pokey2 from records.now upto }
