@@ -1,3 +1,4 @@
+use crate::workload_gen_tests::WORKLOAD;
 use asm_core::ListingLine;
 use asm_cpu::{assemble, mnemonic};
 use asm_text::AsmCause::{
@@ -61,43 +62,6 @@ const EVERY_BYTES: [u8; 321] = [
     0x38, 0x58, 0x78, 0xB8, 0xD8, 0xF8, 0x88, 0x98, 0xA8, 0xC8, 0xE8, 0x8A, 0x9A, 0xAA, 0xBA, 0xCA,
     0xEA,
 ];
-
-/// The workload's program.
-const WORKLOAD: &str = "        .org $9000
-start:  cld
-        ldx #$FF
-        txs
-        lda #$E4
-        sta $2001
-        lda #$03
-        sta $600F
-        sta $680F
-        lda #$A6
-        sta $6001
-        sta $6803
-        cli
-main:   sta $8980
-        lda $7800
-        and #$40
-        beq main
-        sta $8840
-        lda $600A
-        sta $6000
-        lda $680A
-        sta $6802
-        inc $10
-        lda $10
-        sta $8800
-        jmp main
-irq:    pha
-        sta $88C0
-        lda $8000
-        sta $6005
-        pla
-        rti
-        .org $FFFA
-        .word start, start, irq
-";
 
 /// Its bytes from 9000 on.
 const WORKLOAD_BYTES: [u8; 73] = [

@@ -4,8 +4,8 @@ use std::test::Fail;
 use tape_ports::{Port, TapeEntry};
 use workload_gen::make;
 
-/// The program's source.
-const SOURCE: &str = "        .org $9000
+/// The source of the workload's program.
+pub(crate) const WORKLOAD: &str = "        .org $9000
 start:  cld
         ldx #$FF
         txs
@@ -142,7 +142,7 @@ fn begin_with(entries: &[TapeEntry], expected: &[Entry]) -> bool {
 #[test]
 fn the_program_is_what_its_source_gives(rt: HostRuntime) -> Result<(), Fail> {
     let mut assembled = Image::blank(rt.alloc())?;
-    let _listing = asm_cpu::assemble(rt.alloc(), SOURCE.as_bytes(), &mut assembled)?;
+    let _listing = asm_cpu::assemble(rt.alloc(), WORKLOAD.as_bytes(), &mut assembled)?;
     let (image, _tape) = make(rt.alloc(), 1)?;
     assert_eq!(rt;
         image.bytes()[VECTOR_ROM_LEN..],
