@@ -1,6 +1,8 @@
 #!/usr/bin/env python3
 """What a gate costs, crate by crate: the processor seconds of its proofs, its tests and its edits.
 
+Before a crate's edits, and behind them, the kit checks the crate as it stands: that is told apart from the edits.
+
     python3 tools/gate_times.py rt ci          runs the gate, and then prints the table
     python3 tools/gate_times.py --pid N        watches a gate that runs already, up to its end
 
@@ -13,13 +15,14 @@ import subprocess
 import sys
 import time
 
-KINDS = ["proof", "tests", "edits"]
+KINDS = ["proof", "tests", "checks before edits", "edits"]
 
 
 def kind_of(words, folder):
     """What a prover was started for, by its words and its folder."""
     if "/rt-edit" in folder:
-        return "edits"
+        kept = words[words.index("--incremental") + 1] if "--incremental" in words else ""
+        return "checks before edits" if kept.endswith("/seed") else "edits"
     return "tests" if "--test" in words else "proof"
 
 
@@ -64,8 +67,8 @@ def table(seen):
     for (_, crate, kind), seconds in seen.items():
         sums[crate][kind] += seconds
         tries[crate] += kind == "edits"
-    yield "| crate | proof | tests | edits | processes of edits |"
-    yield "|---|---|---|---|---|"
+    yield f"| crate | {' | '.join(KINDS)} | processes of edits |"
+    yield "|---" * (len(KINDS) + 2) + "|"
     for crate, by in sorted(sums.items(), key=lambda item: -sum(item[1].values())):
         cells = " | ".join(f"{by[kind]:,.0f}" if by[kind] else "" for kind in KINDS)
         yield f"| `{crate}` | {cells} | {tries[crate] or ''} |"

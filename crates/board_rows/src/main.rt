@@ -2,26 +2,35 @@
 //! makes each call outside fail in turn. `data/FORMAT.txt` says how a row is written.
 #![tactic(auto)]
 
-mod comparison;
-mod content;
-mod failures;
-mod folder;
-mod lines;
-mod report;
-mod rows;
-mod stopped;
-mod trial;
-
-use crate::lines::{Level, pieces, suite_lines};
-use crate::rows::run_row;
-use crate::stopped::Stopped;
-use outside_io::{FileShelf, Loaded, Shelf, Sink, TextSink};
+use gravitar_commands::{Words, gravitar};
+use outside_io::{FileShelf, Loaded, MemoryShelf, MemorySink, Shelf, Sink, TextSink};
+use row_suite::{Emulator, Stopped, run_suite};
 use std::alloc::Global;
 use std::env;
 use std::process::ExitCode;
 
 /// The most bytes of a file of the suite.
 const FILE_LIMIT: usize = 1_048_576;
+
+/// The program's call.
+struct Gravitar;
+
+impl Emulator for Gravitar {
+    fn command(
+        &self,
+        alloc: Global,
+        words: &[String],
+        shelf: &mut MemoryShelf,
+        out: &mut MemorySink,
+        notes: &mut MemorySink,
+    ) -> Result<u8, Stopped> {
+        let mut line = Words::new(alloc);
+        for word in words {
+            line.push(word)?;
+        }
+        Ok(gravitar(alloc, &line, shelf, out, notes))
+    }
+}
 
 /// Appends a file of the suite.
 fn push_file<S: Shelf>(
@@ -52,29 +61,6 @@ where
     Ok(text)
 }
 
-/// Shows a row with what differs in it.
-fn show<O: Sink>(alloc: Global, title: &str, differs: &str, out: &mut O) -> Result<(), Stopped> {
-    let word = if differs.is_empty() { "ok" } else { "differs" };
-    let text = format!(in alloc; "{word} {title}\n{differs}")?;
-    out.write(text.as_bytes()).map_err(|_| Stopped::Output)
-}
-
-/// Does all rows, and tells how many differ.
-fn run_suite<O: Sink>(alloc: Global, text: &str, out: &mut O) -> Result<u32, Stopped> {
-    let lines = suite_lines(alloc, text)?;
-    let blocks = pieces(alloc, lines.as_slice(), Level::Block)?;
-    let mut differing = 0u32;
-    for block in &blocks {
-        let report = run_row(alloc, blocks.as_slice(), block)?;
-        let title = block.first().copied().unwrap_or("no row");
-        show(alloc, title, report.text(), out)?;
-        if !report.text().is_empty() {
-            differing = differing.saturating_add(1);
-        }
-    }
-    Ok(differing)
-}
-
 /// Reads the suite, and does all its rows.
 fn perform<R: env::Env + Alloc<A = Global>, S: Shelf, O: Sink>(
     rt: &R,
@@ -83,7 +69,7 @@ fn perform<R: env::Env + Alloc<A = Global>, S: Shelf, O: Sink>(
 ) -> Result<u32, Stopped> {
     let bytes = read_suite(rt, shelf)?;
     let text = str::from_utf8(&bytes).map_err(|_| Stopped::Form)?;
-    run_suite(rt.alloc(), text, out)
+    run_suite(rt.alloc(), &Gravitar, text, out)
 }
 
 fn main(rt: HostRuntime) -> ExitCode {

@@ -1,7 +1,4 @@
-use board_base::{
-    BoardState, CallCount, CpuState, DividerState, EaromState, OutOfMemory, Pending, Record, Trail,
-    VectorMemory, VgState, sooner,
-};
+use board_base::{CallCount, OutOfMemory, Record, Trail, VectorMemory, sooner};
 
 const LATCH: Record = Record::Latch {
     clock: 12,
@@ -46,50 +43,6 @@ fn a_count_of_calls_rises(rt: HostRuntime) {
     calls.rise();
     calls.rise();
     assert_eq!(rt; calls.get(), 2);
-}
-
-#[test]
-fn the_board_begins_with_a_power_reset_pending(rt: HostRuntime) {
-    let board = BoardState::power_on();
-    assert_eq!(rt; board.clock, 0);
-    assert_eq!(rt;
-        board.cpu,
-        CpuState {
-            pc: 0,
-            a: 0,
-            x: 0,
-            y: 0,
-            s: 0,
-            p: 0,
-            jam: None,
-            mid: None
-        }
-    );
-    assert_eq!(rt;
-        (board.out, board.in0, board.in3, board.in4),
-        (0, 0x3F, 0xFF, 0xFF)
-    );
-    assert_eq!(rt;
-        board.divider,
-        DividerState {
-            phase: 0,
-            irq: false,
-            dog: 0,
-            pending: Pending::Power
-        }
-    );
-    assert!(rt; board.vg.halted);
-    assert_eq!(rt; board.sound1.poly17, 0x1FFFF);
-    assert_eq!(rt; board.sound2.left, [1; 4]);
-    assert_eq!(rt; board.earom.cells, [0xFF; 64]);
-    assert_eq!(rt; board.ram, [0; 2048]);
-    assert_eq!(rt;
-        (
-            VgState::power_on() == board.vg,
-            EaromState::power_on() == board.earom
-        ),
-        (true, true)
-    );
 }
 
 #[test]

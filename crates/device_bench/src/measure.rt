@@ -1,14 +1,8 @@
 ghost use Rattle.std.specs.Prelude.{◌≡◌, ◌≤◌};
 ghost use Rattle.lockstep_board.specs.Order.{HasNoRecords};
 
-use crate::board::{BoardTally, run_windows};
-use crate::picture::draw;
-use crate::processor::count;
-use crate::shifts::{Form, Registers};
-use crate::sound::play;
-use crate::tally::Tally;
-use crate::work::Work;
 use avg_device::VectorUnit;
+use bench_work::{BoardTally, Form, Registers, Tally, Work, count, draw, play, run_windows};
 use board_base::{CLOCK_LIMIT, CpuState, OutOfMemory, VectorMemory};
 use catchup_engine::Engine;
 use earom_cells::CellUnit;

@@ -1,19 +1,14 @@
-ghost use Rattle.std.specs.Prelude.{◌≡◌, ◌≤◌};
-ghost use Rattle.device_bench.specs.Report.{clocks_of};
+ghost use Rattle.std.specs.Prelude.{◌≤◌};
 
-use crate::board::BoardTally;
 use crate::measure::{
     Fault, Timed, timed_counting, timed_drawing, timed_playing, timed_running, timed_shifts,
 };
 use crate::pairs::plain_devices;
-use crate::picture::{long_vectors, short_vectors};
-use crate::processor::ROUND_CLOCKS;
 use crate::programs::Program;
-use crate::shifts::Form;
-use crate::sound::Tune;
-use crate::tally::Tally;
-use crate::work::{SLICE, Work};
 use avg_device::{FastVg, PlainVg, VectorUnit};
+use bench_work::{
+    BoardTally, Form, ROUND_CLOCKS, Report, SLICE, Tally, Tune, long_vectors, short_vectors,
+};
 use board_base::{BoardState, CLOCK_LIMIT, CpuState, VectorMemory};
 use catchup_engine::{Devices, Engine};
 use earom_cells::Earom;
@@ -38,64 +33,43 @@ const PROCESSOR_CLOCKS: u64 = 64_100;
 /// that doesn't clear the watchdog is reset five times.
 const BOARD_CLOCKS: u64 = 250_000;
 
-/// What is printed: sums over a fixed number of clocks, or times of as many as were asked for, at
-/// most `CLOCK_LIMIT`.
-#[derive(Clone, Copy, Debug, PartialEq, Eq)]
-pub enum Report {
-    /// Sums, which are the same on every machine.
-    Sums,
-    /// Times of so many clocks.
-    Times { clocks: u64 },
+/// Prints what came of a device's work.
+fn print_work<R: io::Print>(
+    rt: &R,
+    report: Report,
+    name: &str,
+    clocks: u64,
+    timed: Timed<Tally>,
+) -> io::Result<()> {
+    match report {
+        Report::Sums => {
+            let Tally { records, sum } = timed.outcome;
+            println!(rt;
+                "{name}: {clocks} clocks, {records} records, the sum of their clocks {sum}"
+            )
+        }
+        Report::Times { .. } => speed(rt, name, clocks, timed.nanos),
+    }
 }
 
-impl Report {
-    /// The clocks to be done by calls of `slice` clocks, where `fixed` are those of the sums.
-    fn work(self, fixed: u64, slice: u64) -> Work
-        requires fixed { fixed ≤ CLOCK_LIMIT }
-        requires some { 1 ≤ slice }
-        requires room { slice ≤ SLICE }
-        ensures clocks { result.clocks ≡ clocks_of self fixed }
-        ensures slice { result.slice ≡ slice }
-    {
-        let clocks = match self {
-            Report::Sums => fixed,
-            Report::Times { clocks } => clocks.min(CLOCK_LIMIT),
-        };
-        Work { clocks, slice }
-    }
-
-    /// Prints what came of a device's work.
-    fn device<R: io::Print>(
-        self,
-        rt: &R,
-        name: &str,
-        clocks: u64,
-        timed: Timed<Tally>,
-    ) -> io::Result<()> {
-        match self {
-            Report::Sums => {
-                let Tally { records, sum } = timed.outcome;
-                println!(rt;
-                    "{name}: {clocks} clocks, {records} records, the sum of their clocks {sum}"
-                )
-            }
-            Report::Times { .. } => speed(rt, name, clocks, timed.nanos),
-        }
-    }
-
-    /// Prints how many times as fast the one is as the other, where times are printed.
-    fn ratio<R: io::Print>(self, rt: &R, name: &str, fast: u64, slow: u64) -> io::Result<()> {
-        match self {
-            Report::Sums => Ok(()),
-            Report::Times { .. } => {
-                let hundredths = slow.saturating_mul(100) / fast.max(1);
-                println!(rt;
-                    "{name}: {}.{}{} times",
-                    hundredths / 100,
-                    hundredths / 10 % 10,
-                    hundredths % 10
-                )
-            }
+/// Prints how many times as fast the one is as the other, where times are printed.
+fn print_ratio<R: io::Print>(
+    rt: &R,
+    report: Report,
+    name: &str,
+    fast: u64,
+    slow: u64,
+) -> io::Result<()> {
+    match report {
+        Report::Sums => Ok(()),
+        Report::Times { .. } => {
+            let hundredths = slow.saturating_mul(100) / fast.max(1);
+            println!(rt;
+                "{name}: {}.{}{} times",
+                hundredths / 100,
+                hundredths / 10 % 10,
+                hundredths % 10
+            )
         }
     }
 }
@@ -122,10 +96,10 @@ fn vectors<R: io::Print + CpuClock>(
 {
     let work = report.work(fixed, SLICE);
     let plain = timed_drawing(rt, alloc, PlainVg::new(), memory, work)?;
-    report.device(rt, "PlainVg", work.clocks, plain)?;
+    print_work(rt, report, "PlainVg", work.clocks, plain)?;
     let fast = timed_drawing(rt, alloc, FastVg::new(), memory, work)?;
-    report.device(rt, "FastVg", work.clocks, fast)?;
-    report.ratio(rt, "FastVg to PlainVg", fast.nanos, plain.nanos)?;
+    print_work(rt, report, "FastVg", work.clocks, fast)?;
+    print_ratio(rt, report, "FastVg to PlainVg", fast.nanos, plain.nanos)?;
     Ok(())
 }
 
@@ -154,10 +128,16 @@ fn pokeys<R: io::Print + CpuClock>(
     tune.tell(&mut plain);
     tune.tell(&mut fast);
     let plain = timed_playing(rt, alloc, plain, work)?;
-    report.device(rt, "PlainPokey", work.clocks, plain)?;
+    print_work(rt, report, "PlainPokey", work.clocks, plain)?;
     let fast = timed_playing(rt, alloc, fast, work)?;
-    report.device(rt, "FastPokey", work.clocks, fast)?;
-    report.ratio(rt, "FastPokey to PlainPokey", fast.nanos, plain.nanos)?;
+    print_work(rt, report, "FastPokey", work.clocks, fast)?;
+    print_ratio(
+        rt,
+        report,
+        "FastPokey to PlainPokey",
+        fast.nanos,
+        plain.nanos,
+    )?;
     Ok(fast.nanos)
 }
 
@@ -186,13 +166,20 @@ pub fn sounds<R: io::Print + CpuClock>(rt: &R, alloc: Global, report: Report) ->
     println!(rt; "the four polynomial registers alone")?;
     let bare = registers(rt, report, Form::Shifts)?;
     registers(rt, report, Form::Leap)?;
-    report.ratio(
+    print_ratio(
         rt,
+        report,
         "FastPokey with four channels to single shifts",
         four,
         bare,
     )?;
-    report.ratio(rt, "FastPokey with one channel to single shifts", one, bare)?;
+    print_ratio(
+        rt,
+        report,
+        "FastPokey with one channel to single shifts",
+        one,
+        bare,
+    )?;
     Ok(())
 }
 
@@ -210,12 +197,12 @@ fn moves_of<R: io::Print + CpuClock>(
     println!(rt; "moves of {slice} clocks")?;
     let work = report.work(PICTURE_CLOCKS, slice);
     let drawn = timed_drawing(rt, alloc, FastVg::new(), memory, work)?;
-    report.device(rt, "FastVg", work.clocks, drawn)?;
+    print_work(rt, report, "FastVg", work.clocks, drawn)?;
     let work = report.work(SOUND_CLOCKS, slice);
     let mut unit = FastPokey::new();
     Tune::FourOnTheBaseClock.tell(&mut unit);
     let played = timed_playing(rt, alloc, unit, work)?;
-    report.device(rt, "FastPokey", work.clocks, played)?;
+    print_work(rt, report, "FastPokey", work.clocks, played)?;
     Ok(())
 }
 
@@ -306,7 +293,7 @@ fn both_boards<R: io::Print + CpuClock>(
     let image = program.image(alloc)?;
     let plain = board(rt, alloc, report, "plain devices", &image, plain_devices())?;
     let fast = board(rt, alloc, report, "fast devices", &image, Devices::fast())?;
-    report.ratio(rt, "fast devices to plain devices", fast, plain)?;
+    print_ratio(rt, report, "fast devices to plain devices", fast, plain)?;
     Ok(())
 }
 

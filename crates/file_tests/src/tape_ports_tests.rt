@@ -2,57 +2,6 @@ use std::alloc::{AllocError, Global};
 use std::test::Fail;
 use tape_ports::{LineCause, Port, Tape, TapeEntry, TapeFault};
 
-/// Texts that are no tapes, each with the number of the bad line and its cause.
-const BAD: [(&str, u64, LineCause); 46] = [
-    ("", 1, LineCause::NoEnd),
-    ("5 IN0 00\n4 END\n", 2, LineCause::Falls),
-    ("5 IN1 00\n", 1, LineCause::Port),
-    ("0 END\n1 END\n", 2, LineCause::AfterEnd),
-    ("0x END\n", 1, LineCause::Form),
-    ("281474976710657 END\n", 1, LineCause::Clock),
-    ("5 IN0 0\n", 1, LineCause::Form),
-    ("0 END\r\n", 1, LineCause::Form),
-    ("3 IN0 00\n", 2, LineCause::NoEnd),
-    ("3 IN0 00", 2, LineCause::NoEnd),
-    ("0000000000000000 END", 1, LineCause::Form),
-    ("0 END\n\n", 2, LineCause::AfterEnd),
-    ("5  00\n", 1, LineCause::Port),
-    ("\n", 1, LineCause::Form),
-    ("\n\n0 END\n", 1, LineCause::Form),
-    (" END", 1, LineCause::Form),
-    ("0 END ", 1, LineCause::Form),
-    (" 0 END", 1, LineCause::Form),
-    ("0  END", 1, LineCause::Form),
-    ("0", 1, LineCause::Form),
-    ("0\tEND\n", 1, LineCause::Form),
-    ("+0 END\n", 1, LineCause::Form),
-    ("0 end\n", 1, LineCause::Form),
-    ("0 END 00\n", 1, LineCause::Form),
-    ("0 IN0\n", 1, LineCause::Form),
-    ("0 IN0 0G\n", 1, LineCause::Form),
-    ("0 IN0 000\n", 1, LineCause::Form),
-    ("0 IN0 00 \n", 1, LineCause::Form),
-    ("0 IN0 0 0\n", 1, LineCause::Form),
-    ("0 in0 00\n", 1, LineCause::Port),
-    ("0 p0 00\n", 1, LineCause::Port),
-    ("0 P8 00\n", 1, LineCause::Port),
-    ("0 Q08 00\n", 1, LineCause::Port),
-    ("281474976710657 IN0 00\n", 1, LineCause::Clock),
-    ("1 P0 00\n1 P0 00\n0 P0 00\n0 END\n", 3, LineCause::Falls),
-    // Two causes on one line.
-    ("9 END\nx END\n", 2, LineCause::AfterEnd),
-    ("9 END\n9 IN1 00\n", 2, LineCause::AfterEnd),
-    ("9 END\n999999999999999 END\n", 2, LineCause::AfterEnd),
-    ("9 END\n8 END\n", 2, LineCause::AfterEnd),
-    ("x IN1 00\n", 1, LineCause::Form),
-    ("281474976710657 IN0 0\n", 1, LineCause::Form),
-    ("281474976710657 end\n", 1, LineCause::Form),
-    ("9 IN0 00\n8 IN0 xx\n", 2, LineCause::Form),
-    ("9 IN0 00\n8 end\n", 2, LineCause::Form),
-    ("281474976710657 IN1 00\n", 1, LineCause::Port),
-    ("9 IN0 00\n8 IN1 00\n", 2, LineCause::Port),
-];
-
 /// A tape with each port once, in their order.
 const PORTS: &str = "0 IN0 ff\n0 IN3 01\n0 IN4 2A\n1 P0 10\n1 P1 11\n1 P2 12\n1 P3 13\n1 P4 14\n\
     1 P5 15\n1 P6 16\n1 P7 17\n9 Q0 20\n9 Q1 21\n9 Q2 22\n9 Q3 23\n9 Q4 24\n9 Q5 25\n9 Q6 26\n\
@@ -111,17 +60,6 @@ fn push_clock(text: &mut String, zeros: u8, digit: &str) -> Result<(), AllocErro
     }
     text.push_str(digit)?;
     Ok(())
-}
-
-#[test]
-fn a_bad_line_is_told_with_its_number_and_its_first_cause(rt: HostRuntime) {
-    for (text, line, cause) in BAD {
-        assert_eq!(rt;
-            Tape::read(rt.alloc(), text.as_bytes()).err(),
-            Some(TapeFault::BadLine { line, cause }),
-            "{text:?}"
-        );
-    }
 }
 
 #[test]

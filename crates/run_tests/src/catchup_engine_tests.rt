@@ -2,7 +2,7 @@ ghost use Rattle.std.specs.Prelude.{◌≡◌, IfOk};
 ghost use Rattle.lockstep_board.specs.Order.{HasNoRecords};
 
 use avg_device::FastVg;
-use board_base::{BoardState, Record, Sequence};
+use board_base::{BoardState, Sequence};
 use catchup_engine::{Devices, Engine, Stop, Trace};
 use earom_cells::Earom;
 use irq_watchdog::Divider;
@@ -16,8 +16,6 @@ use tape_ports::Tape;
 
 /// Enables the requests of POKEY 1's first timer, and waits for one.
 const TIMER: &str = "A9 40 8D 08 60 A9 01 8D 0E 60 58 4C 0B 90";
-/// Writes the latch, and takes back the request.
-const TIMER_HANDLER: &str = "A9 07 8D 00 88 A9 00 8D 0E 60 40";
 /// A tape without entries.
 const EMPTY: &str = "90000 END";
 /// Two instructions of two clocks and a jump of three back to the first.
@@ -54,12 +52,11 @@ fn put_text(image: &mut Image, addr: u16, text: &str) {
     }
 }
 
-/// An image with a program at 9000, and what it does at an interrupt at 9100.
-fn image_of(alloc: Global, program: &str, handler: &str) -> Result<Image, Fail> {
+/// An image with a program at 9000.
+fn image_of(alloc: Global, program: &str) -> Result<Image, Fail> {
     let mut image = Image::blank(alloc)?;
     put_text(&mut image, 0x9000, program);
-    put_text(&mut image, 0x9100, handler);
-    put_text(&mut image, 0xFFFC, "00 90 00 91");
+    put_text(&mut image, 0xFFFC, "00 90");
     Ok(image)
 }
 
@@ -74,26 +71,8 @@ fn power_on(alloc: Global, image: &Image, wired: bool) -> Result<FastEngine, Fai
 }
 
 #[test]
-fn timer_requests_reach_the_processor_where_they_are_wired(rt: HostRuntime) -> Result<(), Fail> {
-    let image = image_of(rt.alloc(), TIMER, TIMER_HANDLER)?;
-    let tape = Tape::read(rt.alloc(), EMPTY.as_bytes())?;
-    let write = Record::Latch {
-        clock: 33,
-        value: 7,
-    };
-    for (wired, clock, writes) in [(true, 40, [write].as_slice()), (false, 42, &[])] {
-        let mut engine = power_on(rt.alloc(), &image, wired)?;
-        assert_eq!(&rt; engine.run(&tape, 40), Stop::Limit, "wired {wired}");
-        engine.settle();
-        assert_eq!(&rt; engine.clock(), clock, "wired {wired}");
-        assert_eq!(&rt; engine.trails().board.records(), writes, "wired {wired}");
-    }
-    Ok(())
-}
-
-#[test]
 fn a_jammed_board_takes_no_clock(rt: HostRuntime) -> Result<(), Fail> {
-    let image = image_of(rt.alloc(), "02", "")?;
+    let image = image_of(rt.alloc(), "02")?;
     let tape = Tape::read(rt.alloc(), EMPTY.as_bytes())?;
     let mut engine = power_on(rt.alloc(), &image, true)?;
     let jam = Stop::Jammed {
@@ -111,7 +90,7 @@ fn a_jammed_board_takes_no_clock(rt: HostRuntime) -> Result<(), Fail> {
 
 #[test]
 fn a_run_ends_at_a_break_address_past_its_first_turn(rt: HostRuntime) -> Result<(), Fail> {
-    let image = image_of(rt.alloc(), THREE, "")?;
+    let image = image_of(rt.alloc(), THREE)?;
     let tape = Tape::read(rt.alloc(), EMPTY.as_bytes())?;
     let mut engine = power_on(rt.alloc(), &image, true)?;
     for (limit, addresses, end) in BREAKS {
@@ -126,7 +105,7 @@ fn a_run_ends_at_a_break_address_past_its_first_turn(rt: HostRuntime) -> Result<
 
 #[test]
 fn a_new_engine_has_made_five_calls(rt: HostRuntime) -> Result<(), Fail> {
-    let image = image_of(rt.alloc(), TIMER, "")?;
+    let image = image_of(rt.alloc(), TIMER)?;
     let mut engine = power_on(rt.alloc(), &image, true)?;
     assert!(rt; engine.is_settled());
     engine.settle();
@@ -140,7 +119,7 @@ fn a_new_engine_has_made_five_calls(rt: HostRuntime) -> Result<(), Fail> {
 
 #[test]
 fn a_step_does_the_reset_and_a_load_makes_five_calls(rt: HostRuntime) -> Result<(), Fail> {
-    let image = image_of(rt.alloc(), TIMER, "")?;
+    let image = image_of(rt.alloc(), TIMER)?;
     let tape = Tape::read(rt.alloc(), EMPTY.as_bytes())?;
     let mut engine = power_on(rt.alloc(), &image, true)?;
     assert_eq!(rt; engine.step(&tape), Stop::Limit);
@@ -156,7 +135,7 @@ fn a_step_does_the_reset_and_a_load_makes_five_calls(rt: HostRuntime) -> Result<
 
 #[test]
 fn a_trace_tells_each_access_of_a_sequence(rt: HostRuntime) -> Result<(), Fail> {
-    let image = image_of(rt.alloc(), "9D 34 02 02", "")?;
+    let image = image_of(rt.alloc(), "9D 34 02 02")?;
     let tape = Tape::read(rt.alloc(), EMPTY.as_bytes())?;
     let mut engine = power_on(rt.alloc(), &image, true)?;
     let mut trace = Trace::new();

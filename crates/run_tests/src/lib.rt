@@ -2,15 +2,9 @@
 #![tactic(auto)]
 
 #[cfg(test)]
-mod board_debug_tests;
-#[cfg(test)]
 mod board_stretch_tests;
 #[cfg(test)]
 mod catchup_engine_tests;
-#[cfg(test)]
-mod cycle_profile_tests;
-#[cfg(test)]
-mod frame_list_tests;
 #[cfg(test)]
 mod gravitar_commands_tests;
 #[cfg(test)]
@@ -19,5 +13,3 @@ mod keyframes_tests;
 mod log_text_tests;
 #[cfg(test)]
 mod soak_run_tests;
-#[cfg(test)]
-mod sound_pcm_tests;

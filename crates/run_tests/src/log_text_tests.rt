@@ -178,30 +178,6 @@ fn records_are_told_by_clock_and_part(rt: HostRuntime) -> Result<(), Fail> {
 }
 
 #[test]
-fn a_latch_write_comes_before_a_later_stroke(rt: HostRuntime) -> Result<(), Fail> {
-    let lists = Lists {
-        vector: &[stroke(39, 65536)],
-        board: &[latch(28, 0x20)],
-        ..NONE
-    };
-    let text = b"L 28 20\nS 39 0 0 65536 0 0 14\n";
-    check(rt.alloc(), &rt, lists, text)?;
-    Ok(())
-}
-
-#[test]
-fn a_stroke_comes_before_a_later_reset(rt: HostRuntime) -> Result<(), Fail> {
-    let lists = Lists {
-        vector: &[stroke(41028, -134217728)],
-        board: &[Record::WatchdogReset { clock: 49151 }],
-        ..NONE
-    };
-    let text = b"S 41028 0 0 -134217728 0 0 14\nW 49151\n";
-    check(rt.alloc(), &rt, lists, text)?;
-    Ok(())
-}
-
-#[test]
 fn each_line_is_written_with_its_least_and_greatest_numbers(rt: HostRuntime) -> Result<(), Fail> {
     let sound = [Record::Levels {
         clock: u64::MAX,
