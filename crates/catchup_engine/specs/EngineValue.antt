@@ -1,5 +1,5 @@
 -- The engine, as contracts see it.
-use Rattle.std.specs.Prelude.{◌≡◌, ℕ, ◌+◌, ◌-◌, ◌^◌, ◌≤◌, min, []}
+use Rattle.std.specs.Prelude.{ℕ, ◌+◌, ◌-◌, ◌^◌, ◌≤◌, min}
 use Rattle.catchup_engine.specs.declared.bus.TheConstants.{TRAIL_ROOM}
 use Rattle.lockstep_board.specs.Lockstep.{Board}
 

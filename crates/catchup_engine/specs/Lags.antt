@@ -1,11 +1,8 @@
 -- Devices that lag behind the board's clock.
-use Rattle.std.specs.Prelude.{◌≡◌, ℕ, ◌+◌, ◌-◌, ◌≤◌, List, [], ◌∷◌, not, ◌==◌, nat_lt, nat_le}
-use Rattle.std.specs.Int.{from_bool}
-use Rattle.board_base.specs.declared.board.TheConstants.{CLOCK_END}
-use Rattle.board_base.specs.Pokey.{PokeyValue}
+use Rattle.std.specs.Prelude.{ℕ, ◌+◌, Bool, if◌then◌else◌}
 use Rattle.board_map.specs.declared.map.Region.{Region}
-use Rattle.pokey_chip.specs.Quiet.{requests_after}
-use Rattle.lockstep_board.specs.Uses.{Device, Vector, Sound1, Sound2, Cells, Divider, uses_of}
+use Rattle.lockstep_board.specs.declared.uses.DeviceSet.{DeviceSet}
+use Rattle.lockstep_board.specs.Uses.{uses_of}
 
 -- for each device 1 where it lags, and else 0
 pub record DeviceLags : Type 0 where
@@ -27,18 +24,29 @@ none_lags = record { vector = 0; sound1 = 0; sound2 = 0; cells = 0; divider = 0 
 abbrev pub all_lag : DeviceLags
 all_lag = record { vector = 1; sound1 = 1; sound2 = 1; cells = 1; divider = 1 }
 
--- 1 where this device lags
-abbrev pub lag_of : Device → DeviceLags → ℕ
-lag_of Vector l = l.vector
-lag_of Sound1 l = l.sound1
-lag_of Sound2 l = l.sound2
-lag_of Cells l = l.cells
-lag_of Divider l = l.divider
+-- 1 where a device is among those reached, and lags
+abbrev pub lag_among : Bool → ℕ → ℕ
+lag_among reached lag = if reached then lag else 0
 
 -- how many of these devices lag
-abbrev pub lagging_among : List Device → DeviceLags → ℕ
-lagging_among [] l = 0
-lagging_among (device ∷ devices) l = lag_of device l + lagging_among devices l
+abbrev pub lagging_among : DeviceSet → DeviceLags → ℕ
+lagging_among devices l =
+    lag_among devices.vector l.vector + lag_among devices.sound1 l.sound1 + lag_among devices.sound2 l.sound2
+    + lag_among devices.cells l.cells + lag_among devices.divider l.divider
+
+-- the lag of a device that is brought to the present where it is reached
+abbrev pub lag_left : Bool → ℕ → ℕ
+lag_left reached lag = if reached then 0 else lag
+
+-- these devices at the present, and the others as they were
+abbrev pub with_brought : DeviceSet → DeviceLags → DeviceLags
+with_brought devices l = record {
+  vector = lag_left devices.vector l.vector;
+  sound1 = lag_left devices.sound1 l.sound1;
+  sound2 = lag_left devices.sound2 l.sound2;
+  cells = lag_left devices.cells l.cells;
+  divider = lag_left devices.divider l.divider;
+}
 
 -- how many of the devices lag whose byte a read of a region gives
 abbrev pub lagging_at : Region → DeviceLags → ℕ

@@ -1,9 +1,9 @@
 -- A run of the processor over the bus.
-use Rattle.std.specs.Prelude.{◌≡◌, ℕ, ◌+◌, ◌-◌, ◌≤◌, ◌<◌, ◌⊎◌, ◌||◌, Bool, not, List, length, false, true, None, IsSome, zero, suc}
+use Rattle.std.specs.Prelude.{◌≡◌, ℕ, ◌+◌, ◌-◌, ◌≤◌, ◌<◌, ◌⊎◌, ◌||◌, Bool, not, List, length, true, None, IsSome}
 use Rattle.board_base.specs.declared.board.TheConstants.{CLOCK_LIMIT}
 use Rattle.board_base.specs.Cpu.{CpuValue}
 use Rattle.tape_ports.specs.declared.entry.TapeEntry.{TapeEntry}
-use Rattle.lockstep_board.specs.Lockstep.{Board, step}
+use Rattle.lockstep_board.specs.Lockstep.{Board}
 use Rattle.lockstep_board.specs.Run.{is_over, is_cut, to_boundary, to_cut, boundary_steps, cut_steps}
 use Rattle.lockstep_board.specs.Breaks.{is_at_any, BreakRun}
 use Rattle.lockstep_board.specs.Budget.{budget}

@@ -11,7 +11,7 @@ mod state;
 use avg_device::VectorUnit;
 use board_base::{Trail, VectorMemory};
 use cpu_core::Bus;
-use device_lanes::{CellLane, DividerLane, SoundLane, VectorLane};
+use device_lanes::{Lane, SoundLane, VectorLane};
 use earom_cells::CellUnit;
 use irq_watchdog::DividerUnit;
 use pokey_chip::SoundUnit;
@@ -39,8 +39,8 @@ pub(crate) struct BoardBus<V: VectorUnit, P: SoundUnit, C: CellUnit, D: DividerU
     vector: VectorLane<V>,
     sound1: SoundLane<P>,
     sound2: SoundLane<P>,
-    cells: CellLane<C>,
-    divider: DividerLane<D>,
+    cells: Lane<C>,
+    divider: Lane<D>,
     memory: VectorMemory,
     ram: Vec<u8>,
     program: Vec<u8>,

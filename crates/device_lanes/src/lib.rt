@@ -2,12 +2,10 @@
 //! stands there.
 #![tactic(auto)]
 
-pub mod cells;
-pub mod divider;
+pub mod lane;
 pub mod sound;
 pub mod vector;
 
-pub use cells::CellLane;
-pub use divider::DividerLane;
+pub use lane::Lane;
 pub use sound::SoundLane;
 pub use vector::VectorLane;

@@ -2,7 +2,7 @@
 ghost use Rattle.std.specs.Prelude.{◌≡◌, ◌+◌, ◌-◌, ◌^◌, ◌≤◌, ◌<◌, ◌&&◌, ◌++◌, true, length, min};
 ghost use Rattle.board_base.specs.Counts.{Counted};
 ghost use Rattle.board_base.specs.Ticks.{times};
-ghost use Rattle.pokey_chip.specs.Registers.{pot_set, register_read, register_written};
+ghost use Rattle.pokey_chip.specs.Registers.{pot_set, register_written};
 ghost use Rattle.pokey_chip.specs.Tick.{levels_made, pokey_tick};
 ghost use Rattle.device_lanes.specs.Lags.{lags, AsksAt};
 ghost use Rattle.lockstep_board.specs.Wires.{has_request};
@@ -90,73 +90,32 @@ impl<P: SoundUnit> SoundLane<P> {
         }
     }
 
-    /// Reads a register at a clock, up to which it is moved before.
-    #[inline(never)]
-    pub fn read_register(&mut self, clock: u64, reg: u8) -> u8
-        requires before { self.old.done ≤ clock }
-        requires room { clock ≤ self.old.done + self.old.trail.spare }
-        requires clocks { clock ≤ CLOCK_END }
+    /// Writes a register, where it stands.
+    pub fn write_register(&mut self, reg: u8, value: u8)
+        requires clocks { self.old.done ≤ CLOCK_END }
         requires reg { reg < 16 }
-        ensures byte { result ≡ register_read reg (times pokey_tick (clock - self.old.done) (P.device self.old.unit)) }
-        ensures done { self.new.done ≡ clock }
-        ensures state { P.device self.new.unit ≡ times pokey_tick (clock - self.old.done) (P.device self.old.unit) }
-        ensures records { self.new.trail.records ≡ self.old.trail.records
-            ++ levels_made self.old.done (clock - self.old.done) (P.device self.old.unit) }
-        ensures until { self.old.done + self.old.trail.spare ≤ self.new.done + self.new.trail.spare }
-        ensures total { self.new.trail.spare + length self.new.trail.records ≡ self.old.trail.spare + length self.old.trail.records }
-        ensures room { self.new.trail.room ≡ self.old.trail.room }
-        ensures calls { P.calls self.new.unit ≤ P.calls self.old.unit + lags self.old.done clock }
-        ensures more { min (P.calls self.old.unit) (2 ^ 64 - 1) ≤ P.calls self.new.unit }
+        ensures state { P.device self.new.unit ≡ register_written reg value (P.device self.old.unit) }
+        ensures counted { Counted (P.calls self.old.unit) (P.calls self.new.unit) }
+        ensures done { self.new.done ≡ self.old.done }
         ensures wired { self.new.wired ≡ self.old.wired }
-        ensures asked { AsksAt self.old.done self.old.request_at (P.device self.old.unit) → AsksAt self.new.done self.new.request_at (P.device self.new.unit) }
-    {
-        self.level(clock);
-        self.unit.read(reg)
-    }
-
-    /// Writes a register at a clock, up to which it is moved before.
-    #[inline(never)]
-    pub fn write_register(&mut self, clock: u64, reg: u8, value: u8)
-        requires before { self.old.done ≤ clock }
-        requires room { clock ≤ self.old.done + self.old.trail.spare }
-        requires clocks { clock ≤ CLOCK_END }
-        requires reg { reg < 16 }
-        ensures done { self.new.done ≡ clock }
-        ensures state { P.device self.new.unit ≡ register_written reg value (times pokey_tick (clock - self.old.done) (P.device self.old.unit)) }
-        ensures records { self.new.trail.records ≡ self.old.trail.records
-            ++ levels_made self.old.done (clock - self.old.done) (P.device self.old.unit) }
-        ensures until { self.old.done + self.old.trail.spare ≤ self.new.done + self.new.trail.spare }
-        ensures total { self.new.trail.spare + length self.new.trail.records ≡ self.old.trail.spare + length self.old.trail.records }
-        ensures room { self.new.trail.room ≡ self.old.trail.room }
-        ensures calls { P.calls self.new.unit ≤ P.calls self.old.unit + 2 }
-        ensures more { min (P.calls self.old.unit) (2 ^ 64 - 1) ≤ P.calls self.new.unit }
-        ensures wired { self.new.wired ≡ self.old.wired }
+        ensures trail { self.new.trail ≡ self.old.trail }
         ensures asked { self.new.wired ≡ true → AsksAt self.new.done self.new.request_at (P.device self.new.unit) }
     {
-        self.level(clock);
         self.unit.write(reg, value);
         self.ask_again();
     }
 
-    /// Sets the target of a pot at a clock, up to which it is moved before.
-    pub fn set_pot(&mut self, clock: u64, which: u8, value: u8)
-        requires before { self.old.done ≤ clock }
-        requires room { clock ≤ self.old.done + self.old.trail.spare }
-        requires clocks { clock ≤ CLOCK_END }
+    /// Sets the target of a pot, where it stands.
+    pub fn set_pot(&mut self, which: u8, value: u8)
+        requires clocks { self.old.done ≤ CLOCK_END }
         requires pot { which < 8 }
-        ensures done { self.new.done ≡ clock }
-        ensures state { P.device self.new.unit ≡ pot_set which value (times pokey_tick (clock - self.old.done) (P.device self.old.unit)) }
-        ensures records { self.new.trail.records ≡ self.old.trail.records
-            ++ levels_made self.old.done (clock - self.old.done) (P.device self.old.unit) }
-        ensures until { self.old.done + self.old.trail.spare ≤ self.new.done + self.new.trail.spare }
-        ensures total { self.new.trail.spare + length self.new.trail.records ≡ self.old.trail.spare + length self.old.trail.records }
-        ensures room { self.new.trail.room ≡ self.old.trail.room }
-        ensures calls { P.calls self.new.unit ≤ P.calls self.old.unit + 2 }
-        ensures more { min (P.calls self.old.unit) (2 ^ 64 - 1) ≤ P.calls self.new.unit }
+        ensures state { P.device self.new.unit ≡ pot_set which value (P.device self.old.unit) }
+        ensures counted { Counted (P.calls self.old.unit) (P.calls self.new.unit) }
+        ensures done { self.new.done ≡ self.old.done }
         ensures wired { self.new.wired ≡ self.old.wired }
+        ensures trail { self.new.trail ≡ self.old.trail }
         ensures asked { self.new.wired ≡ true → AsksAt self.new.done self.new.request_at (P.device self.new.unit) }
     {
-        self.level(clock);
         self.unit.set_pot(which, value);
         self.ask_again();
     }

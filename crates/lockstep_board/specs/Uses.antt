@@ -1,44 +1,35 @@
 -- What each region of the map uses of the devices: a line for each. This project's own profile.
-use Rattle.std.specs.Prelude.{List, [], ◌∷◌, Bool, true, false}
+use Rattle.std.specs.Prelude.{Bool, ◌||◌}
 use Rattle.board_map.specs.declared.map.Region.{Region}
 use Rattle.board_map.specs.declared.map.Region.TheVariants as region
-
-pub data Device : Type 0 where
-  Vector : Device
-  Sound1 : Device
-  Sound2 : Device
-  Cells : Device
-  Divider : Device
+use Rattle.lockstep_board.specs.declared.uses.DeviceSet.{DeviceSet}
+use Rattle.lockstep_board.specs.declared.uses.Uses.{Uses}
+use Rattle.lockstep_board.specs.declared.uses.TheConstants.{NO_DEVICE, VECTOR, SOUND1, SOUND2, CELLS, DIVIDER, VECTOR_AND_DIVIDER}
 
 -- the devices that give the byte of a read, and those that see a write
-pub record Uses : Type 0 where
-  pub reads : List Device
-  pub writes : List Device
-
-abbrev pub uses : List Device → List Device → Uses
-uses reads writes = record { reads = reads; writes = writes }
+abbrev pub row : DeviceSet → DeviceSet → Uses
+row reads writes = record { reads = reads; writes = writes }
 
 -- the generator sees the vector RAM
 abbrev pub uses_of : Region → Uses
-uses_of (region.Ram k) = uses [] []
-uses_of (region.VectorRam k) = uses [] (Vector ∷ [])
-uses_of (region.VectorRom k) = uses [] []
-uses_of (region.Sound1 reg) = uses (Sound1 ∷ []) (Sound1 ∷ [])
-uses_of (region.Sound2 reg) = uses (Sound2 ∷ []) (Sound2 ∷ [])
-uses_of region.EaromOut = uses (Cells ∷ []) []
-uses_of region.In0 = uses (Vector ∷ Divider ∷ []) []
-uses_of region.In3 = uses [] []
-uses_of region.In4 = uses [] []
-uses_of region.Go = uses [] (Vector ∷ [])
-uses_of region.VgReset = uses [] (Vector ∷ [])
-uses_of region.Acknowledge = uses [] (Divider ∷ [])
-uses_of region.EaromControl = uses [] (Cells ∷ [])
-uses_of (region.EaromLatch cell) = uses [] (Cells ∷ [])
-uses_of region.Watchdog = uses [] (Divider ∷ [])
-uses_of (region.ProgramRom k) = uses [] []
-uses_of region.Nothing = uses [] []
+uses_of (region.Ram k) = row NO_DEVICE NO_DEVICE
+uses_of (region.VectorRam k) = row NO_DEVICE VECTOR
+uses_of (region.VectorRom k) = row NO_DEVICE NO_DEVICE
+uses_of (region.Sound1 reg) = row SOUND1 SOUND1
+uses_of (region.Sound2 reg) = row SOUND2 SOUND2
+uses_of region.EaromOut = row CELLS NO_DEVICE
+uses_of region.In0 = row VECTOR_AND_DIVIDER NO_DEVICE
+uses_of region.In3 = row NO_DEVICE NO_DEVICE
+uses_of region.In4 = row NO_DEVICE NO_DEVICE
+uses_of region.Go = row NO_DEVICE VECTOR
+uses_of region.VgReset = row NO_DEVICE VECTOR
+uses_of region.Acknowledge = row NO_DEVICE DIVIDER
+uses_of region.EaromControl = row NO_DEVICE CELLS
+uses_of (region.EaromLatch cell) = row NO_DEVICE CELLS
+uses_of region.Watchdog = row NO_DEVICE DIVIDER
+uses_of (region.ProgramRom k) = row NO_DEVICE NO_DEVICE
+uses_of region.Nothing = row NO_DEVICE NO_DEVICE
 
 -- at least one of them
-abbrev pub is_some_device : List Device → Bool
-is_some_device [] = false
-is_some_device (device ∷ devices) = true
+abbrev pub is_some_device : DeviceSet → Bool
+is_some_device devices = devices.vector || (devices.sound1 || (devices.sound2 || (devices.cells || devices.divider)))

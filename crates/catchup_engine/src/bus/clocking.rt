@@ -1,5 +1,8 @@
 //! The clocks of the board: their ticks, and how far it is to what comes of itself.
-ghost use Rattle.std.specs.Prelude.{◌≡◌, ◌+◌, ◌-◌, ◌*◌, ◌≤◌, ◌<◌, true, false, nat_le};
+ghost use Rattle.std.specs.Prelude.{◌≡◌, ◌+◌, ◌-◌, ◌*◌, ◌^◌, ◌≤◌, ◌<◌, true, false, min, nat_le};
+ghost use Rattle.board_base.specs.Ticks.{times};
+ghost use Rattle.irq_watchdog.specs.Tick.{divider_tick};
+ghost use Rattle.device_lanes.specs.Lags.{lags};
 ghost use Rattle.lockstep_board.specs.Budget.{ticks_price, wraps};
 ghost use Rattle.catchup_engine.specs.Calm.{LeavesLines};
 ghost use Rattle.catchup_engine.specs.Quiet.{passed};
@@ -9,10 +12,23 @@ ghost use Rattle.lockstep_board.specs.Wires.{devices_ticked, ticked};
 use crate::bus::{BoardBus, TRAIL_ROOM, WHOLE};
 use avg_device::VectorUnit;
 use board_base::{CLOCK_END, DIVIDER_PERIOD};
+use device_lanes::Lane;
 use earom_cells::CellUnit;
 use irq_watchdog::DividerUnit;
 use pokey_chip::SoundUnit;
 use tape_ports::Tape;
+
+/// Moves a divider up to a clock, by one call and by none where it stands there.
+#[tactic(auto, using(board_base::proofs::TickLaws::level))]
+pub(super) fn level_divider<D: DividerUnit>(divider: &mut Lane<D>, clock: u64)
+    requires before { divider.old.done ≤ clock }
+    ensures done { divider.new.done ≡ clock }
+    ensures state { D.device divider.new.unit ≡ times divider_tick (clock - divider.old.done) (D.device divider.old.unit) }
+    ensures calls { D.calls divider.new.unit ≤ D.calls divider.old.unit + lags divider.old.done clock }
+    ensures more { min (D.calls divider.old.unit) (2 ^ 64 - 1) ≤ D.calls divider.new.unit }
+{
+    divider.level(clock, |unit, clocks| unit.advance(clocks));
+}
 
 impl<V: VectorUnit, P: SoundUnit, C: CellUnit, D: DividerUnit> BoardBus<V, P, C, D> {
     /// The clocks done.
@@ -65,7 +81,7 @@ impl<V: VectorUnit, P: SoundUnit, C: CellUnit, D: DividerUnit> BoardBus<V, P, C,
     {
         self.clock += 1;
         if self.clock == self.wrap_at {
-            self.divider.level(self.clock);
+            level_divider(&mut self.divider, self.clock);
             self.wrap_at = self.clock + self.divider.unit.quiet();
         }
     }

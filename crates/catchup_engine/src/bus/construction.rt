@@ -7,7 +7,7 @@ use crate::bus::{BoardBus, TRAIL_ROOM};
 use crate::devices::Devices;
 use avg_device::VectorUnit;
 use board_base::{BoardState, OutOfMemory, Trail, VECTOR_ROM_LEN, VectorMemory};
-use device_lanes::{CellLane, DividerLane, SoundLane, VectorLane};
+use device_lanes::{Lane, SoundLane, VectorLane};
 use earom_cells::CellUnit;
 use irq_watchdog::DividerUnit;
 use pokey_chip::SoundUnit;
@@ -64,18 +64,25 @@ impl<V: VectorUnit, P: SoundUnit, C: CellUnit, D: DividerUnit> BoardBus<V, P, C,
             vector,
             sound1,
             sound2,
-            cells,
-            divider,
+            mut cells,
+            mut divider,
         } = devices;
         let clock = state.clock;
-        let divider = DividerLane::new(divider, &state.divider, clock);
-        let wrap_at = clock + divider.unit.quiet();
+        cells.load(&state.earom);
+        divider.load(&state.divider);
+        let wrap_at = clock + divider.quiet();
         Ok(BoardBus {
             vector: VectorLane::new(vector, &state.vg, clock, new_trail(alloc)?),
             sound1: SoundLane::new(sound1, &state.sound1, clock, wired, new_trail(alloc)?),
             sound2: SoundLane::new(sound2, &state.sound2, clock, wired, new_trail(alloc)?),
-            cells: CellLane::new(cells, &state.earom, clock),
-            divider,
+            cells: Lane {
+                unit: cells,
+                done: clock,
+            },
+            divider: Lane {
+                unit: divider,
+                done: clock,
+            },
             memory: new_memory(alloc, image, state)?,
             ram: Vec::from_slice(alloc, &state.ram)?,
             program: new_program(alloc, image)?,
@@ -110,8 +117,10 @@ impl<V: VectorUnit, P: SoundUnit, C: CellUnit, D: DividerUnit> BoardBus<V, P, C,
         self.vector.load(&state.vg, done);
         self.sound1.load(&state.sound1, done);
         self.sound2.load(&state.sound2, done);
-        self.cells.load(&state.earom, done);
-        self.divider.load(&state.divider, done);
+        self.cells.unit.load(&state.earom);
+        self.cells.done = done;
+        self.divider.unit.load(&state.divider);
+        self.divider.done = done;
         self.wrap_at = done + self.divider.unit.quiet();
         self.out = state.out;
         self.in0 = state.in0;

@@ -72,6 +72,7 @@ impl<V: VectorUnit, P: SoundUnit, C: CellUnit, D: DividerUnit> BoardBus<V, P, C,
     {
         let pending = self.take_reset();
         if let Pending::Watchdog = pending {
+            self.bring_vector();
             self.reset_vector();
             self.record_reset();
         }

@@ -12,7 +12,7 @@ use tape_ports::{Port, TapeEntry};
 
 impl<V: VectorUnit, P: SoundUnit, C: CellUnit, D: DividerUnit> BoardBus<V, P, C, D> {
     /// Sets the port of an entry of the tape, or the target of its pot.
-    #[tactic(auto, using(board_base::proofs::TickLaws::level))]
+    #[tactic(auto, using(board_base::proofs::TickLaws::level, crate::proofs::SettledLaws::settled))]
     pub(super) fn set_port(&mut self, entry: TapeEntry)
         requires port { IsPort entry.port }
         ensures does { Does self.old self.new (port_set entry.port entry.value self.old.wires) 2 }
@@ -22,8 +22,14 @@ impl<V: VectorUnit, P: SoundUnit, C: CellUnit, D: DividerUnit> BoardBus<V, P, C,
             Port::In0 => self.in0 = value % 64,
             Port::In3 => self.in3 = value,
             Port::In4 => self.in4 = value,
-            Port::Pot1(which) => self.sound1.set_pot(self.clock, which, value),
-            Port::Pot2(which) => self.sound2.set_pot(self.clock, which, value),
+            Port::Pot1(which) => {
+                self.bring_sound1();
+                self.sound1.set_pot(which, value);
+            }
+            Port::Pot2(which) => {
+                self.bring_sound2();
+                self.sound2.set_pot(which, value);
+            }
         }
     }
 }

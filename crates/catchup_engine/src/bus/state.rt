@@ -1,19 +1,21 @@
 //! The board at rest: its devices brought to the present, its state, and its records.
 ghost use Rattle.std.specs.Prelude.{◌≡◌, ◌+◌, ◌≤◌, ◌==◌, IsSome, []};
-ghost use Rattle.catchup_engine.specs.Lags.{lagging_of, none_lags};
+ghost use Rattle.catchup_engine.specs.Lags.{all_lag, lagging_among, lagging_of, none_lags, with_brought};
 ghost use Rattle.lockstep_board.specs.Wires.{board_of};
 
+use crate::bus::clocking::level_divider;
 use crate::bus::{BoardBus, TRAIL_ROOM};
 use avg_device::VectorUnit;
 use board_base::{BoardState, CLOCK_LIMIT, CpuState, Trails};
 use earom_cells::CellUnit;
 use irq_watchdog::DividerUnit;
+use lockstep_board::{ALL_DEVICES, DeviceSet};
 use pokey_chip::SoundUnit;
 
 impl<V: VectorUnit, P: SoundUnit, C: CellUnit, D: DividerUnit> BoardBus<V, P, C, D> {
     /// Brings the generator to the present, by one call where it lags and by none where it stands there.
     #[tactic(auto, using(board_base::proofs::TickLaws::level, crate::proofs::SettledLaws::brought))]
-    fn bring_vector(&mut self)
+    pub(super) fn bring_vector(&mut self)
         ensures value { self.new ≡ record self.old { lagging = record self.old.lagging { vector = 0 }; until = self.new.until; calls = self.new.calls } }
         ensures until { self.old.until ≤ self.new.until }
         ensures calls { self.new.calls ≤ self.old.calls + self.old.lagging.vector }
@@ -25,7 +27,7 @@ impl<V: VectorUnit, P: SoundUnit, C: CellUnit, D: DividerUnit> BoardBus<V, P, C,
 
     /// Brings POKEY 1 to the present, by one call where it lags and by none where it stands there.
     #[tactic(auto, using(board_base::proofs::TickLaws::level, crate::proofs::SettledLaws::brought))]
-    fn bring_sound1(&mut self)
+    pub(super) fn bring_sound1(&mut self)
         ensures value { self.new ≡ record self.old { lagging = record self.old.lagging { sound1 = 0 }; until = self.new.until; calls = self.new.calls } }
         ensures until { self.old.until ≤ self.new.until }
         ensures calls { self.new.calls ≤ self.old.calls + self.old.lagging.sound1 }
@@ -37,7 +39,7 @@ impl<V: VectorUnit, P: SoundUnit, C: CellUnit, D: DividerUnit> BoardBus<V, P, C,
 
     /// Brings POKEY 2 to the present, by one call where it lags and by none where it stands there.
     #[tactic(auto, using(board_base::proofs::TickLaws::level, crate::proofs::SettledLaws::brought))]
-    fn bring_sound2(&mut self)
+    pub(super) fn bring_sound2(&mut self)
         ensures value { self.new ≡ record self.old { lagging = record self.old.lagging { sound2 = 0 }; until = self.new.until; calls = self.new.calls } }
         ensures until { self.old.until ≤ self.new.until }
         ensures calls { self.new.calls ≤ self.old.calls + self.old.lagging.sound2 }
@@ -49,26 +51,53 @@ impl<V: VectorUnit, P: SoundUnit, C: CellUnit, D: DividerUnit> BoardBus<V, P, C,
 
     /// Brings the EAROM to the present, by one call where it lags and by none where it stands there.
     #[tactic(auto, using(board_base::proofs::TickLaws::level, crate::proofs::SettledLaws::brought))]
-    fn bring_cells(&mut self)
+    pub(super) fn bring_cells(&mut self)
         ensures value { self.new ≡ record self.old { lagging = record self.old.lagging { cells = 0 }; until = self.new.until; calls = self.new.calls } }
         ensures until { self.old.until ≤ self.new.until }
         ensures calls { self.new.calls ≤ self.old.calls + self.old.lagging.cells }
         ensures more { self.old.calls ≤ self.new.calls }
         ensures few { self.old.lagging.cells ≤ 1 }
     {
-        self.cells.level(self.clock);
+        self.cells
+            .level(self.clock, |cells, clocks| cells.advance(clocks));
     }
 
     /// Brings the divider to the present, by one call where it lags and by none where it stands there.
     #[tactic(auto, using(board_base::proofs::TickLaws::level, crate::proofs::DividerLaws::lines, crate::proofs::SettledLaws::brought))]
-    fn bring_divider(&mut self)
+    pub(super) fn bring_divider(&mut self)
         ensures value { self.new ≡ record self.old { lagging = record self.old.lagging { divider = 0 }; until = self.new.until; calls = self.new.calls } }
         ensures until { self.old.until ≤ self.new.until }
         ensures calls { self.new.calls ≤ self.old.calls + self.old.lagging.divider }
         ensures more { self.old.calls ≤ self.new.calls }
         ensures few { self.old.lagging.divider ≤ 1 }
     {
-        self.divider.level(self.clock);
+        level_divider(&mut self.divider, self.clock);
+    }
+
+    /// Brings these devices to the present. One that stands there already isn't called.
+    #[inline(always)]
+    pub(super) fn bring(&mut self, devices: DeviceSet)
+        ensures value { self.new ≡ record self.old { lagging = with_brought devices self.old.lagging; until = self.new.until; calls = self.new.calls } }
+        ensures until { self.old.until ≤ self.new.until }
+        ensures calls { self.new.calls ≤ self.old.calls + lagging_among devices self.old.lagging }
+        ensures more { self.old.calls ≤ self.new.calls }
+        ensures few { lagging_among devices self.old.lagging ≤ lagging_among devices all_lag }
+    {
+        if devices.vector {
+            self.bring_vector();
+        }
+        if devices.sound1 {
+            self.bring_sound1();
+        }
+        if devices.sound2 {
+            self.bring_sound2();
+        }
+        if devices.cells {
+            self.bring_cells();
+        }
+        if devices.divider {
+            self.bring_divider();
+        }
     }
 
     /// Brings each device to the present. One that stands there already isn't called.
@@ -79,11 +108,7 @@ impl<V: VectorUnit, P: SoundUnit, C: CellUnit, D: DividerUnit> BoardBus<V, P, C,
         ensures more { self.old.calls ≤ self.new.calls }
         ensures few { lagging_of self.old.lagging ≤ 5 }
     {
-        self.bring_vector();
-        self.bring_sound1();
-        self.bring_sound2();
-        self.bring_cells();
-        self.bring_divider();
+        self.bring(ALL_DEVICES);
     }
 
     /// Whether the generator is halted.
