@@ -100,8 +100,13 @@ impl Form {
         }
     }
 
-    /// The registers after so many shifts.
-    pub fn shifts(self, clocks: u64) -> Registers {
+    /// The registers after so many shifts from all ones.
+    pub fn shifts(self, clocks: u64) -> Registers
+        ensures four { result.four ≡ times (shifted Four) clocks 15 }
+        ensures five { result.five ≡ times (shifted Five) clocks 31 }
+        ensures nine { result.nine ≡ times (shifted Nine) clocks 511 }
+        ensures seventeen { result.seventeen ≡ times (shifted Seventeen) clocks 131071 }
+    {
         match self {
             Form::Shifts => bare_shifts(clocks),
             Form::Leap => leaps(clocks),

@@ -6,4 +6,3 @@ pub mod MixLaws
 pub mod PartLaws
 pub mod RunLaws
 mod TakeLaws
-mod TestLaws
