@@ -6,6 +6,10 @@ mod command_line_tests;
 #[cfg(test)]
 mod debug_script_tests;
 #[cfg(test)]
+mod fake_files;
+#[cfg(test)]
+mod file_shelf_tests;
+#[cfg(test)]
 mod outside_io_tests;
 #[cfg(test)]
 mod plain_text_tests;

@@ -6,7 +6,7 @@ pub use gravitar_commands::{OutsideFault, Words, gravitar, run_slices};
 use outside_io::{FileShelf, Sink, TextSink};
 use std::alloc::Global;
 use std::process::ExitCode;
-use std::{env, io};
+use std::{env, io, process};
 
 /// Why a command line can't be taken.
 #[derive(Clone, Copy, Debug, PartialEq, Eq)]
@@ -41,7 +41,7 @@ fn main(rt: HostRuntime) -> ExitCode {
     let mut notes = TextSink::new(rt.stderr());
     match process_words(&rt, rt.alloc()) {
         Ok(words) => {
-            let mut shelf = FileShelf::new(&rt);
+            let mut shelf = FileShelf::with_process(&rt, process::id(rt.process()));
             let mut out = TextSink::new(rt.stdout());
             ExitCode::from(gravitar(rt.alloc(), &words, &mut shelf, &mut out, &mut notes))
         }

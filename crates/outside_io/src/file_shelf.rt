@@ -8,6 +8,7 @@ ghost use Rattle.outside_io.specs.Shelf.{Loads, LoadFaults, LoadAbsences, KeepsO
 use crate::answers::{Failed, Loaded, ShelfFault};
 use crate::outside::Shelf;
 use crate::pieces::{read_opened, write_over};
+use crate::replace::{Path, Replaced, replace};
 use std::fs;
 use std::fs::OpenOptions;
 use std::marker::Model;
@@ -19,6 +20,8 @@ use std::rt::Files;
 #[derive(Drop)]
 pub struct FileShelf<'a, R: Files> {
     rt: &'a R,
+    process: u32,
+    path: Path,
     faults: u64,
     absences: u64,
 }
@@ -32,12 +35,22 @@ impl<'a, R: Files> Model for FileShelf<'a, R> {
 }
 
 impl<'a, R: Files> FileShelf<'a, R> {
-    /// It takes no memory.
+    /// A shelf of the process number 0. It takes no memory.
     pub fn new(rt: &'a R) -> FileShelf<'a, R>
+        ensures { result ≡ record { faults = 0; absences = 0 } }
+    {
+        FileShelf::with_process(rt, 0)
+    }
+
+    /// A shelf that creates its new files as `NAME.PROCESS-N.new`, so that several processes that
+    /// store under one name don't try each other's names. It takes no memory.
+    pub fn with_process(rt: &'a R, process: u32) -> FileShelf<'a, R>
         ensures { result ≡ record { faults = 0; absences = 0 } }
     {
         FileShelf {
             rt,
+            process,
+            path: Path::new(),
             faults: 0,
             absences: 0,
         }
@@ -75,9 +88,10 @@ impl<'a, R: Files> Shelf for FileShelf<'a, R> {
         }
     }
 
-    /// It writes over what stands under the name, so that a disk without room still takes as many bytes as
-    /// before, and then cuts off the rest of that. After an `Err` the file is as it was, or ends with a
-    /// first part of the bytes.
+    /// A regular file, or a name that no file has, is replaced as a whole: after a signal at any moment the
+    /// name has the old bytes or the new ones. A link, a pipe, a device, a file with other hard links or of
+    /// another owner, and one in a folder that takes no new file, is written in place. It doesn't wait for
+    /// the disk.
     fn store(&mut self, name: &str, bytes: &[u8]) -> Result<(), Failed>
         ensures stored { OnOk result (untold_stores ≡ grown untold_stores ((name.now, bytes.now) ∷ [])) }
         ensures not_stored { OnErr result (untold_stores ≡ untold_stores) }
@@ -87,16 +101,29 @@ impl<'a, R: Files> Shelf for FileShelf<'a, R> {
         ensures absences { self.old.absences ≤ self.new.absences }
         ensures after { self.new ≡ after_file_store self.old result }
     {
-        let opened = OpenOptions::new()
-            .write(true)
-            .create(true)
-            .open(self.rt, name);
-        match write_over(opened, bytes) {
+        match write_file(self.rt, self.process, &mut self.path, name, bytes) {
             Ok(()) => Ok(()),
             Err(_) => {
                 self.faults = self.faults.saturating_add(1);
                 Err(Failed)
             }
+        }
+    }
+}
+
+/// Replaces the file, or writes over it in place.
+fn write_file<R: Files>(
+    rt: &R,
+    process: u32,
+    path: &mut Path,
+    name: &str,
+    bytes: &[u8],
+) -> Result<(), Failed> {
+    match replace(rt, process, path, name, bytes)? {
+        Replaced::Renamed => Ok(()),
+        Replaced::NotPossible => {
+            let opened = OpenOptions::new().write(true).create(true).open(rt, name);
+            write_over(&mut opened.map_err(|_| Failed)?, bytes)
         }
     }
 }

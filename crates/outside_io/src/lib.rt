@@ -11,6 +11,7 @@ pub mod memory_shelf;
 pub mod memory_sink;
 pub mod outside;
 mod pieces;
+mod replace;
 pub mod steady_shelf;
 pub mod steady_sink;
 pub mod stored;

@@ -1,5 +1,5 @@
 //! Loops over the calls of std, each of which moves some bytes of a piece.
-ghost use Rattle.std.specs.Prelude.{◌≡◌, ◌≢◌, ◌+◌, ◌<◌, ◌≤◌, ◌↔◌, [], take, length, Ok, Err, OnOk, IsOk, IsErr, IfOk, IfErr, IsErrAnd, IfSome, vec_len};
+ghost use Rattle.std.specs.Prelude.{◌≡◌, ◌≢◌, ℕ, ◌+◌, ◌<◌, ◌≤◌, ◌↔◌, [], take, length, Ok, Err, OnOk, OnErr, IsErr, IfOk, IfErr, IsErrAnd, IfSome, vec_len};
 ghost use Rattle.std.specs.IoError.{error_kind};
 ghost use Rattle.std.specs.Io.KnownBytes.{Appends};
 
@@ -8,8 +8,8 @@ use std::fs::OpenFile;
 use std::io;
 use std::io::{ErrorKind, Read, Write};
 
-/// How many bytes one read asks for at most.
-const CHUNK: usize = 4096;
+/// How many bytes one read asks for at most: a saved board and one byte more come in one read.
+const CHUNK: usize = 8192;
 
 /// A piece that wasn't taken whole: so many bytes of it were.
 #[derive(Clone, Copy, Debug, PartialEq, Eq)]
@@ -90,35 +90,36 @@ pub(crate) fn read_opened<F: Read + Drop>(
     }
 }
 
-/// Writes a piece over a file that was to be opened, from its start, and cuts off what lies behind. Every
-/// error is a fault. After one the file is as it was, or ends with a first part of the piece.
-pub(crate) fn write_over<F: Write + OpenFile + Drop>(
-    opened: io::Result<F>,
-    bytes: &[u8],
-) -> Result<(), Failed>
-    ensures { OnOk result (IsOk opened) }
+/// Writes a piece over a file in place, from its start. A regular file is first made one byte longer than
+/// the piece and at last cut to its length, so that a reader refuses it by its length until it is whole.
+/// After an `Err` it is as it was, or a first part of the piece, or one byte too long. A pipe or a device
+/// takes the piece alone.
+pub(crate) fn write_over<F: Write + OpenFile>(file: &mut F, bytes: &[u8]) -> Result<(), Failed>
+    ensures whole { OnOk result (Appends (F.contents file.old) (F.contents file.new) bytes.now) }
+    ensures part { OnErr result ((k : ℕ) × Appends (F.contents file.old) (F.contents file.new) (take k bytes.now)) }
 {
-    let Ok(mut file) = opened else {
-        return Err(Failed);
-    };
-    match write_whole(&mut file, bytes) {
-        Ok(()) => cut_behind(&file, bytes.len()),
-        Err(Short { taken: 0 }) => Err(Failed),
-        Err(Short { taken }) => {
-            // What was in the file behind these bytes is of no use, and may look like a part of them.
-            let _ = cut_behind(&file, taken);
+    let found = file.metadata().map_err(|_| Failed)?;
+    if !found.is_file() {
+        return write_whole(file, bytes).map_err(|_| Failed);
+    }
+    let len = bytes.len() as u64;
+    file.set_len(len.saturating_add(1)).map_err(|_| Failed)?;
+    match write_whole(file, bytes) {
+        Ok(()) => file.set_len(len).map_err(|_| Failed),
+        Err(short) => {
+            // Where this fails too, the file stays one byte too long.
+            let _ = file.set_len(len_after(short, found.len(), len));
             Err(Failed)
         }
     }
 }
 
-/// Cuts a file behind its first bytes where it is longer, as no pipe and no device is.
-fn cut_behind<F: OpenFile>(file: &F, len: usize) -> Result<(), Failed> {
-    let len = len as u64;
-    let cut = match file.metadata() {
-        Ok(found) if found.len() <= len => Ok(()),
-        Ok(_) => file.set_len(len),
-        Err(error) => Err(error),
-    };
-    cut.map_err(|_| Failed)
+/// The length to leave a file with after a piece that wasn't taken whole: the old one where the file is
+/// still as it was.
+fn len_after(short: Short, before: u64, len: u64) -> u64 {
+    if short.taken == 0 && before <= len {
+        before
+    } else {
+        short.taken as u64
+    }
 }
