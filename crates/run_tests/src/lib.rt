@@ -12,4 +12,8 @@ mod keyframes_tests;
 #[cfg(test)]
 mod log_text_tests;
 #[cfg(test)]
+mod programs;
+#[cfg(test)]
+mod run_slices_tests;
+#[cfg(test)]
 mod soak_run_tests;
