@@ -1,3 +1,4 @@
+pub mod AddressLaws
 pub mod Behind
 pub mod BoardRange
 pub mod Budgets

@@ -1,3 +1,4 @@
+pub mod Addresses
 pub mod Breaks
 pub mod Budget
 pub mod Lockstep

@@ -6,6 +6,11 @@ use Rattle.lockstep_board.specs.declared.uses.DeviceSet.{DeviceSet}
 use Rattle.lockstep_board.specs.declared.uses.Uses.{Uses}
 use Rattle.lockstep_board.specs.declared.uses.TheConstants.{NO_DEVICE, VECTOR, SOUND1, SOUND2, CELLS, DIVIDER, VECTOR_AND_DIVIDER}
 
+-- the devices by five truth values: the generator, POKEY 1, POKEY 2, the EAROM and the divider
+abbrev pub devices : Bool → Bool → Bool → Bool → Bool → DeviceSet
+devices vector sound1 sound2 cells divider =
+    record { vector = vector; sound1 = sound1; sound2 = sound2; cells = cells; divider = divider }
+
 -- the devices that give the byte of a read, and those that see a write
 abbrev pub row : DeviceSet → DeviceSet → Uses
 row reads writes = record { reads = reads; writes = writes }

@@ -1,14 +1,22 @@
 //! Laws of the lockstep board, over all boards and tapes. Each function tells one, and does nothing.
-ghost use Rattle.std.specs.Prelude.{◌≡◌, ℕ, ◌+◌, ◌*◌, ◌-◌, ◌≤◌, ◌<◌, List, All, true, None};
+ghost use Rattle.std.specs.Prelude.{◌≡◌, ℕ, ◌+◌, ◌*◌, ◌-◌, ◌≤◌, ◌<◌, List, All, true, false, None};
 ghost use Rattle.board_base.specs.declared.divider.TheConstants.{DIVIDER_PERIOD};
 ghost use Rattle.tape_ports.specs.declared.entry.TapeEntry.{TapeEntry};
+ghost use Rattle.cpu_core.specs.Course.{read_of, write_of};
 ghost use Rattle.cpu_core.specs.Ranges.{IsByte};
+ghost use Rattle.lockstep_board.specs.Addresses.{device_reads, device_writes, is_among};
 ghost use Rattle.lockstep_board.specs.Lockstep.{Board, step, access_in};
 ghost use Rattle.lockstep_board.specs.Ranges.{IsBoardInRange};
 ghost use Rattle.lockstep_board.specs.Run.{stepped, boundary_steps, clock_steps, cut_steps, to_boundary, to_clock, to_cut, is_jammed, is_over, is_at, is_cut, IsPlaced};
 ghost use Rattle.lockstep_board.specs.Breaks.{turn, turned, TurnsTo};
-ghost use Rattle.lockstep_board.specs.Budget.{budget, counted, device_accesses, wraps, entries_applied, requests, resets_begun};
+ghost use Rattle.lockstep_board.specs.Budget.{budget, counted, device_accesses, reaches_device, wraps, entries_applied, requests, resets_begun};
 ghost use Rattle.lockstep_board.specs.Order.{cleared, AddsOneClock, AreMadeBetween, Recorded, behind, records_of};
+ghost use Rattle.lockstep_board.specs.Uses.{devices, row, uses_of};
+
+use crate::uses::{
+    ALL_DEVICES, CELLS, DIVIDER, NO_DEVICE, SOUND1, SOUND2, VECTOR, VECTOR_AND_DIVIDER,
+};
+use board_map::Region;
 
 /// A run of the lockstep board may be cut at any clock or boundary on its way and go on from there,
 /// and each of the three runs comes to its end. It tells a law, and does nothing.
@@ -124,4 +132,47 @@ pub fn steps_keep_range()
         → IsBoardInRange b → IsBoardInRange (step entries b) }
     ensures steps { (entries : List TapeEntry) → (n : ℕ) → (b : Board) → All (λ entry. IsByte entry.value) entries
         → IsBoardInRange b → IsBoardInRange (stepped entries n b) }
+{}
+
+/// The addresses at which a read and a write reach a device; at no other does one. It states a law,
+/// and does nothing.
+#[tactic(auto, using(crate::proofs::AddressLaws::addresses))]
+pub fn device_addresses()
+    ensures reads { (address value : ℕ) → reaches_device (read_of address value) ≡ is_among device_reads address }
+    ensures writes { (address value : ℕ) → reaches_device (write_of address value) ≡ is_among device_writes address }
+{}
+
+/// The sets of devices, each by five truth values: the generator, POKEY 1, POKEY 2, the EAROM and the
+/// divider. It states a law, and does nothing.
+pub fn device_sets()
+    ensures none { NO_DEVICE ≡ devices false false false false false }
+    ensures all { ALL_DEVICES ≡ devices true true true true true }
+    ensures vector { VECTOR ≡ devices true false false false false }
+    ensures sound1 { SOUND1 ≡ devices false true false false false }
+    ensures sound2 { SOUND2 ≡ devices false false true false false }
+    ensures cells { CELLS ≡ devices false false false true false }
+    ensures divider { DIVIDER ≡ devices false false false false true }
+    ensures vector_and_divider { VECTOR_AND_DIVIDER ≡ devices true false false false true }
+{}
+
+/// What each region uses of the devices, for a read and for a write, each set by its five truth values.
+/// It states a law, and does nothing.
+pub fn uses_of_regions()
+    ensures ram { (k : ℕ) → uses_of (Region.Ram k) ≡ row (devices false false false false false) (devices false false false false false) }
+    ensures vector_ram { (k : ℕ) → uses_of (Region.VectorRam k) ≡ row (devices false false false false false) (devices true false false false false) }
+    ensures vector_rom { (k : ℕ) → uses_of (Region.VectorRom k) ≡ row (devices false false false false false) (devices false false false false false) }
+    ensures sound1 { (k : ℕ) → uses_of (Region.Sound1 k) ≡ row (devices false true false false false) (devices false true false false false) }
+    ensures sound2 { (k : ℕ) → uses_of (Region.Sound2 k) ≡ row (devices false false true false false) (devices false false true false false) }
+    ensures earom_out { uses_of Region.EaromOut ≡ row (devices false false false true false) (devices false false false false false) }
+    ensures in0 { uses_of Region.In0 ≡ row (devices true false false false true) (devices false false false false false) }
+    ensures in3 { uses_of Region.In3 ≡ row (devices false false false false false) (devices false false false false false) }
+    ensures in4 { uses_of Region.In4 ≡ row (devices false false false false false) (devices false false false false false) }
+    ensures go { uses_of Region.Go ≡ row (devices false false false false false) (devices true false false false false) }
+    ensures vg_reset { uses_of Region.VgReset ≡ row (devices false false false false false) (devices true false false false false) }
+    ensures acknowledge { uses_of Region.Acknowledge ≡ row (devices false false false false false) (devices false false false false true) }
+    ensures earom_control { uses_of Region.EaromControl ≡ row (devices false false false false false) (devices false false false true false) }
+    ensures earom_latch { (k : ℕ) → uses_of (Region.EaromLatch k) ≡ row (devices false false false false false) (devices false false false true false) }
+    ensures watchdog { uses_of Region.Watchdog ≡ row (devices false false false false false) (devices false false false false true) }
+    ensures program_rom { (k : ℕ) → uses_of (Region.ProgramRom k) ≡ row (devices false false false false false) (devices false false false false false) }
+    ensures nothing { uses_of Region.Nothing ≡ row (devices false false false false false) (devices false false false false false) }
 {}

@@ -7,8 +7,9 @@ pub mod stop;
 pub mod uses;
 
 pub use laws::{
-    budget_in_parts, earlier_records, one_record_of_each_part, places_of_runs, runs_are_turns,
-    split_runs, steps_keep_range, steps_of_split_runs, wraps_are_counted,
+    budget_in_parts, device_addresses, device_sets, earlier_records, one_record_of_each_part,
+    places_of_runs, runs_are_turns, split_runs, steps_keep_range, steps_of_split_runs,
+    uses_of_regions, wraps_are_counted,
 };
 pub use stop::Stop;
 pub use uses::{

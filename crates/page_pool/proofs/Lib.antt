@@ -1,3 +1,4 @@
 pub mod FreeLaws
 pub mod SlotLaws
 pub mod CallLaws
+mod HolderLaws

@@ -1,3 +1,4 @@
 pub mod Calls
+pub mod Holders
 pub mod Pool
 pub mod Slots
