@@ -1,9 +1,9 @@
 pub mod Addresses
 pub mod Apart
 pub mod Covering
+pub mod FindingNames
 pub mod Items
 pub mod Lists
-pub mod NameLaws
 pub mod Looking
 pub mod Putting
 pub mod SourceLaws

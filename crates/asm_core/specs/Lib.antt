@@ -7,3 +7,4 @@ pub mod Lines
 pub mod Rounds
 pub mod Images
 pub mod Laws
+pub mod NameMaps

@@ -11,6 +11,7 @@ pub mod laws;
 mod line;
 pub mod listing;
 mod name;
+mod name_maps;
 mod names;
 mod placed;
 mod row;

@@ -2,7 +2,7 @@ use board_base::OutOfMemory;
 use std::alloc::Global;
 use std::marker::Model;
 
-/// A list that grows at its end.
+/// A list that grows at its end. Most have one item, and take memory for that alone.
 #[derive(Drop)]
 pub struct Row<T> {
     items: Vec<T>,
@@ -33,6 +33,9 @@ impl<T: Drop> Row<T> {
         ensures ok { OnOk result (self.new ≡ self.old ++ item ∷ []) }
         ensures err { OnErr result (self.new ≡ self.old) }
     {
+        if self.items.is_empty() {
+            self.items.reserve_exact(1)?;
+        }
         match self.items.push(item) {
             Ok(()) => Ok(()),
             Err(_) => Err(OutOfMemory),

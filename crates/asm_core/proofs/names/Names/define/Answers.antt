@@ -1,16 +1,17 @@
-use Rattle.std.proofs.Common.{◌∙◌, ap, bytes_eq, map, w32, arith}
+use Rattle.std.proofs.Common.{◌≡◌, None, List, ℕ, [], ◌∷◌, ◌++◌, ◌∙◌, ℤ, ap, map, w32, to_z, of_z, arith}
 use Rattle.std.proofs.Math.Facts.{to_z-of_z}
-use Rattle.indexmap.specs.IndexMap.{insert_entry}
 use Rattle.asm_core.specs.Expressions.{value_of_name}
-use Rattle.asm_core.specs.Rounds.{with_name}
-use Rattle.asm_core.proofs.NameLaws.{define_in_entries, value_in_entries}
+use Rattle.asm_core.proofs.FindingNames.{names-pushed, values-after}
 use Rattle.asm_core.proofs.names.Names.define.Goals as goal
 
-pub returns-clause-ok : goal.returns-clause-ok
-returns-clause-ok c =
-    let absent = value_in_entries c.self.inside.values.entries c.args.name.now
-    ∙ ap (λ names. value_of_name names c.args.name.now) c.self.view_is ∙ c.requires in
-    ap (λ entries. map (λ entry. (entry.0.now, entry.1)) entries) c.in_ok-insert.ensures.entries
-    ∙ ap (λ value. map (λ entry. (entry.0.now, entry.1)) (insert_entry (λ one other. bytes_eq one.now other.now) c.self.inside.values.entries c.args.name value)) (to_z-of_z {w = w32} (omega (arith, c.ranges.value.sfits)))
-    ∙ define_in_entries c.self.inside.values.entries c.args.name c.args.value absent
-    ∙ ap (λ names. with_name names c.args.name.now c.args.value) c.self.view_is
+pub invariant_of-self-2 : goal.invariant_of-self-2
+invariant_of-self-2 c =
+    let names : List (List ℕ × ℤ) = map (λ entry. (entry.0.now, entry.1)) c.self.inside.entries.items in
+    let same : to_z w32 (of_z w32 c.args.value) ≡ c.args.value = to_z-of_z {w = w32} {z = c.args.value} (omega (arith, c.ranges.value.sfits)) in
+    let absent : value_of_name names c.args.name.now ≡ None = ap (λ names. value_of_name names c.args.name.now) c.self.view_is ∙ c.requires in
+    let items : c.push.new.self.items ≡ c.self.inside.entries.items ++ (c.args.name, c.args.value) ∷ [] =
+    c.in_ok-push.ensures.items ∙ ap (λ items. items ++ (c.args.name, to_z w32 (of_z w32 c.args.value)) ∷ []) c.reserve.ensures.items
+    ∙ ap (λ value. c.self.inside.entries.items ++ (c.args.name, value) ∷ []) same in
+    rw (names-pushed c.self.inside.entries.items c.push.new.self.items (c.args.name, c.args.value) items)
+    (values-after c.self.inside.maps.items c.make_maps.new.maps.items c.insert.new.maps.items names c.args.name.now c.args.value c.self.invariant absent
+    c.make_maps.ensures.values c.insert.ensures.count (rw same at c.in_ok-insert.ensures.ok))
