@@ -79,13 +79,20 @@ impl Folder {
         self.put(name, bytes)
     }
 
-    /// Puts the stores of a command, the newest last, and then those that stay under another name.
-    pub fn keep(&mut self, stores: &[Stored], kept: &[(&str, &Stored)]) -> Result<(), Stopped> {
+    /// Puts the stores of a command, the newest last.
+    pub fn keep(&mut self, stores: &[Stored]) -> Result<(), Stopped> {
         for store in stores {
             self.copy_in(store.name(), store.bytes())?;
         }
-        for (name, store) in kept {
-            self.copy_in(name, store.bytes())?;
+        Ok(())
+    }
+
+    /// Puts stores under other names, each by its number from 0 on.
+    pub fn keep_as(&mut self, stores: &[Stored], kept: &[(&str, usize)]) -> Result<(), Stopped> {
+        for (name, place) in kept {
+            if let Some(store) = stores.get(*place) {
+                self.copy_in(name, store.bytes())?;
+            }
         }
         Ok(())
     }

@@ -2,7 +2,7 @@ use board_base::OutOfMemory;
 use std::alloc::{AllocError, AllocFailed};
 
 /// Why the suite was not done to its end.
-#[derive(Clone, Copy, Debug, PartialEq, Eq)]
+#[derive(Clone, Copy)]
 pub enum Stopped {
     /// A file of the suite isn't there, is too long, or couldn't be read.
     File,
