@@ -44,6 +44,14 @@ fn is_note(note: &[u8], line: &str) -> bool {
     }
 }
 
+/// So many bytes from an offset on, or all where there is none.
+fn bytes_from(bytes: &[u8], from: Option<usize>, count: usize) -> &[u8] {
+    match from {
+        Some(from) => bytes.get(from..from.saturating_add(count)).unwrap_or(&[]),
+        None => bytes,
+    }
+}
+
 /// Adds what was wanted of a text, as lines, and what came.
 fn add_text(
     alloc: Global,
@@ -54,7 +62,8 @@ fn add_text(
 ) -> Result<(), Stopped> {
     let mut wanted = String::new(alloc);
     for line in content {
-        write!(wanted, "\n{line}")?;
+        wanted.push_str("\n")?;
+        wanted.push_str(line)?;
     }
     report.add_bytes(command, "the text", wanted.as_bytes(), came)
 }
@@ -134,7 +143,10 @@ impl<'t, 'f, 'c> Comparison<'t, 'f, 'c> {
     fn store(&mut self, name: &str, report: &mut Report) -> Result<(), Stopped> {
         let end = self.trial.out.bytes().len().saturating_sub(self.rest.len());
         self.ends.push(end)?;
-        let came = self.last_store().map_or("", |store| store.name());
+        let came = match self.last_store() {
+            Some(store) => store.name(),
+            None => "",
+        };
         if came == name {
             return Ok(());
         }
@@ -153,12 +165,10 @@ impl<'t, 'f, 'c> Comparison<'t, 'f, 'c> {
         wanted: &[u8],
         report: &mut Report,
     ) -> Result<(), Stopped> {
-        let bytes = self.last_store().map_or(wanted, |store| store.bytes());
-        let came = match from {
-            Some(from) => bytes.get(from..from.saturating_add(wanted.len())),
-            None => Some(bytes),
+        let Some(store) = self.last_store() else {
+            return Ok(());
         };
-        let came = came.unwrap_or(&[]);
+        let came = bytes_from(store.bytes(), from, wanted.len());
         if came == wanted {
             return Ok(());
         }

@@ -23,7 +23,7 @@ pub enum Kind {
 
 impl Kind {
     /// One call fails, and one write of the notes, where its number isn't 0.
-    fn faults(self, call: u64, notes: u64) -> Faults {
+    pub fn faults(self, call: u64, notes: u64) -> Faults {
         let mut faults = NO_FAULT;
         faults.notes = notes;
         match self {
@@ -42,18 +42,45 @@ impl Kind {
     }
 }
 
+/// Whether two stores have one name and the same bytes.
+fn is_same(made: &Stored, whole: &Stored) -> bool {
+    made.name() == whole.name() && made.bytes() == whole.bytes()
+}
+
 /// Whether the stores that were made are the first of those of the whole.
 fn are_first(made: &[Stored], whole: &[Stored]) -> bool {
+    for (made, whole) in made.iter().zip(whole) {
+        if !is_same(made, whole) {
+            return false;
+        }
+    }
     made.len() <= whole.len()
-        && made.iter().zip(whole).all(|(made, whole)| made.name() == whole.name()
-            && made.bytes() == whole.bytes())
 }
 
 /// Whether so many stores come after the text in front of them, and so many bytes of text before the
 /// next store. `ends` are the bytes of text in front of each store.
 fn are_in_order(ends: &[usize], stores: usize, text: usize) -> bool {
-    let (made, left) = ends.split_at_checked(stores).unwrap_or((ends, &[]));
-    made.last().is_none_or(|end| *end <= text) && left.first().is_none_or(|end| text <= *end)
+    for (i, end) in ends.iter().enumerate() {
+        let is_made = i < stores;
+        if is_made && text < *end || !is_made && *end < text {
+            return false;
+        }
+    }
+    true
+}
+
+/// A write of the notes fails.
+fn note_fault(call: u64) -> Faults {
+    let mut faults = NO_FAULT;
+    faults.notes = call;
+    faults
+}
+
+/// The output has only so much room.
+fn small_output(room: usize) -> Faults {
+    let mut faults = NO_FAULT;
+    faults.room = room;
+    faults
 }
 
 /// A command that was done without a fault.
@@ -89,6 +116,11 @@ impl<E: Emulator> Whole<'_, '_, E> {
             && trial.out.bytes() == self.trial.out.bytes()
             && made.len() == whole.len()
             && are_first(made, whole)
+    }
+
+    /// Whether a trial did all of the whole, with a first part of its note.
+    fn is_all_but_note(&self, trial: &Trial) -> bool {
+        self.is_all(trial) && self.trial.notes.bytes().starts_with(trial.notes.bytes())
     }
 
     /// Whether a trial did all of the whole.
@@ -134,14 +166,11 @@ impl<E: Emulator> Whole<'_, '_, E> {
 
     /// A write of the notes fails, which changes nothing else. Tells whether there was such a write.
     fn fails_at_note(&self, call: u64, report: &mut Report) -> Result<bool, Stopped> {
-        let mut faults = NO_FAULT;
-        faults.notes = call;
-        let trial = self.command.run(faults)?;
-        let (part, note) = (trial.notes.bytes(), self.trial.notes.bytes());
-        if !self.is_all(&trial) || !note.starts_with(part) {
+        let trial = self.command.run(note_fault(call))?;
+        if !self.is_all_but_note(&trial) {
             report.add_call(self.command.line, "notes", call)?;
         }
-        Ok(part.len() != note.len())
+        Ok(trial.notes.bytes().len() != self.trial.notes.bytes().len())
     }
 
     /// Each write of the notes fails in turn.
@@ -159,9 +188,7 @@ impl<E: Emulator> Whole<'_, '_, E> {
         let Some(room) = self.trial.out.bytes().len().checked_sub(1) else {
             return Ok(());
         };
-        let mut faults = NO_FAULT;
-        faults.room = room;
-        let trial = self.command.run(faults)?;
+        let trial = self.command.run(small_output(room))?;
         if self.is_stopped(&trial, OUTSIDE) {
             return Ok(());
         }

@@ -18,13 +18,22 @@ fn shown(bytes: &[u8], from: usize) -> &[u8] {
     rest.get(..SHOWN).unwrap_or(rest)
 }
 
+/// Appends a byte in hexadecimal digits.
+fn push_byte(byte: u8, text: &mut String) -> Result<(), Stopped> {
+    write!(text, "{byte:02X} ")?;
+    Ok(())
+}
+
 /// How many bytes are the same in both, from the first on.
 fn count_same(wanted: &[u8], came: &[u8]) -> usize {
-    wanted
-        .iter()
-        .zip(came)
-        .take_while(|(wanted, came)| wanted == came)
-        .count()
+    let mut same = 0usize;
+    for (wanted, came) in wanted.iter().zip(came) {
+        if wanted != came {
+            return same;
+        }
+        same = same.wrapping_add(1);
+    }
+    same
 }
 
 impl Report {
@@ -44,7 +53,7 @@ impl Report {
     fn push_digits(&mut self, word: &str, bytes: &[u8]) -> Result<(), Stopped> {
         self.text.push_str(word)?;
         for byte in bytes {
-            write!(self.text, "{byte:02X} ")?;
+            push_byte(*byte, &mut self.text)?;
         }
         self.text.push_str("\n")?;
         Ok(())

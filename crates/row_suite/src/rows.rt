@@ -3,7 +3,7 @@
 use crate::comparison::{Comparison, Kept};
 use crate::content::{content_bytes, decimal};
 use crate::emulator::Emulator;
-use crate::failures::Whole;
+use crate::failures::{Kind, Whole};
 use crate::folder::Folder;
 use crate::lines::{Level, Word, first_word, pieces, word_of};
 use crate::report::Report;
@@ -46,14 +46,12 @@ fn name_and_number(rest: &str) -> Result<(&str, usize), Stopped> {
 /// The call that fails, by what stands behind `fail`.
 fn read_fault(rest: &str) -> Result<Faults, Stopped> {
     let (kind, number) = name_and_number(rest)?;
-    let number = u64::try_from(number).map_err(|_| Stopped::Form)?;
-    let mut faults = NO_FAULT;
+    let call = number as u64;
     match kind {
-        "out" => faults.out = number,
-        "shelf" => faults.shelf = number,
-        _ => return Err(Stopped::Form),
+        "out" => Ok(Kind::Output.faults(call, 0)),
+        "shelf" => Ok(Kind::Shelf.faults(call, 0)),
+        _ => Err(Stopped::Form),
     }
-    Ok(faults)
 }
 
 /// The call that fails in a command, where its step has such a line.

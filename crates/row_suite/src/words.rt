@@ -4,13 +4,18 @@ use crate::content::decimal;
 use crate::stopped::Stopped;
 use std::alloc::Global;
 
-/// All numbers from one to another, joined by commas.
+/// Appends a number and what stands behind it.
+fn push_number(number: usize, end: &str, word: &mut String) -> Result<(), Stopped> {
+    write!(word, "{number}{end}")?;
+    Ok(())
+}
+
+/// Appends all numbers from one to another, joined by commas.
 fn push_numbers(from: usize, to: usize, word: &mut String) -> Result<(), Stopped> {
     for number in from..to {
-        write!(word, "{number},")?;
+        push_number(number, ",", word)?;
     }
-    write!(word, "{to}")?;
-    Ok(())
+    push_number(to, "", word)
 }
 
 /// Appends the numbers of the text between two braces, and what stands behind.
