@@ -1,32 +1,38 @@
 //! What a command did, held against what its row wants.
-ghost use Rattle.std.specs.Prelude.{◌≡◌, [], length, OnOk};
 
 use crate::content::{after_content, content_bytes, decimal};
 use crate::folder::Folder;
-use crate::lines::first_word;
+use crate::lines::{Word, first_word, word_of};
 use crate::report::Report;
 use crate::stopped::Stopped;
+use crate::sum::cksum;
 use crate::trial::Trial;
 use outside_io::Stored;
 use std::alloc::Global;
 
+/// What stays as files behind a command, besides its stores.
+#[derive(Drop)]
+pub struct Kept<'t> {
+    /// The numbers of stores, from 0 on, each with the name of its file.
+    pub stores: Vec<(&'t str, usize)>,
+    /// The name under which the text stays.
+    pub text: Option<&'t str>,
+}
+
 /// How far what a command did was held against what is wanted.
 #[derive(Drop)]
-pub struct Comparison<'c, 'f> {
-    alloc: Global,
-    command: &'c str,
+pub struct Comparison<'t, 'f, 'c> {
+    pub alloc: Global,
+    command: &'t str,
     folder: &'f Folder,
     trial: &'c Trial,
     /// The text that comes next.
     rest: &'c [u8],
     /// How many bytes of text stand in front of each store.
     ends: Vec<usize>,
-    /// The stores that stay as files, each with the name of its file.
-    kept: Vec<(&'c str, &'c Stored)>,
-    /// The name under which the text stays as a file.
-    kept_text: Option<&'c str>,
+    kept: Kept<'t>,
     status: usize,
-    note: Option<&'c str>,
+    note: Option<&'t str>,
 }
 
 /// Whether a note is a line, or begins with what stands before three dots.
@@ -38,14 +44,38 @@ fn is_note(note: &[u8], line: &str) -> bool {
     }
 }
 
-impl<'c, 'f> Comparison<'c, 'f> {
+/// So many bytes from an offset on, or all where there is none.
+fn bytes_from(bytes: &[u8], from: Option<usize>, count: usize) -> &[u8] {
+    match from {
+        Some(from) => bytes.get(from..from.saturating_add(count)).unwrap_or(&[]),
+        None => bytes,
+    }
+}
+
+/// Adds what was wanted of a text, as lines, and what came.
+fn add_text(
+    alloc: Global,
+    command: &str,
+    content: &[&str],
+    came: &[u8],
+    report: &mut Report,
+) -> Result<(), Stopped> {
+    let mut wanted = String::new(alloc);
+    for line in content {
+        wanted.push_str("\n")?;
+        wanted.push_str(line)?;
+    }
+    report.add_bytes(command, "the text", wanted.as_bytes(), came)
+}
+
+impl<'t, 'f, 'c> Comparison<'t, 'f, 'c> {
     /// Nothing was compared yet.
     pub fn new(
         alloc: Global,
-        command: &'c str,
+        command: &'t str,
         folder: &'f Folder,
         trial: &'c Trial,
-    ) -> Comparison<'c, 'f> {
+    ) -> Comparison<'t, 'f, 'c> {
         Comparison {
             alloc,
             command,
@@ -53,21 +83,18 @@ impl<'c, 'f> Comparison<'c, 'f> {
             trial,
             rest: trial.out.bytes(),
             ends: Vec::new(alloc),
-            kept: Vec::new(alloc),
-            kept_text: None,
+            kept: Kept {
+                stores: Vec::new(alloc),
+                text: None,
+            },
             status: 0,
             note: None,
         }
     }
 
-    /// The stores that stay as files, each with the name of its file.
-    pub fn into_kept(self) -> Vec<(&'c str, &'c Stored)> {
+    /// What stays as files.
+    pub fn into_kept(self) -> Kept<'t> {
         self.kept
-    }
-
-    /// The name under which the text stays as a file.
-    pub fn kept_text(&self) -> Option<&'c str> {
-        self.kept_text
     }
 
     /// How many bytes of text stand in front of each store.
@@ -77,17 +104,33 @@ impl<'c, 'f> Comparison<'c, 'f> {
 
     /// The text goes on with a content.
     fn text(&mut self, content: &[&str], report: &mut Report) -> Result<(), Stopped> {
-        if let Some(rest) = after_content(self.alloc, self.folder, content, self.rest)? {
-            self.rest = rest;
+        match after_content(self.alloc, self.folder, content, self.rest)? {
+            Some(rest) => {
+                self.rest = rest;
+                Ok(())
+            }
+            None => {
+                let came = self.rest;
+                self.rest = &[];
+                add_text(self.alloc, self.command, content, came, report)
+            }
+        }
+    }
+
+    /// The whole text has this sum and this length.
+    fn sum(&mut self, wanted: &str, report: &mut Report) -> Result<(), Stopped> {
+        let text = self.trial.out.bytes();
+        self.rest = &[];
+        let came = format!(in self.alloc; "{} {}", cksum(text), text.len())?;
+        if came.as_str() == wanted {
             return Ok(());
         }
-        let mut wanted = String::new(self.alloc);
-        for line in content {
-            write!(wanted, "\n{line}")?;
-        }
-        report.add_bytes(self.command, "the text", wanted.as_bytes(), self.rest)?;
-        self.rest = &[];
-        Ok(())
+        report.add_bytes(
+            self.command,
+            "the sum of the text",
+            wanted.as_bytes(),
+            came.as_bytes(),
+        )
     }
 
     /// The store that was compared last.
@@ -100,44 +143,94 @@ impl<'c, 'f> Comparison<'c, 'f> {
     fn store(&mut self, name: &str, report: &mut Report) -> Result<(), Stopped> {
         let end = self.trial.out.bytes().len().saturating_sub(self.rest.len());
         self.ends.push(end)?;
-        match self.last_store() {
-            Some(store) if store.name() == name => Ok(()),
-            Some(store) => {
-                let came = store.name().as_bytes();
-                report.add_bytes(self.command, "the name of a store", name.as_bytes(), came)
-            }
-            None => report.add_bytes(self.command, "a store", name.as_bytes(), b""),
+        let came = match self.last_store() {
+            Some(store) => store.name(),
+            None => "",
+        };
+        if came == name {
+            return Ok(());
         }
+        report.add_bytes(
+            self.command,
+            "the name of a store",
+            name.as_bytes(),
+            came.as_bytes(),
+        )
     }
 
-    /// The last store has these bytes from an offset on, and no others where `is_whole` is true.
+    /// The last store has these bytes from an offset on, and no others where there is none.
     fn stored(
         &self,
-        from: usize,
-        is_whole: bool,
+        from: Option<usize>,
         wanted: &[u8],
         report: &mut Report,
     ) -> Result<(), Stopped> {
         let Some(store) = self.last_store() else {
             return Ok(());
         };
-        let bytes = store.bytes();
-        let to = if is_whole {
-            bytes.len()
-        } else {
-            from.saturating_add(wanted.len())
-        };
-        let came = bytes.get(from..to).unwrap_or(&[]);
+        let came = bytes_from(store.bytes(), from, wanted.len());
         if came == wanted {
             return Ok(());
         }
         report.add_difference(self.command, "the bytes of a store", wanted, came)
     }
 
+    /// The last store has the bytes of a content.
+    fn stored_content(
+        &self,
+        from: Option<usize>,
+        content: &[&str],
+        report: &mut Report,
+    ) -> Result<(), Stopped> {
+        let wanted = content_bytes(self.alloc, content)?;
+        self.stored(from, &wanted, report)
+    }
+
+    /// The next store has a name, and the bytes of a content where there is one.
+    fn whole_store(
+        &mut self,
+        name: &str,
+        content: &[&str],
+        report: &mut Report,
+    ) -> Result<(), Stopped> {
+        self.store(name, report)?;
+        if content.is_empty() {
+            return Ok(());
+        }
+        self.stored_content(None, content, report)
+    }
+
     /// The last store stays as a file.
-    fn keep(&mut self, name: &'c str) -> Result<(), Stopped> {
-        if let Some(store) = self.last_store() {
-            self.kept.push((name, store))?;
+    fn keep(&mut self, name: &'t str) -> Result<(), Stopped> {
+        let place = self.ends.len().saturating_sub(1);
+        self.kept.stores.push((name, place))?;
+        Ok(())
+    }
+
+    /// A part of what is wanted of the stores: its word, the rest of its first line, and its content.
+    fn part_of_stores(
+        &mut self,
+        word: Word,
+        rest: &'t str,
+        content: &[&str],
+        report: &mut Report,
+    ) -> Result<(), Stopped> {
+        match word {
+            Word::Store => self.whole_store(rest, content, report),
+            Word::At => self.stored_content(Some(decimal(rest)?), content, report),
+            Word::Same => self.stored(None, self.folder.bytes(rest), report),
+            Word::Keep => self.keep(rest),
+            _ => Err(Stopped::Form),
+        }
+    }
+
+    /// What is told of the end: the status, the note, and the name under which the text stays.
+    fn part_of_end(&mut self, word: Word, rest: &'t str) -> Result<(), Stopped> {
+        match word {
+            Word::Status => self.status = decimal(rest)?,
+            Word::Note => self.note = Some(rest),
+            Word::Text => self.kept.text = Some(rest),
+            _ => {}
         }
         Ok(())
     }
@@ -145,67 +238,43 @@ impl<'c, 'f> Comparison<'c, 'f> {
     /// A part of what is wanted: its first line, and its content.
     pub fn part(
         &mut self,
-        line: &'c str,
+        line: &'t str,
         content: &[&str],
         report: &mut Report,
     ) -> Result<(), Stopped> {
-        let (word, rest) = first_word(line);
+        let (_, rest) = first_word(line);
+        let word = word_of(line);
         match word {
-            "$" | "out" => self.text(content, report),
-            "status" => {
-                self.status = decimal(rest)?;
-                Ok(())
-            }
-            "note" => {
-                self.note = Some(rest);
-                Ok(())
-            }
-            "store" => {
-                self.store(rest, report)?;
-                if content.is_empty() {
-                    return Ok(());
-                }
-                let bytes = content_bytes(self.alloc, content)?;
-                self.stored(0, true, &bytes, report)
-            }
-            "at" => {
-                let bytes = content_bytes(self.alloc, content)?;
-                self.stored(decimal(rest)?, false, &bytes, report)
-            }
-            "same" => self.stored(0, true, self.folder.bytes(rest), report),
-            "keep" => self.keep(rest),
-            "text" => {
-                self.kept_text = Some(rest);
-                Ok(())
-            }
-            _ => Err(Stopped::Form),
+            Word::Command | Word::Out => self.text(content, report),
+            Word::Sum => self.sum(rest, report),
+            Word::Fail | Word::Status | Word::Note | Word::Text => self.part_of_end(word, rest),
+            _ => self.part_of_stores(word, rest, content, report),
         }
     }
 
-    /// All that is wanted was compared: nothing else came.
-    pub fn end(&self, report: &mut Report) -> Result<(), Stopped>
-        ensures text { OnOk result (report.new ≡ [] → self.now.rest.now ≡ []) }
-        ensures stores { OnOk result (report.new ≡ [] → length self.now.trial.now.shelf.stores ≡ length self.now.ends.items) }
-        ensures status { OnOk result (report.new ≡ [] → self.now.trial.now.status ≡ self.now.status) }
-    {
+    /// Nothing else came than the text and the stores that were compared.
+    fn end_stores(&self, report: &mut Report) -> Result<(), Stopped> {
         if !self.rest.is_empty() {
             report.add_bytes(self.command, "the end of the text", b"", self.rest)?;
         }
         let count = self.trial.shelf.stores().len();
-        if count != self.ends.len() {
-            report.add_numbers(self.command, "the stores", self.ends.len(), count)?;
+        if count == self.ends.len() {
+            return Ok(());
         }
+        report.add_numbers(self.command, "the stores", self.ends.len(), count)
+    }
+
+    /// The status is the one that is wanted.
+    fn end_status(&self, report: &mut Report) -> Result<(), Stopped> {
         let status = usize::from(self.trial.status);
-        if status != self.status {
-            report.add_numbers(self.command, "the status", self.status, status)?;
+        if status == self.status {
+            return Ok(());
         }
-        self.end_note(report)
+        report.add_numbers(self.command, "the status", self.status, status)
     }
 
     /// The note is the one that is wanted.
-    fn end_note(&self, report: &mut Report) -> Result<(), Stopped>
-        ensures kept { OnOk result (report.new ≡ [] → report.old ≡ []) }
-    {
+    fn end_note(&self, report: &mut Report) -> Result<(), Stopped> {
         let note = self.trial.notes.bytes();
         let is_wanted = match self.note {
             Some(line) => is_note(note, line),
@@ -216,5 +285,12 @@ impl<'c, 'f> Comparison<'c, 'f> {
         }
         let wanted = self.note.unwrap_or("").as_bytes();
         report.add_bytes(self.command, "the note", wanted, note)
+    }
+
+    /// All that is wanted was compared: nothing else came.
+    pub fn end(&self, report: &mut Report) -> Result<(), Stopped> {
+        self.end_stores(report)?;
+        self.end_status(report)?;
+        self.end_note(report)
     }
 }

@@ -4,20 +4,15 @@ use crate::folder::Folder;
 use crate::stopped::Stopped;
 use std::alloc::Global;
 
-/// A decimal number of a clock's size.
-fn number(digits: &str) -> Result<u64, Stopped> {
-    u64::from_str_radix(digits, 10).map_err(|_| Stopped::Form)
-}
-
 /// A decimal number.
 pub fn decimal(digits: &str) -> Result<usize, Stopped> {
-    usize::from_str_radix(digits, 10).map_err(|_| Stopped::Form)
+    Ok(usize::from_str_radix(digits, 10)?)
 }
 
 /// Appends a byte in two hexadecimal digits, or that byte N times where `*N` is behind it.
 fn push_bytes(alloc: Global, word: &str, bytes: &mut Vec<u8>) -> Result<(), Stopped> {
     let (digits, times) = word.split_once('*').unwrap_or((word, "1"));
-    let byte = u8::from_str_radix(digits, 16).map_err(|_| Stopped::Form)?;
+    let byte = u8::from_str_radix(digits, 16)?;
     let run = vec![in alloc; byte; decimal(times)?]?;
     bytes.extend_from_slice(&run)?;
     Ok(())
@@ -62,7 +57,7 @@ pub fn content_bytes(alloc: Global, content: &[&str]) -> Result<Vec<u8>, Stopped
 enum Wanted<'t> {
     Bytes(Vec<u8>),
     /// These bytes, a decimal number between two, and the line's end.
-    Number(&'t str, u64, u64),
+    Number(&'t str, usize, usize),
 }
 
 /// What a line of a content wants. A file's name behind `@` stands for its bytes.
@@ -75,16 +70,31 @@ fn read_wanted<'t>(alloc: Global, folder: &Folder, line: &'t str) -> Result<Want
     };
     let (front, most) = pattern.rsplit_once(' ').ok_or(Stopped::Form)?;
     let (front, least) = front.rsplit_once(' ').ok_or(Stopped::Form)?;
-    Ok(Wanted::Number(front, number(least)?, number(most)?))
+    Ok(Wanted::Number(front, decimal(least)?, decimal(most)?))
+}
+
+/// The length of the first line, without its end.
+fn line_length(bytes: &[u8]) -> Option<usize> {
+    for (i, byte) in bytes.iter().enumerate() {
+        if *byte == b'\n' {
+            return Some(i);
+        }
+    }
+    None
+}
+
+/// The number that the digits of a line are.
+fn line_number(line: &[u8]) -> Option<usize> {
+    let digits = str::from_utf8(line).ok()?;
+    usize::from_str_radix(digits, 10).ok()
 }
 
 /// What follows a number between two and its line's end.
-fn after_number<'b>(bytes: &'b [u8], least: u64, most: u64) -> Option<&'b [u8]> {
-    let end = bytes.iter().position(|byte| *byte == b'\n')?;
-    let digits = str::from_utf8(bytes.get(..end)?).ok()?;
-    let number = u64::from_str_radix(digits, 10).ok()?;
+fn after_number(bytes: &[u8], least: usize, most: usize) -> Option<&[u8]> {
+    let (line, rest) = bytes.split_at_checked(line_length(bytes)?)?;
+    let number = line_number(line)?;
     if least <= number && number <= most {
-        bytes.get(end..)?.strip_prefix(b"\n")
+        rest.strip_prefix(b"\n")
     } else {
         None
     }

@@ -18,6 +18,14 @@ pub struct Folder {
     files: Vec<File>,
 }
 
+/// Three runs of bytes, one after another.
+fn joined(alloc: Global, a: &[u8], b: &[u8], c: &[u8]) -> Result<Vec<u8>, Stopped> {
+    let mut bytes = Vec::from_slice(alloc, a)?;
+    bytes.extend_from_slice(b)?;
+    bytes.extend_from_slice(c)?;
+    Ok(bytes)
+}
+
 impl Folder {
     /// An empty folder.
     pub fn new(alloc: Global) -> Folder {
@@ -29,37 +37,47 @@ impl Folder {
 
     /// The place of a file.
     fn place(&self, name: &str) -> Option<usize> {
-        self.files
-            .iter()
-            .position(|file| file.name.as_str() == name)
+        for (i, file) in self.files.iter().enumerate() {
+            if file.name.as_str() == name {
+                return Some(i);
+            }
+        }
+        None
     }
 
     /// The bytes of a file. One that isn't there has none.
     pub fn bytes(&self, name: &str) -> &[u8] {
-        match self.place(name).and_then(|place| self.files.get(place)) {
+        let Some(place) = self.place(name) else {
+            return &[];
+        };
+        match self.files.get(place) {
             Some(file) => &file.bytes,
             None => &[],
         }
     }
 
-    /// Puts a file in the place of what stands under its name.
-    pub fn put(&mut self, name: &str, bytes: Vec<u8>) -> Result<(), Stopped> {
-        let place = self.place(name);
-        if let Some(file) = place.and_then(|place| self.files.get_mut(place)) {
-            file.bytes = bytes;
-            return Ok(());
-        }
+    /// Adds a file whose name isn't there.
+    fn add(&mut self, name: &str, bytes: Vec<u8>) -> Result<(), Stopped> {
         let name = String::from_str(self.alloc, name)?;
         self.files.push(File { name, bytes })?;
         Ok(())
     }
 
+    /// Puts a file in the place of what stands under its name.
+    pub fn put(&mut self, name: &str, bytes: Vec<u8>) -> Result<(), Stopped> {
+        let Some(place) = self.place(name) else {
+            return self.add(name, bytes);
+        };
+        if let Some(file) = self.files.get_mut(place) {
+            file.bytes = bytes;
+        }
+        Ok(())
+    }
+
     /// Makes a file so many bytes long: it is cut, or has zeros at its end.
     pub fn set_length(&mut self, name: &str, length: usize) -> Result<(), Stopped> {
-        let old = self.bytes(name);
-        let mut bytes = Vec::from_slice(self.alloc, old.get(..length).unwrap_or(old))?;
-        let zeros = vec![in self.alloc; 0u8; length.saturating_sub(bytes.len())]?;
-        bytes.extend_from_slice(&zeros)?;
+        let mut bytes = Vec::from_slice(self.alloc, self.bytes(name))?;
+        bytes.resize(length, 0)?;
         self.put(name, bytes)
     }
 
@@ -67,9 +85,8 @@ impl Folder {
     pub fn patch(&mut self, name: &str, offset: usize, part: &[u8]) -> Result<(), Stopped> {
         let old = self.bytes(name);
         let front = old.get(..offset).ok_or(Stopped::Form)?;
-        let mut bytes = Vec::from_slice(self.alloc, front)?;
-        bytes.extend_from_slice(part)?;
-        bytes.extend_from_slice(old.get(bytes.len()..).unwrap_or(&[]))?;
+        let back = old.get(offset.saturating_add(part.len())..).unwrap_or(&[]);
+        let bytes = joined(self.alloc, front, part, back)?;
         self.put(name, bytes)
     }
 
@@ -79,13 +96,20 @@ impl Folder {
         self.put(name, bytes)
     }
 
-    /// Puts the stores of a command, the newest last, and then those that stay under another name.
-    pub fn keep(&mut self, stores: &[Stored], kept: &[(&str, &Stored)]) -> Result<(), Stopped> {
+    /// Puts the stores of a command, the newest last.
+    pub fn keep(&mut self, stores: &[Stored]) -> Result<(), Stopped> {
         for store in stores {
             self.copy_in(store.name(), store.bytes())?;
         }
-        for (name, store) in kept {
-            self.copy_in(name, store.bytes())?;
+        Ok(())
+    }
+
+    /// Puts stores under other names, each by its number from 0 on.
+    pub fn keep_as(&mut self, stores: &[Stored], kept: &[(&str, usize)]) -> Result<(), Stopped> {
+        for (name, place) in kept {
+            if let Some(store) = stores.get(*place) {
+                self.copy_in(name, store.bytes())?;
+            }
         }
         Ok(())
     }

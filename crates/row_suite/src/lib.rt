@@ -13,7 +13,9 @@ mod report;
 mod rows;
 mod stopped;
 mod suite;
+mod sum;
 mod trial;
+mod words;
 
 pub use emulator::Emulator;
 pub use stopped::Stopped;

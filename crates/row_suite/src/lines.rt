@@ -4,7 +4,7 @@ use crate::stopped::Stopped;
 use std::alloc::Global;
 
 /// What a suite is made of, from the whole down to the line.
-#[derive(Clone, Copy, Debug, PartialEq, Eq)]
+#[derive(Clone, Copy)]
 pub enum Level {
     /// A row, or what several rows begin with.
     Block,
@@ -14,39 +14,114 @@ pub enum Level {
     Part,
 }
 
+/// What a line is.
+#[derive(Clone, Copy)]
+pub enum Word {
+    Row,
+    Given,
+    With,
+    Once,
+    File,
+    Patch,
+    Length,
+    Copy,
+    Command,
+    Out,
+    Sum,
+    Fail,
+    Status,
+    Note,
+    Store,
+    At,
+    Same,
+    Keep,
+    Text,
+    /// Text, bytes, a number between two, a file's bytes, or lines of any text.
+    Content,
+    Malformed,
+}
+
+/// The first words of the lines that are no content.
+const WORDS: [(&str, Word); 19] = [
+    ("row", Word::Row),
+    ("given", Word::Given),
+    ("with", Word::With),
+    ("once", Word::Once),
+    ("file", Word::File),
+    ("patch", Word::Patch),
+    ("length", Word::Length),
+    ("copy", Word::Copy),
+    ("$", Word::Command),
+    ("out", Word::Out),
+    ("sum", Word::Sum),
+    ("fail", Word::Fail),
+    ("status", Word::Status),
+    ("note", Word::Note),
+    ("store", Word::Store),
+    ("at", Word::At),
+    ("same", Word::Same),
+    ("keep", Word::Keep),
+    ("text", Word::Text),
+];
+
 /// The first word of a line, and the rest of it behind a space.
 pub fn first_word(line: &str) -> (&str, &str) {
     line.split_once(' ').unwrap_or((line, ""))
 }
 
+/// What the first word of a line says.
+fn read_word(first: &str) -> Word {
+    for (text, word) in &WORDS {
+        if *text == first {
+            return *word;
+        }
+    }
+    Word::Malformed
+}
+
+/// Whether a line is content, by the character that it begins with.
+fn is_content(line: &str) -> bool {
+    let begins = ["|", "\\", ":", "?", "@"];
+    line == "..." || begins.iter().any(|begin| line.starts_with(*begin))
+}
+
+/// What a line is.
+pub fn word_of(line: &str) -> Word {
+    if is_content(line) {
+        return Word::Content;
+    }
+    let (first, _) = first_word(line);
+    read_word(first)
+}
+
 impl Level {
     /// Whether a line begins a piece of this level.
-    fn begins(self, line: &str) -> bool {
-        let (word, _) = first_word(line);
+    fn begins(self, word: Word) -> bool {
         match self {
-            Level::Block => word == "row" || word == "given",
-            Level::Step => !is_content(line) && !is_wanted(word),
-            Level::Part => !is_content(line),
+            Level::Block => matches!(word, Word::Row | Word::Given),
+            Level::Step => !word.is_of_step(),
+            Level::Part => !matches!(word, Word::Content),
         }
     }
 }
 
-/// Whether a line is content: text, bytes, a number between two, a file's bytes, or lines of any text.
-fn is_content(line: &str) -> bool {
-    line.starts_with("|")
-        || line.starts_with("\\")
-        || line.starts_with(":")
-        || line.starts_with("?")
-        || line.starts_with("@")
-        || line == "..."
-}
-
-/// Whether a word tells what a command is to give.
-fn is_wanted(word: &str) -> bool {
-    let words = [
-        "out", "status", "note", "store", "at", "same", "keep", "text",
-    ];
-    words.contains(&word)
+impl Word {
+    /// Whether a line belongs to the file or the command before it.
+    fn is_of_step(self) -> bool {
+        !matches!(
+            self,
+            Word::Row
+                | Word::Given
+                | Word::With
+                | Word::Once
+                | Word::File
+                | Word::Patch
+                | Word::Length
+                | Word::Copy
+                | Word::Command
+                | Word::Malformed
+        )
+    }
 }
 
 /// The lines of a suite, without the empty ones and the comments.
@@ -82,7 +157,7 @@ pub fn pieces<'l, 't>(
     let mut pieces = Vec::new(alloc);
     let mut from = 0;
     for (i, line) in lines.iter().enumerate() {
-        if from < i && level.begins(line) {
+        if from < i && level.begins(word_of(line)) {
             push_piece(lines, from, i, &mut pieces)?;
             from = i;
         }

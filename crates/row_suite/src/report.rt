@@ -1,9 +1,7 @@
 //! What differs in a row.
-ghost use Rattle.std.specs.Prelude.{◌≡◌, ◌≢◌, [], OnOk};
 
 use crate::stopped::Stopped;
 use std::alloc::Global;
-use std::marker::Model;
 
 /// The most bytes that are shown of what was wanted, and of what came.
 const SHOWN: usize = 400;
@@ -14,34 +12,15 @@ pub struct Report {
     text: String,
 }
 
-impl Model for Report {
-    ghost use Rattle.std.specs.Prelude.{ℕ, List, string_bytes};
-
-    ghost Value = { List ℕ };
-
-    ghost view = { λ r. string_bytes r.text };
-}
-
 /// The bytes of some that are shown, from one on.
 fn shown(bytes: &[u8], from: usize) -> &[u8] {
     let rest = bytes.get(from..).unwrap_or(&[]);
     rest.get(..SHOWN).unwrap_or(rest)
 }
 
-/// Appends bytes in hexadecimal digits.
-fn push_digits(bytes: &[u8], text: &mut String) -> Result<(), Stopped> {
-    for byte in bytes {
-        write!(text, "{byte:02X} ")?;
-    }
-    Ok(())
-}
-
-/// Appends bytes: as text, or in hexadecimal digits where they are none.
-fn push_bytes(bytes: &[u8], text: &mut String) -> Result<(), Stopped> {
-    match str::from_utf8(bytes) {
-        Ok(part) => text.push_str(part)?,
-        Err(_) => push_digits(bytes, text)?,
-    }
+/// Appends a byte in hexadecimal digits.
+fn push_byte(byte: u8, text: &mut String) -> Result<(), Stopped> {
+    write!(text, "{byte:02X} ")?;
     Ok(())
 }
 
@@ -59,44 +38,49 @@ fn count_same(wanted: &[u8], came: &[u8]) -> usize {
 
 impl Report {
     /// No difference.
-    pub fn new(alloc: Global) -> Report
-        ensures { result ≡ [] }
-    {
+    pub fn new(alloc: Global) -> Report {
         Report {
             text: String::new(alloc),
         }
     }
 
     /// The differences, as lines.
-    pub fn text(&self) -> &str
-        ensures { result.now ≡ self.now }
-    {
+    pub fn text(&self) -> &str {
         &self.text
     }
 
-    /// Ends a line. It is then no empty report.
-    fn end_line(&mut self) -> Result<(), Stopped>
-        ensures told { OnOk result (self.new ≢ []) }
-    {
+    /// Appends a word, and bytes in hexadecimal digits.
+    fn push_digits(&mut self, word: &str, bytes: &[u8]) -> Result<(), Stopped> {
+        self.text.push_str(word)?;
+        for byte in bytes {
+            push_byte(*byte, &mut self.text)?;
+        }
         self.text.push_str("\n")?;
         Ok(())
     }
 
+    /// Appends a word and bytes: as text, or in hexadecimal digits where they are none.
+    fn push_bytes(&mut self, word: &str, bytes: &[u8]) -> Result<(), Stopped> {
+        match str::from_utf8(bytes) {
+            Ok(part) => {
+                writeln!(self.text, "{word}{part}")?;
+                Ok(())
+            }
+            Err(_) => self.push_digits(word, bytes),
+        }
+    }
+
     /// Takes in a difference: what differs in what a command did.
-    pub fn add(&mut self, command: &str, what: &str) -> Result<(), Stopped>
-        ensures told { OnOk result (self.new ≢ []) }
-    {
-        write!(self.text, "{command}\n  {what}")?;
-        self.end_line()
+    pub fn add(&mut self, command: &str, what: &str) -> Result<(), Stopped> {
+        writeln!(self.text, "{command}\n  {what}")?;
+        Ok(())
     }
 
     /// Takes in that a call outside of a command fails, and more or less is done than what is in front.
-    pub fn add_call(&mut self, command: &str, kind: &str, call: u64) -> Result<(), Stopped>
-        ensures told { OnOk result (self.new ≢ []) }
-    {
+    pub fn add_call(&mut self, command: &str, kind: &str, call: u64) -> Result<(), Stopped> {
         self.add(command, "a call that fails")?;
-        write!(self.text, "  number {call} of the calls of the {kind}")?;
-        self.end_line()
+        writeln!(self.text, "  number {call} of the calls of the {kind}")?;
+        Ok(())
     }
 
     /// Takes in a difference with the numbers that were wanted and that came.
@@ -106,12 +90,10 @@ impl Report {
         what: &str,
         wanted: usize,
         came: usize,
-    ) -> Result<(), Stopped>
-        ensures told { OnOk result (self.new ≢ []) }
-    {
+    ) -> Result<(), Stopped> {
         self.add(command, what)?;
-        write!(self.text, "  wanted: {wanted}\n  came: {came}")?;
-        self.end_line()
+        writeln!(self.text, "  wanted: {wanted}\n  came: {came}")?;
+        Ok(())
     }
 
     /// Takes in a difference with the bytes that were wanted and those that came.
@@ -121,15 +103,10 @@ impl Report {
         what: &str,
         wanted: &[u8],
         came: &[u8],
-    ) -> Result<(), Stopped>
-        ensures told { OnOk result (self.new ≢ []) }
-    {
+    ) -> Result<(), Stopped> {
         self.add(command, what)?;
-        self.text.push_str("  wanted: ")?;
-        push_bytes(shown(wanted, 0), &mut self.text)?;
-        self.text.push_str("\n  came: ")?;
-        push_bytes(shown(came, 0), &mut self.text)?;
-        self.end_line()
+        self.push_bytes("  wanted: ", shown(wanted, 0))?;
+        self.push_bytes("  came: ", shown(came, 0))
     }
 
     /// Takes in a difference of two runs of bytes, from the first that differs on.
@@ -139,15 +116,11 @@ impl Report {
         what: &str,
         wanted: &[u8],
         came: &[u8],
-    ) -> Result<(), Stopped>
-        ensures told { OnOk result (self.new ≢ []) }
-    {
+    ) -> Result<(), Stopped> {
         let same = count_same(wanted, came);
         self.add_numbers(command, what, wanted.len(), came.len())?;
-        write!(self.text, "  the same: {same}\n  wanted then: ")?;
-        push_digits(shown(wanted, same), &mut self.text)?;
-        self.text.push_str("\n  came then: ")?;
-        push_digits(shown(came, same), &mut self.text)?;
-        self.end_line()
+        writeln!(self.text, "  the same: {same}")?;
+        self.push_digits("  wanted then: ", shown(wanted, same))?;
+        self.push_digits("  came then: ", shown(came, same))
     }
 }

@@ -1,14 +1,15 @@
 //! The rows of a suite.
 
-use crate::comparison::Comparison;
+use crate::comparison::{Comparison, Kept};
 use crate::content::{content_bytes, decimal};
 use crate::emulator::Emulator;
-use crate::failures::Whole;
+use crate::failures::{Kind, Whole};
 use crate::folder::Folder;
-use crate::lines::{Level, first_word, pieces};
+use crate::lines::{Level, Word, first_word, pieces, word_of};
 use crate::report::Report;
 use crate::stopped::Stopped;
-use crate::trial::{STEADY, Trial, try_line};
+use crate::trial::{Command, Faults, NO_FAULT, Trial};
+use crate::words::read_words;
 use std::alloc::Global;
 
 /// A row under way.
@@ -23,22 +24,17 @@ struct Row<'e, E: Emulator> {
 }
 
 /// Holds what a command did against the parts of its step.
-fn compare<'c, 'f>(
-    alloc: Global,
-    line: &'c str,
-    step: &[&'c str],
-    folder: &'f Folder,
-    trial: &'c Trial,
+fn compare<'t>(
+    step: &[&'t str],
+    comparison: &mut Comparison<'t, '_, '_>,
     report: &mut Report,
-) -> Result<Comparison<'c, 'f>, Stopped> {
-    let mut comparison = Comparison::new(alloc, line, folder, trial);
-    for part in &pieces(alloc, step, Level::Part)? {
+) -> Result<(), Stopped> {
+    for part in &pieces(comparison.alloc, step, Level::Part)? {
         if let Some((head, content)) = part.split_first() {
             comparison.part(head, content, report)?;
         }
     }
-    comparison.end(report)?;
-    Ok(comparison)
+    comparison.end(report)
 }
 
 /// A name and a number behind it.
@@ -47,64 +43,125 @@ fn name_and_number(rest: &str) -> Result<(&str, usize), Stopped> {
     Ok((name, decimal(number)?))
 }
 
+/// The call that fails, by what stands behind `fail`.
+fn read_fault(rest: &str) -> Result<Faults, Stopped> {
+    let (kind, number) = name_and_number(rest)?;
+    let call = number as u64;
+    match kind {
+        "out" => Ok(Kind::Output.faults(call, 0)),
+        "shelf" => Ok(Kind::Shelf.faults(call, 0)),
+        _ => Err(Stopped::Form),
+    }
+}
+
+/// The call that fails in a command, where its step has such a line.
+fn fault_of(step: &[&str]) -> Result<Option<Faults>, Stopped> {
+    for line in step {
+        if matches!(word_of(line), Word::Fail) {
+            let (_, rest) = first_word(line);
+            return Ok(Some(read_fault(rest)?));
+        }
+    }
+    Ok(None)
+}
+
+/// Holds what a command did against what its step wants, and makes its calls outside fail where
+/// `fails` says so.
+fn look_at<'t, E: Emulator>(
+    command: &Command<'_, E>,
+    line: &'t str,
+    step: &[&'t str],
+    trial: &Trial,
+    fails: bool,
+    report: &mut Report,
+) -> Result<Kept<'t>, Stopped> {
+    let mut comparison = Comparison::new(command.alloc, line, command.folder, trial);
+    compare(step, &mut comparison, report)?;
+    if fails && report.text().is_empty() {
+        let whole = Whole {
+            command,
+            trial,
+            ends: comparison.ends(),
+        };
+        whole.check(report)?;
+    }
+    Ok(comparison.into_kept())
+}
+
+/// Puts what stays as files behind a command into a folder.
+fn keep(folder: &mut Folder, trial: &Trial, kept: &Kept<'_>) -> Result<(), Stopped> {
+    let stores = trial.shelf.stores();
+    folder.keep(stores)?;
+    folder.keep_as(stores, kept.stores.as_slice())?;
+    match kept.text {
+        Some(name) => folder.copy_in(name, trial.out.bytes()),
+        None => Ok(()),
+    }
+}
+
 impl<E: Emulator> Row<'_, E> {
-    /// Does a command, and looks at what it did.
-    fn command(&mut self, line: &str, step: &[&str]) -> Result<(), Stopped> {
-        let trial = try_line(self.alloc, self.emulator, line, &self.folder, STEADY)?;
-        self.look_at(line, step, &trial)
+    /// Does a command, and looks at what it did. Where a call of it is to fail, the folder stays as
+    /// it is.
+    fn command<'t>(&mut self, line: &'t str, step: &[&'t str]) -> Result<(), Stopped> {
+        let words = read_words(self.alloc, line)?;
+        let faults = fault_of(step)?;
+        let command = Command {
+            alloc: self.alloc,
+            emulator: self.emulator,
+            line,
+            words: &words,
+            folder: &self.folder,
+        };
+        let trial = command.run(faults.unwrap_or(NO_FAULT))?;
+        let fails = self.fails && faults.is_none();
+        let kept = look_at(&command, line, step, &trial, fails, &mut self.report)?;
+        if faults.is_some() {
+            return Ok(());
+        }
+        keep(&mut self.folder, &trial, &kept)
     }
 
-    /// Holds what a command did against what its step wants, makes its calls outside fail, and keeps what
-    /// it has stored.
-    fn look_at(&mut self, line: &str, step: &[&str], trial: &Trial) -> Result<(), Stopped> {
-        let (folder, report) = (&self.folder, &mut self.report);
-        let comparison = compare(self.alloc, line, step, folder, trial, report)?;
-        if self.fails && self.report.text().is_empty() {
-            let whole = Whole {
-                emulator: self.emulator,
-                line,
-                folder: &self.folder,
-                trial,
-                ends: comparison.ends(),
-            };
-            whole.check(self.alloc, &mut self.report)?;
-        }
-        let kept_text = comparison.kept_text();
-        let kept = comparison.into_kept();
-        self.folder.keep(trial.shelf.stores(), kept.as_slice())?;
-        match kept_text {
-            Some(name) => self.folder.copy_in(name, trial.out.bytes()),
-            None => Ok(()),
-        }
+    /// Puts a file with the bytes of a content.
+    fn put(&mut self, name: &str, content: &[&str]) -> Result<(), Stopped> {
+        let bytes = content_bytes(self.alloc, content)?;
+        self.folder.put(name, bytes)
+    }
+
+    /// Puts the bytes of a content over a file's.
+    fn patch(&mut self, rest: &str, content: &[&str]) -> Result<(), Stopped> {
+        let (name, offset) = name_and_number(rest)?;
+        let bytes = content_bytes(self.alloc, content)?;
+        self.folder.patch(name, offset, &bytes)
+    }
+
+    /// Makes a file longer or shorter.
+    fn set_length(&mut self, rest: &str) -> Result<(), Stopped> {
+        let (name, length) = name_and_number(rest)?;
+        self.folder.set_length(name, length)
+    }
+
+    /// Copies a file.
+    fn copy(&mut self, rest: &str) -> Result<(), Stopped> {
+        let (from, to) = rest.split_once(' ').ok_or(Stopped::Form)?;
+        let bytes = Vec::from_slice(self.alloc, self.folder.bytes(from))?;
+        self.folder.put(to, bytes)
     }
 
     /// Does a step: a file, a change of one, or a command.
-    fn step(&mut self, step: &[&str]) -> Result<(), Stopped> {
-        let Some((head, content)) = step.split_first() else {
-            return Ok(());
-        };
-        let (word, rest) = first_word(head);
-        match word {
-            "row" | "given" => Ok(()),
-            "$" => self.command(rest, step),
-            "file" => {
-                let bytes = content_bytes(self.alloc, content)?;
-                self.folder.put(rest, bytes)
-            }
-            "patch" => {
-                let (name, offset) = name_and_number(rest)?;
-                let bytes = content_bytes(self.alloc, content)?;
-                self.folder.patch(name, offset, &bytes)
-            }
-            "length" => {
-                let (name, length) = name_and_number(rest)?;
-                self.folder.set_length(name, length)
-            }
-            "copy" => {
-                let (from, to) = rest.split_once(' ').ok_or(Stopped::Form)?;
-                let bytes = Vec::from_slice(self.alloc, self.folder.bytes(from))?;
-                self.folder.put(to, bytes)
-            }
+    fn step<'t>(
+        &mut self,
+        head: &'t str,
+        content: &[&'t str],
+        step: &[&'t str],
+    ) -> Result<(), Stopped> {
+        let (_, rest) = first_word(head);
+        match word_of(head) {
+            Word::Row | Word::Given => Ok(()),
+            Word::Command => self.command(rest, step),
+            Word::File => self.put(rest, content),
+            Word::Patch => self.patch(rest, content),
+            Word::Length => self.set_length(rest),
+            Word::Copy => self.copy(rest),
             _ => Err(Stopped::Form),
         }
     }
@@ -112,9 +169,38 @@ impl<E: Emulator> Row<'_, E> {
     /// Does the steps of what other rows begin with.
     fn begin(&mut self, given: &[&str]) -> Result<(), Stopped> {
         for step in &pieces(self.alloc, given, Level::Step)? {
-            self.step(step)?;
+            if let Some((head, content)) = step.split_first() {
+                self.step(head, content, step)?;
+            }
         }
         Ok(())
+    }
+
+    /// Does what stands under a name, without calls that fail.
+    fn with(&mut self, blocks: &[&[&str]], name: &str) -> Result<(), Stopped> {
+        let fails = self.fails;
+        self.fails = false;
+        self.begin(given(blocks, name)?)?;
+        self.fails = fails;
+        Ok(())
+    }
+
+    /// Does a step of a row.
+    fn row_step(&mut self, blocks: &[&[&str]], step: &[&str]) -> Result<(), Stopped> {
+        let Some((head, content)) = step.split_first() else {
+            return Ok(());
+        };
+        match word_of(head) {
+            Word::With => {
+                let (_, name) = first_word(head);
+                self.with(blocks, name)
+            }
+            Word::Once => {
+                self.fails = false;
+                Ok(())
+            }
+            _ => self.step(head, content, step),
+        }
     }
 }
 
@@ -122,7 +208,8 @@ impl<E: Emulator> Row<'_, E> {
 fn given<'l, 't>(blocks: &[&'l [&'t str]], name: &str) -> Result<&'l [&'t str], Stopped> {
     for block in blocks {
         if let Some(head) = block.first() {
-            if first_word(head) == ("given", name) {
+            let (word, rest) = first_word(head);
+            if word == "given" && rest == name {
                 return Ok(block);
             }
         }
@@ -145,16 +232,7 @@ pub fn run_row<E: Emulator>(
         fails: true,
     };
     for step in &pieces(alloc, block, Level::Step)? {
-        match step.first().map(|head| first_word(head)) {
-            Some(("with", name)) => {
-                let fails = row.fails;
-                row.fails = false;
-                row.begin(given(blocks, name)?)?;
-                row.fails = fails;
-            }
-            Some(("once", _)) => row.fails = false,
-            _ => row.step(step)?,
-        }
+        row.row_step(blocks, step)?;
     }
     Ok(row.report)
 }

@@ -1,8 +1,10 @@
 use board_base::OutOfMemory;
+use outside_io::SinkFault;
 use std::alloc::{AllocError, AllocFailed};
+use std::num::ParseIntError;
 
 /// Why the suite was not done to its end.
-#[derive(Clone, Copy, Debug, PartialEq, Eq)]
+#[derive(Clone, Copy)]
 pub enum Stopped {
     /// A file of the suite isn't there, is too long, or couldn't be read.
     File,
@@ -23,6 +25,18 @@ impl Stopped {
             Stopped::Output => b"board_rows: no output\n",
             Stopped::NoMemory => b"board_rows: no memory\n",
         }
+    }
+}
+
+impl From<ParseIntError> for Stopped {
+    fn from(_: ParseIntError) -> Stopped {
+        Stopped::Form
+    }
+}
+
+impl From<SinkFault> for Stopped {
+    fn from(_: SinkFault) -> Stopped {
+        Stopped::Output
     }
 }
 

@@ -11,7 +11,8 @@ use std::alloc::Global;
 fn show<O: Sink>(alloc: Global, title: &str, differs: &str, out: &mut O) -> Result<(), Stopped> {
     let word = if differs.is_empty() { "ok" } else { "differs" };
     let text = format!(in alloc; "{word} {title}\n{differs}")?;
-    out.write(text.as_bytes()).map_err(|_| Stopped::Output)
+    out.write(text.as_bytes())?;
+    Ok(())
 }
 
 /// Does all rows of a suite's text, shows each in a line, with what differs behind it, and tells how many differ.

@@ -1,6 +1,5 @@
 //! A command that is done over a folder, with the calls that fail.
 
-use crate::content::decimal;
 use crate::emulator::Emulator;
 use crate::folder::Folder;
 use crate::stopped::Stopped;
@@ -13,25 +12,25 @@ const STORES: usize = 16;
 const STORE_ROOM: usize = 43_200;
 
 /// The bytes that an output takes, and those that the notes take.
-pub const TEXT_ROOM: usize = 8_388_608;
+const TEXT_ROOM: usize = 8_388_608;
 
 const NOTE_ROOM: usize = 1000;
 
-/// What a command meets outside: the calls of the shelf, the output and the notes that fail, each
-/// counted from 1, and how many bytes the output takes.
+/// The call of the shelf, the write of the output and the write of the notes that fail, each counted
+/// from 1 (0 is none), and how many bytes the output takes.
 #[derive(Clone, Copy)]
-pub struct Outside<'c> {
-    pub shelf: &'c [u64],
-    pub out: &'c [u64],
-    pub notes: &'c [u64],
+pub struct Faults {
+    pub shelf: u64,
+    pub out: u64,
+    pub notes: u64,
     pub room: usize,
 }
 
 /// Nothing fails.
-pub const STEADY: Outside<'static> = Outside {
-    shelf: &[],
-    out: &[],
-    notes: &[],
+pub const NO_FAULT: Faults = Faults {
+    shelf: 0,
+    out: 0,
+    notes: 0,
     room: TEXT_ROOM,
 };
 
@@ -44,56 +43,44 @@ pub struct Trial {
     pub notes: MemorySink,
 }
 
-/// All numbers from one to another, joined by commas.
-fn push_numbers(from: usize, to: usize, word: &mut String) -> Result<(), Stopped> {
-    for number in from..to {
-        write!(word, "{number},")?;
-    }
-    write!(word, "{to}")?;
-    Ok(())
-}
-
-/// A word of a command line. `{A..B}` in it stands for the numbers from A to B.
-fn read_word(alloc: Global, text: &str) -> Result<String, Stopped> {
-    let Some((front, rest)) = text.split_once('{') else {
-        return Ok(String::from_str(alloc, text)?);
-    };
-    let (numbers, back) = rest.split_once('}').ok_or(Stopped::Form)?;
-    let (from, to) = numbers.split_once("..").ok_or(Stopped::Form)?;
-    let mut word = String::from_str(alloc, front)?;
-    push_numbers(decimal(from)?, decimal(to)?, &mut word)?;
-    word.push_str(back)?;
-    Ok(word)
-}
-
-/// The words of a command line behind the program's name, by its single spaces.
-fn read_words(alloc: Global, line: &str) -> Result<Vec<String>, Stopped> {
-    let mut words = Vec::new(alloc);
-    let rest = line.strip_prefix("gravitar").ok_or(Stopped::Form)?;
-    for word in rest.split(' ').skip(1) {
-        words.push(read_word(alloc, word)?)?;
-    }
-    Ok(words)
-}
-
-/// Does a command line over a folder.
-pub fn try_line<E: Emulator>(
-    alloc: Global,
-    emulator: &E,
-    line: &str,
-    folder: &Folder,
-    outside: Outside<'_>,
-) -> Result<Trial, Stopped> {
-    let words = read_words(alloc, line)?;
-    let mut shelf = MemoryShelf::new(alloc, STORES, STORE_ROOM, outside.shelf)?;
+/// A shelf with the files of a folder.
+fn shelf_of(alloc: Global, folder: &Folder, fail: u64) -> Result<MemoryShelf, Stopped> {
+    let mut shelf = MemoryShelf::new(alloc, STORES, STORE_ROOM, &[fail])?;
     folder.fill(&mut shelf)?;
-    let mut out = MemorySink::new(alloc, outside.room, outside.out)?;
-    let mut notes = MemorySink::new(alloc, NOTE_ROOM, outside.notes)?;
-    let status = emulator.command(alloc, &words, &mut shelf, &mut out, &mut notes)?;
-    Ok(Trial {
-        status,
-        shelf,
-        out,
-        notes,
-    })
+    Ok(shelf)
+}
+
+/// A command over the files of a folder.
+#[derive(Drop)]
+pub struct Command<'c, E: Emulator> {
+    pub alloc: Global,
+    pub emulator: &'c E,
+    /// Its line in the suite, and its words behind the program's name.
+    pub line: &'c str,
+    pub words: &'c [String],
+    pub folder: &'c Folder,
+}
+
+impl<E: Emulator> Command<'_, E> {
+    /// Does it, with the calls that fail.
+    pub fn run(&self, faults: Faults) -> Result<Trial, Stopped> {
+        let out = MemorySink::new(self.alloc, faults.room, &[faults.out])?;
+        let notes = MemorySink::new(self.alloc, NOTE_ROOM, &[faults.notes])?;
+        let shelf = shelf_of(self.alloc, self.folder, faults.shelf)?;
+        self.run_over(Trial {
+            status: 0,
+            shelf,
+            out,
+            notes,
+        })
+    }
+
+    /// Does it over a shelf and sinks.
+    fn run_over(&self, mut trial: Trial) -> Result<Trial, Stopped> {
+        let (shelf, out, notes) = (&mut trial.shelf, &mut trial.out, &mut trial.notes);
+        trial.status = self
+            .emulator
+            .command(self.alloc, self.words, shelf, out, notes)?;
+        Ok(trial)
+    }
 }
