@@ -7,10 +7,11 @@ Before a crate's edits, and behind them, the kit checks the crate as it stands: 
     python3 tools/gate_times.py --pid N        watches a gate that runs already, up to its end
 
 It reads /proc every half second, so what a prover took since its last look is missing: a hundredth or so.
-The table is one of docs/TESTING.md. Crates that were kept from an earlier run have no times.
+The table and the two totals are those of docs/TESTING.md. Crates that were kept from an earlier run have no times.
 """
 import collections
 import os
+import resource
 import subprocess
 import sys
 import time
@@ -83,7 +84,7 @@ def main(words):
         sys.exit(__doc__)
     started = None if words[0] == "--pid" else subprocess.Popen(words)
     gate = started.pid if started else int(words[1])
-    seen, status = {}, None
+    seen, status, begun = {}, None, time.time()
     while status is None:
         look(gate, seen)
         time.sleep(0.5)
@@ -92,6 +93,11 @@ def main(words):
         elif not os.path.exists(f"/proc/{gate}"):
             status = 0
     print("\n".join(table(seen)))
+    if started:
+        used = resource.getrusage(resource.RUSAGE_CHILDREN)
+        minutes = (used.ru_utime + used.ru_stime) / 60
+        print(f"{minutes:,.0f} processor minutes, user and system time of the whole run.")
+    print(f"{(time.time() - begun) / 60:,.0f} minutes by the clock, on {os.cpu_count()} processors.")
     sys.exit(status)
 
 
