@@ -1,5 +1,5 @@
 //! The texts of boards of a run, each at a clock that is asked for.
-ghost use Rattle.std.specs.Prelude.{◌≡◌, ◌≤◌, All};
+ghost use Rattle.std.specs.Prelude.{◌≡◌, ◌<◌, ◌≤◌, All, IfSome};
 ghost use Rattle.outside_io.specs.Causes.{HasCause};
 ghost use Rattle.outside_io.specs.Sink.{Takes};
 ghost use Rattle.lockstep_board.specs.Order.{HasNoRecords};
@@ -12,32 +12,56 @@ use board_base::{BoardState, CLOCK_LIMIT};
 use catchup_engine::Engine;
 use earom_cells::CellUnit;
 use irq_watchdog::DividerUnit;
-use keyframes::{Keyframes, seek};
+use keyframes::{Keyframes, go_to, keep_board};
 use outside_io::{Sink, SinkFault};
 use pokey_chip::SoundUnit;
 use tape_ports::Tape;
 
-/// After how many clocks the next board is kept at the latest.
-pub const SEEK_STRIDE: u64 = 61_440;
-
-/// How many boards are kept along a run that is so short that they lie closer.
-pub const SEEK_BOARDS: u64 = 250;
-
-/// After how many clocks the next board is kept, on the way from a start to the last of some clocks.
-fn stride_to(clocks: &[u64], start: u64) -> u64
-    ensures some { 1 ≤ result }
-    ensures most { result ≤ SEEK_STRIDE }
+/// The least of some clocks above one; none where there is none.
+fn next_above(clocks: &[u64], last: u64) -> Option<u64>
+    requires limit { All (λ clock. clock ≤ CLOCK_LIMIT) clocks.now }
+    ensures above { IfSome result (λ next. last < next) }
+    ensures limit { IfSome result (λ next. next ≤ CLOCK_LIMIT) }
 {
-    let last = clocks.iter().copied().max().unwrap_or(start);
-    (last.saturating_sub(start) / SEEK_BOARDS).clamp(1, SEEK_STRIDE)
+    let mut least = None;
+    for clock in clocks {
+        if last < *clock && least.is_none_or(|least| *clock < least) {
+            least = Some(*clock);
+        }
+    }
+    least
+}
+
+/// Keeps the boards of a run at some clocks, from the least to the greatest.
+fn keep_each<V: VectorUnit, P: SoundUnit, C: CellUnit, D: DividerUnit>(
+    engine: &mut Engine<V, P, C, D>,
+    keys: &mut Keyframes,
+    tape: &Tape,
+    clocks: &[u64],
+)
+    requires settled { engine.old.lagging ≡ 0 }
+    requires empty { HasNoRecords engine.old.board }
+    requires along { Along keys.old.kept tape.now.entries (run_start keys.old.kept engine.old.board) }
+    requires limit { All (λ clock. clock ≤ CLOCK_LIMIT) clocks.now }
+    ensures settled { engine.new.lagging ≡ 0 }
+    ensures empty { HasNoRecords engine.new.board }
+    ensures same { run_start keys.new.kept engine.new.board ≡ run_start keys.old.kept engine.old.board }
+    ensures along { Along keys.new.kept tape.now.entries (run_start keys.new.kept engine.new.board) }
+{
+    let mut last = keys.clock_of(0);
+    while let Some(next) = next_above(clocks, last) {
+        go_to(engine, keys, tape, next);
+        keep_board(engine, keys);
+        last = next;
+    }
 }
 
 /// Writes the texts of the boards of a run at some clocks, in the order in which they are asked for.
 ///
-/// The run begins at the first kept board, and below its clock that board is shown. Each board is
-/// sought from the last kept one at or below its clock, and boards are kept on the way, at most 61,440
-/// clocks and a window apart, and closer where the last clock is near. It takes no memory. After a fault
-/// of `out` a first part of the text was taken.
+/// The run begins at the first kept board, and below its clock that board is shown. The boards are first
+/// kept from the least clock to the greatest, in one run, and then written in the asked order. Where there
+/// is no room for all of them, a board is run to from the last kept one at or below its clock. It takes no
+/// memory. After a fault of `out` a first part of the text was taken.
 pub fn write_boards<V: VectorUnit, P: SoundUnit, C: CellUnit, D: DividerUnit, O: Sink>(
     engine: &mut Engine<V, P, C, D>,
     keys: &mut Keyframes,
@@ -56,10 +80,10 @@ pub fn write_boards<V: VectorUnit, P: SoundUnit, C: CellUnit, D: DividerUnit, O:
     ensures same { run_start keys.new.kept engine.new.board ≡ run_start keys.old.kept engine.old.board }
     ensures along { Along keys.new.kept tape.now.entries (run_start keys.new.kept engine.new.board) }
 {
-    let stride = stride_to(clocks, engine.clock());
+    keep_each(engine, keys, tape, clocks);
     let mut state = BoardState::power_on();
     for clock in clocks {
-        seek(engine, keys, tape, *clock, stride);
+        go_to(engine, keys, tape, *clock);
         engine.state(&mut state);
         let Ok(()) = write_board(&state, out) else {
             return Err(SinkFault);

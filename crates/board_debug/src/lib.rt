@@ -7,7 +7,6 @@ mod boards;
 mod device_lines;
 pub mod fault;
 pub mod found;
-pub mod laws;
 mod listings;
 mod looks;
 mod processor_lines;
@@ -18,8 +17,7 @@ mod turns;
 mod write_lines;
 
 pub use board_text::write_board;
-pub use boards::{SEEK_BOARDS, SEEK_STRIDE, write_boards};
+pub use boards::write_boards;
 pub use fault::DebugFault;
 pub use found::Found;
-pub use laws::seek_numbers;
 pub use script::run_script;

@@ -160,10 +160,9 @@ fn perform<S: Shelf, O: Sink>(
 
 /// What the program does for its words, with the text of its notes, and its status.
 ///
-/// 0: done. 2: the words are of no form. 3: the board is jammed at the end. 4: a file is bad. 5: a
-/// file is absent. 6: a fault of the shelf or of the output. 7: no memory. A run takes its memory
-/// before it moves or writes anything, and writes nothing behind a fault. What becomes of the notes
-/// has no part in the status.
+/// 0: done. 2: the words are malformed. 3: the board is jammed at the end. 4: a file is malformed. 5: a
+/// file is absent. 6: a fault of the shelf or of the output. 7: out of memory. A run takes its memory
+/// before it moves or writes anything. A failed write to the notes doesn't change the status.
 pub fn gravitar<S: Shelf, O: Sink, N: Sink>(
     alloc: Global,
     words: &Words,
@@ -175,7 +174,7 @@ pub fn gravitar<S: Shelf, O: Sink, N: Sink>(
     ensures outcome { result ≢ 6 → result ≢ 7 → Comes words.now (S.files shelf.old) (λ outcome.
         (result ≡ outcome.status) × Did outcome.events (O.taken out.old) (O.taken out.new) (S.stores shelf.old) (S.stores shelf.new)) }
 
-    // After 6 the first part of what is defined was done, and nothing after it.
+    // After 6 a first part of what is defined was done.
     ensures stopped { result ≡ 6 → Comes words.now (S.files shelf.old) (λ outcome.
         DidFirst outcome.events (O.taken out.old) (O.taken out.new) (S.stores shelf.old) (S.stores shelf.new)) }
 

@@ -23,11 +23,17 @@ use keyframes::{Keyframes, keep_start};
 use outside_io::{Shelf, Sink};
 use std::alloc::Global;
 
-/// The pages of 256 bytes for the boards that are kept on the way.
-pub const SEEK_PAGES: u32 = 4096;
+/// The pages of 256 bytes for the boards that are kept: those of the start and of 1,000 asked clocks.
+pub const SEEK_PAGES: u32 = 16_016;
 
 /// How many boards are kept at most.
-pub const SEEK_FRAMES: u32 = 256;
+pub const SEEK_FRAMES: u32 = 1001;
+
+/// The numbers of a seek.
+pub fn seek_numbers()
+    ensures pages { SEEK_PAGES ≡ 16016 }
+    ensures frames { SEEK_FRAMES ≡ 1001 }
+{}
 
 /// Tells that a state is a board, and does nothing.
 fn look_at(state: &BoardState)

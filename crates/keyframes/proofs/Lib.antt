@@ -9,5 +9,6 @@ pub mod RoomLaws
 pub mod BoardLaws
 pub mod KeysLaws
 pub mod ImageLaws
+pub mod AddLaws
 pub mod AlongLaws
 pub mod SeekLaws

@@ -1,5 +1,5 @@
 -- Boards kept along a run, among which a clock is sought. This project's own profile.
-use Rattle.std.specs.Prelude.{◌≡◌, ◌<◌, List, [], ◌∷◌, All, None, IfSome, length, get_or}
+use Rattle.std.specs.Prelude.{◌≡◌, ℕ, ◌+◌, ◌<◌, ◌≤◌, ◌⊎◌, List, [], ◌∷◌, ◌++◌, All, None, IfSome, length, get_or}
 use Rattle.board_base.specs.Board.{BoardValue}
 use Rattle.tape_ports.specs.declared.entry.TapeEntry.{TapeEntry}
 use Rattle.cpu_core.specs.Places.{IsMiddle}
@@ -8,7 +8,8 @@ use Rattle.lockstep_board.specs.Lockstep.{Board}
 use Rattle.lockstep_board.specs.Order.{cleared}
 use Rattle.lockstep_board.specs.Run.{to_clock}
 use Rattle.lockstep_board.specs.Wires.{board_of, reloaded}
-use Rattle.keyframes.specs.Keys.{Keyframe}
+use Rattle.keyframes.specs.declared.pages.TheConstants.{BOARD_PAGES}
+use Rattle.keyframes.specs.Keys.{Keyframe, KeyframesValue, last_of, live_of}
 
 -- what can be kept of a lockstep board: all but its image, its wiring and its records
 abbrev pub state_of : Board → BoardValue
@@ -39,3 +40,9 @@ pub record Along (kept : List Keyframe) (entries : List TapeEntry) (b : Board) :
 -- a board without records is that of the run from b at its own clock
 abbrev pub IsOnRun : List TapeEntry → Board → Board → Type 0
 IsOnRun entries b now = now ≡ cleared (to_clock entries now.wires.clock b)
+
+-- the board is kept as the last, in at most 16 pages more, or the last kept board is as late as it
+abbrev pub AddsBoard : KeyframesValue → KeyframesValue → Board → Type 0
+AddsBoard old new b =
+    ((pages : List ℕ) × (new ≡ record old { kept = old.kept ++ (record { board = state_of b; pages = pages }) ∷ [] }) × (live_of new ≤ live_of old + BOARD_PAGES))
+    ⊎ ((new ≡ old) × IfSome (last_of old.kept) (λ last. b.wires.clock ≤ last.board.clock))

@@ -11,5 +11,5 @@ mod store;
 pub use keyframes::{FRAMES_MIN, Keyframes, PAGES_MIN};
 pub use laws::{engines_begin_at_their_board, keyframe_numbers};
 pub use pages::BOARD_PAGES;
-pub use seeking::{keep_start, seek};
+pub use seeking::{go_to, keep_board, keep_start, seek};
 pub use store::FRAMES_LIMIT;

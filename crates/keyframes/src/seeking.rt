@@ -1,13 +1,13 @@
 //! A clock of a run, sought among the boards that are kept along it.
-ghost use Rattle.std.specs.Prelude.{◌≡◌, ◌<◌, ◌≤◌, ◌+◌, All, IfSome, List, [], None, length, get_or};
+ghost use Rattle.std.specs.Prelude.{◌≡◌, ◌<◌, ◌≤◌, ◌+◌, false, All, IfSome, List, [], None, length, get_or};
 ghost use Rattle.cpu_core.specs.Places.{IsMiddle};
 ghost use Rattle.cpu_table.specs.Opcodes.{row_of};
 ghost use Rattle.tape_ports.specs.declared.entry.TapeEntry.{TapeEntry};
 ghost use Rattle.lockstep_board.specs.Order.{HasNoRecords, cleared};
 ghost use Rattle.lockstep_board.specs.Lockstep.{Board};
 ghost use Rattle.lockstep_board.specs.Run.{cause_of, to_clock, to_cut, wrap_of};
-ghost use Rattle.keyframes.specs.Keys.{HaveRisingClocks, IsNearest, Keyframe, last_of};
-ghost use Rattle.keyframes.specs.Seeking.{Along, CanBeLoaded, IsOnRun, over_image, run_start};
+ghost use Rattle.keyframes.specs.Keys.{HaveRisingClocks, IsNearest, Keyframe, is_crowded, last_of};
+ghost use Rattle.keyframes.specs.Seeking.{AddsBoard, Along, CanBeLoaded, IsOnRun, over_image, run_start};
 
 use crate::keyframes::Keyframes;
 use avg_device::VectorUnit;
@@ -88,6 +88,30 @@ fn run_window<V: VectorUnit, P: SoundUnit, C: CellUnit, D: DividerUnit>(
     stop
 }
 
+/// Runs to a clock, window by window.
+fn run_on<V: VectorUnit, P: SoundUnit, C: CellUnit, D: DividerUnit>(
+    engine: &mut Engine<V, P, C, D>,
+    tape: &Tape,
+    clock: u64,
+)
+    requires limit { clock ≤ CLOCK_LIMIT }
+    requires settled { engine.old.lagging ≡ 0 }
+    requires empty { HasNoRecords engine.old.board }
+    ensures settled { engine.new.lagging ≡ 0 }
+    ensures empty { HasNoRecords engine.new.board }
+    ensures board { engine.new.board ≡ cleared (to_clock tape.now.entries clock engine.old.board) }
+    ensures on_run { (b : Board) → IsOnRun tape.now.entries b engine.old.board → IsOnRun tape.now.entries b engine.new.board }
+    ensures same { (kept : List Keyframe) → 0 < length kept → run_start kept engine.new.board ≡ run_start kept engine.old.board }
+    ensures done { engine.new.done + engine.old.board.wires.clock ≤ engine.old.done + engine.new.board.wires.clock }
+{
+    'windows: loop {
+        match run_window(engine, tape, clock) {
+            Stop::Window => {}
+            _ => return,
+        }
+    }
+}
+
 /// Keeps the board of an engine that stands `stride` clocks or more after the last kept one.
 fn keep_if_due<V: VectorUnit, P: SoundUnit, C: CellUnit, D: DividerUnit>(
     engine: &Engine<V, P, C, D>,
@@ -139,6 +163,56 @@ fn run_keeping<V: VectorUnit, P: SoundUnit, C: CellUnit, D: DividerUnit>(
             Stop::Window => {}
             _ => return,
         }
+    }
+}
+
+/// Brings an engine to the board of a run at a clock, which may be inside a sequence, and keeps no board.
+///
+/// The run begins at the first kept board, and all kept boards lie along it. Below the clock of the
+/// first one it is that board; from a jam on it is the jammed board. The engine goes on from the last
+/// kept board at or below the clock. It takes no memory.
+pub fn go_to<V: VectorUnit, P: SoundUnit, C: CellUnit, D: DividerUnit>(
+    engine: &mut Engine<V, P, C, D>,
+    keys: &Keyframes,
+    tape: &Tape,
+    clock: u64,
+)
+    requires settled { engine.old.lagging ≡ 0 }
+    requires empty { HasNoRecords engine.old.board }
+    requires along { Along keys.now.kept tape.now.entries (run_start keys.now.kept engine.old.board) }
+    requires limit { clock ≤ CLOCK_LIMIT }
+    ensures settled { engine.new.lagging ≡ 0 }
+    ensures empty { HasNoRecords engine.new.board }
+    ensures board { engine.new.board ≡ cleared (to_clock tape.now.entries clock (run_start keys.now.kept engine.old.board)) }
+    ensures on_run { IsOnRun tape.now.entries (run_start keys.now.kept engine.old.board) engine.new.board }
+    ensures same { run_start keys.now.kept engine.new.board ≡ run_start keys.now.kept engine.old.board }
+    ensures along { Along keys.now.kept tape.now.entries (run_start keys.now.kept engine.new.board) }
+    ensures done { All (λ keyframe. keyframe.board.clock ≤ clock
+        → engine.new.done + keyframe.board.clock ≤ engine.old.done + engine.new.board.wires.clock) keys.now.kept }
+    ensures before { clock < (run_start keys.now.kept engine.old.board).wires.clock → engine.new.done ≤ engine.old.done }
+{
+    let nearest = start_index(keys, clock);
+    load_kept(engine, keys, nearest);
+    run_on(engine, tape, clock);
+}
+
+/// Keeps the board of an engine where its clock is past that of the last kept one. Where there is no room
+/// more, every second kept board is dropped before.
+pub fn keep_board<V: VectorUnit, P: SoundUnit, C: CellUnit, D: DividerUnit>(
+    engine: &Engine<V, P, C, D>,
+    keys: &mut Keyframes,
+)
+    requires settled { engine.now.lagging ≡ 0 }
+    requires some { 0 < length keys.old.kept }
+    ensures first { (e : Board) → run_start keys.new.kept e ≡ run_start keys.old.kept e }
+    ensures along { (entries : List TapeEntry) → (b : Board) → Along keys.old.kept entries b → IsOnRun entries b engine.now.board → Along keys.new.kept entries b }
+    ensures roomy { is_crowded keys.old ≡ false → AddsBoard keys.old keys.new engine.now.board }
+{
+    let last = keys.clock_of(keys.len() - 1);
+    if last < engine.clock() {
+        let mut board = BoardState::power_on();
+        engine.state(&mut board);
+        keys.keep(&board);
     }
 }
 

@@ -8,17 +8,17 @@ pub loop-clock-init : goal.loop-clock-init
 loop-clock-init g c = record {
   text = none-taken _ _ _ refl;
   faults = refl;
-  settled = c.requires.settled;
-  empty = c.requires.empty;
-  same = refl;
-  along = c.requires.along;
+  settled = c.keep_each.ensures.settled;
+  empty = c.keep_each.ensures.empty;
+  same = c.keep_each.ensures.same;
+  along = c.keep_each.ensures.along;
 }
 
 pub returns-in_default-clause-taken : goal.returns-in_default-clause-taken
 returns-in_default-clause-taken g c =
     piece-cut _ _ _ _ _ _ _
     (board-on c.args.tape.now.entries c.args.clocks.now c.loop-clock.clock-index 0 (run_start c.args.keys.now.kept c.args.engine.now.board)
-    (run_start c.loop-clock.keys.kept c.loop-clock.engine.board) c.seek.new.engine.board c.state.new.into c.loop-clock-test.true c.seek.ensures.board
+    (run_start c.keep_each.new.keys.kept c.loop-clock.engine.board) c.go_to.new.engine.board c.state.new.into c.loop-clock-test.true c.go_to.ensures.board
     c.loop-clock.invariant.same c.state.ensures.board)
     c.in_default.ensures.taken c.loop-clock.invariant.text
 
@@ -26,14 +26,14 @@ pub loop-clock-preserved : goal.loop-clock-preserved
 loop-clock-preserved g c = record {
   text = piece-taken _ _ _ _ _ _ _
       (board-on c.args.tape.now.entries c.args.clocks.now c.loop-clock.clock-index 0 (run_start c.args.keys.now.kept c.args.engine.now.board)
-      (run_start c.loop-clock.keys.kept c.loop-clock.engine.board) c.seek.new.engine.board c.state.new.into c.loop-clock-test.true c.seek.ensures.board
+      (run_start c.keep_each.new.keys.kept c.loop-clock.engine.board) c.go_to.new.engine.board c.state.new.into c.loop-clock-test.true c.go_to.ensures.board
       c.loop-clock.invariant.same c.state.ensures.board)
       c.in-Ok.ensures.taken c.loop-clock.invariant.text;
   faults = c.in-Ok.ensures.cause ∙ c.loop-clock.invariant.faults;
-  settled = c.seek.ensures.settled;
-  empty = c.seek.ensures.empty;
-  same = c.seek.ensures.same ∙ c.loop-clock.invariant.same;
-  along = c.seek.ensures.along;
+  settled = c.go_to.ensures.settled;
+  empty = c.go_to.ensures.empty;
+  same = c.go_to.ensures.same ∙ c.loop-clock.invariant.same;
+  along = c.go_to.ensures.along;
 }
 
 pub returns-clause-taken : goal.returns-clause-taken
