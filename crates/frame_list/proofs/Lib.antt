@@ -1,3 +1,5 @@
+mod ExtentLaws
 pub mod FrameLaws
+pub mod InFrameLaws
 mod TakeLaws
 pub mod WholeLaws

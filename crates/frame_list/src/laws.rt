@@ -4,7 +4,9 @@ ghost use Rattle.board_base.specs.declared.record.Record.{Record};
 ghost use Rattle.board_map.specs.Map.{region_of};
 ghost use Rattle.catchup_engine.specs.declared.trace.Access.{Access};
 ghost use Rattle.frame_list.specs.Events.{is_go, mark_of};
+ghost use Rattle.frame_list.specs.Extents.{FramesCountStrokes};
 ghost use Rattle.frame_list.specs.Frames.{EachStrokeInOneFrame, FrameValue, PartsMakeTheWhole};
+ghost use Rattle.frame_list.specs.InFrames.{EachFrameHasItsStrokes};
 
 /// Each stroke is in exactly one frame, so the numbers of strokes of all frames add up to the strokes.
 #[tactic(auto, using(crate::proofs::WholeLaws::each_stroke_in_one_frame))]
@@ -25,4 +27,16 @@ pub fn marks_are_writes_of_8840()
     ensures write { is_go (region_of 0x8840) ≡ true }
     ensures others { (addr : ℕ) → addr ≢ 0x8840 → is_go (region_of addr) ≡ false }
     ensures reads { (access : Access) → access.write ≡ false → mark_of access ≡ None }
+{}
+
+/// A frame has exactly the strokes above its mark and up to the next one, and no others; frame 0 has all
+/// up to the first mark, and the last frame all above the last mark.
+pub fn each_frame_has_its_strokes()
+    ensures { (clock : ℕ) → (strokes : List Record) → (marks : List ℕ) → EachFrameHasItsStrokes clock strokes marks }
+{}
+
+/// A frame has the number of the strokes that it counts, and bounds that are the least and the greatest
+/// x and y over both ends of these.
+pub fn frames_count_strokes()
+    ensures { (number mark : ℕ) → (strokes : List Record) → FramesCountStrokes number mark strokes }
 {}

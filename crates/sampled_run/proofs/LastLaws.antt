@@ -1,8 +1,6 @@
 -- The levels that a POKEY puts out are those of its last record.
-use Rattle.std.proofs.Common.{◌≡◌, ℕ, ◌≤◌, Bool, true, false, nat_eq, if◌then◌else◌, List, [], ◌∷◌, ◌++◌, slice_index, Option, Some, None, zero, suc, refl, sym, ap, ◌∙◌}
+use Rattle.std.proofs.Common.{◌≡◌, ℕ, Bool, true, false, nat_eq, if◌then◌else◌, List, [], ◌∷◌, ◌++◌, Option, Some, None, zero, suc, refl, sym, ap, ◌∙◌}
 use Rattle.std.specs.Cmp.Lexicographic.{pointwise, same_text}
-use Rattle.std.specs.Prelude.{All}
-use Rattle.std.proofs.lemmas.List.Elements.{All-nil, All-cons}
 use Rattle.board_base.specs.declared.cpu.Sequence.{Sequence}
 use Rattle.board_base.specs.declared.cpu.Sequence.TheVariants.{Opcode, Interrupt, Reset}
 use Rattle.board_base.specs.declared.divider.Pending.{Pending}
@@ -14,10 +12,9 @@ use Rattle.board_base.specs.Pokey.{PokeyValue}
 use Rattle.board_map.specs.declared.map.Region.{Region}
 use Rattle.board_map.specs.declared.map.Region.TheVariants as region
 use Rattle.board_map.specs.Map.{region_of}
-use Rattle.pokey_chip.specs.Tick.{change, level, levels_of, signal, channels_ticked, base_pulses, pot_counted, pots_rise, clocked, pokey_gives, pokey_tick}
-use Rattle.pokey_chip.specs.Channels.{place}
+use Rattle.pokey_chip.specs.Tick.{change, level, levels_of, channels_ticked, base_pulses, pot_counted, pots_rise, clocked, pokey_gives, pokey_tick}
 use Rattle.pokey_chip.specs.declared.channel.Channel.TheVariants.{First, Second, Third, Fourth}
-use Rattle.pokey_chip.proofs.LastLevels.{level-low, written-last}
+use Rattle.pokey_chip.proofs.LastLevels.{written-last}
 use Rattle.cpu_core.specs.declared.replay.Next.{Next}
 use Rattle.cpu_core.specs.declared.replay.Next.TheVariants.{Read, Write, End}
 use Rattle.cpu_core.specs.Registers.{RegistersValue, registers_of}
@@ -31,10 +28,8 @@ use Rattle.lockstep_board.specs.Wires.{Wires, applied, port_set, devices_ticked,
 use Rattle.lockstep_board.specs.Lockstep.{Board, accessed, accessed_by, sequence_due, begun, at_fetch, after_access, step}
 use Rattle.lockstep_board.specs.Run.{stepped}
 use Rattle.lockstep_board.specs.Order.{HasNoRecords}
-use Rattle.sound_pcm.specs.declared.mixer.TheConstants.{MAX_LEVEL}
-use Rattle.sound_pcm.specs.Mixing.{HoldsLevels}
 use Rattle.sound_pcm.specs.Samples as samples
-use Rattle.sound_pcm.proofs.LevelLaws.{after-append, first-of, others-of}
+use Rattle.sound_pcm.proofs.LevelLaws.{after-append}
 
 -- the levels that both POKEYs put out, and the records of their changes, stay
 record KeepsLast (w v : Wires) : Type 0 where
@@ -119,30 +114,11 @@ gives-after clock p =
     let q = channels_ticked (base_pulses p) (pot_counted (pots_rise p) (clocked p)) in
     change-after clock (level q First) (level q Second) (level q Third) (level q Fourth) p.last
 
--- and each is at most 15
-change-holds : (clock a b c d : ℕ) (before : List ℕ) → a ≤ MAX_LEVEL → b ≤ MAX_LEVEL → c ≤ MAX_LEVEL → d ≤ MAX_LEVEL
-    → All HoldsLevels (change clock before (a ∷ b ∷ c ∷ d ∷ []))
-unfolding change
-change-holds clock a b c d before la lb lc ld = by_test (pointwise nat_eq (a ∷ b ∷ c ∷ d ∷ []) before)
-  where
-    by_test : (test : Bool) → All HoldsLevels (if test then [] else (Levels clock a b c d ∷ []))
-    by_test true = All-nil HoldsLevels
-    by_test false = All-cons HoldsLevels (Levels clock a b c d) [] (la, lb, lc, ld) (All-nil HoldsLevels)
-
-gives-holds : (clock : ℕ) (p : PokeyValue) → All HoldsLevels (pokey_gives clock p)
-unfolding pokey_gives pokey_tick levels_of
-gives-holds clock p =
-    let q = channels_ticked (base_pulses p) (pot_counted (pots_rise p) (clocked p)) in
-    change-holds clock (level q First) (level q Second) (level q Third) (level q Fourth) p.last
-    (level-low (slice_index q.audc (place First)) (signal q First)) (level-low (slice_index q.audc (place Second)) (signal q Second))
-    (level-low (slice_index q.audc (place Third)) (signal q Third)) (level-low (slice_index q.audc (place Fourth)) (signal q Fourth))
-
 -- what a step does to a POKEY's levels and records
 record StepsLast (before now : List ℕ) (records after : List Record) : Type 0 where
   added : List Record
   after_is : after ≡ records ++ added
   levels : samples.levels_after before added ≡ now
-  holds : All HoldsLevels added
 
 steps-last : (clock : ℕ) (p : PokeyValue) (before now : List ℕ) (records held after : List Record) → p.last ≡ before → held ≡ records
     → now ≡ (pokey_tick p).last → after ≡ held ++ pokey_gives clock p → StepsLast before now records after
@@ -150,7 +126,6 @@ steps-last clock p before now records held after same kept ticked_is after_is = 
   added = pokey_gives clock p;
   after_is = after_is ∙ ap (λ l. l ++ pokey_gives clock p) kept;
   levels = ap (λ l. samples.levels_after l (pokey_gives clock p)) (sym same) ∙ gives-after clock p ∙ sym ticked_is;
-  holds = gives-holds clock p;
 }
 
 module _ (entries : List TapeEntry) where
@@ -165,16 +140,10 @@ module _ (entries : List TapeEntry) where
         steps-last w.clock w.sound2 b.wires.sound2.last _ b.wires.levels2 w.levels2 _ before.last2 before.levels2 after.last2 after.levels2,
       )
 
-  -- the levels that both POKEYs put out are those after their records, and each record holds levels
+  -- the levels that both POKEYs put out are those after their records
   pub record Told (before1 before2 : List ℕ) (b : Board) : Type 0 where
     pub last1 : samples.levels_after before1 b.wires.levels1 ≡ b.wires.sound1.last
     pub last2 : samples.levels_after before2 b.wires.levels2 ≡ b.wires.sound2.last
-    pub holds1 : All HoldsLevels b.wires.levels1
-    pub holds2 : All HoldsLevels b.wires.levels2
-
-  all-append : (P : Record → Type 0) (xs ys : List Record) → All P xs → All P ys → All P (xs ++ ys)
-  all-append P [] ys a b = b
-  all-append P (x ∷ xs) ys a b = All-cons P x (xs ++ ys) (first-of P x xs a) (all-append P xs ys (others-of P x xs a) b)
 
   told-on : (before last now : List ℕ) (records after : List Record) → samples.levels_after before records ≡ last → StepsLast last now records after
       → samples.levels_after before after ≡ now
@@ -184,17 +153,12 @@ module _ (entries : List TapeEntry) where
       ∙ ap (λ l. samples.levels_after l steps.added) is
       ∙ steps.levels
 
-  holds-on : (last now : List ℕ) (records after : List Record) → All HoldsLevels records → StepsLast last now records after → All HoldsLevels after
-  holds-on last now records after all steps = rw steps.after_is (all-append HoldsLevels records steps.added all steps.holds)
-
   told-step : (before1 before2 : List ℕ) (b : Board) → Told before1 before2 b → Told before1 before2 (step entries b)
   told-step before1 before2 b t =
       let one = step-last b in
       record {
         last1 = told-on before1 _ _ _ _ t.last1 one.0;
         last2 = told-on before2 _ _ _ _ t.last2 one.1;
-        holds1 = holds-on _ _ _ _ t.holds1 one.0;
-        holds2 = holds-on _ _ _ _ t.holds2 one.1;
       }
 
   told-stepped : (n : ℕ) (before1 before2 : List ℕ) (b : Board) → Told before1 before2 b → Told before1 before2 (stepped entries n b)
@@ -209,6 +173,4 @@ module _ (entries : List TapeEntry) where
       told-stepped n b.wires.sound1.last b.wires.sound2.last b (record {
         last1 = ap (samples.levels_after b.wires.sound1.last) none.levels1;
         last2 = ap (samples.levels_after b.wires.sound2.last) none.levels2;
-        holds1 = rw none.levels1 (All-nil HoldsLevels);
-        holds2 = rw none.levels2 (All-nil HoldsLevels);
       })

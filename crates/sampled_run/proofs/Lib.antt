@@ -1,2 +1,3 @@
 pub mod LastLaws
 pub mod SampleLaws
+mod SmallLaws

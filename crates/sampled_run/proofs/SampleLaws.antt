@@ -159,12 +159,9 @@ module _ (entries : List TapeEntry) (b : Board) (none : HasNoRecords b) where
       let clock : (stepped entries n b).wires.clock ≡ b.wires.clock + n = stepped-clock entries n b in
       let few = boundary_steps-few entries limit b in
       let made = stepped-made entries b.wires.clock n b (none-made b none) in
-      let told = told-run entries n b none in
       record {
         here = ap (λ (v : MixerValue). v.clock) is;
         to = omega arith;
         made1 = made.levels1;
         made2 = made.levels2;
-        levels1 = told.holds1;
-        levels2 = told.holds2;
       }

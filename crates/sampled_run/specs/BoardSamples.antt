@@ -1,5 +1,5 @@
 -- The samples of a run of the lockstep board. They are this project's own.
-use Rattle.std.specs.Prelude.{◌≡◌, ℕ, ◌+◌, ◌*◌, ◌/◌, List, map, suc}
+use Rattle.std.specs.Prelude.{◌≡◌, ℕ, ◌+◌, ◌*◌, ◌/◌, ◌≤◌, List, All, map, suc}
 use Rattle.std.specs.List.{sum, range_with_len}
 use Rattle.tape_ports.specs.declared.entry.TapeEntry.{TapeEntry}
 use Rattle.lockstep_board.specs.Lockstep.{Board}
@@ -27,3 +27,7 @@ sampled_bytes entries limit per b = bytes_of (board_samples entries limit per b)
 abbrev pub IsMixerOf : Board → ℕ → MixerValue → Type 0
 IsMixerOf b per m =
     m ≡ record { clock = b.wires.clock; per = per; sound1 = b.wires.sound1.last; sound2 = b.wires.sound2.last; sum = 0; count = 0 }
+
+-- no sample is above the sum of eight levels of 15 over the longest group
+abbrev pub AreSmallSamples : List ℕ → Type 0
+AreSmallSamples made = All (λ sample. sample ≤ 120 * 65535) made

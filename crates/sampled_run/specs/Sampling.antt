@@ -1,5 +1,5 @@
 -- A mixer as a watcher of a run. This project's own.
-use Rattle.std.specs.Prelude.{◌≡◌, ℕ, ◌≤◌, ◌<◌, List, [], ◌∷◌, ◌++◌, All}
+use Rattle.std.specs.Prelude.{◌≡◌, ℕ, ◌≤◌, ◌<◌, List, [], ◌∷◌, ◌++◌}
 use Rattle.std.proofs.Common.{refl, ap, ◌∙◌, arith}
 use Rattle.board_base.specs.declared.board.TheConstants.{CLOCK_END}
 use Rattle.board_base.specs.declared.part.Part.{Part}
@@ -10,11 +10,10 @@ use Rattle.board_base.proofs.RecordLaws.{made-within}
 use Rattle.std.proofs.lemmas.List.Elements.{All-nil, All-cons}
 use Rattle.lockstep_board.specs.Order.{Recorded}
 use Rattle.board_watch.specs.Watch.{TakesInParts}
-use Rattle.sound_pcm.specs.Mixing.{HoldsLevels, MixerValue, mixed, samples_of}
+use Rattle.sound_pcm.specs.Mixing.{MixerValue, mixed, samples_of}
 use Rattle.sound_pcm.specs.Samples.{bytes_of}
 use Rattle.sound_pcm.specs.WholeRun.{AreBefore, IsCut}
 use Rattle.sound_pcm.proofs.GatherLaws.{bytes-append}
-use Rattle.sound_pcm.proofs.LevelLaws.{first-of, others-of}
 use Rattle.sound_pcm.proofs.MixLaws.{made-from}
 use Rattle.sound_pcm.proofs.PartLaws.{taken_in_parts}
 use Rattle.sampled_run.specs.declared.samples.Sampler.{Sampler}
@@ -25,8 +24,6 @@ pub record CanMix (m : MixerValue) (from : ℕ) (l : Recorded) (upto : ℕ) : Ty
   pub to : upto ≤ CLOCK_END
   pub made1 : MadeBetween Pokey1 from l.levels1 upto
   pub made2 : MadeBetween Pokey2 from l.levels2 upto
-  pub levels1 : All HoldsLevels l.levels1
-  pub levels2 : All HoldsLevels l.levels2
 
 -- the samples that the records make, and the mixer after them
 abbrev pub samples_in : Sampler → Recorded → ℕ → List ℕ
@@ -45,14 +42,6 @@ first-made : (part : Part) (from other at upto : ℕ) (first rest : List Record)
 first-made part from other at upto [] rest all sooner low = low
 first-made part from other at upto (r ∷ first) rest all sooner low =
     (all.0, all.1, sooner.2, first-made part (clock_of r) (clock_of r) at upto first rest all.3 sooner.3 (let h = sooner.2 in omega arith))
-
-all-first : (P : Record → Type 0) (first rest : List Record) → All P (first ++ rest) → All P first
-all-first P [] rest all = All-nil P
-all-first P (r ∷ first) rest all = All-cons P r first (first-of P r (first ++ rest) all) (all-first P first rest (others-of P r (first ++ rest) all))
-
-all-rest : (P : Record → Type 0) (first rest : List Record) → All P (first ++ rest) → All P rest
-all-rest P [] rest all = all
-all-rest P (r ∷ first) rest all = all-rest P first rest (others-of P r (first ++ rest) all)
 
 pub sampled_in_parts : TakesInParts {W = Sampler} (λ s from l upto. CanMix s.mixer from l upto) samples_in sampler_after
 unfolding mixed
@@ -78,16 +67,12 @@ sampled_in_parts s from first at rest upto parts may =
         to = omega arith;
         made1 = first-made Pokey1 from from at upto first.levels1 rest.levels1 may.made1 a.levels1 low;
         made2 = first-made Pokey2 from from at upto first.levels2 rest.levels2 may.made2 a.levels2 low;
-        levels1 = all-first HoldsLevels first.levels1 rest.levels1 may.levels1;
-        levels2 = all-first HoldsLevels first.levels2 rest.levels2 may.levels2;
       };
       room_rest = record {
         here = refl;
         to = most;
         made1 = b.levels1;
         made2 = b.levels2;
-        levels1 = all-rest HoldsLevels first.levels1 rest.levels1 may.levels1;
-        levels2 = all-rest HoldsLevels first.levels2 rest.levels2 may.levels2;
       };
       text =
           ap bytes_of taken.made

@@ -1,4 +1,5 @@
 mod AddLaws
+mod FitLaws
 pub mod GatherLaws
 mod GroupLaws
 pub mod LevelLaws

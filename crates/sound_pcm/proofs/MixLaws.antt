@@ -1,6 +1,5 @@
 -- A mixer at work, a record at a time.
 use Rattle.std.proofs.Common.{◌≡◌, ℕ, ◌+◌, ◌-◌, ◌≤◌, ◌<◌, List, [], ◌∷◌, ◌++◌, Some, replicate, ap, ◌∙◌, refl, arith}
-use Rattle.std.specs.Prelude.{All}
 use Rattle.std.specs.List.{sum}
 use Rattle.std.proofs.lemmas.List.Elements.{All-nil, All-cons}
 use Rattle.board_base.specs.declared.part.Part.{Part}
@@ -8,10 +7,10 @@ use Rattle.board_base.specs.declared.part.Part.TheVariants.{Generator, Pokey1, P
 use Rattle.board_base.specs.declared.record.Record.{Record}
 use Rattle.board_base.specs.Records.{clock_of, MadeBetween}
 use Rattle.sound_pcm.specs.Samples.{levels_of, levels_at, weight, weights, samples, group_after}
-use Rattle.sound_pcm.specs.Mixing.{MixerValue, HoldsLevels, samples_of, mixed, held, changed}
+use Rattle.sound_pcm.specs.Mixing.{MixerValue, samples_of, mixed, held, changed}
 use Rattle.sound_pcm.specs.Sooner.{StartsFrom, TakesSooner}
 use Rattle.sound_pcm.specs.WholeRun.{AreFrom, IsCut}
-use Rattle.sound_pcm.proofs.LevelLaws.{at-nothing, at-first, after-nothing, after-first, weight-by, map-range-same, map-range-steady, first-of, others-of}
+use Rattle.sound_pcm.proofs.LevelLaws.{at-nothing, at-first, after-nothing, after-first, weight-by, map-range-same, map-range-steady}
 use Rattle.sound_pcm.proofs.PartLaws.{mixer-same, taken_in_parts}
 
 -- the levels that are held weigh the same in each clock
@@ -50,8 +49,6 @@ pub record MayTake (m : MixerValue) (sound1 sound2 : List Record) (upto : ℕ) :
   pub from : m.clock ≤ upto
   pub made1 : MadeBetween Pokey1 m.clock sound1 upto
   pub made2 : MadeBetween Pokey2 m.clock sound2 upto
-  pub levels1 : All HoldsLevels sound1
-  pub levels2 : All HoldsLevels sound2
 
 -- clocks without a record
 module _ (m : MixerValue) (sound1 sound2 : List Record) (at upto : ℕ) (from : m.clock ≤ at) (to : at ≤ upto) (after1 : AreFrom at sound1)
@@ -118,7 +115,6 @@ first2-mixed m made sound1 sound2 upto come =
 -- the clocks up to the next record are held, and then it is taken on
 pub record IsStep (m : MixerValue) (sound1 sound2 left1 left2 : List Record) (part : Part) (made : Record) (upto : ℕ) : Type 0 where
   pub from : m.clock ≤ clock_of made
-  pub levels : HoldsLevels made
   pub rest : MayTake (changed (held m (clock_of made)) part made) left1 left2 upto
   pub samples : samples_of m sound1 sound2 upto
       ≡ samples m.per m.sum m.count (replicate (clock_of made - m.clock) (sum m.sound1 + sum m.sound2))
@@ -137,8 +133,7 @@ first-step m made left1 sound2 upto may starts =
     let after2 = made-from Pokey2 (clock_of made) upto sound2 other in
     record {
       from = low;
-      levels = first-of HoldsLevels made left1 may.levels1;
-      rest = record { from = order; made1 = rest; made2 = other; levels1 = others-of HoldsLevels made left1 may.levels1; levels2 = may.levels2 };
+      rest = record { from = order; made1 = rest; made2 = other };
       samples = hold-samples m (made ∷ left1) sound2 (clock_of made) upto low order after1 after2
           ∙ ap (λ (l : List ℕ). samples m.per m.sum m.count (replicate (clock_of made - m.clock) (sum m.sound1 + sum m.sound2)) ++ l)
           (first1-samples (held m (clock_of made)) made left1 sound2 upto same);
@@ -158,8 +153,7 @@ second-step m made sound1 left2 upto may starts =
     let after2 = made-from Pokey2 (clock_of made) upto (made ∷ left2) mine in
     record {
       from = low;
-      levels = first-of HoldsLevels made left2 may.levels2;
-      rest = record { from = order; made1 = other; made2 = rest; levels1 = may.levels1; levels2 = others-of HoldsLevels made left2 may.levels2 };
+      rest = record { from = order; made1 = other; made2 = rest };
       samples = hold-samples m sound1 (made ∷ left2) (clock_of made) upto low order after1 after2
           ∙ ap (λ (l : List ℕ). samples m.per m.sum m.count (replicate (clock_of made - m.clock) (sum m.sound1 + sum m.sound2)) ++ l)
           (first2-samples (held m (clock_of made)) made sound1 left2 upto same);

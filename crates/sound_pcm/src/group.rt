@@ -3,7 +3,6 @@ ghost use Rattle.outside_io.specs.Causes.{HasCause};
 ghost use Rattle.sound_pcm.specs.Gathering.{Gathers};
 ghost use Rattle.sound_pcm.specs.Grouping.{IsGroup, HasGrown};
 ghost use Rattle.sound_pcm.specs.Samples.{samples};
-ghost use Rattle.sound_pcm.specs.declared.mixer.TheConstants.{MAX_LEVEL};
 
 use crate::block::Block;
 use outside_io::{Sink, SinkFault};
@@ -27,7 +26,7 @@ impl Group {
         out: &mut O,
     ) -> Result<(), SinkFault>
         requires group { IsGroup self.old }
-        requires weight { weight ≤ 8 * MAX_LEVEL }
+        requires weight { weight ≤ 8 * u8.MAX }
         ensures taken { Gathers (O.taken out.old) (O.taken out.new)
             (block.old ++ samples self.old.per self.old.sum self.old.count (replicate clocks weight)) block.new result }
         ensures cause { HasCause (O.faults out.old) (O.faults out.new) result }

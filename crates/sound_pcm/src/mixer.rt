@@ -1,10 +1,10 @@
-ghost use Rattle.std.specs.Prelude.{◌≡◌, ◌+◌, ◌-◌, ◌≤◌, ◌++◌, OnOk, All, take, drop, sum, replicate};
+ghost use Rattle.std.specs.Prelude.{◌≡◌, ◌+◌, ◌-◌, ◌*◌, ◌≤◌, ◌++◌, OnOk, take, drop, sum, replicate};
 ghost use Rattle.board_base.specs.Records.{MadeBetween};
 ghost use Rattle.board_base.specs.declared.board.TheConstants.{CLOCK_END};
 ghost use Rattle.outside_io.specs.Causes.{HasCause};
 ghost use Rattle.outside_io.specs.Sink.{Takes};
 ghost use Rattle.sound_pcm.specs.Gathering.{Gathers};
-ghost use Rattle.sound_pcm.specs.Mixing.{AreLevels, HoldsLevels, samples_of, mixed, held, changed};
+ghost use Rattle.sound_pcm.specs.Mixing.{AreLevels, samples_of, mixed, held, changed};
 ghost use Rattle.sound_pcm.specs.Samples.{bytes_of, samples};
 
 use crate::block::Block;
@@ -33,7 +33,7 @@ pub struct Mixer {
 
 impl Model for Mixer {
     ghost use Rattle.sound_pcm.specs.Grouping.{IsGroup};
-    ghost use Rattle.sound_pcm.specs.Mixing.{MixerValue, AreLevels};
+    ghost use Rattle.sound_pcm.specs.Mixing.{MixerValue};
 
     ghost Value = { MixerValue };
 
@@ -46,14 +46,13 @@ impl Model for Mixer {
       count = m.group.count;
     } };
 
-    ghost invariant = { λ m. IsGroup m.group × AreLevels m.sound1 × AreLevels m.sound2 };
+    ghost invariant = { λ m. IsGroup m.group };
 }
 
 /// The sum of the levels of a POKEY.
 fn loudness(levels: [u8; 4]) -> u32
-    requires { AreLevels levels }
     ensures sum { result ≡ sum levels }
-    ensures bound { result ≤ 60 }
+    ensures bound { result ≤ 4 * u8.MAX }
 {
     let [first, second, third, fourth] = levels;
     u32::from(first) + u32::from(second) + u32::from(third) + u32::from(fourth)
@@ -94,8 +93,6 @@ impl Mixer {
         requires to { upto ≤ CLOCK_END }
         requires made1 { MadeBetween Part.Pokey1 self.old.clock trails.now.sound1.now.records upto }
         requires made2 { MadeBetween Part.Pokey2 self.old.clock trails.now.sound2.now.records upto }
-        requires levels1 { All HoldsLevels trails.now.sound1.now.records }
-        requires levels2 { All HoldsLevels trails.now.sound2.now.records }
         ensures taken { Takes (O.taken out.old) (O.taken out.new)
             (bytes_of (samples_of self.old trails.now.sound1.now.records trails.now.sound2.now.records upto)) result }
         ensures cause { HasCause (O.faults out.old) (O.faults out.new) result }
@@ -128,7 +125,6 @@ impl Mixer {
 
     /// Takes on the levels of a record.
     fn change(&mut self, part: Part, made: Record)
-        requires { HoldsLevels made }
         ensures { self.new ≡ changed self.old part made }
     {
         let Record::Levels { l1, l2, l3, l4, .. } = made else {

@@ -1,6 +1,6 @@
 -- The frames of a run of the lockstep board. They are this project's own.
-use Rattle.std.specs.Prelude.{◌≡◌, ℕ, List, ◌++◌, length}
-use Rattle.std.specs.List.{sum_by}
+use Rattle.std.specs.Prelude.{◌≡◌, ℕ, ◌+◌, List, ◌++◌, length, map}
+use Rattle.std.specs.List.{range_with_len, sum_by}
 use Rattle.tape_ports.specs.declared.entry.TapeEntry.{TapeEntry}
 use Rattle.lockstep_board.specs.Order.{HasNoRecords}
 use Rattle.lockstep_board.specs.Lockstep.{Board}
@@ -8,6 +8,7 @@ use Rattle.lockstep_board.specs.Run.{boundary_steps, to_boundary}
 use Rattle.catchup_engine.specs.Trace.{accesses_of}
 use Rattle.frame_list.specs.Events.{Event, by_clock, marks_of}
 use Rattle.frame_list.specs.Frames.{FrameValue, begun, frames_of, frames_text}
+use Rattle.frame_list.specs.InFrames.{frame_at}
 use Rattle.sliced_run.specs.LastLine.{last_text}
 
 -- the clocks of the writes that start the generator, among all accesses of a run to a boundary
@@ -32,3 +33,11 @@ framed_text entries limit b =
 abbrev pub AllStrokesAreTold : List TapeEntry → ℕ → Board → Type 0
 AllStrokesAreTold entries limit b =
     HasNoRecords b → sum_by (λ f. f.strokes) (run_frames entries limit b) ≡ length (to_boundary entries limit b).wires.strokes
+
+-- The frames of a run from a board without records: one more than the marks, and each with exactly the strokes of the run that
+-- are above its mark and up to the next one.
+abbrev pub FramesHaveTheirStrokes : List TapeEntry → ℕ → Board → Type 0
+FramesHaveTheirStrokes entries limit b =
+    HasNoRecords b
+    → run_frames entries limit b
+    ≡ map (frame_at b.wires.clock (to_boundary entries limit b).wires.strokes (run_marks entries limit b)) (range_with_len 0 (length (run_marks entries limit b) + 1))

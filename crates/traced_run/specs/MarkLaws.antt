@@ -32,7 +32,7 @@ mark-other : (access : Access) (rest : List Access) → starts_generator access 
 unfolding marks_of
 mark-other access rest is = rw is refl
 
-marks-nothing : marks_of [] ≡ []
+pub marks-nothing : marks_of [] ≡ []
 unfolding marks_of
 marks-nothing = refl
 
@@ -94,7 +94,7 @@ turn-marks entries limit b open_yet =
     ∙ sym (ap (λ (jam : Option ℕ). marks_in (if is_some jam then no_trace else trace_of entries n b)) (over-running limit b open_yet).running)
 
 -- a mark is of the clock of its access
-one-mark : (clock : ℕ) (access : Option course.Access) → All (λ mark. mark ≡ clock) (marks_of (accesses_in clock access))
+pub one-mark : (clock : ℕ) (access : Option course.Access) → All (λ mark. mark ≡ clock) (marks_of (accesses_in clock access))
 one-mark clock None = subst (All (λ mark. mark ≡ clock)) (sym marks-nothing) (All-nil (λ mark. mark ≡ clock))
 one-mark clock (Some access) = by_start access
   where

@@ -12,8 +12,6 @@ loop-part-init g c =
         from = c.requires.from;
         made1 = c.requires.made1;
         made2 = c.requires.made2;
-        levels1 = c.requires.levels1;
-        levels2 = c.requires.levels2;
       };
       gathered = nothing_sent _ _ _ refl;
       state = refl;
