@@ -10,6 +10,4 @@ mod gravitar_commands_tests;
 #[cfg(test)]
 mod keyframes_tests;
 #[cfg(test)]
-mod log_text_tests;
-#[cfg(test)]
 mod soak_run_tests;
