@@ -1,16 +1,8 @@
-use crate::workload_gen_tests::WORKLOAD;
 use asm_core::ListingLine;
-use asm_cpu::{assemble, mnemonic};
-use asm_text::AsmFault;
-use cpu_table::Op;
+use asm_cpu::assemble;
+use board_base::VECTOR_ROM_LEN;
 use rom_image::Image;
 use std::test::Fail;
-
-/// A line of a listing: its address, its number and its bytes.
-type Listed = (u16, u32, &'static [u8]);
-
-/// What is subtracted from an address of the program ROM for its byte's place in the image.
-const FROM_ADDRESS: usize = 0x9000 - 0x3800;
 
 /// Every operation in every mode that it has; a branch goes to itself.
 const EVERY: &str = "\
@@ -60,83 +52,17 @@ const EVERY_BYTES: [u8; 321] = [
     0xEA,
 ];
 
-/// Its bytes from 9000 on.
-const WORKLOAD_BYTES: [u8; 73] = [
-    0xD8, 0xA2, 0xFF, 0x9A, 0xA9, 0xE4, 0x8D, 0x01, 0x20, 0xA9, 0x03, 0x8D, 0x0F, 0x60, 0x8D, 0x0F,
-    0x68, 0xA9, 0xA6, 0x8D, 0x01, 0x60, 0x8D, 0x03, 0x68, 0x58, 0x8D, 0x80, 0x89, 0xAD, 0x00, 0x78,
-    0x29, 0x40, 0xF0, 0xF6, 0x8D, 0x40, 0x88, 0xAD, 0x0A, 0x60, 0x8D, 0x00, 0x60, 0xAD, 0x0A, 0x68,
-    0x8D, 0x02, 0x68, 0xE6, 0x10, 0xA5, 0x10, 0x8D, 0x00, 0x88, 0x4C, 0x1A, 0x90, 0x48, 0x8D, 0xC0,
-    0x88, 0xAD, 0x00, 0x80, 0x8D, 0x05, 0x60, 0x68, 0x40,
-];
-
-/// The place of an address's byte in the image.
-fn place(addr: u16) -> usize {
-    usize::from(addr).saturating_sub(FROM_ADDRESS)
-}
-
-/// Whether an image has these bytes from an address on.
-fn stand_at(image: &Image, addr: u16, bytes: &[u8]) -> bool {
-    match image.bytes().get(place(addr)..) {
-        Some(rest) => rest.starts_with(bytes),
-        None => false,
-    }
-}
-
-/// Whether a line of a listing is this one, and its bytes stand in the image.
-fn is_listed(image: &Image, line: ListingLine, expected: Listed) -> bool {
-    let (addr, number, bytes) = expected;
-    (line.addr, line.line, line.count as usize) == (addr, number, bytes.len())
-        && stand_at(image, addr, bytes)
-}
-
 #[test]
 fn every_operation_has_its_opcode_in_every_mode(rt: HostRuntime) -> Result<(), Fail> {
     let mut image = Image::blank(rt.alloc())?;
     let listing = assemble(rt.alloc(), EVERY.as_bytes(), &mut image)?;
     assert_eq!(rt; listing.lines().len(), 151);
-    assert!(rt; stand_at(&image, 0x9000, &EVERY_BYTES));
+    let second = ListingLine {
+        addr: 0x9002,
+        count: 2,
+        line: 3,
+    };
+    assert_eq!(rt; listing.lines()[1], second);
+    assert!(rt; image.bytes()[VECTOR_ROM_LEN..].starts_with(&EVERY_BYTES));
     Ok(())
-}
-
-#[test]
-fn the_workload_has_its_bytes(rt: HostRuntime) -> Result<(), Fail> {
-    let mut image = Image::blank(rt.alloc())?;
-    let listing = assemble(rt.alloc(), WORKLOAD.as_bytes(), &mut image)?;
-    assert_eq!(rt; listing.lines().len(), 32);
-    assert!(rt; stand_at(&image, 0x9000, &WORKLOAD_BYTES));
-    assert!(rt; stand_at(&image, 0xFFFA, &[0x00, 0x90, 0x00, 0x90, 0x3D, 0x90]));
-    Ok(())
-}
-
-#[test]
-fn a_comment_has_any_byte_but_lf(rt: HostRuntime) -> Result<(), Fail> {
-    let mut image = Image::blank(rt.alloc())?;
-    let source = b".org $9000;\xFF\x00\r;@\n nop;\x80\r\n";
-    let listing = assemble(rt.alloc(), source, &mut image)?;
-    assert_eq!(rt; listing.lines().len(), 1);
-    assert!(rt; is_listed(&image, listing.lines()[0], (0x9000, 2, &[0xEA])));
-    Ok(())
-}
-
-#[test]
-fn a_source_has_a_longest_length(rt: HostRuntime) -> Result<(), Fail> {
-    let mut image = Image::blank(rt.alloc())?;
-    let mut source = b".org 10\n".repeat(rt.alloc(), 131_069)?;
-    source.extend_from_slice(b".org $9000\n lda #5\n nop\n")?;
-    assert_eq!(rt; source.len(), 1_048_576);
-    let listing = assemble(rt.alloc(), &source, &mut image)?;
-    assert_eq!(rt; listing.lines().len(), 2);
-    assert!(rt; is_listed(&image, listing.lines()[0], (0x9000, 131_071, &[0xA9, 0x05])));
-    assert!(rt; is_listed(&image, listing.lines()[1], (0x9002, 131_072, &[0xEA])));
-    source.push(b'\n')?;
-    let found = assemble(rt.alloc(), &source, &mut image).err();
-    assert_eq!(rt; found, Some(AsmFault::TooLong));
-    Ok(())
-}
-
-#[test]
-fn an_operation_has_its_name(rt: HostRuntime) {
-    for (op, name) in [(Op::Adc, "adc"), (Op::Jsr, "jsr"), (Op::Tya, "tya")] {
-        assert_eq!(rt; mnemonic(op), name);
-    }
 }

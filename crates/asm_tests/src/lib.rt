@@ -12,6 +12,4 @@ mod asm_listing_tests;
 #[cfg(test)]
 mod asm_text_tests;
 #[cfg(test)]
-mod debug_lines_tests;
-#[cfg(test)]
 mod workload_gen_tests;

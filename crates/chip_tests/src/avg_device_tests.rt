@@ -6,8 +6,6 @@ use std::alloc::Global;
 use std::process::Abort;
 use std::test::Fail;
 
-mod states;
-
 /// A memory with these words from address 0 on, and else 0.
 fn memory_of(rt: &(impl Abort + Alloc<A = Global>), words: &[u16]) -> Result<VectorMemory, Fail> {
     let mut memory = VectorMemory::new(rt.alloc(), &[0; 14336])?;
@@ -112,80 +110,6 @@ fn strokes_come_with_the_last_clock_of_a_draw(rt: HostRuntime) -> Result<(), Fai
     draws_to_the_end(&rt, FastVg::new())?;
     abandons_a_draw(&rt, PlainVg::new())?;
     abandons_a_draw(&rt, FastVg::new())
-}
-
-/// A short vector and a halt, begun after clock 28.
-fn draws_a_short_vector<V: VectorUnit>(
-    rt: &(impl Abort + Alloc<A = Global>),
-    mut unit: V,
-) -> Result<(), Fail> {
-    let memory = memory_of(rt, &[0x40E1, 0x2000])?;
-    unit.go();
-    draws(rt, &mut unit, &memory, 29, 7, &[stroke(35, 65_536)])?;
-    draws(rt, &mut unit, &memory, 36, 2, &[])?;
-    assert!(rt; !unit.halted());
-    draws(rt, &mut unit, &memory, 38, 1, &[])?;
-    assert!(rt; unit.halted());
-    draws(rt, &mut unit, &memory, 39, 9000, &[])
-}
-
-/// One long vector from the middle again and again, until a reset at clock 49,230.
-fn draws_again_and_again<V: VectorUnit>(
-    rt: &(impl Abort + Alloc<A = Global>),
-    mut unit: V,
-) -> Result<(), Fail> {
-    let memory = memory_of(rt, &[0xE002, 0x2000, 0x0000, 0xF000, 0x8000, 0xE002])?;
-    unit.go();
-    draws(
-        rt,
-        &mut unit,
-        &memory,
-        17,
-        8200,
-        &[stroke(8216, -134_217_728)],
-    )?;
-    for clock in [16_419, 24_622, 32_825, 41_028u64] {
-        draws(
-            rt,
-            &mut unit,
-            &memory,
-            clock - 8202,
-            8203,
-            &[stroke(clock, -134_217_728)],
-        )?;
-    }
-    draws(rt, &mut unit, &memory, 41_029, 8202, &[])?;
-    unit.reset();
-    draws(rt, &mut unit, &memory, 49_231, 9000, &[])?;
-    assert_eq!(rt; (unit.state().x, unit.halted()), (0, true));
-    Ok(())
-}
-
-#[test]
-fn a_picture_is_drawn_until_a_reset(rt: HostRuntime) -> Result<(), Fail> {
-    draws_a_short_vector(&rt, PlainVg::new())?;
-    draws_a_short_vector(&rt, FastVg::new())?;
-    draws_again_and_again(&rt, PlainVg::new())?;
-    draws_again_and_again(&rt, FastVg::new())
-}
-
-/// Only calls that move or change a generator are counted.
-fn counts<V: VectorUnit>(rt: &(impl Abort + Alloc<A = Global>), mut unit: V) -> Result<(), Fail> {
-    let memory = memory_of(rt, &[])?;
-    assert_eq!(rt; unit.calls(), 0);
-    unit.load(&VgState::power_on());
-    unit.go();
-    unit.reset();
-    draws(rt, &mut unit, &memory, 0, 0, &[])?;
-    assert_eq!(rt; (unit.calls(), unit.halted()), (4, true));
-    assert_eq!(rt; unit.state(), VgState::power_on());
-    Ok(())
-}
-
-#[test]
-fn calls_are_counted_from_power_on(rt: HostRuntime) -> Result<(), Fail> {
-    counts(&rt, PlainVg::new())?;
-    counts(&rt, FastVg::new())
 }
 
 #[test]

@@ -1,4 +1,4 @@
-use board_base::{CallCount, OutOfMemory, Record, Trail, VectorMemory, sooner};
+use board_base::{OutOfMemory, Record, Trail, VectorMemory};
 
 const LATCH: Record = Record::Latch {
     clock: 12,
@@ -35,18 +35,4 @@ fn a_vector_memory_has_its_ram_before_its_rom(rt: HostRuntime) -> Result<(), Out
     assert_eq!(rt; memory.byte(2048), 0x5A);
     assert_eq!(rt; memory.ram(), [9; 2048].as_slice());
     Ok(())
-}
-
-#[test]
-fn a_count_of_calls_rises(rt: HostRuntime) {
-    let mut calls = CallCount::new();
-    calls.rise();
-    calls.rise();
-    assert_eq!(rt; calls.get(), 2);
-}
-
-#[test]
-fn a_time_that_never_comes_is_no_sooner(rt: HostRuntime) {
-    assert_eq!(rt; sooner(None, Some(7)), Some(7));
-    assert_eq!(rt; sooner(Some(9), Some(7)), Some(7));
 }

@@ -2,31 +2,17 @@
 #![tactic(auto)]
 
 #[cfg(test)]
-mod avg_decode_tests;
-#[cfg(test)]
 mod avg_device_tests;
-#[cfg(test)]
-mod avg_draw_tests;
-#[cfg(test)]
-mod bit_words_tests;
 #[cfg(test)]
 mod board_base_tests;
 #[cfg(test)]
-mod board_map_tests;
-#[cfg(test)]
 mod cpu_alu_tests;
 #[cfg(test)]
-mod cpu_table_tests;
-#[cfg(test)]
 mod earom_cells_tests;
-#[cfg(test)]
-mod event_queue_tests;
 #[cfg(test)]
 mod flat_bus_tests;
 #[cfg(test)]
 mod irq_watchdog_tests;
-#[cfg(test)]
-mod page_pool_tests;
 #[cfg(test)]
 mod pokey_chip_tests;
 #[cfg(test)]

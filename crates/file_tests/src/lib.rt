@@ -1,8 +1,6 @@
-//! Tests of the files, of the words and of the outside, each in the file of its crate's name.
+//! Tests of the files and of the outside, each in the file of its crate's name.
 #![tactic(auto)]
 
-#[cfg(test)]
-mod command_line_tests;
 #[cfg(test)]
 mod debug_script_tests;
 #[cfg(test)]
@@ -12,10 +10,6 @@ mod file_shelf_tests;
 #[cfg(test)]
 mod outside_io_tests;
 #[cfg(test)]
-mod plain_text_tests;
-#[cfg(test)]
 mod rom_image_tests;
-#[cfg(test)]
-mod save_state_tests;
 #[cfg(test)]
 mod tape_ports_tests;

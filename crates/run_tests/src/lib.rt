@@ -10,8 +10,6 @@ mod gravitar_commands_tests;
 #[cfg(test)]
 mod keyframes_tests;
 #[cfg(test)]
-mod log_text_tests;
-#[cfg(test)]
 mod programs;
 #[cfg(test)]
 mod run_slices_tests;
