@@ -1,3 +1,4 @@
+pub mod OneRunLaws
 mod BoardsLaws
 pub mod ListingLaws
 pub mod SessionLaws

@@ -4,3 +4,4 @@ pub mod Debugged
 pub mod Looks
 pub mod Session
 pub mod Texts
+pub mod OneRun

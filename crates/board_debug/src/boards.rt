@@ -1,10 +1,11 @@
 //! The texts of boards of a run, each at a clock that is asked for.
-ghost use Rattle.std.specs.Prelude.{◌≡◌, ◌<◌, ◌≤◌, All, IfSome};
+ghost use Rattle.std.specs.Prelude.{◌≡◌, ℕ, ◌+◌, ◌-◌, ◌≤◌, All, length};
 ghost use Rattle.outside_io.specs.Causes.{HasCause};
 ghost use Rattle.outside_io.specs.Sink.{Takes};
 ghost use Rattle.lockstep_board.specs.Order.{HasNoRecords};
 ghost use Rattle.keyframes.specs.Seeking.{Along, run_start};
 ghost use Rattle.board_debug.specs.BoardsText.{boards_text};
+ghost use Rattle.board_debug.specs.OneRun.{HasRoom, IsNextOf, IsReached, lesser};
 
 use crate::board_text::write_board;
 use avg_device::VectorUnit;
@@ -17,19 +18,26 @@ use outside_io::{Sink, SinkFault};
 use pokey_chip::SoundUnit;
 use tape_ports::Tape;
 
+/// The lesser of a clock, where it is above the last one, and of one that was found before.
+fn lesser(last: u64, found: Option<u64>, clock: u64) -> Option<u64>
+    ensures { result ≡ lesser last found clock }
+{
+    match found {
+        None if last < clock => Some(clock),
+        Some(found) if last < clock && clock < found => Some(clock),
+        _ => found,
+    }
+}
+
 /// The least of some clocks above one; none where there is none.
 fn next_above(clocks: &[u64], last: u64) -> Option<u64>
-    requires limit { All (λ clock. clock ≤ CLOCK_LIMIT) clocks.now }
-    ensures above { IfSome result (λ next. last < next) }
-    ensures limit { IfSome result (λ next. next ≤ CLOCK_LIMIT) }
+    ensures { IsNextOf clocks.now (length clocks.now) last result }
 {
-    let mut least = None;
+    let mut next = None;
     for clock in clocks {
-        if last < *clock && least.is_none_or(|least| *clock < least) {
-            least = Some(*clock);
-        }
+        next = lesser(last, next, *clock);
     }
-    least
+    next
 }
 
 /// Keeps the boards of a run at some clocks, from the least to the greatest.
@@ -47,6 +55,10 @@ fn keep_each<V: VectorUnit, P: SoundUnit, C: CellUnit, D: DividerUnit>(
     ensures empty { HasNoRecords engine.new.board }
     ensures same { run_start keys.new.kept engine.new.board ≡ run_start keys.old.kept engine.old.board }
     ensures along { Along keys.new.kept tape.now.entries (run_start keys.new.kept engine.new.board) }
+    ensures done { HasRoom keys.old (length clocks.now) → (most : ℕ) → All (λ clock. clock ≤ most) clocks.now
+        → engine.new.done ≤ engine.old.done + (most - (run_start keys.old.kept engine.old.board).wires.clock) }
+    ensures reached { HasRoom keys.old (length clocks.now)
+        → All (λ clock. let b = run_start keys.old.kept engine.old.board in b.wires.clock ≤ clock → IsReached tape.now.entries b keys.new.kept clock) clocks.now }
 {
     let mut last = keys.clock_of(0);
     while let Some(next) = next_above(clocks, last) {
@@ -79,6 +91,9 @@ pub fn write_boards<V: VectorUnit, P: SoundUnit, C: CellUnit, D: DividerUnit, O:
     ensures empty { HasNoRecords engine.new.board }
     ensures same { run_start keys.new.kept engine.new.board ≡ run_start keys.old.kept engine.old.board }
     ensures along { Along keys.new.kept tape.now.entries (run_start keys.new.kept engine.new.board) }
+    // where there is room for all of them, no more clocks than from the start to the last, in whatever order they are asked for
+    ensures done { HasRoom keys.old (length clocks.now) → (most : ℕ) → All (λ clock. clock ≤ most) clocks.now
+        → engine.new.done ≤ engine.old.done + (most - (run_start keys.old.kept engine.old.board).wires.clock) }
 {
     keep_each(engine, keys, tape, clocks);
     let mut state = BoardState::power_on();

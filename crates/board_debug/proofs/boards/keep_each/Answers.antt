@@ -1,5 +1,9 @@
-use Rattle.std.proofs.Common.{refl, ◌∙◌, subst, sym}
+use Rattle.std.proofs.Common.{refl, ap, ◌∙◌, subst, sym}
+use Rattle.lockstep_board.specs.Order.{cleared}
+use Rattle.lockstep_board.specs.Lockstep.{Board}
+use Rattle.lockstep_board.specs.Run.{to_clock}
 use Rattle.keyframes.specs.Seeking.{Along, run_start}
+use Rattle.board_debug.proofs.OneRunLaws.{roomy, way-begins, way-cost, way-on}
 use Rattle.board_debug.proofs.boards.keep_each.Goals as goal
 
 pub loop-next-init : goal.loop-next-init
@@ -8,6 +12,9 @@ loop-next-init g c = record {
   empty = c.requires.empty;
   same = refl;
   along = c.requires.along;
+  way = λ room.
+      way-begins c.args.tape.now.entries c.args.clocks.now (run_start c.args.keys.now.kept c.args.engine.now.board) c.args.engine.now.done c.args.keys.now
+      c.clock_of-last.result room c.requires.along c.clock_of-last.ensures;
 }
 
 pub loop-next-preserved : goal.loop-next-preserved
@@ -21,4 +28,19 @@ loop-next-preserved g c =
       empty = c.go_to.ensures.empty;
       same = start ∙ inv.same;
       along = subst (Along c.keep_board.new.keys.kept entries) (sym start) (c.keep_board.ensures.along entries b inv.along c.go_to.ensures.on_run);
+      way = λ room.
+          let way = inv.way room in
+          let start' = run_start c.args.keys.now.kept c.args.engine.now.board in
+          let board = c.go_to.ensures.board ∙ ap (λ (from : Board). cleared (to_clock entries c.in-Some.next from)) inv.same in
+          let found = c.in-Some.ensures in
+          way-on entries c.args.clocks.now start' c.go_to.new.engine.board c.args.engine.now.done c.loop-next.engine.done c.go_to.new.engine.done
+          c.loop-next.last c.in-Some.next c.loop-next.keys c.keep_board.new.keys way found board c.go_to.ensures.done
+          (c.keep_board.ensures.roomy
+          (roomy entries c.args.clocks.now start' c.go_to.new.engine.board c.args.engine.now.done c.loop-next.engine.done c.go_to.new.engine.done
+          c.loop-next.last c.in-Some.next c.loop-next.keys c.keep_board.new.keys way found board c.go_to.ensures.done));
     }
+
+pub returns-clause-done : goal.returns-clause-done
+returns-clause-done g c = λ room most all.
+    way-cost c.args.tape.now.entries c.args.clocks.now (run_start c.args.keys.now.kept c.args.engine.now.board) c.args.engine.now.done
+    c.loop-next.engine.done c.loop-next.last c.loop-next.keys (c.loop-next.invariant.way room) most all

@@ -1,16 +1,19 @@
-use Rattle.std.proofs.Common.{◌≡◌, ◌-◌}
+use Rattle.std.proofs.Common.{◌≡◌, ◌-◌, length}
 use Rattle.board_base.specs.declared.board.TheConstants.{CLOCK_LIMIT}
 use Rattle.lockstep_board.specs.Order.{HasNoRecords}
 use Rattle.keyframes.specs.Seeking.{Along, run_start}
+use Rattle.board_debug.specs.OneRun.{HasRoom}
+use Rattle.board_debug.proofs.OneRunLaws.{Way}
 use Rattle.board_debug.proofs.boards.keep_each.Given as goal
 
--- the engine can go on along the same run
+-- the engine can go on along the same run, and where there is room it is on the way to all clocks
 abbrev pub invariant-loop-next : goal.invariant-loop-next
 invariant-loop-next g l = record {
   settled : l.engine.lagging ≡ 0;
   empty : HasNoRecords l.engine.board;
   same : run_start l.keys.kept l.engine.board ≡ run_start l.fn.keys.kept l.fn.engine.board;
   along : Along l.keys.kept l.fn.tape.entries (run_start l.keys.kept l.engine.board);
+  way : HasRoom l.fn.keys (length l.fn.clocks) → Way l.fn.tape.entries l.fn.clocks (run_start l.fn.keys.kept l.fn.engine.board) l.fn.engine.done l.keys l.engine.done l.last;
 }
 
 abbrev pub decreases-loop-next : goal.decreases-loop-next

@@ -1,6 +1,10 @@
-use Rattle.std.proofs.Common.{refl, ◌∙◌}
+use Rattle.std.proofs.Common.{refl, ap, ◌∙◌, get_or, arith}
+use Rattle.lockstep_board.specs.Order.{cleared}
+use Rattle.lockstep_board.specs.Lockstep.{Board}
+use Rattle.lockstep_board.specs.Run.{to_clock}
 use Rattle.keyframes.specs.Seeking.{run_start}
 use Rattle.board_debug.proofs.BoardsLaws.{board-last, board-on}
+use Rattle.board_debug.proofs.OneRunLaws.{reached-free}
 use Rattle.board_debug.proofs.ListingLaws.{none-taken, piece-cut, piece-taken, whole-taken}
 use Rattle.board_debug.proofs.boards.write_boards.Goals as goal
 
@@ -12,6 +16,8 @@ loop-clock-init g c = record {
   empty = c.keep_each.ensures.empty;
   same = c.keep_each.ensures.same;
   along = c.keep_each.ensures.along;
+  reached = c.keep_each.ensures.reached;
+  done = c.keep_each.ensures.done;
 }
 
 pub returns-in_default-clause-taken : goal.returns-in_default-clause-taken
@@ -34,9 +40,41 @@ loop-clock-preserved g c = record {
   empty = c.go_to.ensures.empty;
   same = c.go_to.ensures.same ∙ c.loop-clock.invariant.same;
   along = c.go_to.ensures.along;
+  reached = c.loop-clock.invariant.reached;
+  done = λ room most all.
+      let entries = c.args.tape.now.entries in
+      let b = run_start c.args.keys.now.kept c.args.engine.now.board in
+      let clock = get_or c.args.clocks.now c.loop-clock.clock-index 0 in
+      let inv = c.loop-clock.invariant in
+      let board = c.go_to.ensures.board ∙ ap (λ (from : Board). cleared (to_clock entries clock from)) inv.same in
+      let start = ap (λ (from : Board). from.wires.clock) inv.same in
+      let free =
+      reached-free entries b c.go_to.new.engine.board c.keep_each.new.keys.kept clock c.loop-clock.engine.done c.go_to.new.engine.done
+      (inv.reached room c.loop-clock.clock-index 0 c.loop-clock-test.true) board c.go_to.ensures.done
+      (λ below. c.go_to.ensures.before (omega (arith, below, start))) in
+      let old = inv.done room most all in
+      omega (arith, free, old);
 }
 
 pub returns-clause-taken : goal.returns-clause-taken
 returns-clause-taken g c =
     whole-taken _ _ _ _ (board-last c.args.tape.now.entries c.args.clocks.now c.loop-clock.clock-index (run_start c.args.keys.now.kept c.args.engine.now.board)
     c.loop-clock-test.false) c.loop-clock.invariant.text
+
+pub returns-in_default-clause-done : goal.returns-in_default-clause-done
+returns-in_default-clause-done g c = λ room most all.
+    let entries = c.args.tape.now.entries in
+    let b = run_start c.args.keys.now.kept c.args.engine.now.board in
+    let clock = get_or c.args.clocks.now c.loop-clock.clock-index 0 in
+    let inv = c.loop-clock.invariant in
+    let board = c.go_to.ensures.board ∙ ap (λ (from : Board). cleared (to_clock entries clock from)) inv.same in
+    let start = ap (λ (from : Board). from.wires.clock) inv.same in
+    let free =
+    reached-free entries b c.go_to.new.engine.board c.keep_each.new.keys.kept clock c.loop-clock.engine.done c.go_to.new.engine.done
+    (inv.reached room c.loop-clock.clock-index 0 c.loop-clock-test.true) board c.go_to.ensures.done
+    (λ below. c.go_to.ensures.before (omega (arith, below, start))) in
+    let old = inv.done room most all in
+    omega (arith, free, old)
+
+pub returns-clause-done : goal.returns-clause-done
+returns-clause-done g c = c.loop-clock.invariant.done

@@ -1,7 +1,8 @@
-use Rattle.std.proofs.Common.{◌≡◌, drop}
+use Rattle.std.proofs.Common.{◌≡◌, ℕ, ◌+◌, ◌-◌, ◌≤◌, All, drop, length}
 use Rattle.lockstep_board.specs.Order.{HasNoRecords}
 use Rattle.keyframes.specs.Seeking.{Along, run_start}
 use Rattle.board_debug.specs.BoardsText.{boards_text}
+use Rattle.board_debug.specs.OneRun.{HasRoom, IsReached}
 use Rattle.board_debug.proofs.ListingLaws.{TakenUpTo}
 use Rattle.board_debug.proofs.boards.write_boards.Given as goal
 
@@ -15,4 +16,8 @@ invariant-loop-clock g l = record {
   empty : HasNoRecords l.engine.board;
   same : run_start l.keys.kept l.engine.board ≡ run_start l.fn.keys.kept l.fn.engine.board;
   along : Along l.keys.kept l.fn.tape.entries (run_start l.keys.kept l.engine.board);
+  reached : HasRoom l.fn.keys (length l.fn.clocks) → All (λ clock. (run_start l.fn.keys.kept l.fn.engine.board).wires.clock ≤ clock
+      → IsReached l.fn.tape.entries (run_start l.fn.keys.kept l.fn.engine.board) l.keys.kept clock) l.fn.clocks;
+  done : HasRoom l.fn.keys (length l.fn.clocks) → (most : ℕ) → All (λ clock. clock ≤ most) l.fn.clocks
+      → l.engine.done ≤ l.fn.engine.done + (most - (run_start l.fn.keys.kept l.fn.engine.board).wires.clock);
 }

@@ -1,0 +1,381 @@
+-- Boards kept from the least clock to the greatest: one run comes to all of them.
+use Rattle.std.proofs.Common.{◌≡◌, ◌≢◌, ℕ, ◌+◌, ◌-◌, ◌*◌, ◌<◌, ◌≤◌, ◌&&◌, ◌||◌, nat_lt, nat_le, cond, Bool, true, false, zero, suc, List, [], ◌∷◌, ◌++◌, All, Option, Some, None, IfSome, length, length-append, get_or, refl, sym, ap, ◌∙◌, subst, inl, inr, arith}
+use Rattle.std.specs.List.{count_by}
+use Rattle.std.proofs.lemmas.Bool.{cases_lt, true≢false}
+use Rattle.std.proofs.lemmas.Bool.Decides.{nat_tests}
+use Rattle.std.proofs.lemmas.List.{get_or_append_left, get_or_push}
+use Rattle.std.proofs.lemmas.List.Sums.{sum_by-cons, count_by-le-length}
+use Rattle.board_base.specs.Board.{BoardValue}
+use Rattle.tape_ports.specs.declared.entry.TapeEntry.{TapeEntry}
+use Rattle.lockstep_board.specs.Order.{cleared}
+use Rattle.lockstep_board.specs.Lockstep.{Board}
+use Rattle.lockstep_board.specs.Run.{clock_steps, to_clock}
+use Rattle.lockstep_board.proofs.Clocks.{stepped-clock}
+use Rattle.lockstep_board.proofs.Ends.{clock_steps-few}
+use Rattle.keyframes.specs.declared.pages.TheConstants.{BOARD_PAGES}
+use Rattle.keyframes.specs.Keys.{Keyframe, KeyframesValue, is_crowded, last_of, live_of}
+use Rattle.keyframes.specs.Seeking.{AddsBoard, Along, state_of}
+use Rattle.keyframes.proofs.AlongLaws.{clock-past}
+use Rattle.board_debug.specs.OneRun.{HasRoom, IsNextOf, IsReached, chosen, lesser}
+
+-- tests of two numbers
+lt-true : (a b : ℕ) → nat_lt a b ≡ true → a < b
+lt-true a b e = grind (arith, nat_tests)
+
+lt-false : (a b : ℕ) → nat_lt a b ≡ false → b ≤ a
+lt-false a b e = grind (arith, nat_tests)
+
+lt-is : (a b : ℕ) → a < b → nat_lt a b ≡ true
+lt-is a b h = grind (arith, nat_tests)
+
+lt-not : (a b : ℕ) → b ≤ a → nat_lt a b ≡ false
+lt-not a b h = grind (arith, nat_tests)
+
+both-first : (a b c : ℕ) → nat_lt a b && nat_lt b c ≡ true → a < b
+both-first a b c e = grind (arith, nat_tests)
+
+both-second : (a b c : ℕ) → nat_lt a b && nat_lt b c ≡ true → b < c
+both-second a b c e = grind (arith, nat_tests)
+
+both-false : (a b c : ℕ) → nat_lt a b && nat_lt b c ≡ false → a < b → c ≤ b
+both-false a b c e h = grind (arith, nat_tests)
+
+-- the least of some clocks above one, a clock more
+module _ (clocks : List ℕ) (last index clock : ℕ) (at : (d : ℕ) → get_or clocks index d ≡ clock) where
+  here : (k d : ℕ) → k < index + 1 → index ≤ k → get_or clocks k d ≡ clock
+  here k d h same = let e : k ≡ index = omega (arith, h, same) in ap (λ n. get_or clocks n d) e ∙ at d
+
+  step-none : (t : Bool) → (t ≡ true → last < clock) → (t ≡ false → clock ≤ last) → IsNextOf clocks index last None
+      → IsNextOf clocks (index + 1) last (chosen t None clock)
+  step-none true up down before = (
+    up refl,
+    (index, omega arith, at),
+    λ k d h above. elim (cases_lt k index) [
+      | inl earlier ↦ let e = before k d earlier in absurd (omega (arith, e, above))
+      | inr same ↦ let e = here k d h same in omega (arith, e)
+    ],
+  )
+  step-none false up down before = λ k d h. elim (cases_lt k index) [
+    | inl earlier ↦ before k d earlier
+    | inr same ↦ let e = here k d h same in let f = down refl in omega (arith, e, f)
+  ]
+
+  step-some : (t : Bool) (found : ℕ) → (t ≡ true → (last < clock) × (clock < found)) → (t ≡ false → last < clock → found ≤ clock)
+      → IsNextOf clocks index last (Some found) → IsNextOf clocks (index + 1) last (chosen t (Some found) clock)
+  step-some true found up down before = let u = up refl in (
+    u.0,
+    (index, omega arith, at),
+    λ k d h above. elim (cases_lt k index) [
+      | inl earlier ↦ let e = before.2 k d earlier above in let v = u.1 in omega (arith, e, v)
+      | inr same ↦ let e = here k d h same in omega (arith, e)
+    ],
+  )
+  step-some false found up down before = (
+    before.0,
+    (before.1.0, (let e = before.1.1 in omega (arith, e)), before.1.2),
+    λ k d h above. elim (cases_lt k index) [
+      | inl earlier ↦ before.2 k d earlier above
+      | inr same ↦ let e = here k d h same in let f = down refl (omega (arith, e, above)) in omega (arith, e, f)
+    ],
+  )
+
+  pub next-step : (found : Option ℕ) → IsNextOf clocks index last found → IsNextOf clocks (index + 1) last (lesser last found clock)
+  next-step None before = step-none (nat_lt last clock) (lt-true last clock) (lt-false last clock) before
+  next-step (Some found) before =
+      step-some (nat_lt last clock && nat_lt clock found) found (λ e. (both-first last clock found e, both-second last clock found e))
+      (both-false last clock found) before
+
+-- how many of some clocks are above one
+abbrev pub above : List ℕ → ℕ → ℕ
+above clocks last = count_by (nat_lt last) clocks
+
+le-cond : (s t : Bool) → (s ≡ true → t ≡ true) → cond s 1 0 ≤ cond t 1 0
+le-cond false t h = omega arith
+le-cond true true h = omega arith
+le-cond true false h = absurd (true≢false (sym (h refl)))
+
+above-cons : (x : ℕ) (xs : List ℕ) (last : ℕ) → above (x ∷ xs) last ≡ cond (nat_lt last x) 1 0 + above xs last
+above-cons x xs last = sum_by-cons (λ y. cond (nat_lt last y) 1 0) x xs
+
+fewer-one : (last next x : ℕ) → last ≤ next → cond (nat_lt next x) 1 0 ≤ cond (nat_lt last x) 1 0
+fewer-one last next x h = le-cond (nat_lt next x) (nat_lt last x) (λ e. let f = lt-true next x e in lt-is last x (omega (arith, h, f)))
+
+above-le : (clocks : List ℕ) (last next : ℕ) → last ≤ next → above clocks next ≤ above clocks last
+above-le [] last next h = omega arith
+above-le (x ∷ xs) last next h =
+    let a = fewer-one last next x h in
+    let b = above-le xs last next h in
+    let c = above-cons x xs next in
+    let d = above-cons x xs last in
+    omega (arith, a, b, c, d)
+
+above-less : (clocks : List ℕ) (last next i : ℕ) → i < length clocks → ((d : ℕ) → get_or clocks i d ≡ next) → last < next
+    → above clocks next + 1 ≤ above clocks last
+above-less [] last next i h at up = absurd (omega (arith, h))
+above-less (x ∷ xs) last next zero h at up =
+    let is : x ≡ next = at 0 in
+    let a : cond (nat_lt next x) 1 0 ≡ 0 = ap {B = ℕ} (λ t. cond t 1 0) (lt-not next x (omega (arith, is))) in
+    let b : cond (nat_lt last x) 1 0 ≡ 1 = ap {B = ℕ} (λ t. cond t 1 0) (lt-is last x (omega (arith, is, up))) in
+    let e = above-le xs last next (omega (arith, up)) in
+    let c = above-cons x xs next in
+    let d = above-cons x xs last in
+    omega (arith, a, b, c, d, e)
+above-less (x ∷ xs) last next (suc i) h at up =
+    let a = fewer-one last next x (omega (arith, up)) in
+    let b = above-less xs last next i (omega (arith, h)) at up in
+    let c = above-cons x xs next in
+    let d = above-cons x xs last in
+    omega (arith, a, b, c, d)
+
+-- there is room for a board more
+tests-false : (capacity live len limit : ℕ) → live + 16 ≤ capacity → len + 1 ≤ limit → nat_lt capacity (live + 16) || nat_le limit len ≡ false
+tests-false capacity live len limit h k = grind (arith, nat_tests)
+
+pub not-crowded : (keys : KeyframesValue) → live_of keys + 16 ≤ keys.capacity → length keys.kept + 1 ≤ keys.limit → is_crowded keys ≡ false
+not-crowded keys h k = tests-false keys.capacity (live_of keys) (length keys.kept) keys.limit h k
+
+-- what holds of the last holds at the last place
+last-get : (P : Keyframe → Type 0) (kept : List Keyframe) → IfSome (last_of kept) P → 0 < length kept → (d : Keyframe) → P (get_or kept (length kept - 1) d)
+last-get P [] holds some d = absurd (omega (arith, some))
+last-get P (a ∷ []) holds some d = holds
+last-get P (a ∷ b ∷ kept) holds some d =
+    let place : suc (length (b ∷ kept) - 1) ≡ length (a ∷ b ∷ kept) - 1 = omega arith in
+    subst (λ (n : ℕ). P (get_or (a ∷ b ∷ kept) n d)) place (last-get P (b ∷ kept) holds (omega arith) d)
+
+-- the clock of a run to a clock
+clock-of : (entries : List TapeEntry) (cut : ℕ) (b : Board) → (to_clock entries cut b).wires.clock ≡ b.wires.clock + clock_steps entries cut b
+unfolding to_clock
+clock-of entries cut b = stepped-clock entries (clock_steps entries cut b) b
+
+clock-later : (entries : List TapeEntry) (cut : ℕ) (b : Board) → b.wires.clock ≤ (to_clock entries cut b).wires.clock
+clock-later entries cut b = let e = clock-of entries cut b in omega (arith, e)
+
+clock-most : (entries : List TapeEntry) (cut : ℕ) (b : Board) → b.wires.clock ≤ cut → (to_clock entries cut b).wires.clock ≤ cut
+clock-most entries cut b h = let e = clock-of entries cut b in let f = clock_steps-few entries cut b in omega (arith, e, f, h)
+
+-- the clock of the last kept board
+abbrev pub last_clock : List Keyframe → Keyframe → ℕ
+last_clock kept d = (get_or kept (length kept - 1) d).board.clock
+
+-- The boards of the clocks up to one are kept, and a run from the start comes to the last of them in as many clocks as lie between.
+pub record Way (entries : List TapeEntry) (clocks : List ℕ) (b : Board) (before : ℕ) (keys : KeyframesValue) (done last : ℕ) : Type 0 where
+  pub some : 0 < length keys.kept
+  pub pages : live_of keys + 16 * above clocks last ≤ keys.capacity
+  pub frames : length keys.kept + above clocks last ≤ keys.limit
+  pub start : b.wires.clock ≤ last
+  pub least : (d : Keyframe) → b.wires.clock ≤ last_clock keys.kept d
+  pub most : (d : Keyframe) → last_clock keys.kept d ≤ last
+  pub cost : (d : Keyframe) → done + b.wires.clock ≤ before + last_clock keys.kept d
+  pub within : (most : ℕ) → b.wires.clock ≤ most → All (λ clock. clock ≤ most) clocks → last ≤ most
+  pub reached : (k d : ℕ) → k < length clocks → b.wires.clock ≤ get_or clocks k d → get_or clocks k d ≤ last → IsReached entries b keys.kept (get_or clocks k d)
+
+pub way-begins : (entries : List TapeEntry) (clocks : List ℕ) (b : Board) (before : ℕ) (keys : KeyframesValue) (last : ℕ) → HasRoom keys (length clocks)
+    → Along keys.kept entries b → ((d : Keyframe) → last ≡ (get_or keys.kept 0 d).board.clock) → Way entries clocks b before keys before last
+way-begins entries clocks b before keys last room along at =
+    let alone = room.alone in
+    let first : (d : Keyframe) → (get_or keys.kept 0 d).board.clock ≡ b.wires.clock = λ d. ap (λ (s : BoardValue). s.clock) (along.first d) in
+    let place : length keys.kept - 1 ≡ 0 = omega (arith, alone) in
+    let ends : (d : Keyframe) → last_clock keys.kept d ≡ b.wires.clock =
+    λ d. ap (λ n. (get_or keys.kept n d).board.clock) place ∙ first d in
+    let d0 : Keyframe = record { board = state_of b; pages = [] } in
+    let is : last ≡ b.wires.clock = at d0 ∙ first d0 in
+    let few = count_by-le-length (nat_lt last) clocks in
+    let pages = room.pages in
+    let frames = room.frames in
+    record {
+      some = omega (arith, alone);
+      pages = omega (arith, pages, few);
+      frames = omega (arith, frames, few, alone);
+      start = omega (arith, is);
+      least = λ d. let e = ends d in omega (arith, e);
+      most = λ d. let e = ends d in omega (arith, e, is);
+      cost = λ d. let e = ends d in omega (arith, e);
+      within = λ most h all. omega (arith, is, h);
+      reached = λ k d h low high. (
+        0,
+        omega (arith, alone),
+        (λ d. let e = first d in omega (arith, e, low)),
+        (λ e.
+            let same = ap (λ (c : Board). c.wires.clock) (clock-past entries (get_or clocks k d) b (omega (arith, high, is))) in
+            let f = first e in
+            omega (arith, same, f)),
+      );
+    }
+
+-- the boards that were kept are kept still
+reached-more : (entries : List TapeEntry) (b : Board) (kept : List Keyframe) (one : Keyframe) (clock : ℕ) → IsReached entries b kept clock
+    → IsReached entries b (kept ++ one ∷ []) clock
+reached-more entries b kept one clock r =
+    let same : (d : Keyframe) → get_or (kept ++ one ∷ []) r.0 d ≡ get_or kept r.0 d = λ d. get_or_append_left kept (one ∷ []) d r.0 r.1 in
+    let len = length-append kept (one ∷ []) in
+    let inside = r.1 in (
+      r.0,
+      omega (arith, len, inside),
+      (λ d. let e = ap (λ (k : Keyframe). k.board.clock) (same d) in let f = r.2 d in omega (arith, e, f)),
+      (λ d. let e = ap (λ (k : Keyframe). k.board.clock) (same d) in let f = r.3 d in omega (arith, e, f)),
+    )
+
+module _ (entries : List TapeEntry) (clocks : List ℕ) (b now : Board) (before done done' last next : ℕ) (keys keys' : KeyframesValue)
+    (way : Way entries clocks b before keys done last) (found : IsNextOf clocks (length clocks) last (Some next))
+    (board : now ≡ cleared (to_clock entries next b))
+    (cost : All (λ keyframe. keyframe.board.clock ≤ next → done' + keyframe.board.clock ≤ done + now.wires.clock) keys.kept) where
+  clock : now.wires.clock ≡ (to_clock entries next b).wires.clock
+  clock = ap (λ (c : Board). c.wires.clock) board
+
+  later : b.wires.clock ≤ now.wires.clock
+  later = let e = clock in let f = clock-later entries next b in omega (arith, e, f)
+
+  upto : now.wires.clock ≤ next
+  upto =
+      let e = clock in
+      let s = way.start in
+      let up = found.0 in
+      let f = clock-most entries next b (omega (arith, s, up)) in
+      omega (arith, e, f)
+
+  fewer : above clocks next + 1 ≤ above clocks last
+  fewer = above-less clocks last next found.1.0 found.1.1 found.1.2 found.0
+
+  pub roomy : is_crowded keys ≡ false
+  roomy =
+      let f = fewer in
+      let pages = way.pages in
+      let frames = way.frames in
+      not-crowded keys (omega (arith, f, pages)) (omega (arith, f, frames))
+
+  -- the way to the next clock from the last kept board
+  spent : (d : Keyframe) → done' + last_clock keys.kept d ≤ done + now.wires.clock
+  spent d =
+      let some = way.some in
+      let most = way.most d in
+      let up = found.0 in
+      cost (length keys.kept - 1) d (omega (arith, some)) (omega (arith, most, up))
+
+  within-next : (most : ℕ) → b.wires.clock ≤ most → All (λ clock. clock ≤ most) clocks → next ≤ most
+  within-next most h all = let e = all found.1.0 0 found.1.1 in let is = found.1.2 0 in omega (arith, e, is)
+
+  -- a clock up to the next one was reached before, or is the next one
+  upto-next : (kept : List Keyframe) → ((clock : ℕ) → IsReached entries b keys.kept clock → IsReached entries b kept clock) → IsReached entries b kept next
+      → (k d : ℕ) → k < length clocks → b.wires.clock ≤ get_or clocks k d → get_or clocks k d ≤ next → IsReached entries b kept (get_or clocks k d)
+  upto-next kept more reached k d h low high = elim (cases_lt last (get_or clocks k d)) [
+    | inl past ↦
+        let least = found.2 k d h past in
+        let is : next ≡ get_or clocks k d = omega (arith, least, high) in
+        subst (λ n. IsReached entries b kept n) is reached
+    | inr old ↦ more (get_or clocks k d) (way.reached k d h low old)
+  ]
+
+  way-kept : (pages : List ℕ) → keys' ≡ record keys { kept = keys.kept ++ (record { board = state_of now; pages = pages }) ∷ [] }
+      → live_of keys' ≤ live_of keys + 16 → Way entries clocks b before keys' done' next
+  way-kept pages is live =
+      let one : Keyframe = record { board = state_of now; pages = pages } in
+      let joined : keys'.kept ≡ keys.kept ++ one ∷ [] = ap (λ (k : KeyframesValue). k.kept) is in
+      let capacity : keys'.capacity ≡ keys.capacity = ap (λ (k : KeyframesValue). k.capacity) is in
+      let limit : keys'.limit ≡ keys.limit = ap (λ (k : KeyframesValue). k.limit) is in
+      let len : length keys'.kept ≡ length keys.kept + 1 = ap (λ (l : List Keyframe). length l) joined ∙ length-append keys.kept (one ∷ []) in
+      let end : (d : Keyframe) → last_clock keys'.kept d ≡ now.wires.clock =
+      λ d.
+      let place : length keys'.kept - 1 ≡ length keys.kept = omega (arith, len) in
+      ap (λ n. (get_or keys'.kept n d).board.clock) place
+      ∙ ap (λ (l : List Keyframe). (get_or l (length keys.kept) d).board.clock) joined
+      ∙ ap (λ (k : Keyframe). k.board.clock) (get_or_push keys.kept one d (length keys.kept) refl) in
+      let f = fewer in
+      let old_pages = way.pages in
+      let old_frames = way.frames in
+      let start = way.start in
+      let up = found.0 in
+      let lower = later in
+      let upper = upto in
+      record {
+        some = omega (arith, len);
+        pages = omega (arith, f, old_pages, live, capacity);
+        frames = omega (arith, f, old_frames, len, limit);
+        start = omega (arith, start, up);
+        least = λ d. let e = end d in omega (arith, e, lower);
+        most = λ d. let e = end d in omega (arith, e, upper);
+        cost = λ d. let e = end d in let old = way.cost d in let s = spent d in omega (arith, e, old, s);
+        within = within-next;
+        reached =
+            subst (λ (l : List Keyframe). (k d : ℕ) → k < length clocks → b.wires.clock ≤ get_or clocks k d → get_or clocks k d ≤ next
+            → IsReached entries b l (get_or clocks k d)) (sym joined)
+            (upto-next (keys.kept ++ one ∷ []) (reached-more entries b keys.kept one) (
+              length keys.kept,
+              (let e = length-append keys.kept (one ∷ []) in omega (arith, e)),
+              (λ d. let e = ap (λ (k : Keyframe). k.board.clock) (get_or_push keys.kept one d (length keys.kept) refl) in omega (arith, e, upper)),
+              (λ d.
+                  let e = ap (λ (k : Keyframe). k.board.clock) (get_or_push keys.kept one d (length keys.kept) refl) in
+                  let g = clock in
+                  omega (arith, e, g)),
+            ));
+      }
+
+  way-same : keys' ≡ keys → IfSome (last_of keys.kept) (λ keyframe. now.wires.clock ≤ keyframe.board.clock) → Way entries clocks b before keys' done' next
+  way-same is ended =
+      subst (λ (k : KeyframesValue). Way entries clocks b before k done' next) (sym is)
+      (
+      let some = way.some in
+      let end : (d : Keyframe) → now.wires.clock ≤ last_clock keys.kept d =
+      last-get (λ keyframe. now.wires.clock ≤ keyframe.board.clock) keys.kept ended some in
+      let f = fewer in
+      let old_pages = way.pages in
+      let old_frames = way.frames in
+      let start = way.start in
+      let up = found.0 in
+      record {
+        some = some;
+        pages = omega (arith, f, old_pages);
+        frames = omega (arith, f, old_frames);
+        start = omega (arith, start, up);
+        least = way.least;
+        most = λ d. let e = way.most d in omega (arith, e, up);
+        cost = λ d. let e = end d in let old = way.cost d in let s = spent d in omega (arith, e, old, s);
+        within = within-next;
+        reached = upto-next keys.kept (λ clock r. r) (
+          length keys.kept - 1,
+          omega (arith, some),
+          (λ d. let e = way.most d in omega (arith, e, up)),
+          (λ d. let e = end d in let g = clock in omega (arith, e, g)),
+        );
+      }
+      )
+
+  pub way-on : AddsBoard keys keys' now → Way entries clocks b before keys' done' next
+  way-on adds = elim adds [
+    | inl kept ↦ way-kept kept.0 kept.1 kept.2
+    | inr same ↦ way-same same.0 same.1
+  ]
+
+-- at the end of the way all clocks are reached, in no more clocks than lie between the start and the last of them
+module _ (entries : List TapeEntry) (clocks : List ℕ) (b : Board) (before done last : ℕ) (keys : KeyframesValue)
+    (way : Way entries clocks b before keys done last) where
+  pub way-cost : (most : ℕ) → All (λ clock. clock ≤ most) clocks → done ≤ before + (most - b.wires.clock)
+  way-cost most all =
+      let d0 : Keyframe = record { board = state_of b; pages = [] } in
+      let cost = way.cost d0 in
+      let upto = way.most d0 in
+      elim (cases_lt most b.wires.clock) [
+        | inl below ↦
+            let low = way.within b.wires.clock (omega arith) (λ k d h. let e = all k d h in omega (arith, e, below)) in
+            omega (arith, cost, upto, low)
+        | inr up ↦ let high = way.within most up all in omega (arith, cost, upto, high)
+      ]
+
+  pub way-reached : IsNextOf clocks (length clocks) last None → All (λ clock. b.wires.clock ≤ clock → IsReached entries b keys.kept clock) clocks
+  way-reached none = λ k d h low. way.reached k d h low (none k d h)
+
+-- to go to a clock that is reached takes no clock
+pub reached-free : (entries : List TapeEntry) (b now : Board) (kept : List Keyframe) (clock done done' : ℕ)
+    → (b.wires.clock ≤ clock → IsReached entries b kept clock) → now ≡ cleared (to_clock entries clock b)
+    → All (λ keyframe. keyframe.board.clock ≤ clock → done' + keyframe.board.clock ≤ done + now.wires.clock) kept
+    → (clock < b.wires.clock → done' ≤ done) → done' ≤ done
+reached-free entries b now kept clock done done' reached board cost early = elim (cases_lt clock b.wires.clock) [
+  | inl below ↦ early below
+  | inr up ↦
+      let d0 : Keyframe = record { board = state_of b; pages = [] } in
+      let r = reached up in
+      let low = r.2 d0 in
+      let high = r.3 d0 in
+      let is : now.wires.clock ≡ (to_clock entries clock b).wires.clock = ap (λ (c : Board). c.wires.clock) board in
+      let e = cost r.0 d0 r.1 low in
+      omega (arith, low, high, is, e)
+]
