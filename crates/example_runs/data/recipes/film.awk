@@ -1,7 +1,7 @@
 # A film as an animated SVG:  awk -v every=4 -f film.awk FRAMES LOG > FILM.svg
-# It shows each 4th picture (every=1: each), at its time, and begins again at the end. Where a picture goes
-# on for 3 pictures or less it has 20 a second. The status is 1 where nothing is drawn.
-BEGIN { hz = 1512000; width = 420; if (!every) every = 1 }
+# It shows each 4th picture (every=1: each) at its time, and begins again at the end. A browser shows it.
+# The status is 1 where nothing is drawn.
+BEGIN { hz = 1512000; width = 420; k = 0; if (!every) every = 1 }
 FNR == NR {
     if ($1 == "F") { start[$2] = $3; frames = $2 + 1 }
     if ($1 == "F" && NF == 8) {

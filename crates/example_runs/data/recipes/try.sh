@@ -22,16 +22,16 @@ awk -v k=60 -f "$here/frame.awk" ship.frames ship.log >one.log && made one.log
 awk -f "$here/svg.awk" ship.frames one.log >one.svg && made one.svg
 awk -v every=4 -f "$here/film.awk" ship.frames ship.log >film.svg && made film.svg
 sh "$here/picture.sh" ship.frames one.log gnuplot.svg && made gnuplot.svg
-sh "$here/picture.sh" ship.frames ship.log pictures && made pictures/1.png && made pictures/491.png
+sh "$here/picture.sh" ship.frames ship.log pictures && made pictures/1.png && made pictures/554.png
 sh "$here/film.sh" ship.frames ship.log ship.gif 2>said && made ship.gif
 sh "$here/wav.sh" ship.img ship.tape ship.wav && made ship.wav
 sh "$here/stereo.sh" ship.log stereo.wav && made stereo.wav
-sh "$here/trace.sh" ship.img ship.tape 473089 40 >ship.trace && made ship.trace
+sh "$here/trace.sh" ship.img ship.tape 325630 40 >ship.trace && made ship.trace
 awk -f "$here/names.awk" "$ship/ship.s" ship.listing ship.trace >named.trace && made named.trace
 grep -q '^thrust:$' named.trace
 awk -f "$here/names.awk" "$ship/ship.s" ship.listing ship.profile >named.profile && made named.profile
 grep -q ' thrust$' named.profile
-sh "$here/who.sh" ship.img ship.tape pk1 audc 400000 500000
+sh "$here/who.sh" ship.img ship.tape pk1 audc 300000 400000
 
 printf '1 left\n' >bad.keys
 refused awk -f "$here/keys.awk" bad.keys
@@ -43,5 +43,5 @@ refused sh "$here/film.sh" /dev/null ship.log x.gif
 refused sh "$here/wav.sh" none.img ship.tape x.wav
 refused sh "$here/stereo.sh" /dev/null x.wav
 refused sh "$here/trace.sh" none.img ship.tape 0 10
-refused sh "$here/who.sh" ship.img ship.tape pk1 audf 400000 500000
+refused sh "$here/who.sh" ship.img ship.tape pk1 audf 300000 400000
 echo "each recipe did what it is for"
