@@ -229,3 +229,5 @@ wave:   .byte 0, 12, 23, 33, 42, 50, 55, 59, 60, 59, 55, 50, 42, 33, 23, 12
         .org $FFFC
         .word start             ; the vector of a reset
         .word irq               ; and that of an interrupt
+
+; vim: ft=gravitar
