@@ -4,9 +4,18 @@
  * pointer. So calls may run side by side, a board is copied by memcpy, and a run that is done in
  * stretches is the run that is done at once.
  *
- * Every pointer has to point to that many bytes (a length of 0 still wants a pointer that isn't null),
- * and what a call writes (board, buffer, report) may not overlap anything else that it is given. The
- * caller owns all of it. malloc, realloc and free are called inside, and nothing is left allocated.
+ * The caller keeps these rules, which no proof sees. Where one is broken, what happens is undefined.
+ *
+ * - A pointer points to as many bytes as its length says. It isn't null, also where the length is 0.
+ * - `report` isn't null, and is aligned as a struct of uint64_t.
+ * - A length is at most PTRDIFF_MAX.
+ * - What a call writes (board, buffer, report) overlaps nothing else that the call is given.
+ * - While a call runs, nobody writes what it was given, and nobody reads what it writes.
+ * - The thread has 256 KiB of stack. A thread of musl has 128 KiB where it isn't told otherwise.
+ *
+ * The caller owns all memory. malloc, realloc and free are called inside, and nothing is left
+ * allocated. A call takes some 3 to 5 ns of a processor for each clock that it runs, and keeps its whole
+ * text in memory until it has ended, also where text_len is too short for it.
  * docs/EMBED.md shows a program in C, one in Python and one in Rust.
  */
 #ifndef GRAVITAR_H
@@ -29,7 +38,8 @@ enum gravitar_status {
     GRAVITAR_DONE = 0,
     GRAVITAR_JAMMED = 1,               /* done, and an undocumented opcode has stopped the processor */
     GRAVITAR_BAD_IMAGE = 2,            /* place: how many bytes it has */
-    GRAVITAR_BAD_BOARD = 3,            /* place: how many bytes it has, its version, or the offset of a field out of its range */
+    GRAVITAR_BAD_BOARD = 3,            /* place: its length where that is wrong, else its version where that is
+                                          wrong, else the offset of the first field out of its range */
     GRAVITAR_BAD_TAPE = 4,             /* place: the line, from 1; 0 where it is longer than 16 MiB */
     GRAVITAR_BAD_NUMBER = 5,           /* place: the number */
     GRAVITAR_NO_ROOM = 6,              /* used: how many bytes are wanted */
@@ -41,7 +51,7 @@ enum gravitar_status {
 /* Numbers of an answer. Each call that takes one sets all three. */
 struct gravitar_report {
     uint64_t clock; /* the clock of the board at the end, or 0 */
-    uint64_t used;  /* bytes that were put into the buffer, or that it wants */
+    uint64_t used;  /* bytes of the text or the words; the buffer has the first min(used, its length) */
     uint64_t place; /* where something is wrong, by the status, or 0 */
 };
 

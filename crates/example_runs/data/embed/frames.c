@@ -15,10 +15,12 @@ struct bytes {
     size_t len;
 };
 
-static void fail(const char *what, uint32_t status, const uint8_t *words, const struct gravitar_report *report)
+/* Ends with the words of a refusal, of which the buffer has as many as there was room for. */
+static void fail(const char *what, uint32_t status, struct bytes words, const struct gravitar_report *report)
 {
+    size_t len = report->used < words.len ? report->used : words.len;
     fprintf(stderr, "%s: status %u, at %llu: %.*s\n", what, status, (unsigned long long)report->place,
-            (int)report->used, (const char *)words);
+            (int)len, (const char *)words.at);
     exit(1);
 }
 
@@ -45,7 +47,7 @@ static uint8_t *assemble(const char *processor, const char *generator)
     uint32_t status = gravitar_assemble(first.at, first.len, second.at, second.len, image, sizeof image,
                                         note, sizeof note, &report);
     if (status != GRAVITAR_DONE)
-        fail(status == GRAVITAR_BAD_GENERATOR_SOURCE ? generator : processor, status, note, &report);
+        fail(status == GRAVITAR_BAD_GENERATOR_SOURCE ? generator : processor, status, (struct bytes){note, sizeof note}, &report);
     free(first.at);
     free(second.at);
     return image;
@@ -90,7 +92,7 @@ int main(int argc, char **argv)
         uint64_t next = last - clock < FRAME ? last : clock + FRAME;
         uint32_t status = advance(image, board, tape, next, &text, &report);
         if (status != GRAVITAR_DONE && status != GRAVITAR_JAMMED)
-            fail(argv[3], status, text.at, &report);
+            fail(argv[3], status, text, &report);
         fwrite(text.at, 1, report.used, stdout);
         fprintf(stderr, "frame %d: %d strokes, to clock %llu\n", frame, strokes(text.at, report.used),
                 (unsigned long long)report.clock);
