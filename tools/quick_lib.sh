@@ -1,15 +1,14 @@
 #!/bin/sh
-# REPOSITORY: changes a clone so that its crate gravitar_c is the program with the calls of the library in it.
-# A static library can't be tried, so quick.sh tries this in its place.
+# FOLDER: changes a copy of the crates so that gravitar_c is the program with the library's calls in it.
+# `rt try` runs no static library, so quick.sh tries this in its place.
 set -eu
 cd "$1"
 sed -i 's/^gravitar_c staticlib:/gravitar_c: outside_io gravitar_commands/' crates.txt
 main=crates/gravitar_program/src/main.rt
 cd crates/gravitar_c/src
-rm lib.rt
 {
     sed -n '1,/^#!\[tactic/p' "../../../$main"
-    printf 'mod %s;\n' advance answer assemble report
+    grep '^mod ' lib.rt
     # No process has the number 0; the condition is there that the calls are compiled.
     sed -e '1,/^#!\[tactic/d' -e '/^fn main/a\
     if process::id(rt.process()) == 0 {\
@@ -38,3 +37,4 @@ fn calls(alloc: Global) -> u8 {
 }
 END
 } >main.rt
+rm lib.rt
