@@ -2,7 +2,8 @@
 # Which instruction first changes a field of the board, and when:  who.sh IMAGE TAPE LINE FIELD FROM TO
 # LINE and FIELD are words of the text of a board, such as `pk1 audc`, `earom control` or `board out`. The
 # field has to change between the clocks FROM and TO, and the status is 1 where it doesn't. Each pass asks
-# `seek` for 500 boards and goes on between the two at which the field differs first.
+# `seek` for 500 boards and goes on between the two at which the field differs first. Where a device or the
+# tape changes the field by itself, the instruction is the one under way.
 set -eu
 image=$1 tape=$2 line=$3 field=$4 from=$5 to=$6
 while [ $(( to - from )) -gt 1 ]; do
