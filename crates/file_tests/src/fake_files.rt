@@ -88,7 +88,12 @@ pub(crate) struct Folder<'a> {
 }
 
 impl<'a> Folder<'a> {
-    pub(crate) fn new(kind: Kind, old: Option<&[u8]>, taken: u32, fails: &'a [usize]) -> Folder<'a> {
+    pub(crate) fn new(
+        kind: Kind,
+        old: Option<&[u8]>,
+        taken: u32,
+        fails: &'a [usize],
+    ) -> Folder<'a> {
         Folder {
             kind,
             fails,

@@ -14,8 +14,16 @@ fn assert_store(
 ) {
     let fake = Fake(folder);
     let mut shelf = FileShelf::with_process(&fake, 7);
-    assert_eq!(rt; shelf.store("f", b"new!"), answer, "the answer beside {calls:?}");
-    assert_eq!(rt; folder.content().as_slice(), after, "the file after {calls:?}");
+    assert_eq!(rt;
+        shelf.store("f", b"new!"),
+        answer,
+        "the answer beside {calls:?}"
+    );
+    assert_eq!(rt;
+        folder.content().as_slice(),
+        after,
+        "the file after {calls:?}"
+    );
     let (made, count) = folder.calls();
     assert_eq!(rt; made.get(..count), Some(calls));
     assert_eq!(rt; folder.has_new_file(), false, "a new file after {calls:?}");
@@ -40,14 +48,41 @@ fn a_file_is_replaced_or_written_in_place_or_stays(rt: HostRuntime) {
     assert_failing(&rt, Kind::Regular, &[], Ok(()), b"new!", &calls);
     let calls = [Look, Open, Metadata, SetLen(5), Write, Write, SetLen(4)];
     assert_failing(&rt, Kind::Regular, &[1], Ok(()), b"new!", &calls);
-    let calls = [Look, Open, Open, Metadata, SetLen(5), Write, Write, SetLen(4)];
+    let calls = [
+        Look,
+        Open,
+        Open,
+        Metadata,
+        SetLen(5),
+        Write,
+        Write,
+        SetLen(4),
+    ];
     assert_failing(&rt, Kind::Regular, &[2], Ok(()), b"new!", &calls);
     let calls = [
-        Look, Open, CreateNew, Open, Metadata, SetLen(5), Write, Write, SetLen(4),
+        Look,
+        Open,
+        CreateNew,
+        Open,
+        Metadata,
+        SetLen(5),
+        Write,
+        Write,
+        SetLen(4),
     ];
     assert_failing(&rt, Kind::Regular, &[3], Ok(()), b"new!", &calls);
     let calls = [
-        Look, Open, CreateNew, Metadata, Remove, Open, Metadata, SetLen(5), Write, Write, SetLen(4),
+        Look,
+        Open,
+        CreateNew,
+        Metadata,
+        Remove,
+        Open,
+        Metadata,
+        SetLen(5),
+        Write,
+        Write,
+        SetLen(4),
     ];
     assert_failing(&rt, Kind::Regular, &[4], Ok(()), b"new!", &calls);
     let calls = [Look, Open, CreateNew, Metadata, Write, Remove];
@@ -55,8 +90,20 @@ fn a_file_is_replaced_or_written_in_place_or_stays(rt: HostRuntime) {
     let calls = [Look, Open, CreateNew, Metadata, Write, Write, Remove];
     assert_failing(&rt, Kind::Regular, &[6], Err(Failed), b"old", &calls);
     let calls = [
-        Look, Open, CreateNew, Metadata, Write, Write, Rename, Remove, Open, Metadata, SetLen(5), Write,
-        Write, SetLen(4),
+        Look,
+        Open,
+        CreateNew,
+        Metadata,
+        Write,
+        Write,
+        Rename,
+        Remove,
+        Open,
+        Metadata,
+        SetLen(5),
+        Write,
+        Write,
+        SetLen(4),
     ];
     assert_failing(&rt, Kind::Regular, &[7], Ok(()), b"new!", &calls);
 }

@@ -44,10 +44,24 @@ fn assert_same<R: Abort + Alloc<A = Global>>(
     let mut other = MemoryShelf::new(rt.alloc(), 4, FILE, &[])?;
     let mut text = MemorySink::new(rt.alloc(), TEXT, &[])?;
     let end = tape.end();
-    let answer = run_slices(&mut engine, &tape, cuts, end, save, None, true, &mut other, &mut text);
+    let answer = run_slices(
+        &mut engine,
+        &tape,
+        cuts,
+        end,
+        save,
+        None,
+        true,
+        &mut other,
+        &mut text,
+    );
     assert!(rt; answer.is_ok(), "{line}: the slices");
     assert!(rt; out.bytes() == text.bytes(), "{line}: the text");
-    assert_eq!(rt; shelf.stores().len(), other.stores().len(), "{line}: the stores");
+    assert_eq!(rt;
+        shelf.stores().len(),
+        other.stores().len(),
+        "{line}: the stores"
+    );
     for (one, two) in shelf.stores().iter().zip(other.stores()) {
         assert_eq!(rt; one.name(), two.name(), "{line}: the name of a store");
         assert!(rt; one.bytes() == two.bytes(), "{line}: the bytes of a store");
@@ -66,5 +80,12 @@ fn a_run_makes_the_device_calls_of_its_slices(rt: HostRuntime) -> Result<(), Fai
 #[test]
 fn a_large_run_makes_the_device_calls_of_its_slices(rt: HostRuntime) -> Result<(), Fail> {
     let (image, _tape) = make(rt.alloc(), 1)?;
-    assert_same(&rt, "run i t --cost", image.bytes(), b"1500000 END\n", &[], None)
+    assert_same(
+        &rt,
+        "run i t --cost",
+        image.bytes(),
+        b"1500000 END\n",
+        &[],
+        None,
+    )
 }
