@@ -4,7 +4,8 @@
     python3 tools/doc_commands.py           gravitar has to be on the path
 
 It works in a copy of examples/, after its session.sh. A line that needs a program which isn't there is passed over, and printed.
-It also looks whether examples/session.sh has each `$` line of the guide that needs gravitar alone, whatever file its text goes to.
+It also looks whether examples/session.sh has each `$` line of the guide that needs gravitar alone, whatever file its text goes to,
+and with `--until` where the whole run is long for the gate.
 The status is 1 where something differs."""
 import pathlib
 import re
@@ -46,7 +47,7 @@ def differences(page, folder):
 def missing_in_session():
     """The `$` lines of the guide that need gravitar alone, and that session.sh hasn't."""
     def bare(line):
-        return line.split(" > ")[0].strip()
+        return re.sub(r" --until 500000$", "", line.split(" > ")[0].strip())
     session = {bare(line) for line in (TOP / "examples/session.sh").read_text().splitlines()}
     for command, _ in commands(TOP / "docs/GUIDE.md"):
         if command.startswith("gravitar ") and "|" not in command and bare(command) not in session:
