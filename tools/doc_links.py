@@ -33,8 +33,8 @@ def dead_links(page, text):
 def headings(page):
     """The names by which links reach the headings of a page."""
     lines = page.read_text().splitlines()
-    found = [line.lstrip("#").strip().lower() for line in lines if line.startswith("#")]
-    return {re.sub(r"[^\w\- ]", "", name).replace(" ", "-") for name in found}
+    found = [re.sub(r"\]\([^)]*\)", "]", line) for line in lines if line.startswith("#")]
+    return {re.sub(r"[^\w\- ]", "", name.lstrip("#").strip().lower()).replace(" ", "-") for name in found}
 
 
 def defines(line, name):
