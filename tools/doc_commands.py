@@ -47,7 +47,7 @@ def differences(page, folder):
 def missing_in_session():
     """The `$` lines of the guide that need gravitar alone, and that session.sh hasn't."""
     def bare(line):
-        return re.sub(r" --until 500000$", "", line.split(" > ")[0].strip())
+        return re.sub(r" --until 100000$", "", line.split(" > ")[0].strip())
     session = {bare(line) for line in (TOP / "examples/session.sh").read_text().splitlines()}
     for command, _ in commands(TOP / "docs/GUIDE.md"):
         if command.startswith("gravitar ") and "|" not in command and bare(command) not in session:
