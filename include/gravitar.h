@@ -28,7 +28,7 @@
 extern "C" {
 #endif
 
-#define GRAVITAR_VERSION 1
+#define GRAVITAR_VERSION 2
 #define GRAVITAR_BOARD_LEN 4356
 #define GRAVITAR_IMAGE_LEN 43008
 #define GRAVITAR_CLOCK_LIMIT (UINT64_C(1) << 48)
@@ -38,14 +38,15 @@ enum gravitar_status {
     GRAVITAR_DONE = 0,
     GRAVITAR_JAMMED = 1,               /* done, and an undocumented opcode has stopped the processor */
     GRAVITAR_BAD_IMAGE = 2,            /* place: how many bytes it has */
-    GRAVITAR_BAD_BOARD = 3,            /* place: its length where that is wrong, else its version where that is
-                                          wrong, else the offset of the first field out of its range */
+    GRAVITAR_BAD_BOARD = 3,            /* place: the offset of the first field out of its range */
     GRAVITAR_BAD_TAPE = 4,             /* place: the line, from 1; 0 where it is longer than 16 MiB */
     GRAVITAR_BAD_NUMBER = 5,           /* place: the number */
     GRAVITAR_NO_ROOM = 6,              /* used: how many bytes are wanted */
     GRAVITAR_NO_MEMORY = 7,
     GRAVITAR_BAD_PROCESSOR_SOURCE = 8, /* place: the line, from 1; 0 where it is too long */
-    GRAVITAR_BAD_GENERATOR_SOURCE = 9  /* place: the line, from 1; 0 where it is too long */
+    GRAVITAR_BAD_GENERATOR_SOURCE = 9, /* place: the line, from 1; 0 where it is too long */
+    GRAVITAR_BAD_BOARD_LENGTH = 10,    /* place: how many bytes the board has */
+    GRAVITAR_BAD_BOARD_VERSION = 11    /* place: the board's version */
 };
 
 /* Numbers of an answer. Each call that takes one sets all three. */
@@ -75,7 +76,8 @@ uint32_t gravitar_power_on(uint8_t *board, size_t board_len);
  * line (docs/FORMATS.md), and used their bytes. Where it is too short, nothing is done, and used is what
  * it takes. Where bytes are refused, text gets the words of it, as many as there is room for.
  *
- * GRAVITAR_DONE, JAMMED, BAD_IMAGE, BAD_BOARD, BAD_TAPE, BAD_NUMBER, NO_ROOM or NO_MEMORY. */
+ * GRAVITAR_DONE, JAMMED, BAD_IMAGE, BAD_BOARD, BAD_BOARD_LENGTH, BAD_BOARD_VERSION, BAD_TAPE,
+ * BAD_NUMBER, NO_ROOM or NO_MEMORY. */
 uint32_t gravitar_advance(const uint8_t *image, size_t image_len, uint8_t *board, size_t board_len,
                           const uint8_t *tape, size_t tape_len, uint64_t clock, uint32_t boundary,
                           uint32_t timers, uint8_t *text, size_t text_len,

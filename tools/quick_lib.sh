@@ -6,9 +6,10 @@ cd "$1"
 sed -i 's/^gravitar_c staticlib:/gravitar_c: outside_io gravitar_commands/' crates.txt
 main=crates/gravitar_program/src/main.rt
 cd crates/gravitar_c/src
+sed -e '/^\/\/!/d' -e '/^#!\[tactic/d' lib.rt >exports.rt
 {
     sed -n '1,/^#!\[tactic/p' "../../../$main"
-    grep '^mod ' lib.rt
+    echo 'mod exports;'
     # No process has the number 0; the condition is there that the calls are compiled.
     sed -e '1,/^#!\[tactic/d' -e '/^fn main/a\
     if process::id(rt.process()) == 0 {\
@@ -16,9 +17,8 @@ cd crates/gravitar_c/src
     }' "../../../$main"
     cat <<'END'
 
-use advance::{gravitar_advance, gravitar_pcm};
-use assemble::{gravitar_assemble, gravitar_power_on, gravitar_version};
-use report::GravitarReport;
+use board_calls::GravitarReport;
+use exports::{gravitar_advance, gravitar_assemble, gravitar_pcm, gravitar_power_on, gravitar_version};
 
 fn calls(alloc: Global) -> u8 {
     let mut board = [0u8; 8];

@@ -1,12 +1,99 @@
-//! The board for other languages: a static library over `board_stretch`, whose calls take and give plain
-//! bytes and numbers, and keep no pointer. `include/gravitar.h` at the top has the same for C.
+//! The board for other languages: a static library that exports the calls of `board_calls`.
+//! `include/gravitar.h` at the top has them for C.
 #![tactic(auto)]
 
-mod advance;
-mod answer;
-mod assemble;
-mod report;
+ghost use Rattle.std.specs.Prelude.{◌≡◌, ◌≤◌, ◌<◌, ◌⊎◌, length};
+ghost use Rattle.board_base.specs.Board.{board_at_power_on};
+ghost use Rattle.board_base.specs.declared.board.TheConstants.{CLOCK_LIMIT};
+ghost use Rattle.rom_image.specs.declared.image.TheConstants.{IMAGE_LEN};
+ghost use Rattle.save_state.specs.StateBytes.{state_bytes};
+ghost use Rattle.save_state.specs.declared.TheConstants.{STATE_LEN};
+ghost use Rattle.sound_pcm.specs.declared.mixer.TheConstants.{MAX_PER};
+ghost use Rattle.board_stretch.specs.Stretches.{IsAdvanced, IsSampled};
+ghost use Rattle.board_calls.specs.Answers.{AnswersOver, AnswersSources, Refuses, call_of, end_asked, is_asked, put_in, report_of};
+ghost use Rattle.board_calls.specs.Statuses.{number_of};
+ghost use Rattle.board_calls.specs.declared.report.Status.TheVariants.{BadNumber, Done, NoRoom};
 
-pub use advance::{gravitar_advance, gravitar_pcm};
-pub use assemble::{gravitar_assemble, gravitar_power_on, gravitar_version};
-pub use report::GravitarReport;
+use board_calls::GravitarReport;
+use std::alloc::Global;
+
+/// The version of these calls: another number where one of them changes.
+#[unsafe(no_mangle)]
+pub extern "C" fn gravitar_version() -> u32
+    ensures { result ≡ 2 }
+{
+    board_calls::version()
+}
+
+/// Puts the board at power-on, 4,356 bytes, into a buffer of so many or more.
+#[unsafe(no_mangle)]
+pub extern "C" fn gravitar_power_on(board: &mut [u8]) -> u32
+    ensures short { length board.old < STATE_LEN → (result ≡ number_of NoRoom) × (board.new ≡ board.old) }
+    ensures done { STATE_LEN ≤ length board.old → (result ≡ number_of Done) × (board.new ≡ put_in (state_bytes board_at_power_on) board.old) }
+{
+    board_calls::power_on(board)
+}
+
+/// Assembles the processor's source and then the generator's into one image
+/// (`board_calls::assemble`).
+#[unsafe(no_mangle)]
+pub extern "C" fn gravitar_assemble(
+    alloc: Global,
+    processor: &[u8],
+    generator: &[u8],
+    image: &mut [u8],
+    note: &mut [u8],
+    report: &mut GravitarReport,
+) -> u32
+    ensures short { length image.old < IMAGE_LEN → Refuses NoRoom (report_of 0 IMAGE_LEN 0) (call_of image.old image.new note.old note.new report.new result) }
+    ensures answer { IMAGE_LEN ≤ length image.old → AnswersSources processor.now generator.now (call_of image.old image.new note.old note.new report.new result) }
+{
+    board_calls::assemble(alloc, processor, generator, image, note, report)
+}
+
+/// Runs an image with a tape from a saved board, and tells the lines of its records
+/// (`board_calls::advance`).
+#[unsafe(no_mangle)]
+pub extern "C" fn gravitar_advance(
+    alloc: Global,
+    image: &[u8],
+    board: &mut [u8],
+    tape: &[u8],
+    clock: u64,
+    boundary: u32,
+    timers: u32,
+    text: &mut [u8],
+    report: &mut GravitarReport,
+) -> u32
+    ensures range { CLOCK_LIMIT < clock → Refuses BadNumber (report_of 0 0 clock) (call_of board.old board.new text.old text.new report.new result) }
+    ensures answer { clock ≤ CLOCK_LIMIT → AnswersOver image.now board.old tape.now (IsAdvanced (is_asked timers) (end_asked boundary clock))
+        (call_of board.old board.new text.old text.new report.new result) }
+{
+    board_calls::advance(
+        alloc, image, board, tape, clock, boundary, timers, text, report,
+    )
+}
+
+/// Runs an image with a tape from a saved board, and tells the samples of its sound
+/// (`board_calls::pcm`).
+#[unsafe(no_mangle)]
+pub extern "C" fn gravitar_pcm(
+    alloc: Global,
+    image: &[u8],
+    board: &mut [u8],
+    tape: &[u8],
+    clock: u64,
+    per: u32,
+    timers: u32,
+    samples: &mut [u8],
+    report: &mut GravitarReport,
+) -> u32
+    ensures range { CLOCK_LIMIT < clock → Refuses BadNumber (report_of 0 0 clock) (call_of board.old board.new samples.old samples.new report.new result) }
+    ensures group { clock ≤ CLOCK_LIMIT → (per < 1) ⊎ (MAX_PER < per) → Refuses BadNumber (report_of 0 0 per) (call_of board.old board.new samples.old samples.new report.new result) }
+    ensures answer { clock ≤ CLOCK_LIMIT → 1 ≤ per → per ≤ MAX_PER → AnswersOver image.now board.old tape.now (IsSampled (is_asked timers) clock per)
+        (call_of board.old board.new samples.old samples.new report.new result) }
+{
+    board_calls::pcm(
+        alloc, image, board, tape, clock, per, timers, samples, report,
+    )
+}

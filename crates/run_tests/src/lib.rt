@@ -2,6 +2,8 @@
 #![tactic(auto)]
 
 #[cfg(test)]
+mod board_calls_tests;
+#[cfg(test)]
 mod board_stretch_tests;
 #[cfg(test)]
 mod catchup_engine_tests;

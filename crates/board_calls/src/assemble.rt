@@ -4,43 +4,39 @@ ghost use Rattle.board_base.specs.Board.{board_at_power_on};
 ghost use Rattle.rom_image.specs.declared.image.TheConstants.{IMAGE_LEN};
 ghost use Rattle.save_state.specs.declared.TheConstants.{STATE_LEN};
 ghost use Rattle.save_state.specs.StateBytes.{state_bytes};
-ghost use Rattle.gravitar_c.specs.Answers.{AnswersSources, Refuses, call_of, put_in, report_of};
-ghost use Rattle.gravitar_c.specs.declared.report.Status.TheVariants.{Done, NoRoom};
-ghost use Rattle.gravitar_c.specs.Statuses.{number_of};
+ghost use Rattle.board_calls.specs.Answers.{AnswersSources, Refuses, call_of, put_in, report_of};
+ghost use Rattle.board_calls.specs.declared.report.Status.TheVariants.{Done, NoRoom};
+ghost use Rattle.board_calls.specs.Statuses.{number_of};
 
 use crate::answer::{put, report_number, tell};
 use crate::report::{GravitarReport, Status, place_of_sources, status_of_sources};
-use board_stretch::{assemble, power_on};
 use rom_image::IMAGE_LEN;
 use save_state::STATE_LEN;
 use std::alloc::Global;
 
 /// The version of these calls: another number where one of them changes.
-#[unsafe(no_mangle)]
-pub extern "C" fn gravitar_version() -> u32
-    ensures { result ≡ 1 }
+pub fn version() -> u32
+    ensures { result ≡ 2 }
 {
-    1
+    2
 }
 
 /// Puts the board at power-on, 4,356 bytes, into a buffer of so many or more.
-#[unsafe(no_mangle)]
-pub extern "C" fn gravitar_power_on(board: &mut [u8]) -> u32
+pub fn power_on(board: &mut [u8]) -> u32
     ensures short { length board.old < STATE_LEN → (result ≡ number_of NoRoom) × (board.new ≡ board.old) }
     ensures done { STATE_LEN ≤ length board.old → (result ≡ number_of Done) × (board.new ≡ put_in (state_bytes board_at_power_on) board.old) }
 {
     if board.len() < STATE_LEN {
         return Status::NoRoom.number();
     }
-    put(&power_on(), board);
+    put(&board_stretch::power_on(), board);
     Status::Done.number()
 }
 
 /// Assembles the processor's source and then the generator's into one image of 43,008 bytes, which has
 /// zeros elsewhere. Where a source is refused, `note` gets the words of it, `place` tells the line, and
 /// the image stays as it was.
-#[unsafe(no_mangle)]
-pub extern "C" fn gravitar_assemble(
+pub fn assemble(
     alloc: Global,
     processor: &[u8],
     generator: &[u8],
@@ -54,7 +50,7 @@ pub extern "C" fn gravitar_assemble(
     if image.len() < IMAGE_LEN {
         return report_number(Status::NoRoom, IMAGE_LEN as u64, 0, report);
     }
-    match assemble(alloc, processor, generator) {
+    match board_stretch::assemble(alloc, processor, generator) {
         Ok(made) => {
             put(made.bytes(), image);
             report_number(Status::Done, IMAGE_LEN as u64, 0, report)

@@ -10,11 +10,11 @@ use Rattle.board_stretch.specs.declared.parts.Parts.{Parts}
 use Rattle.board_stretch.specs.Assembling.{Assembles}
 use Rattle.board_stretch.specs.Stretches.{Comes}
 use Rattle.board_stretch.specs.Texts.{assembly_fault_text, stretch_fault_text}
-use Rattle.gravitar_c.specs.declared.report.GravitarReport.{GravitarReport}
-use Rattle.gravitar_c.specs.declared.report.Status.{Status}
-use Rattle.gravitar_c.specs.declared.report.Status.TheVariants.{Done, Jammed, NoMemory, NoRoom}
-use Rattle.gravitar_c.specs.Places.{place_of_assembly, place_of_stretch}
-use Rattle.gravitar_c.specs.Statuses.{number_of, status_of_assembly, status_of_stretch}
+use Rattle.board_calls.specs.declared.report.GravitarReport.{GravitarReport}
+use Rattle.board_calls.specs.declared.report.Status.{Status}
+use Rattle.board_calls.specs.declared.report.Status.TheVariants.{Done, Jammed, NoMemory, NoRoom}
+use Rattle.board_calls.specs.Places.{place_of_assembly, place_of_stretch}
+use Rattle.board_calls.specs.Statuses.{number_of, status_of_assembly, status_of_stretch}
 
 -- a call as its caller sees it: what stood at a place and in a buffer before, what stands there after, and the answer
 pub record Call : Type 0 where

@@ -1,11 +1,12 @@
 -- How a call ends, as a number of the header. They are this project's own.
 use Rattle.std.specs.Prelude.{ℕ}
+use Rattle.save_state.specs.declared.fault.StateFault.TheVariants as state
 use Rattle.board_stretch.specs.declared.assembling.AssemblyFault.{AssemblyFault}
 use Rattle.board_stretch.specs.declared.assembling.AssemblyFault.TheVariants as source
 use Rattle.board_stretch.specs.declared.fault.StretchFault.{StretchFault}
 use Rattle.board_stretch.specs.declared.fault.StretchFault.TheVariants as stretch
-use Rattle.gravitar_c.specs.declared.report.Status.{Status}
-use Rattle.gravitar_c.specs.declared.report.Status.TheVariants.{Done, Jammed, BadImage, BadBoard, BadTape, BadNumber, NoRoom, NoMemory, BadProcessorSource, BadGeneratorSource}
+use Rattle.board_calls.specs.declared.report.Status.{Status}
+use Rattle.board_calls.specs.declared.report.Status.TheVariants.{Done, Jammed, BadImage, BadBoard, BadTape, BadNumber, NoRoom, NoMemory, BadProcessorSource, BadGeneratorSource, BadBoardLength, BadBoardVersion}
 
 abbrev pub number_of : Status → ℕ
 number_of Done = 0
@@ -18,10 +19,14 @@ number_of NoRoom = 6
 number_of NoMemory = 7
 number_of BadProcessorSource = 8
 number_of BadGeneratorSource = 9
+number_of BadBoardLength = 10
+number_of BadBoardVersion = 11
 
 abbrev pub status_of_stretch : StretchFault → Status
 status_of_stretch (stretch.Image fault) = BadImage
-status_of_stretch (stretch.Board fault) = BadBoard
+status_of_stretch (stretch.Board (state.Length n)) = BadBoardLength
+status_of_stretch (stretch.Board (state.Version version)) = BadBoardVersion
+status_of_stretch (stretch.Board (state.Field at)) = BadBoard
 status_of_stretch (stretch.Tape fault) = BadTape
 status_of_stretch stretch.NoMemory = NoMemory
 

@@ -1,7 +1,7 @@
 //! What a call answers: a status, and numbers.
 ghost use Rattle.std.specs.Prelude.{◌≡◌};
-ghost use Rattle.gravitar_c.specs.Places.{place_of_assembly, place_of_source, place_of_stretch};
-ghost use Rattle.gravitar_c.specs.Statuses.{number_of, status_of_assembly, status_of_stretch};
+ghost use Rattle.board_calls.specs.Places.{place_of_assembly, place_of_source, place_of_stretch};
+ghost use Rattle.board_calls.specs.Statuses.{number_of, status_of_assembly, status_of_stretch};
 
 use asm_text::AsmFault;
 use board_stretch::{AssemblyFault, StretchFault};
@@ -18,7 +18,7 @@ pub enum Status {
     Jammed,
     /// The image's bytes are no image.
     BadImage,
-    /// The board's bytes are no saved board.
+    /// The board's bytes are a saved board but for a field that is out of its range.
     BadBoard,
     /// The tape's bytes are no tape.
     BadTape,
@@ -32,6 +32,10 @@ pub enum Status {
     BadProcessorSource,
     /// The generator's source is refused.
     BadGeneratorSource,
+    /// The board's bytes are too many or too few for a saved board.
+    BadBoardLength,
+    /// The board's bytes are of no version that is read.
+    BadBoardVersion,
 }
 
 impl Status {
@@ -50,6 +54,8 @@ impl Status {
             Status::NoMemory => 7,
             Status::BadProcessorSource => 8,
             Status::BadGeneratorSource => 9,
+            Status::BadBoardLength => 10,
+            Status::BadBoardVersion => 11,
         }
     }
 }
@@ -72,7 +78,9 @@ pub fn status_of(fault: &StretchFault) -> Status
 {
     match fault {
         StretchFault::Image(_) => Status::BadImage,
-        StretchFault::Board(_) => Status::BadBoard,
+        StretchFault::Board(StateFault::Length(_)) => Status::BadBoardLength,
+        StretchFault::Board(StateFault::Version(_)) => Status::BadBoardVersion,
+        StretchFault::Board(StateFault::Field(_)) => Status::BadBoard,
         StretchFault::Tape(_) => Status::BadTape,
         StretchFault::NoMemory => Status::NoMemory,
     }

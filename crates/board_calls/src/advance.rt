@@ -5,13 +5,13 @@ ghost use Rattle.board_watch.specs.Windows.{clock_in};
 ghost use Rattle.save_state.specs.declared.TheConstants.{STATE_LEN};
 ghost use Rattle.sound_pcm.specs.declared.mixer.TheConstants.{MAX_PER};
 ghost use Rattle.board_stretch.specs.Stretches.{IsAdvanced, IsSampled};
-ghost use Rattle.gravitar_c.specs.Answers.{AnswersOver, AnswersStretch, Refuses, call_of, end_asked, is_asked, report_of};
-ghost use Rattle.gravitar_c.specs.declared.report.Status.TheVariants.{BadNumber};
+ghost use Rattle.board_calls.specs.Answers.{AnswersOver, AnswersStretch, Refuses, call_of, end_asked, is_asked, report_of};
+ghost use Rattle.board_calls.specs.declared.report.Status.TheVariants.{BadNumber};
 
 use crate::answer::{give, report_number, tell_stretch};
 use crate::report::{GravitarReport, Status};
 use board_base::CLOCK_LIMIT;
-use board_stretch::{Start, Stretch, StretchFault, advance, sample};
+use board_stretch::{Start, Stretch, StretchFault, sample};
 use board_watch::Until;
 use sound_pcm::MAX_PER;
 use std::alloc::Global;
@@ -59,8 +59,7 @@ fn answer(
 /// `image` is 43,008 bytes, `board` 4,356, `tape` a text, `clock` 2^48 at most; with `timers` other than
 /// 0 the POKEYs' requests reach the interrupt line. Where bytes are refused, the buffer gets the words
 /// of it. Where the buffer is too short, `used` tells what is wanted. A call that isn't done leaves the board as it was.
-#[unsafe(no_mangle)]
-pub extern "C" fn gravitar_advance(
+pub fn advance(
     alloc: Global,
     image: &[u8],
     board: &mut [u8],
@@ -85,16 +84,15 @@ pub extern "C" fn gravitar_advance(
         tape,
         timers: is_so(timers),
     };
-    let came = advance(alloc, start, until);
+    let came = board_stretch::advance(alloc, start, until);
     answer(alloc, came, board, text, report)
 }
 
 /// Runs an image with a tape from a saved board to the first boundary that isn't before a clock, and
 /// puts the board at the end in its place. The buffer gets a sample for each `per` clocks, 1 to 65,535:
 /// the sum of both POKEYs' eight levels over them, as four bytes, the lowest first. Clocks at the end
-/// that are no whole group give none. All else is as in `gravitar_advance`.
-#[unsafe(no_mangle)]
-pub extern "C" fn gravitar_pcm(
+/// that are no whole group give none. All else is as in `advance`.
+pub fn pcm(
     alloc: Global,
     image: &[u8],
     board: &mut [u8],
