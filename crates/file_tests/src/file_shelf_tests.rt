@@ -43,9 +43,17 @@ fn assert_failing(
 }
 
 #[test]
-fn a_file_is_replaced_or_written_in_place_or_stays(rt: HostRuntime) {
+fn a_file_is_replaced_or_stays(rt: HostRuntime) {
     let calls = [Look, Open, CreateNew, Metadata, Write, Write, Rename];
     assert_failing(&rt, Kind::Regular, &[], Ok(()), b"new!", &calls);
+    let calls = [Look, Open, CreateNew, Metadata, Write, Remove];
+    assert_failing(&rt, Kind::Regular, &[5], Err(Failed), b"old", &calls);
+    let calls = [Look, Open, CreateNew, Metadata, Write, Write, Remove];
+    assert_failing(&rt, Kind::Regular, &[6], Err(Failed), b"old", &calls);
+}
+
+#[test]
+fn a_file_is_written_in_place_if_no_new_one_is_made(rt: HostRuntime) {
     let calls = [Look, Open, Metadata, SetLen(5), Write, Write, SetLen(4)];
     assert_failing(&rt, Kind::Regular, &[1], Ok(()), b"new!", &calls);
     let calls = [
@@ -71,6 +79,10 @@ fn a_file_is_replaced_or_written_in_place_or_stays(rt: HostRuntime) {
         SetLen(4),
     ];
     assert_failing(&rt, Kind::Regular, &[3], Ok(()), b"new!", &calls);
+}
+
+#[test]
+fn a_file_is_written_in_place_if_the_new_one_cant_be_used(rt: HostRuntime) {
     let calls = [
         Look,
         Open,
@@ -85,10 +97,6 @@ fn a_file_is_replaced_or_written_in_place_or_stays(rt: HostRuntime) {
         SetLen(4),
     ];
     assert_failing(&rt, Kind::Regular, &[4], Ok(()), b"new!", &calls);
-    let calls = [Look, Open, CreateNew, Metadata, Write, Remove];
-    assert_failing(&rt, Kind::Regular, &[5], Err(Failed), b"old", &calls);
-    let calls = [Look, Open, CreateNew, Metadata, Write, Write, Remove];
-    assert_failing(&rt, Kind::Regular, &[6], Err(Failed), b"old", &calls);
     let calls = [
         Look,
         Open,
