@@ -2,11 +2,11 @@
 //! exports them for C.
 #![tactic(auto)]
 
-mod advance;
 mod answer;
-mod assemble;
 mod report;
+mod sources;
+mod stretches;
 
-pub use advance::{advance, pcm};
-pub use assemble::{assemble, power_on, version};
 pub use report::{GravitarReport, Status};
+pub use sources::{assemble, power_on, version};
+pub use stretches::{advance, pcm};
