@@ -6,6 +6,7 @@ from . import forms, judge
 LOG_LINE = re.compile(rb"([SABLW]) (\d+)([^\n]*)\n")
 COST = re.compile(rb"C \d+\n\Z")
 SAMPLES = 50000  # of more only the number is looked at.
+BOARD = re.compile(rb"^clock (\d+)\n(?:.+\n)*?board out (..) .*\n(?:.+\n)*?beam (-?\d+) (-?\d+)$", re.MULTILINE)
 NAME = b"again"  # what is stored here is none of the case's names.
 
 
@@ -63,14 +64,14 @@ class Again:
             self.wrong.append(text)
 
     def judge(self):
-        """All that is wrong with one or two of the further runs."""
+        """All that is wrong with three further runs of a `run`, or two of another verb."""
         ways = {
-            b"run": [self.itself, self.cut, self.sampled, self.framed, self.cells, self.latch, self.full],
+            b"run": [self.itself, self.cut, self.cut, self.sampled, self.framed, self.sought, self.cells, self.full],
             b"asm": [self.itself, self.full],
             b"pcm": [self.itself, self.sampled, self.sampled],
             b"frames": [self.itself, self.framed, self.framed],
         }.get(self.verb, [self.itself])
-        for way in self.rng.sample(ways, min(2, len(ways))):
+        for way in self.rng.sample(ways, min(3 if self.verb == b"run" else 2, len(ways))):
             way()
         return self.wrong
 
@@ -141,14 +142,27 @@ class Again:
         came = self.run(flat(b"run", self.names, {**self.options, b"--save": NAME}))
         self.want(came.stored.get(earom) == came.stored.get(NAME, b"")[196:260], "other cells than the board's")
 
-    def latch(self):
-        """The last L line of a run has the byte that the latch has in the board."""
-        log = self.log()
-        came = self.run(flat(b"run", self.names, {**self.options, b"--save": NAME}))
-        board = came.stored.get(NAME, b"")
-        told = [e for e in log[0] if e[0] in b"LW"] if log else []
-        if len(board) == 4356 and told and told[-1][0] == b"L":
-            self.want(b"%02X" % board[21] == told[-1][2][0], "another byte in the last L line than in the board")
+    def sought(self):
+        """The boards at some L lines and strokes of the log: the latch in front of a write and behind it, the beam at a stroke's end."""
+        log, limit = self.log(), judge.begins_and_ends(self.command, self.case.files)[1]
+        wanted, latch = [], None
+        for letter, clock, numbers in log[0] if log else []:
+            if letter == b"L":
+                wanted += [(clock, 1, latch)] if latch else []
+                wanted += [(clock + 1, 1, numbers[0])]
+                latch = numbers[0]
+            elif letter == b"S":
+                wanted += [(clock + 1, 2, b" ".join(numbers[2:4]))]
+            elif letter == b"W":
+                latch = None
+        wanted = [w for w in wanted if w[0] <= limit]
+        wanted = self.rng.sample(wanted, min(20, len(wanted)))
+        if not wanted:
+            return
+        came = self.run(flat(b"seek", self.names[:2] + [b",".join(b"%d" % w[0] for w in wanted)], self.four()))
+        boards = [(m[1], m[2], m[3] + b" " + m[4]) for m in BOARD.finditer(came.text)]
+        self.want([(int(b[0]), b[w[1]]) for b, w in zip(boards, wanted)] == [(w[0], w[2]) for w in wanted], "another latch or beam in the board than in the log")
+        self.want(len(boards) == len(wanted), "%d boards, not %d" % (len(boards), len(wanted)))
 
     def full(self):
         """With an output that takes nothing: status 6, and each file as it was; a board alone may be stored before the first text."""
