@@ -12,8 +12,8 @@ A quarter of the cases with `asm` have good sources but for one fault, whose lin
 Of each case: the status, the note (byte for byte, but for a source's line and cause where the case has no such fault), that nothing
 is written after 2, 4, 5 and 7 and no file changed after these and 6, the form of the text, the stores, the time (T seconds) and the
 peak of memory (64 MB, and the limits of the files that the command reads). A share of the cases that were done, P of `--again`, is
-run two or three times more over the same files and held against the first run (broken/again.py): the same again, with other cuts, into an output
-that takes nothing, the cells against those given and those of the board, the samples, the frames and the boards at some lines of it against the log.
+run two or three times more over the same files and held against the first run (broken/again.py): the same again, with other cuts, into
+an output that takes nothing, the cells against those given and those of the board, and the log against samples, frames and boards.
 It prints each wrong case with its number, words and causes, and then the counts by verb and status; the status is 1 where one was wrong.
 A command that has more than 2,000,000 clocks to run is given one second, and is counted as unfinished where that doesn't do.
 """

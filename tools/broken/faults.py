@@ -30,7 +30,7 @@ def named_again(rng, lines):
         return anywhere(rng, lines)
     before, name = rng.choice(named)
     at = rng.randint(before + 1, len(lines))
-    return lines[:at] + [name + rng.choice((b":", b" = 1", b": ; again"))] + lines[at:], at + 1, b"twice named"
+    return lines[:at] + [name + rng.choice((b":", b":qq9 = 1", b": ; again"))] + lines[at:], at + 1, b"twice named"
 
 
 def at_end(rng, lines, first, beside):
