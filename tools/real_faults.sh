@@ -1,7 +1,7 @@
 #!/bin/sh
 # Real faults of a real system, and what a built program does at each (docs/COMMANDS.md, "Files, answers, notes" and "What faults leave").
 #   real_faults.sh PROGRAM [KILLS]
-# KILLS is how many runs with 1,000 stores each signal kills in each way of a store (tools/killed_stores.py): 50, and 700 for some 10,000 in all.
+# KILLS is how many runs with 1,000 stores each signal kills in each way of a store (tools/killed_stores.py): 50. With 700 it is 10,500 a folder.
 # A line a case: `ok` or `differs`, the case, and what came: the status, the note, how many bytes of text, and how many bytes stand under
 # the names that are looked at (- where there is none). Behind `differs` stands what had to come. `skipped` is what this system doesn't
 # allow: mounting, another user (setpriv), stopping at a call (strace), a pipe that doesn't wait (perl). The status is 1 where one differs.
