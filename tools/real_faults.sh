@@ -364,7 +364,7 @@ place_of() {
     strace -qq -o "$work/calls" -e "trace=$call" "$program" "$@" >/dev/null
     grep -n -e "$pattern" "$work/calls" | head -n 1 | cut -d: -f1
 }
-# The calls of a store over 9,000 bytes, and the program killed in front of each: what stands under the name and beside it.
+# The calls of a store over 9,000 bytes that open, write, cut or rename, and the program killed in front of each: what stands under the name and beside it.
 calls_of_a_store() {
     fresh
     has strace || { skip "a kill at a call"; return; }
