@@ -23,9 +23,12 @@ CLOCK_LIMIT = 1 << 48
 CLOCKS_A_SECOND = 1_512_000
 FRAME = 25_000
 
-_VERSION = 1
+_VERSION = 2
 _DONE, _JAMMED, _NO_ROOM, _NO_MEMORY = 0, 1, 6, 7
-_NAMES = ["done", "jammed", "image", "board", "tape", "number", "no room", "no memory", "processor source", "generator source"]
+_NAMES = [
+    "done", "jammed", "image", "board", "tape", "number", "no room", "no memory",
+    "processor source", "generator source", "board length", "board version",
+]
 
 
 class Error(Exception):

@@ -13,7 +13,10 @@ pub struct Fault {
 #[non_exhaustive]
 pub enum Error {
     Image(Fault),
+    /// A field of a saved board is out of its range.
     Board(Fault),
+    BoardLength(Fault),
+    BoardVersion(Fault),
     Tape(Fault),
     /// A clock above 2^48, or a sample of no clock or of more than 65,535.
     Number(u64),
@@ -38,6 +41,8 @@ impl Error {
             7 => Self::NoMemory,
             8 => Self::ProcessorSource(fault),
             9 => Self::GeneratorSource(fault),
+            10 => Self::BoardLength(fault),
+            11 => Self::BoardVersion(fault),
             _ => Self::Status(status),
         }
     }
@@ -47,7 +52,9 @@ impl fmt::Display for Error {
     fn fmt(&self, f: &mut fmt::Formatter<'_>) -> fmt::Result {
         match self {
             Self::Image(fault) => write!(f, "image: {}", fault.words),
-            Self::Board(fault) => write!(f, "board: {}", fault.words),
+            Self::Board(fault) | Self::BoardLength(fault) | Self::BoardVersion(fault) => {
+                write!(f, "board: {}", fault.words)
+            }
             Self::Tape(fault) => write!(f, "tape: {}", fault.words),
             Self::Number(number) => write!(f, "{number} is out of range"),
             Self::NoMemory => write!(f, "no memory"),

@@ -135,9 +135,9 @@ fn what_is_refused_is_an_error() {
     assert!(matches!(to(b"short", &board, TAPE, 1), Err(Error::Image(fault)) if fault.place == 5));
     assert!(matches!(
         to(&image, &board[1..], TAPE, 1),
-        Err(Error::Board(_))
+        Err(Error::BoardLength(_))
     ));
-    assert!(matches!(to(&image, b"", TAPE, 1), Err(Error::Board(_))));
+    assert!(matches!(to(&image, b"", TAPE, 1), Err(Error::BoardLength(_))));
     assert!(matches!(to(&image, &board, b"", 1), Err(Error::Tape(_))));
     let tape = to(&image, &board, b"1 IN9 00\n1 END\n", 1).unwrap_err();
     assert!(matches!(&tape, Error::Tape(fault) if fault.place == 1 && tape.to_string().len() > 6));
@@ -161,7 +161,7 @@ fn a_refusal_leaves_the_machine_as_it_was() {
         Err(Error::Image(_))
     ));
     let mut machine = Machine::new(square(), false).unwrap();
-    assert!(matches!(machine.load(b""), Err(Error::Board(_))));
+    assert!(matches!(machine.load(b""), Err(Error::BoardLength(_))));
     assert!(matches!(machine.set("IN9", 0), Err(Error::Tape(_))));
     assert!(matches!(
         machine.run(u64::MAX),
