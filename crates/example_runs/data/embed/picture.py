@@ -1,47 +1,36 @@
 """Runs a board and draws what it draws.
 
-    python3 picture.py LIBRARY PROCESSOR.s GENERATOR.v TAPE CLOCK PICTURE.svg
+    python3 picture.py PROCESSOR.s GENERATOR.v TAPE CLOCK PICTURE.svg
 
-writes the log to the output, and the strokes as an SVG picture.
+writes the log to the output, and the strokes as an SVG picture. It needs the package gravitar.
 """
 import pathlib
 import sys
 
 import gravitar
 
-def strokes(log):
-    """The strokes of a log: from, to, colour and intensity of each."""
-    for line in log.decode().splitlines():
-        word, *numbers = line.split()
-        if word == "S":
-            yield [int(number) for number in numbers[1:]]
 
-
-def picture(log):
+def picture(strokes):
     """An SVG picture of the strokes, y upwards. The bits of a colour are red, green and blue here."""
     edge = 4_500_000
     lines = [
         f'<svg xmlns="http://www.w3.org/2000/svg" viewBox="{-edge} {-edge} {2 * edge} {2 * edge}" stroke-width="40000">',
         f'<rect x="{-edge}" y="{-edge}" width="{2 * edge}" height="{2 * edge}"/>',
     ]
-    for x0, y0, x1, y1, colour, intensity in strokes(log):
-        rgb = ",".join(str(17 * intensity * (colour >> bit & 1)) for bit in (2, 1, 0))
-        lines.append(f'<path stroke="rgb({rgb})" d="M{x0} {-y0}L{x1} {-y1}"/>')
+    for it in strokes:
+        rgb = ",".join(str(17 * it.intensity * (it.colour >> bit & 1)) for bit in (2, 1, 0))
+        lines.append(f'<path stroke="rgb({rgb})" d="M{it.x0} {-it.y0}L{it.x1} {-it.y1}"/>')
     return "\n".join([*lines, "</svg>", ""])
 
 
-def main(path, processor, generator, tape, clock, out):
-    library = gravitar.Library(path)
+def main(processor, generator, tape, clock, out):
     sources = [pathlib.Path(name).read_bytes() for name in (processor, generator, tape)]
-    image, board = library.assemble(*sources[:2]), library.power_on()
+    machine = gravitar.Machine(gravitar.assemble(*sources[:2]), tape=sources[2])
     log = b""
-    for done in range(0, int(clock), 25_000):
-        board, more, jammed = library.advance(image, board, sources[2], min(done + 25_000, int(clock)))
-        log += more
-        if jammed:
-            break
+    while machine.clock < int(clock) and not machine.jammed:
+        log += machine.run(min(gravitar.FRAME, int(clock) - machine.clock))
     sys.stdout.buffer.write(log)
-    pathlib.Path(out).write_text(picture(log))
+    pathlib.Path(out).write_text(picture(gravitar.strokes(log)))
 
 
 main(*sys.argv[1:])

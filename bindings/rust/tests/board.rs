@@ -1,0 +1,178 @@
+//! Tests over the examples' sources.
+use gravitar::{
+    BOARD_LEN, CLOCK_LIMIT, End, Error, FRAME, Machine, Run, advance, assemble, pcm, power_on,
+    strokes, version,
+};
+
+const TAPE: &[u8] = b"2000000 END\n";
+
+macro_rules! source {
+    ($name:literal) => {
+        include_bytes!(concat!("../../../examples/", $name))
+    };
+}
+
+fn square() -> Vec<u8> {
+    assemble(source!("square/square.s"), source!("square/square.v")).unwrap()
+}
+
+fn ship() -> Vec<u8> {
+    assemble(source!("ship/ship.s"), source!("ship/ship.v")).unwrap()
+}
+
+fn over<'a>(image: &'a [u8], tape: &'a [u8]) -> Run<'a> {
+    Run {
+        image,
+        tape,
+        timers: false,
+    }
+}
+
+#[test]
+fn the_version_is_the_headers() {
+    let header = include_str!("../../../include/gravitar.h");
+    assert!(header.contains(&format!("#define GRAVITAR_VERSION {}\n", version())));
+    assert_eq!(power_on().len(), BOARD_LEN);
+}
+
+#[test]
+fn stretches_are_the_run() {
+    let image = square();
+    let whole = advance(over(&image, TAPE), &power_on(), End::Clock(160_000)).unwrap();
+    let mut machine = Machine::new(image, false).unwrap();
+    let mut log = Vec::new();
+    for clocks in [1, 24_999, 100_000, 35_000] {
+        log.extend(machine.run(clocks).unwrap());
+    }
+    assert_eq!(
+        (machine.save(), log, machine.clock()),
+        (&whole.board[..], whole.output, 160_000)
+    );
+    assert!(!machine.is_jammed());
+}
+
+#[test]
+fn a_log_longer_than_the_first_buffer() {
+    let log = Machine::new(ship(), false).unwrap().run(5_000_000).unwrap();
+    assert!(log.len() > 65_536);
+    let mut machine = Machine::new(ship(), false).unwrap();
+    let frames: Vec<u8> = (0..200).flat_map(|_| machine.run(FRAME).unwrap()).collect();
+    assert_eq!(frames, log);
+}
+
+#[test]
+fn a_frame_has_strokes() {
+    let mut machine = Machine::new(square(), false).unwrap();
+    let frames: Vec<_> = (0..4).flat_map(|_| machine.frame(FRAME).unwrap()).collect();
+    let log = Machine::new(square(), false)
+        .unwrap()
+        .run(4 * FRAME)
+        .unwrap();
+    assert_eq!(frames, strokes(&log).collect::<Vec<_>>());
+    assert_eq!(
+        frames.len(),
+        log.iter().filter(|byte| **byte == b'S').count()
+    );
+    assert!(!frames.is_empty());
+}
+
+#[test]
+fn a_saved_board_goes_on() {
+    let mut machine = Machine::new(ship(), false).unwrap();
+    machine.run(100_001).unwrap();
+    let saved = machine.save().to_vec();
+    let log = machine.run(100_000).unwrap();
+    machine.load(&saved).unwrap();
+    assert_eq!(machine.clock(), 100_001);
+    assert_eq!(machine.run(100_000).unwrap(), log);
+}
+
+#[test]
+fn inputs_are_those_of_a_tape() {
+    let mut machine = Machine::new(ship(), false).unwrap();
+    let mut log = Vec::new();
+    for value in [0xFB, 0xFD, 0xFF] {
+        machine.set("IN3", value).unwrap();
+        log.extend(machine.run(500_000).unwrap());
+    }
+    let (image, tape) = (
+        ship(),
+        b"0 IN3 FB\n500000 IN3 FD\n1000000 IN3 FF\n1500000 END\n",
+    );
+    let run = advance(over(&image, tape), &power_on(), End::Clock(1_500_000)).unwrap();
+    assert_eq!((run.output, &run.board[..]), (log, machine.save()));
+}
+
+#[test]
+fn samples_leave_nothing_out() {
+    let (image, tape) = (ship(), b"0 IN3 FB\n2000000 END\n");
+    let whole = pcm(over(&image, tape), &power_on(), 1_394_000, 34)
+        .unwrap()
+        .output;
+    let mut machine = Machine::new(image, false).unwrap();
+    machine.set("IN3", 0xFB).unwrap();
+    let mut some = Vec::new();
+    for count in [1, 735, 40_000, 264] {
+        some.extend(machine.samples(count, 34).unwrap());
+    }
+    let bytes: Vec<u8> = some.iter().flat_map(|it| it.to_le_bytes()).collect();
+    assert_eq!(bytes, whole[..4 * 41_000]);
+    assert!(some.iter().any(|it| *it > 0));
+}
+
+#[test]
+fn a_jam_is_told() {
+    let image = assemble(b".org $9000\ns: .byte 2\n.org $FFFC\n.word s\n", b"").unwrap();
+    let mut machine = Machine::new(image, false).unwrap();
+    machine.run(1_000).unwrap();
+    assert!(machine.is_jammed() && machine.clock() < 1_000);
+}
+
+#[test]
+fn what_is_refused_is_an_error() {
+    let (image, board) = (square(), power_on());
+    let to = |image, board, tape, clock| advance(over(image, tape), board, End::Boundary(clock));
+    assert!(matches!(to(b"short", &board, TAPE, 1), Err(Error::Image(fault)) if fault.place == 5));
+    assert!(matches!(
+        to(&image, &board[1..], TAPE, 1),
+        Err(Error::Board(_))
+    ));
+    assert!(matches!(to(&image, b"", TAPE, 1), Err(Error::Board(_))));
+    assert!(matches!(to(&image, &board, b"", 1), Err(Error::Tape(_))));
+    let tape = to(&image, &board, b"1 IN9 00\n1 END\n", 1).unwrap_err();
+    assert!(matches!(&tape, Error::Tape(fault) if fault.place == 1 && tape.to_string().len() > 6));
+    let late = CLOCK_LIMIT + 1;
+    assert_eq!(to(&image, &board, TAPE, late), Err(Error::Number(late)));
+    assert_eq!(pcm(over(&image, TAPE), &board, 1, 0), Err(Error::Number(0)));
+    assert!(matches!(
+        assemble(b"nop\n???\n", b""),
+        Err(Error::ProcessorSource(_))
+    ));
+    assert!(matches!(
+        assemble(b"", b"???\n"),
+        Err(Error::GeneratorSource(_))
+    ));
+}
+
+#[test]
+fn a_refusal_leaves_the_machine_as_it_was() {
+    assert!(matches!(
+        Machine::new(Vec::new(), false),
+        Err(Error::Image(_))
+    ));
+    let mut machine = Machine::new(square(), false).unwrap();
+    assert!(matches!(machine.load(b""), Err(Error::Board(_))));
+    assert!(matches!(machine.set("IN9", 0), Err(Error::Tape(_))));
+    assert!(matches!(
+        machine.run(u64::MAX),
+        Err(Error::Number(_) | Error::Tape(_))
+    ));
+    assert_eq!(
+        machine
+            .run(160_000)
+            .unwrap()
+            .split(|byte| *byte == b'\n')
+            .count(),
+        57
+    );
+}
