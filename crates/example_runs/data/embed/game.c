@@ -143,11 +143,13 @@ static void run_frame(struct game *game, int buttons, FILE *log, FILE *tape)
 /* Plays all samples of the ring. A game's sound does this on its own thread, when its device asks. */
 static void play(struct ring *ring, FILE *pcm)
 {
+    uint8_t bytes[4 * RING], *end = bytes;
     for (; ring->played < ring->written; ring->played++) {
         uint32_t sample = ring->at[ring->played % RING];
-        uint8_t bytes[4] = {sample, sample >> 8, sample >> 16, sample >> 24};
-        fwrite(bytes, 1, sizeof bytes, pcm);
+        for (int shift = 0; shift < 32; shift += 8)
+            *end++ = (uint8_t)(sample >> shift);
     }
+    fwrite(bytes, 1, end - bytes, pcm);
 }
 
 static void load_image(uint8_t *image, const char *processor, const char *generator)

@@ -1,36 +1,144 @@
 #!/bin/sh
-# Builds the library and the three examples, runs each, and holds what they write against the program's own log.
-#     try.sh [GRAVITAR]       GRAVITAR is the program, by default the one of crates/gravitar_program/out
-#     try.sh GRAVITAR LIB     LIB is a built libgravitar.a, as tools/quick.sh --lib leaves it
-# It needs gcc, python3 and cargo; without LIB also rt, which proves the library where that hasn't been done.
+# Builds the examples and the bindings over the library for C, runs them, and holds what they write against the
+# program's own log and samples. The callers are built with the sanitizers of addresses and undefined behaviour.
+#     try.sh [FOLDER]     FOLDER is the library's, as tools/quick.sh --lib or tools/lib_folder.sh leaves it, by
+#                         default what GRAVITAR_LIB names; else the library is proved and built
+# The program is GRAVITAR of the environment, else FOLDER/gravitar, else that of crates/gravitar_program/out. It
+# needs gcc. What else a machine lacks (clang, a sanitizer, python3, pip, cargo) is said and passed over.
 set -eu
 here=$(cd "$(dirname "$0")" && pwd -P)
 root=$(cd "$here/../../../.." && pwd)
-gravitar=${1:-$root/crates/gravitar_program/out/gravitar_program}
 work=$(mktemp -d)
 trap 'rm -rf "$work"' EXIT
-if [ $# -ge 2 ]; then
-    cp "$2" "$work/libgravitar.a"
+trap 'exit 1' INT TERM HUP
+lib=${1-${GRAVITAR_LIB-}}
+if [ "$lib" ]; then
+    lib=$(cd "$lib" && pwd -P)
 else
-    kit=$(dirname "$(rt doc | tail -1)")
-    (cd "$root/crates/gravitar_c" && rt lib) >"$work/lib.txt" 2>&1 || { cat "$work/lib.txt"; exit 1; }
-    # The kit's part for malloc, realloc and free goes into the archive, so that it is all that a program links.
-    mkdir "$work/parts"
-    (cd "$work/parts" && ar x "$root/crates/gravitar_c/out/libgravitar_c.a" && ar x "$kit/c/liblibc_c.a")
-    ar rcs "$work/libgravitar.a" "$work"/parts/*.o
+    lib=$work/lib
+    "$root/tools/lib_folder.sh" --proved "$lib"
 fi
-gcc -shared -o "$work/libgravitar.so" -Wl,--whole-archive "$work/libgravitar.a" -Wl,--no-whole-archive
-gcc -O2 -Wall -Wextra -I "$root/include" -o "$work/frames" "$here/frames.c" "$work/libgravitar.a"
-(cd "$here/rust" && GRAVITAR_LIB=$work cargo build -q --release --target-dir "$work/target")
-cp -R "$here/../square" "$work/square"
+gravitar=${GRAVITAR-$lib/gravitar}
+[ -x "$gravitar" ] || gravitar=$root/crates/gravitar_program/out/gravitar_program
+cp -R "$here/../square" "$here/../ship" "$work"
 cd "$work"
+
+# What the program itself writes of them.
 "$gravitar" asm square/square.s square/square.v square.img >square.listing
 "$gravitar" run square.img square/square.tape | sed '$d' >want
+"$gravitar" asm ship/ship.s ship/ship.v ship.img >ship.listing
 words='square/square.s square/square.v square/square.tape 160000'
-./frames $words >c.log 2>frames.txt
-target/release/frames $words >rust.log
-python3 "$here/picture.py" ./libgravitar.so $words picture.svg >python.log
-for log in c rust python; do
-    cmp want "$log.log" && echo "$log: the log of gravitar run, $(wc -l <want) lines"
-done
-echo "picture.svg has $(grep -c '^<path' picture.svg) strokes"
+
+skip() {
+    echo "$1: passed over, since $2"
+}
+say_log() { # NAME FILE
+    cmp want "$2"
+    echo "$1: the log of gravitar run, $(wc -l <want) lines"
+}
+
+# Whether a compiler makes programs with these options that run.
+can() { # COMPILER OPTIONS..
+    { echo '#include <stdio.h>'; echo 'int main(void) { return puts("can") < 0; }'; } >can.c
+    "$@" -o can can.c >can.txt 2>&1 && ./can >>can.txt 2>&1
+}
+
+# The examples and the limits in C.
+try_c() { # NAME COMPILER OPTIONS..
+    say=$1
+    shift
+    for example in frames game; do
+        "$@" -std=c11 -Wall -Wextra -Werror -pedantic -I "$lib" -o "$example" "$here/$example.c" \
+            "$lib/libgravitar.a"
+    done
+    ./frames $words >c.log 2>frames.txt
+    say_log "$say: frames" c.log
+    ./game ship/ship.s ship/ship.v 100 game.log game.tape game.pcm >game.txt
+    "$gravitar" run ship.img game.tape | sed '$d' | cmp - game.log
+    "$gravitar" pcm ship.img game.tape 34 | cmp - game.pcm
+    echo "$say: game: $(cat game.txt)"
+    "$@" -std=c11 -Wall -Wextra -Werror -I "$lib" -o limits "$root/bindings/c/limits.c" "$lib/libgravitar.a" \
+        -Wl,--wrap=malloc,--wrap=realloc,--wrap=free -pthread
+    ./limits ship/ship.s ship/ship.v ship/ship.tape >limits.txt
+    echo "$say: limits: at most $(awk '$2 ~ /^[0-9]+$/ && most < $2 { most = $2 } END { print most }' limits.txt)" \
+        "bytes of stack"
+}
+try_both() { # NAME COMPILER OPTIONS..
+    say=$1
+    shift
+    can "$@" || { skip "$say" "it isn't there or builds nothing"; return 0; }
+    try_c "$say" "$@" -O2
+    if can "$@" -fsanitize=address,undefined; then
+        try_c "$say with sanitizers" "$@" -O1 -g -fsanitize=address,undefined -fno-sanitize-recover=all
+    else
+        skip "$say with sanitizers" "it has none"
+    fi
+}
+try_both gcc gcc
+try_both clang clang
+# The kit's compiler has no headers of its own.
+kit=$(command -v rt >/dev/null && dirname "$(rt doc | tail -1)" || true)
+try_both "the kit's clang" "$kit/toolchain/bin/clang" -isystem "$(gcc -print-file-name=include)"
+if command -v g++ >/dev/null; then
+    { echo '#include "gravitar.h"'; echo 'int main() { return gravitar_version() - GRAVITAR_VERSION; }'; } >c.cc
+    g++ -Wall -Wextra -Werror -pedantic -I "$lib" -o cc c.cc "$lib/libgravitar.a" && ./cc
+    echo "g++: the header"
+fi
+if command -v pkg-config >/dev/null; then
+    gcc -O2 -o shared "$here/frames.c" $(PKG_CONFIG_PATH=$lib pkg-config --cflags --libs gravitar)
+    LD_LIBRARY_PATH=$lib ./shared $words >shared.log 2>frames.txt
+    say_log pkg-config shared.log
+else
+    skip pkg-config "it isn't there"
+fi
+
+# The package for Python, built from a copy of its folder.
+try_python() { # NAME, and the settings of the environment
+    say=$1
+    shift
+    env "$@" PYTHONPATH="$work/site" python3 "$root/bindings/python/tests/test_gravitar.py" >python.txt 2>&1 ||
+        { cat python.txt; exit 1; }
+    echo "$say: $(sed -n 's/^Ran \([0-9]*\) .*/\1 tests/p' python.txt)"
+    env "$@" PYTHONPATH="$work/site" python3 "$here/picture.py" $words picture.svg >python.log
+    say_log "$say" python.log
+}
+if ! command -v python3 >/dev/null; then
+    skip python3 "it isn't there"
+elif ! python3 -m pip --version >/dev/null 2>&1; then
+    skip "pip install" "python3 has no pip; the package's folder is taken as it is"
+    cp -R "$root/bindings/python" site
+    try_python python3 "GRAVITAR_LIB=$lib"
+else
+    cp -R "$root/bindings/python" package
+    GRAVITAR_LIB=$lib python3 -m pip install -q --no-build-isolation --no-index --root-user-action ignore \
+        --disable-pip-version-check --target site ./package
+    try_python python3 -u GRAVITAR_LIB
+    asan=$(gcc -print-file-name=libasan.so)
+    if [ -e "$asan" ]; then
+        try_python "python3 with gcc's address sanitizer" -u GRAVITAR_LIB LD_PRELOAD="$asan" \
+            ASAN_OPTIONS=detect_leaks=0
+    fi
+fi
+[ ! -e picture.svg ] || echo "picture.svg has $(grep -c '^<path' picture.svg) strokes"
+
+# The crate for Rust, built elsewhere.
+if command -v cargo >/dev/null; then
+    export GRAVITAR_LIB="$lib" CARGO_TARGET_DIR="$work/target"
+    manifest=$root/bindings/rust/Cargo.toml
+    cargo test -q --offline --manifest-path "$manifest" >cargo.txt 2>&1 || { cat cargo.txt; exit 1; }
+    echo "cargo test: $(awk '/^test result: ok/ { sum += $4 } END { print sum }' cargo.txt) tests"
+    cargo run -q --offline --release --manifest-path "$manifest" --example frames -- $words >rust.log
+    say_log cargo rust.log
+    target=$(rustc -vV | sed -n 's/^host: //p')
+    if RUSTFLAGS=-Zsanitizer=address cargo +nightly test -q --offline --tests --manifest-path "$manifest" \
+        --target "$target" >cargo.txt 2>&1; then
+        echo "cargo +nightly with the address sanitizer: the tests"
+    elif grep -q '^test result: FAILED\|AddressSanitizer' cargo.txt; then
+        cat cargo.txt
+        exit 1
+    else
+        skip "cargo +nightly -Zsanitizer=address" "this machine's doesn't build it"
+    fi
+else
+    skip cargo "it isn't there"
+fi
