@@ -130,7 +130,7 @@ if command -v cargo >/dev/null; then
     cargo run -q --offline --release --manifest-path "$manifest" --example frames -- $words >rust.log
     say_log cargo rust.log
     target=$(rustc -vV | sed -n 's/^host: //p')
-    if RUSTFLAGS=-Zsanitizer=address cargo +nightly test -q --offline --tests --manifest-path "$manifest" \
+    if RUSTUP_AUTO_INSTALL=0 RUSTFLAGS=-Zsanitizer=address cargo +nightly test -q --offline --tests --manifest-path "$manifest" \
         --target "$target" >cargo.txt 2>&1; then
         echo "cargo +nightly with the address sanitizer: the tests"
     elif grep -q '^test result: FAILED\|AddressSanitizer' cargo.txt; then
