@@ -79,6 +79,13 @@ try_both clang clang
 # The kit's compiler has no headers of its own.
 kit=$(command -v rt >/dev/null && dirname "$(rt doc | tail -1)" || true)
 try_both "the kit's clang" "$kit/toolchain/bin/clang" -isystem "$(gcc -print-file-name=include)"
+if command -v valgrind >/dev/null; then
+    gcc -std=c11 -O1 -g -I "$lib" -o frames "$here/frames.c" "$lib/libgravitar.a"
+    valgrind -q --error-exitcode=9 --leak-check=full ./frames $words >c.log 2>frames.txt || { cat frames.txt; exit 1; }
+    say_log "gcc under valgrind: frames" c.log
+else
+    skip valgrind "it isn't there"
+fi
 if command -v g++ >/dev/null; then
     { echo '#include "gravitar.h"'; echo 'int main() { return gravitar_version() - GRAVITAR_VERSION; }'; } >c.cc
     g++ -Wall -Wextra -Werror -pedantic -I "$lib" -o cc c.cc "$lib/libgravitar.a" && ./cc
