@@ -1,11 +1,29 @@
-use crate::programs::{JAM, LATCH, program_image, words_of};
-use gravitar_commands::{USAGE, gravitar, steady_status};
+use crate::programs::{JAM, LATCH, files, program_image, words_of};
+use gravitar_commands::{USAGE, Words, gravitar, steady_status};
 use outside_io::{MemoryShelf, MemorySink, SteadyShelf};
 use std::alloc::Global;
 use std::process::Abort;
 use std::test::Fail;
 
-/// Does a command over the latch's image and a tape, and compares its status, its text and its note.
+/// Does a command of some words over the files, and compares its status, its text and its note.
+fn assert_done<R: Abort + Alloc<A = Global>>(
+    rt: &R,
+    words: &Words,
+    shelf: &mut MemoryShelf,
+    status: u8,
+    text: &[u8],
+    note: &[u8],
+) -> Result<(), Fail> {
+    let mut out = MemorySink::new(rt.alloc(), 1000, &[])?;
+    let mut notes = MemorySink::new(rt.alloc(), 1000, &[])?;
+    let answer = gravitar(rt.alloc(), words, shelf, &mut out, &mut notes);
+    assert_eq!(rt; answer, status, "the status");
+    assert!(rt; out.bytes() == text, "the text");
+    assert!(rt; notes.bytes() == note, "the note");
+    Ok(())
+}
+
+/// Does a command over the latch's image and a tape, and compares what comes.
 fn check<R: Abort + Alloc<A = Global>>(
     rt: &R,
     line: &str,
@@ -14,17 +32,9 @@ fn check<R: Abort + Alloc<A = Global>>(
     note: &[u8],
 ) -> Result<(), Fail> {
     let image = program_image(rt.alloc(), LATCH)?;
-    let mut shelf = MemoryShelf::new(rt.alloc(), 4, 5000, &[])?;
-    shelf.put("i", &image)?;
-    shelf.put("t", b"20 END\n")?;
+    let mut shelf = files(rt.alloc(), &image, b"20 END\n")?;
     let words = words_of(rt.alloc(), line)?;
-    let mut out = MemorySink::new(rt.alloc(), 1000, &[])?;
-    let mut notes = MemorySink::new(rt.alloc(), 1000, &[])?;
-    let answer = gravitar(rt.alloc(), &words, &mut shelf, &mut out, &mut notes);
-    assert_eq!(rt; answer, status, "{line}: the status");
-    assert!(rt; out.bytes() == text, "{line}: the text");
-    assert!(rt; notes.bytes() == note, "{line}: the note");
-    Ok(())
+    assert_done(rt, &words, &mut shelf, status, text, note)
 }
 
 #[test]

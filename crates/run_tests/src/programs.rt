@@ -1,6 +1,7 @@
 //! Small programs, and the words of a command.
 
 use gravitar_commands::Words;
+use outside_io::MemoryShelf;
 use rom_image::IMAGE_LEN;
 use std::alloc::{AllocError, Global};
 use std::test::Fail;
@@ -35,4 +36,15 @@ pub(crate) fn words_of(alloc: Global, line: &str) -> Result<Words, Fail> {
         words.push(word)?;
     }
     Ok(words)
+}
+
+/// The most bytes of a file with its name.
+pub(crate) const FILE: usize = 44_000;
+
+/// An image under `i` and a tape under `t`.
+pub(crate) fn files(alloc: Global, image: &[u8], tape: &[u8]) -> Result<MemoryShelf, Fail> {
+    let mut shelf = MemoryShelf::new(alloc, 4, FILE, &[])?;
+    shelf.put("i", image)?;
+    shelf.put("t", tape)?;
+    Ok(shelf)
 }

@@ -1,6 +1,6 @@
 //! The program's runs beside those of the library call, whose number of device calls is proved.
 
-use crate::programs::{LATCH, program_image, words_of};
+use crate::programs::{FILE, LATCH, files, program_image, words_of};
 use board_base::BoardState;
 use catchup_engine::{Devices, Engine};
 use gravitar_commands::{gravitar, run_slices};
@@ -15,11 +15,75 @@ use workload_gen::make;
 /// The most bytes of a text.
 const TEXT: usize = 8 << 20;
 
-/// The most bytes of a file with its name.
-const FILE: usize = 44_000;
+/// What a run wrote and stored.
+#[derive(Drop)]
+struct Told {
+    shelf: MemoryShelf,
+    text: MemorySink,
+}
 
-/// Does `run i t` with these options by the program, and the same run by `run_slices` over an engine, a
-/// shelf and a sink of its own: the texts, with the line of the device calls, and the stores are the same.
+/// Does a command over an image `i` and a tape `t` by the program.
+fn by_program<R: Abort + Alloc<A = Global>>(
+    rt: &R,
+    line: &str,
+    image: &[u8],
+    tape: &[u8],
+) -> Result<Told, Fail> {
+    let mut shelf = files(rt.alloc(), image, tape)?;
+    let words = words_of(rt.alloc(), line)?;
+    let mut text = MemorySink::new(rt.alloc(), TEXT, &[])?;
+    let mut notes = MemorySink::new(rt.alloc(), 100, &[])?;
+    let status = gravitar(rt.alloc(), &words, &mut shelf, &mut text, &mut notes);
+    assert_eq!(rt; status, 0, "{line}: the status");
+    Ok(Told { shelf, text })
+}
+
+/// Does a run from power-on by `run_slices`, over an engine, a shelf and a sink of its own.
+fn by_slices<R: Abort + Alloc<A = Global>>(
+    rt: &R,
+    image: &Image,
+    tape: &Tape,
+    cuts: &[u64],
+    save: Option<&str>,
+) -> Result<Told, Fail> {
+    let power_on = BoardState::power_on();
+    let mut engine = Engine::new(rt.alloc(), image, &power_on, Devices::fast(), false)?;
+    let mut shelf = MemoryShelf::new(rt.alloc(), 4, FILE, &[])?;
+    let mut text = MemorySink::new(rt.alloc(), TEXT, &[])?;
+    let end = tape.end();
+    let answer = run_slices(
+        &mut engine,
+        tape,
+        cuts,
+        end,
+        save,
+        None,
+        true,
+        &mut shelf,
+        &mut text,
+    );
+    assert!(rt; answer.is_ok(), "the slices");
+    Ok(Told { shelf, text })
+}
+
+/// Asserts that two shelves took the same stores.
+fn assert_same_stores<R: Abort>(rt: &R, line: &str, one: &MemoryShelf, two: &MemoryShelf) {
+    assert_eq!(rt;
+        one.stores().len(),
+        two.stores().len(),
+        "{line}: the stores"
+    );
+    for (first, second) in one.stores().iter().zip(two.stores()) {
+        assert_eq!(rt; first.name(), second.name(), "{line}: the name of a store");
+        assert!(rt;
+            first.bytes() == second.bytes(),
+            "{line}: the bytes of a store"
+        );
+    }
+}
+
+/// Asserts that a run by the program, with its line of the device calls, and its stores are those of
+/// its slices.
 fn assert_same<R: Abort + Alloc<A = Global>>(
     rt: &R,
     line: &str,
@@ -28,44 +92,12 @@ fn assert_same<R: Abort + Alloc<A = Global>>(
     cuts: &[u64],
     save: Option<&str>,
 ) -> Result<(), Fail> {
-    let mut shelf = MemoryShelf::new(rt.alloc(), 4, FILE, &[])?;
-    shelf.put("i", image)?;
-    shelf.put("t", tape)?;
-    let words = words_of(rt.alloc(), line)?;
-    let mut out = MemorySink::new(rt.alloc(), TEXT, &[])?;
-    let mut notes = MemorySink::new(rt.alloc(), 100, &[])?;
-    let status = gravitar(rt.alloc(), &words, &mut shelf, &mut out, &mut notes);
-    assert_eq!(rt; status, 0, "{line}: the status");
-
+    let one = by_program(rt, line, image, tape)?;
     let image = Image::read(rt.alloc(), image)?;
     let tape = Tape::read(rt.alloc(), tape)?;
-    let power_on = BoardState::power_on();
-    let mut engine = Engine::new(rt.alloc(), &image, &power_on, Devices::fast(), false)?;
-    let mut other = MemoryShelf::new(rt.alloc(), 4, FILE, &[])?;
-    let mut text = MemorySink::new(rt.alloc(), TEXT, &[])?;
-    let end = tape.end();
-    let answer = run_slices(
-        &mut engine,
-        &tape,
-        cuts,
-        end,
-        save,
-        None,
-        true,
-        &mut other,
-        &mut text,
-    );
-    assert!(rt; answer.is_ok(), "{line}: the slices");
-    assert!(rt; out.bytes() == text.bytes(), "{line}: the text");
-    assert_eq!(rt;
-        shelf.stores().len(),
-        other.stores().len(),
-        "{line}: the stores"
-    );
-    for (one, two) in shelf.stores().iter().zip(other.stores()) {
-        assert_eq!(rt; one.name(), two.name(), "{line}: the name of a store");
-        assert!(rt; one.bytes() == two.bytes(), "{line}: the bytes of a store");
-    }
+    let two = by_slices(rt, &image, &tape, cuts, save)?;
+    assert!(rt; one.text.bytes() == two.text.bytes(), "{line}: the text");
+    assert_same_stores(rt, line, &one.shelf, &two.shelf);
     Ok(())
 }
 
