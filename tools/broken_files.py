@@ -1,14 +1,19 @@
 #!/usr/bin/env python3
 """Runs a built program over broken files and words, and holds what it does against the documents.
 
-    broken_files.py PROGRAM [--cases N] [--seed S] [--jobs J] [--first K] [--only K] [--seconds T]
+    broken_files.py PROGRAM [--cases N] [--seed S] [--jobs J] [--first K] [--only K] [--seconds T] [--again P]
 
 Good commands and files are those of crates/board_rows/data and of examples/, and the images, boards and cells that the program
 makes of them. A case takes one of them and cuts, swaps, flips, repeats, splices, deletes or inserts bytes, numbers, lines and words.
 It is made by S and its number alone. `--only K` does one case and leaves its files; `--first K` begins there.
 
-Of each case: the status, the note (byte for byte, but for a source's line and cause), that nothing is written or stored after 2, 4, 5
-and 7, the form of the text, the stores, the time (T seconds) and the peak of memory (64 MB, and the limits of the files that the command reads).
+A quarter of the cases with `asm` have good sources but for one fault, whose line and cause are known (broken/faults.py).
+
+Of each case: the status, the note (byte for byte, but for a source's line and cause where the case has no such fault), that nothing
+is written after 2, 4, 5 and 7 and no file changed after these and 6, the form of the text, the stores, the time (T seconds) and the
+peak of memory (64 MB, and the limits of the files that the command reads). A share of the cases that were done, P of `--again`, is
+run two or three times more over the same files and held against the first run (broken/again.py): the same again, with other cuts, into
+an output that takes nothing, the cells against those given and those of the board, and the log against samples, frames and boards.
 It prints each wrong case with its number, words and causes, and then the counts by verb and status; the status is 1 where one was wrong.
 A command that has more than 2,000,000 clocks to run is given one second, and is counted as unfinished where that doesn't do.
 """
@@ -22,6 +27,7 @@ import contextlib
 import os
 import pathlib
 import pickle
+import random
 import resource
 import shlex
 import shutil
@@ -30,7 +36,7 @@ import tempfile
 import time
 import traceback
 
-from broken import cases, corpus, forms, judge
+from broken import again, cases, corpus, forms, judge
 
 TOP = pathlib.Path(__file__).resolve().parent.parent
 MEMORY = 64 << 20
@@ -53,6 +59,7 @@ class Runner:
         self.text, self.note = (os.open(os.path.join(top, n), flags) for n in ("text", "note"))
         nothing = os.open(os.devnull, os.O_RDONLY)
         self.streams = [(os.POSIX_SPAWN_DUP2, fd, to) for fd, to in ((nothing, 0), (self.text, 1), (self.note, 2))]
+        self.full = (os.POSIX_SPAWN_DUP2, os.open("/dev/full", os.O_WRONLY), 1)
         signal.signal(signal.SIGALRM, self.stop)
         self.child, self.late = 0, False
 
@@ -74,7 +81,7 @@ class Runner:
             os.utime(file, ns=(1, 1))
             os.close(file)
 
-    def spawn(self, words, limit):
+    def spawn(self, words, limit, full):
         """Runs the program for so many seconds at most, and gives its wait status, its use of the machine and its seconds."""
         for stream in (self.text, self.note):
             os.ftruncate(stream, 0)
@@ -82,17 +89,17 @@ class Runner:
         self.child, self.late = 0, False
         begin = time.monotonic()
         signal.setitimer(signal.ITIMER_REAL, limit)
-        self.child = os.posix_spawn(self.program, [b"gravitar"] + words, {}, file_actions=self.streams)
+        self.child = os.posix_spawn(self.program, [b"gravitar"] + words, {}, file_actions=self.streams + [self.full] * full)
         _, status, use = os.wait4(self.child, 0)
         self.child = 0
         signal.setitimer(signal.ITIMER_REAL, 0)
         return status, use, time.monotonic() - begin
 
-    def run(self, case):
-        """What comes of a case."""
+    def run(self, case, words=None, full=False):
+        """What comes of a case, or of other words over its files; with `full` the output takes nothing."""
         self.lay(case.files)
         is_long = judge.clocks_of(case.words, case.files) > LONG_RUN
-        status, use, seconds = self.spawn(case.words, LONG_SECONDS if is_long else self.seconds)
+        status, use, seconds = self.spawn(words or case.words, LONG_SECONDS if is_long else self.seconds, full)
         changed = [n for n in os.listdir(b".") if n != b"folder" and (n not in case.files or os.stat(n).st_mtime_ns != 1)]
         changed += [n for n in case.files if not os.path.exists(n)] + [b"folder/" + n for n in os.listdir(b"folder")]
         size = os.fstat(self.text).st_size
@@ -149,9 +156,20 @@ def tell(number, case, wrong):
     os.write(1, ("wrong %d: %s: %s\n" % (number, words, "; ".join(wrong))).encode(errors="backslashreplace"))
 
 
-def take(counts, number, case, came, seconds):
-    """Judges a case, and counts it."""
-    wrong = faults_of(case, came, seconds)
+def run_again(runner, number, case, came, more):
+    """What is wrong with further runs of a case that was done."""
+    rng = random.Random(~number)
+    if came.late or came.status not in (0, 3) or judge.clocks_of(case.words, case.files) > LONG_RUN or rng.random() >= more:
+        return []
+    return again.Again(lambda words, full=False: runner.run(case, words, full), case, came, rng).judge()
+
+
+def take(counts, runner, number, case, options):
+    """Does a case, judges it, and counts it."""
+    came = runner.run(case)
+    wrong = faults_of(case, came, options.seconds)
+    if wrong == []:
+        wrong = run_again(runner, number, case, came, options.again)
     verb = case.words[0].decode(errors="replace") if case.words and case.words[0] in forms.NAMES else "other"
     if wrong:
         counts.wrong += 1
@@ -162,6 +180,7 @@ def take(counts, number, case, came, seconds):
     counts.own = own_peak()
     counts.memory[verb] = max(counts.memory[verb], came.memory)
     counts.slowest = max(counts.slowest, (0.0 if came.late else came.seconds, number))
+    return came
 
 
 def work(maker, options, numbers):
@@ -170,7 +189,7 @@ def work(maker, options, numbers):
     try:
         for number in numbers:
             case = maker.case(number)
-            take(counts, number, case, runner.run(case), options.seconds)
+            take(counts, runner, number, case, options)
     finally:
         runner.close()
     return counts
@@ -209,8 +228,7 @@ def share(maker, options):
 def only(maker, options):
     """Does one case, and leaves its files."""
     case, runner, counts = maker.case(options.only), Runner(options.program, options.seconds), Counts()
-    came = runner.run(case)
-    take(counts, options.only, case, came, options.seconds)
+    came = take(counts, runner, options.only, case, options)
     runner.lay(case.files)
     print("cd %s && %s %s" % (runner.folder, options.program, " ".join(shlex.quote(os.fsdecode(w)) for w in case.words)))
     print("status %s, %d bytes of text, %.3f seconds, %d bytes of memory" % (came.status, came.size, came.seconds, came.memory))
@@ -240,6 +258,7 @@ def read_options():
     parser.add_argument("--first", type=int, default=0)
     parser.add_argument("--only", type=int)
     parser.add_argument("--seconds", type=float, default=10)
+    parser.add_argument("--again", type=float, default=1)
     return parser.parse_args()
 
 

@@ -1,6 +1,7 @@
 #!/bin/sh
 # Real faults of a real system, and what a built program does at each (docs/COMMANDS.md, "Files, answers, notes" and "What faults leave").
-#   real_faults.sh PROGRAM
+#   real_faults.sh PROGRAM [KILLS]
+# KILLS is how many runs with 1,000 stores each signal kills in each way of a store (tools/killed_stores.py): 50. With 700 it is 10,500 a folder.
 # A line a case: `ok` or `differs`, the case, and what came: the status, the note, how many bytes of text, and how many bytes stand under
 # the names that are looked at (- where there is none). Behind `differs` stands what had to come. `skipped` is what this system doesn't
 # allow: mounting, another user (setpriv), stopping at a call (strace), a pipe that doesn't wait (perl). The status is 1 where one differs.
@@ -8,7 +9,9 @@
 set -u
 program=$(command -v "$1") || { echo "real_faults.sh: no program $1" >&2; exit 2; }
 case $program in /*) ;; *) program=$(pwd)/$program ;; esac
-examples=$(cd "$(dirname "$0")/../examples" && pwd)
+kills=${2:-50}
+tools=$(cd "$(dirname "$0")" && pwd)
+examples=$(cd "$tools/../examples" && pwd)
 work=$(mktemp -d)
 trap 'umount "$work"/folder/disk 2>/dev/null; rm -rf "$work"' EXIT
 chmod 755 "$work"
@@ -52,6 +55,8 @@ holds() {
     printf '%s %s: status %s, %s%s%s\n' $word "$title" "$status" "${told:+$told, }" "$(printf '%s' "$sizes" | sed 's/0\{200\}/0../')" "$wanted"
     : >"$work/text" && : >"$work/note"
 }
+# The new file that a store left beside a name, under a name of its own.
+left() { mv "$1".*-0.new left 2>/dev/null; }
 # A fact of another form.
 fact() { if eval "$2"; then echo "ok $1: $3"; else echo "differs $1: $3"; differs=1; fi; }
 skip() { echo "skipped $1"; }
@@ -212,7 +217,7 @@ memory_steps() {
     fresh
     for words in "run i t --save s" "asm c v o" "debug i t d" "show b" "pcm i t 8" "frames i t" "seek i t 5,4" "profile i t"; do
         loader=0 none=0 stack=0 good=0 other=
-        for limit in $(seq 2000 100 6000); do
+        for limit in $(seq 2000 100 6000) 16000; do
             rm -f s o
             after "ulimit -v $limit" $words
             case $status:$(cat "$work/note") in
@@ -223,25 +228,28 @@ memory_steps() {
             esac
             [ $status = 0 ] || [ "$good:$(size_of "$work/text"):$(size_of s):$(size_of o)" = 0:0:-:- ] || other="$other $limit:$status"
         done
-        fact "memory in steps of 100 KiB from 2,000 to 6,000: $words" '[ -z "$other" ] && [ $good -gt 0 ]' "not loaded $loader, status 7 $none, SIGSEGV $stack, done $good${other:+, else$other}"
+        fact "memory in steps of 100 KiB from 2,000 to 6,000, and 16,000: $words" '[ -z "$other" ] && [ $good -gt 0 ]' "not loaded $loader, status 7 $none, SIGSEGV $stack, done $good${other:+, else$other}"
     done
 }
 
-# Less and less stack: what ends by SIGSEGV has written nothing; 256 KiB do for all.
+# Less and less stack: what ends by SIGSEGV has stored nothing; 256 KiB do for all.
 stack_steps() {
     fresh
     for words in "run i t --cuts 5,9 --save s --timers" "asm c v o" "debug i t d" "show b" "soak 1" "pcm i t 8" "frames i t" "seek i t 5,4" "profile i t"; do
-        least=- other=
+        least=- other= texts=
         for limit in 320 288 256 240 224 208 192 176 160 144 128; do
             rm -f s o
             after "ulimit -s $limit" $words
             case $status in
                 0) least=$limit ;;
-                139) [ -s "$work/text" ] || [ -e s ] || [ -e o ] || [ $limit -ge 256 ] && other="$other $limit" ;;
+                139)
+                    [ ! -s "$work/text" ] || texts="$texts $limit"
+                    [ "$(echo s* o*)" = "s* o*" ] && [ $limit -lt 256 ] || other="$other $limit"
+                    ;;
                 *) other="$other $limit:$status" ;;
             esac
         done
-        fact "a stack of 320 KiB down to 128: $words" '[ -z "$other" ]' "done down to $least, SIGSEGV below, with nothing written${other:+; else$other}"
+        fact "a stack of 320 KiB down to 128: $words" '[ -z "$other" ]' "done down to $least, SIGSEGV below, with nothing stored${texts:+, a text at$texts}${other:+; else$other}"
     done
 }
 
@@ -251,14 +259,20 @@ system_limits() {
     unit=$({ (ulimit -f 4; exec head -c 8192 /dev/zero >big); size_of big; } 2>/dev/null)
     part=$((unit / 4))
     rm -f s big
-    after "ulimit -f 1" run i t --until 1 --save s
-    holds "a limit of a file's size, in a store" 153 "" "text 4, s $part" s
-    rm s
-    after "ulimit -f 1; trap '' XFSZ" run i t --until 1 --save s
-    holds "the same with SIGXFSZ ignored" 6 "$outside" "text 4, s $part" s
+    after "ulimit -f 1" run i t --until 1 --save s; left s
+    holds "a limit of a file's size, in a store" 153 "" "text 4, s -, left $part" s left
+    rm left
+    after "ulimit -f 1; trap '' XFSZ" run i t --until 1 --save s; left s
+    holds "the same with SIGXFSZ ignored" 6 "$outside" "text 4, s -, left -" s left
     head -c 9000 /dev/zero >s
-    after "ulimit -f 1; trap '' XFSZ" run i t --until 1 --save s
-    holds "the same over a longer file: nothing stays behind the first part" 6 "$outside" "text 4, s $part" s
+    after "ulimit -f 1; trap '' XFSZ" run i t --until 1 --save s; left s
+    holds "the same over a longer file: it stays" 6 "$outside" "text 4, s 9000, left -" s left
+    ln -s s link
+    after "ulimit -f 1; trap '' XFSZ" run i t --until 1 --save link
+    holds "the same in place: nothing stays behind the first part" 6 "$outside" "text 4, s $part" s
+    after "ulimit -f 1; trap '' XFSZ" run i t --until 1 --save link
+    holds "the same over that part: it stays" 6 "$outside" "text 4, s $part" s
+    rm link
     after "ulimit -f 1" run i t --until 1 --earom e
     holds "the same over cells that are smaller" 0 "" "text 4, e 64" e
     after "ulimit -f 1" pcm i t 8
@@ -266,7 +280,6 @@ system_limits() {
     printf '281474976710656 END\n' >endless
     after "ulimit -S -t 1" run i endless --until 281474976710656 --save t2
     holds "a limit of the processor's time" 152 "" "text *, t2 -" t2
-    rm s
     after "ulimit -n 4" run i t --until 1 --save s
     holds "one file at a time" 0 "" "text 4, s 4356" s
 }
@@ -282,19 +295,23 @@ full_disks() {
     fact "a full disk for the text" "[ $? = 0 ]" "it is the first part of the whole text"
     rm disk/text && head -c 4096 /dev/zero >disk/other
     does run i t --until 1 --save disk/s
-    holds "a full disk for a board" 6 "$outside" "text 4, disk/s 4096" disk/s
+    holds "a full disk for a board" 6 "$outside" "text 4, disk/s -" disk/s
     rm disk/* && cp b disk/s
     does run i t --until 1 --save disk/s
-    holds "a board over a board, on a disk that is full with it" 0 "" "text 4, disk/s 4356" disk/s
+    cmp -s b disk/s || : >disk/s
+    holds "a board over a board, on a disk that is full with it: it stays" 6 "$outside" "text 4, disk/s 4356" disk/s
+    ln -s disk/s link
+    does run i t --until 1 --save link
+    holds "the same in place" 0 "" "text 4, disk/s 4356" disk/s
     head -c 8192 /dev/zero >disk/s
     does run i t --until 1 --earom e --save disk/s
-    holds "a board over a longer file, on a disk that is full with that" 0 "" "text 4, disk/s 4356" disk/s
+    holds "a board over a longer file, on a disk that is full with that: it stays" 6 "$outside" "text 4, disk/s 8192" disk/s
     cp e disk/e 2>/dev/null
     does run i t --until 1 --earom disk/e
     holds "cells that were cut by a full disk before" 4 "gravitar: disk/e: length 0" "text 0, disk/e 0" disk/e
     umount disk && disk 4k && cp e disk/e
     does asm c v disk/o
-    holds "a full disk for an image" 6 "$outside" "text [1-9]*, disk/o 0" disk/o
+    holds "a full disk for an image" 6 "$outside" "text [1-9]*, disk/o -" disk/o
     mount -o remount,ro disk
     does run i t --until 1 --earom disk/e
     holds "a disk that is read only" 6 "$outside" "text 4, disk/e 64" disk/e
@@ -321,43 +338,67 @@ pipes() {
     holds "five boards stored in a pipe that stays open" 0 "" "text *, all 21780" all
 }
 
-# Runs that are killed at some time, and one that is stopped and goes on.
-kills() {
-    fresh
-    cuts=$(seq -s, 1 9 8991)
-    old=0 none=0 part=0 whole=0 bad=0 n=0
-    while [ $n -lt 60 ]; do
-        rm -f s
-        "$program" run i t --cuts "$cuts" --save s >/dev/null &
-        sleep 0.0$((n % 10))$((n / 10))
-        kill -9 $! 2>/dev/null
-        wait $! 2>/dev/null
-        case $(size_of s) in -) old=$((old + 1)) ;; 0) none=$((none + 1)) ;; 4356) "$program" show s >/dev/null && whole=$((whole + 1)) || bad=$((bad + 1)) ;; *) part=$((part + 1)) ;; esac
-        n=$((n + 1))
+# Kills in stores and readers beside them, in the folder of temporary files and in memory.
+killed_stores() {
+    has python3 || { skip "kills and readers"; return; }
+    for folder in "$(dirname "$work")" /dev/shm; do
+        [ -d "$folder" ] || continue
+        python3 "$tools/killed_stores.py" "$program" --kills "$kills" --folder "$folder" >"$work/table"; status=$?
+        sed "s/^/    /" "$work/table"
+        fact "kills and readers in $folder" "[ $status = 0 ]" "the table above"
     done
-    fact "60 runs of 1,000 stores, killed at some time" '[ $bad = 0 ]' "under the name: nothing $old, an empty file $none, a part $part, a whole board $whole"
-    "$program" pcm i long 1 >"$work/whole"
-    "$program" pcm i long 1 >"$work/text" &
+}
+
+stopped() {
+    fresh
+    "$program" soak 1 >"$work/whole"
+    "$program" soak 1 >"$work/text" &
     sleep 0.01; kill -STOP $!; sleep 0.3; kill -CONT $!; wait $!; status=$?
     fact "a run that is stopped and goes on" 'cmp -s "$work/text" "$work/whole"' "the same text"
 }
 
-# Each call of a store, and the program killed in front of it: what stands under a name that had a board.
+# Which call of its kind is the first that fits a pattern.
+place_of() {
+    call=$1 pattern=$2
+    shift 2
+    strace -qq -o "$work/calls" -e "trace=$call" "$program" "$@" >/dev/null
+    grep -n -e "$pattern" "$work/calls" | head -n 1 | cut -d: -f1
+}
+# The calls of a store over 9,000 bytes that open, write, cut or rename, and the program killed in front of each: what stands under the name and beside it.
 calls_of_a_store() {
     fresh
     has strace || { skip "a kill at a call"; return; }
-    for call in openat:4356 write:4356 close:4356; do
-        head -c 4356 /dev/zero >s
-        { strace -qq -o /dev/null -P s -e "inject=${call%:*}:signal=KILL:when=1" "$program" run i t --cuts 0,5 --save s >"$work/text"; status=$?; } 2>/dev/null
-        holds "killed in front of the first ${call%:*} of a store, over a file of 4,356 bytes" 137 "" "text 0, s ${call#*:}" s
-    done
-    for error in ENOSPC EIO; do
-        cp e cells
-        strace -qq -o /dev/null -P "$(pwd -P)/cells" -e "inject=write:error=$error:when=1" "$program" run i t --until 1 --earom cells >"$work/text" 2>"$work/note"; status=$?
+    ln -s s link
+    while read -r name call pattern sizes; do
+        rm -f left && head -c 9000 /dev/zero >s
+        place=$(place_of "$call" "$pattern" run i t --cuts 0,5 --save "$name")
+        head -c 9000 /dev/zero >s
+        { strace -qq -o /dev/null -e "inject=$call:signal=KILL:when=$place" "$program" run i t --cuts 0,5 --save "$name" >"$work/text"; status=$?; } 2>/dev/null
+        left s
+        holds "a store under $name, killed in front of its $call ($pattern)" 137 "" "$sizes" s left
+    done <<END
+s openat "s" text 0, s 9000, left -
+s openat new text 0, s 9000, left -
+s write GVS text 0, s 9000, left 0
+s rename new text 0, s 9000, left 4356
+s exit_group . text 15, s 4356, left -
+link openat link text 0, s 9000, left -
+link ftruncate 4357 text 0, s 9000, left -
+link write GVS text 0, s 4357, left -
+link ftruncate 4356 text 0, s 4357, left -
+link exit_group . text 15, s 4356, left -
+END
+    for fault in write:ENOSPC:6 write:EIO:6 openat:EACCES:0 rename:EBUSY:0; do
+        call=${fault%%:*} want=${fault##*:} error=${fault#*:} && error=${error%:*}
+        cp e cells && place=$(place_of "$call" '\.new\|\\377' run i t --until 1 --earom cells) && cp e cells
+        strace -qq -o /dev/null -e "inject=$call:error=$error:when=$place" "$program" run i t --until 1 --earom cells >"$work/text" 2>"$work/note"; status=$?
         cmp -s e cells || : >cells
-        holds "a store over cells that the disk refuses by $error: they stay" 6 "$outside" "text 4, cells 64" cells
+        left cells
+        note=
+        [ "$want" = 0 ] || note=$outside
+        holds "a store of cells whose $call is refused by $error" "$want" "$note" "text 4, cells 64, left -" cells left
     done
 }
 
-output_faults; note_faults; folders; links; names; permissions; limits; memory_steps; stack_steps; system_limits; full_disks; pipes; kills; calls_of_a_store
+output_faults; note_faults; folders; links; names; permissions; limits; memory_steps; stack_steps; system_limits; full_disks; pipes; stopped; calls_of_a_store; killed_stores
 exit $differs

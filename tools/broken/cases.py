@@ -1,20 +1,21 @@
 """A case: words and files, made from good ones by a seed and the case's number alone."""
 import random
 
-from . import change, forms
+from . import change, faults, forms
 
 VERBS = [b"run"] * 30 + [b"asm"] * 20 + [b"debug"] * 15 + [b"show"] * 8 + [b"soak"] * 2
 VERBS += [b"pcm"] * 7 + [b"frames"] * 6 + [b"seek"] * 6 + [b"profile"] * 6
 LONG = 0.0005  # of the runs have no --until, and may go on to any END.
 SOAKS = 0.02  # of the commands with `soak` keep a good number.
+TOLD = 0.25  # of the commands with `asm` have good sources but for one fault, whose line and cause are known.
 CLOCKS = 200000  # the greatest clock of --until, otherwise.
 
 
 class Case:
-    """Words, and the files that lie in the folder."""
+    """Words, the files that lie in the folder, and the note where a source has one told fault (else None)."""
 
-    def __init__(self, words, files):
-        self.words, self.files = words, files
+    def __init__(self, words, files, told=None):
+        self.words, self.files, self.told = words, files, told
 
 
 def some_clock(rng, most=CLOCKS):
@@ -39,6 +40,8 @@ class Maker:
         """The case of a number."""
         rng = random.Random(self.seed << 64 | number)
         verb = rng.choice(VERBS)
+        if verb == b"asm" and rng.random() < TOLD:
+            return Case(*faults.case(rng, *rng.choice(self.corpus.assembled)))
         words, files = rng.choice(self.corpus.commands[verb])
         words, files = list(words), dict(files)
         if forms.read_words(words):

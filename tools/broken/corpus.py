@@ -39,6 +39,7 @@ class Corpus:
         self.program = program
         self.commands = {verb: [] for verb in forms.NAMES}
         self.kinds = {kind: [] for kind in forms.LIMITS}
+        self.assembled = []  # The words, the files and the listings of good sources.
         self.folder = tempfile.mkdtemp(dir="/dev/shm" if os.path.isdir("/dev/shm") else None).encode()
         try:
             self.take_rows(top / "crates" / "board_rows")
@@ -95,8 +96,12 @@ class Corpus:
         self.commands[command.verb].append((words, needed))
         for kind, name in command.reads():
             self.add(kind, files.get(name))
+        if command.verb == b"asm":
+            files.pop(command.names[2], None)
         if command.verb != b"soak":
-            self.perform(words, files)
+            text = self.perform(words, files)
+        if command.verb == b"asm" and len(files.get(command.names[2], b"")) == 43008:
+            self.assembled.append((words, needed, text))
         for name in command.stores():
             kind = {43008: "image", 4356: "board", 64: "cells"}.get(len(files.get(name, b"")))
             self.add(kind, files.get(name))
@@ -106,19 +111,21 @@ class Corpus:
             self.kinds[kind].append(data)
 
     def perform(self, words, files):
-        """Does a command in a folder with these files, and reads what it stored."""
+        """Does a command in a folder with these files, reads what it stored, and gives its text."""
         for name, data in files.items():
             self.write(name, data)
-        self.call(words)
+        text = self.call(words)
         for name in os.listdir(self.folder):
             path = os.path.join(self.folder, name)
             with open(path, "rb") as file:
                 files[name] = file.read()
             os.unlink(path)
+        return text
 
     def write(self, name, data):
         with open(os.path.join(self.folder, name), "wb") as file:
             file.write(data)
 
     def call(self, words):
-        subprocess.run([self.program] + words, cwd=self.folder, stdout=subprocess.DEVNULL, stderr=subprocess.DEVNULL, check=False)
+        came = subprocess.run([self.program] + words, cwd=self.folder, stdout=subprocess.PIPE, stderr=subprocess.DEVNULL, check=False)
+        return came.stdout

@@ -31,6 +31,7 @@ TEXTS = {
 }
 TEXTS = {verb: re.compile(text + rb"\Z") for verb, text in TEXTS.items()}
 ENDED = re.compile(rb"(?:\A|\n)([EX]) (\d+)[^\n]*\n(?:C \d+\n)?\Z")
+CLOCKS = re.compile(rb"^T (\d+)$", re.MULTILINE)
 WHOLE = 1 << 20  # a longer text is looked at by its last line alone.
 DEVICES = {b"/dev/null": 0, b"/dev/zero": 1 << 25, b"/dev/full": 1 << 25}
 
@@ -108,17 +109,18 @@ class Judge:
             self.want(any(fits(self.came.note) for _, fits in fitting), "the note %r" % self.came.note[:300])
         if status in (0, 3) and fitting:
             self.done()
-        elif status != 6:
-            self.want(self.came.size == 0, "a text of %d bytes after status %s" % (self.came.size, status))
+        else:
+            # Status 6 comes here by a file that can't be read or by the first name that can't be stored under.
+            self.want(status == 6 or self.came.size == 0, "a text of %d bytes after status %s" % (self.came.size, status))
             self.want(not self.came.changed, "stored after status %s: %s" % (status, self.came.changed))
-        elif self.command:
-            self.stored(set(self.command.stores()))
         return self.wrong
 
     def answers(self):
         """The statuses that may come, each with what its note has to fit."""
         if self.command is None:
             return [(2, forms.exactly(forms.USAGE))]
+        if self.case.told:
+            return [(4, forms.exactly(self.case.told))]
         answers = forms.answers(self.command, look_in(self.case.files))
         if answers[-1][0] == 0 and not all(can_store(name, self.case.files) for name in self.command.stores()):
             answers[-1] = (6, forms.exactly(forms.OUTSIDE))
@@ -131,6 +133,8 @@ class Judge:
             self.want(self.came.size % 4 == 0, "a text of %d bytes" % self.came.size)
         elif self.came.size <= WHOLE:
             self.want(TEXTS[verb].match(text), "the text's form: %r" % text[-300:])
+        if verb == b"profile" and self.came.size <= WHOLE:
+            self.charged()
         if verb in (b"run", b"frames", b"profile"):
             self.ended(ENDED.search(text[-300:]))
         else:
@@ -152,6 +156,14 @@ class Judge:
         save = self.came.stored.get(self.command.options.get(b"--save"))
         if save and save.startswith(b"\2GVS"):
             self.want(forms.field(save, 4, 8) == clock, "a board at clock %d" % forms.field(save, 4, 8))
+
+    def charged(self):
+        """The clocks of all routines are those of the run."""
+        clocks = [int(line.split()[3]) for line in self.came.text.split(b"\n") if line.startswith(b"R ")]
+        whole, last = CLOCKS.search(self.came.text), ENDED.search(self.came.text[-300:])
+        start = begins_and_ends(self.command, self.case.files)[0]
+        good = whole and last and sum(clocks) == int(whole[1]) == int(last[2]) - start
+        self.want(good, "other clocks in the routines than in the run")
 
     def stored(self, names):
         """Nothing but these names was stored under."""

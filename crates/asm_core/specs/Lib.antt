@@ -8,3 +8,4 @@ pub mod Rounds
 pub mod Images
 pub mod Laws
 pub mod NameMaps
+pub mod Rows

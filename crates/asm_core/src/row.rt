@@ -1,19 +1,47 @@
+ghost use Rattle.std.specs.Prelude.{◌≡◌, [], ◌∷◌, ◌++◌, IfErr, IfOk};
+
 use board_base::OutOfMemory;
 use std::alloc::Global;
 use std::marker::Model;
+use std::mem::replace;
 
-/// A list that grows at its end. Most have one item, and take memory for that alone.
+/// A list that grows at its end. One item stands in the list itself, and takes no memory of its own.
 #[derive(Drop)]
 pub struct Row<T> {
-    items: Vec<T>,
+    alloc: Global,
+    items: Items<T>,
+}
+
+#[derive(Drop)]
+enum Items<T> {
+    None,
+    One([T; 1]),
+    Many(Vec<T>),
+}
+
+/// Two items in memory of their own, or the first again where there is none.
+fn pair<T: Drop>(alloc: Global, one: [T; 1], item: T) -> Result<Vec<T>, [T; 1]>
+    ensures ok { IfOk result (λ items. items.items ≡ one ++ item ∷ []) }
+    ensures err { IfErr result (λ back. back ≡ one) }
+{
+    match Vec::with_capacity(alloc, 2) {
+        Ok(mut items) => {
+            let [first] = one;
+            items.push_reserved(first);
+            items.push_reserved(item);
+            Ok(items)
+        }
+        Err(_) => Err(one),
+    }
 }
 
 impl<T> Model for Row<T> {
     ghost use Rattle.std.specs.Prelude.{List};
+    ghost use Rattle.asm_core.specs.Rows.{items_of};
 
     ghost Value = { List T };
 
-    ghost view = { λ row. row.items.items };
+    ghost view = { λ row. items_of row.items };
 }
 
 impl<T: Drop> Row<T> {
@@ -24,7 +52,8 @@ impl<T: Drop> Row<T> {
         ensures { result ≡ [] }
     {
         Row {
-            items: Vec::new(alloc),
+            alloc,
+            items: Items::None,
         }
     }
 
@@ -33,12 +62,35 @@ impl<T: Drop> Row<T> {
         ensures ok { OnOk result (self.new ≡ self.old ++ item ∷ []) }
         ensures err { OnErr result (self.new ≡ self.old) }
     {
-        if self.items.is_empty() {
-            self.items.reserve_exact(1)?;
+        let items = replace(&mut self.items, Items::None);
+        match items {
+            Items::None => {
+                self.items = Items::One([item]);
+                Ok(())
+            }
+            Items::One(one) => self.push_second(one, item),
+            Items::Many(mut items) => {
+                let pushed = items.push(item);
+                self.items = Items::Many(items);
+                pushed.map_err(|_| OutOfMemory)
+            }
         }
-        match self.items.push(item) {
-            Ok(()) => Ok(()),
-            Err(_) => Err(OutOfMemory),
+    }
+
+    /// Puts two items into memory of their own, or the first into the list itself after a refusal.
+    fn push_second(&mut self, one: [T; 1], item: T) -> Result<(), OutOfMemory>
+        ensures ok { OnOk result (self.new ≡ one ++ item ∷ []) }
+        ensures err { OnErr result (self.new ≡ one) }
+    {
+        match pair(self.alloc, one, item) {
+            Ok(items) => {
+                self.items = Items::Many(items);
+                Ok(())
+            }
+            Err(one) => {
+                self.items = Items::One(one);
+                Err(OutOfMemory)
+            }
         }
     }
 
@@ -46,6 +98,10 @@ impl<T: Drop> Row<T> {
     pub fn items(&self) -> &[T]
         ensures { result.now ≡ self.now }
     {
-        self.items.as_slice()
+        match &self.items {
+            Items::None => &[],
+            Items::One(item) => item.as_slice(),
+            Items::Many(items) => items.as_slice(),
+        }
     }
 }

@@ -33,12 +33,10 @@ both-not true false e = cc
 both-not true true e = cc
 
 -- the boundaries from one on whose fetch reads an opcode
-pub calm-since : (limit : ℕ) (addresses : List ℕ) (until : ℕ) (silent : Bool) (s : BusValue) → until ≡ min limit (s.event_at - 6) → addresses ≡ []
-    → LeavesLines s.wires → (devices_ticked s.wires).divider.pending ≡ Nothing → silent ≡ (not s.wires.wired && not s.wires.divider.irq)
-    → IsCalm limit addresses (record { until = until; silent = silent }) s
-calm-since limit addresses until silent s is none leaves pending lets_go = λ early. record {
+pub calm-since : (limit until : ℕ) (silent : Bool) (s : BusValue) → until ≡ min limit (s.event_at - 6) → LeavesLines s.wires → (devices_ticked s.wires).divider.pending ≡ Nothing → silent ≡ (not s.wires.wired && not s.wires.divider.irq)
+    → IsCalm limit (record { until = until; silent = silent }) s
+calm-since limit until silent s is leaves pending lets_go = λ early. record {
   before = omega arith;
-  no_break = none;
   quiet = omega arith;
   pending = sym leaves.pending ∙ pending;
   silent = λ e. both-not s.wires.wired s.wires.divider.irq (sym lets_go ∙ e);
@@ -125,15 +123,13 @@ pub runs-keep : {S : Type 0} {T : Access → S → S → Type 0} (bus : S → Bu
 runs-keep bus keeps r q s t e runs = moves-keep bus keeps r q [] runs.bytes s t runs.moves
 
 -- an instruction in whose clocks nothing comes of itself leaves them calm
-pub calm-kept : (limit : ℕ) (addresses : List ℕ) (calm : Calm) (s t : BusValue) → s.wires.clock ≤ t.wires.clock → KeepsLines s t → IsCalm limit addresses calm s
-    → IsCalm limit addresses calm t
-calm-kept limit addresses calm s t later keeps was = λ early.
+pub calm-kept : (limit : ℕ) (calm : Calm) (s t : BusValue) → s.wires.clock ≤ t.wires.clock → KeepsLines s t → IsCalm limit calm s → IsCalm limit calm t
+calm-kept limit calm s t later keeps was = λ early.
     let now = was (omega arith) in
     let event = keeps.event in
     let quiet = now.quiet in
     record {
       before = now.before;
-      no_break = now.no_break;
       quiet = omega arith;
       pending = keeps.pending ∙ now.pending;
       silent = λ e. (keeps.wired ∙ (now.silent e).0, keeps.irq (now.silent e).1);
@@ -186,9 +182,10 @@ quiet-yet : (clock event : ℕ) → clock + WHOLE ≤ event → nat_le (clock + 
 quiet-yet clock event h = grind (arith, nat_tests)
 
 pub calm-goes_on : (limit : ℕ) (addresses : List ℕ) (calm : Calm) (c : CpuValue) (s : BusValue) → c.mid ≡ None → s.wires.clock < calm.until
-    → AreCalm limit addresses calm s → LeavesLines s.wires → is_none c.jam ≡ true → calm.silent || is_masked c.p ≡ true → GoesOn limit addresses c s
+    → AreCalm limit calm s → LeavesLines s.wires → is_none c.jam ≡ true → calm.silent || is_masked c.p ≡ true
+    → is_at_any addresses (over_bus c s) ≡ false → GoesOn limit addresses c s
 unfolding reads_opcode
-calm-goes_on limit addresses calm c s boundary early are leaves running quiet_line =
+calm-goes_on limit addresses calm c s boundary early are leaves running quiet_line elsewhere =
     let before = are.before in
     let quiet = are.quiet in
     let lets_go : line_of (devices_ticked s.wires) && not (is_masked c.p) ≡ false =
@@ -197,7 +194,7 @@ calm-goes_on limit addresses calm c s boundary early are leaves running quiet_li
     record {
       open_yet =
           both-false (is_over limit (over_bus c s)) (is_at_any addresses (over_bus c s))
-          (before-limit c.jam (is_none c.mid) limit s.wires.clock running (omega arith)) (rw are.no_break refl);
+          (before-limit c.jam (is_none c.mid) limit s.wires.clock running (omega arith)) elsewhere;
       reads =
           all-true (is_none c.mid) (nat_le (s.wires.clock + WHOLE) s.event_at) (is_opcode (sequence_due c (devices_ticked s.wires)))
           (rw boundary refl) (quiet-yet s.wires.clock s.event_at (omega arith))
@@ -213,15 +210,16 @@ lasts-tells clock until running silent masked e =
     (grind (arith, nat_tests), more.0, more.1)
 
 -- the same from what is known of the boundaries before a clock
-pub calm-lasts : (limit : ℕ) (addresses : List ℕ) (calm : Calm) (c : CpuValue) (s : BusValue) → c.mid ≡ None → IsCalm limit addresses calm s
+pub calm-lasts : (limit : ℕ) (addresses : List ℕ) (calm : Calm) (c : CpuValue) (s : BusValue) → c.mid ≡ None → IsCalm limit calm s
     → (s.wires.clock < s.event_at → LeavesLines s.wires)
-    → (nat_lt s.wires.clock calm.until && (is_none c.jam && (calm.silent || is_masked c.p))) ≡ true → GoesOn limit addresses c s
-calm-lasts limit addresses calm c s boundary known ticks e =
+    → (nat_lt s.wires.clock calm.until && (is_none c.jam && (calm.silent || is_masked c.p))) ≡ true → is_at_any addresses (over_bus c s) ≡ false
+    → GoesOn limit addresses c s
+calm-lasts limit addresses calm c s boundary known ticks e elsewhere =
     let tells = lasts-tells s.wires.clock calm.until (is_none c.jam) calm.silent (is_masked c.p) e in
     let early = tells.0 in
     let are = known early in
     let quiet = are.quiet in
-    calm-goes_on limit addresses calm c s boundary early are (ticks (omega arith)) tells.1 tells.2
+    calm-goes_on limit addresses calm c s boundary early are (ticks (omega arith)) tells.1 tells.2 elsewhere
 
 pub goes-on : (limit : ℕ) (addresses : List ℕ) (c : CpuValue) (s : BusValue) → GoesOn limit addresses c s
     → true ≡ (not (is_over limit (over_bus c s) || is_at_any addresses (over_bus c s)) && reads_opcode c s)

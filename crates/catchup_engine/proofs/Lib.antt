@@ -18,3 +18,4 @@ pub mod Windows
 pub mod Traces
 pub mod TracedRuns
 pub mod QuietLaws
+pub mod BreakMarks

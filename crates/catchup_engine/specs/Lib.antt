@@ -8,3 +8,4 @@ pub mod Trace
 pub mod Traced
 pub mod Quiet
 pub mod Calm
+pub mod BreakMarks

@@ -40,19 +40,14 @@ pub(crate) fn no_calm() -> Calm
 pub(crate) fn calm_since<V: VectorUnit, P: SoundUnit, C: CellUnit, D: DividerUnit>(
     bus: &BoardBus<V, P, C, D>,
     limit: u64,
-    addresses: &[u16],
 ) -> Calm
     requires quiet { bus.now.wires.clock < bus.now.event_at }
     requires pending { (devices_ticked bus.now.wires).divider.pending ≡ Nothing }
-    ensures { IsCalm limit addresses.now result bus.now }
+    ensures { IsCalm limit result bus.now }
 {
-    if addresses.is_empty() {
-        Calm {
-            until: limit.min(bus.quiet_until()),
-            silent: bus.is_silent(),
-        }
-    } else {
-        no_calm()
+    Calm {
+        until: limit.min(bus.quiet_until()),
+        silent: bus.is_silent(),
     }
 }
 

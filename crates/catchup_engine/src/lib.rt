@@ -1,6 +1,7 @@
 //! The engine: the board, moved by sequences of the processor.
 #![tactic(auto)]
 
+mod breaks;
 mod bus;
 mod calm;
 pub mod devices;

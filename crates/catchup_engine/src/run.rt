@@ -8,6 +8,7 @@ ghost use Rattle.lockstep_board.specs.Run.{is_over, is_cut};
 ghost use Rattle.catchup_engine.specs.Turn.{reads_opcode};
 ghost use Rattle.catchup_engine.specs.Runs.{over_bus, BoundaryRun, BreakRunBus, CutRun, HasRoomTo, IsInRange, QuietRun, TracedBusRun, TurnsRun};
 
+use crate::breaks::{BreakList, Breaks, Nowhere};
 use crate::bus::{BoardBus, TRAIL_ROOM, WHOLE};
 use crate::calm::{Calm, calm_since, lasts, no_calm};
 use crate::quiet::perform_quietly;
@@ -50,41 +51,43 @@ fn is_stopped<V: VectorUnit, P: SoundUnit, C: CellUnit, D: DividerUnit>(
 
 /// Whether a run to a boundary is over, or has come to one of these addresses.
 #[inline(always)]
-fn is_at_break<V: VectorUnit, P: SoundUnit, C: CellUnit, D: DividerUnit>(
+fn is_at_break<V: VectorUnit, P: SoundUnit, C: CellUnit, D: DividerUnit, B: Breaks>(
     cpu: &Cpu,
     bus: &BoardBus<V, P, C, D>,
     limit: u64,
-    addresses: &[u16],
+    breaks: &B,
 ) -> bool
-    ensures { result ≡ (is_over limit (over_bus cpu.now bus.now) || is_at_any addresses.now (over_bus cpu.now bus.now)) }
+    ensures { result ≡ (is_over limit (over_bus cpu.now bus.now) || is_at_any (B.addresses breaks.now) (over_bus cpu.now bus.now)) }
 {
-    let pc = cpu.state().pc;
-    is_done(cpu, bus, limit) || !addresses.is_empty() && addresses.contains(&pc)
+    is_done(cpu, bus, limit) || breaks.has(cpu.state().pc)
 }
 
 /// Whether no run ends here, and the next fetch reads an opcode in whose clocks nothing comes of
 /// itself. In clocks that are known to be calm the clock alone is asked for.
 #[inline(always)]
-fn goes_on<V: VectorUnit, P: SoundUnit, C: CellUnit, D: DividerUnit>(
+fn goes_on<V: VectorUnit, P: SoundUnit, C: CellUnit, D: DividerUnit, B: Breaks>(
     cpu: &Cpu,
     bus: &BoardBus<V, P, C, D>,
     limit: u64,
-    addresses: &[u16],
+    breaks: &B,
     calm: &mut Calm,
 ) -> bool
     requires boundary { cpu.now.mid ≡ None }
     requires range { IsInRange cpu.now bus.now }
-    requires calm { IsCalm limit addresses.now calm.old bus.now }
-    ensures value { result ≡ (not (is_over limit (over_bus cpu.now bus.now) || is_at_any addresses.now (over_bus cpu.now bus.now)) && reads_opcode cpu.now bus.now) }
-    ensures calm { IsCalm limit addresses.now calm.new bus.now }
+    requires calm { IsCalm limit calm.old bus.now }
+    ensures value { result ≡ (not (is_over limit (over_bus cpu.now bus.now) || is_at_any (B.addresses breaks.now) (over_bus cpu.now bus.now)) && reads_opcode cpu.now bus.now) }
+    ensures calm { IsCalm limit calm.new bus.now }
 {
+    if breaks.has(cpu.state().pc) {
+        return false;
+    }
     if lasts(calm, cpu, bus) {
         return true;
     }
-    if is_at_break(cpu, bus, limit, addresses) || !reads_opcode(cpu, bus) {
+    if is_done(cpu, bus, limit) || !reads_opcode(cpu, bus) {
         return false;
     }
-    *calm = calm_since(bus, limit, addresses);
+    *calm = calm_since(bus, limit);
     true
 }
 
@@ -94,12 +97,12 @@ fn goes_on<V: VectorUnit, P: SoundUnit, C: CellUnit, D: DividerUnit>(
 /// Every run makes most of its clocks here. As nothing that this loop calls takes the processor, LLVM
 /// keeps its registers out of memory.
 #[inline(always)]
-fn run_quietly<V: VectorUnit, P: SoundUnit, C: CellUnit, D: DividerUnit>(
+fn run_quietly<V: VectorUnit, P: SoundUnit, C: CellUnit, D: DividerUnit, B: Breaks>(
     mut cpu: Cpu,
     bus: &mut BoardBus<V, P, C, D>,
     tape: &Tape,
     limit: u64,
-    addresses: &[u16],
+    breaks: &B,
 ) -> Cpu
     requires limit { limit ≤ CLOCK_LIMIT }
     requires boundary { cpu.mid ≡ None }
@@ -107,11 +110,11 @@ fn run_quietly<V: VectorUnit, P: SoundUnit, C: CellUnit, D: DividerUnit>(
     requires between { bus.old.begun ≡ false }
     requires room { HasRoomTo limit bus.old }
     requires fits { Fits tape.now bus.old }
-    ensures runs { QuietRun tape.now.entries limit addresses.now cpu bus.old bus.new result }
+    ensures runs { QuietRun tape.now.entries limit (B.addresses breaks.now) cpu bus.old bus.new result }
     ensures fits { Fits tape.now bus.new }
 {
     let mut calm = no_calm();
-    while goes_on(&cpu, bus, limit, addresses, &mut calm) {
+    while goes_on(&cpu, bus, limit, breaks, &mut calm) {
         perform_quietly(&mut cpu, bus, tape);
     }
     cpu
@@ -121,8 +124,35 @@ fn run_quietly<V: VectorUnit, P: SoundUnit, C: CellUnit, D: DividerUnit>(
 ///
 /// All runs share this one loop, since LLVM puts the processor into it only where it is called once.
 #[inline(never)]
-fn run_turns<V: VectorUnit, P: SoundUnit, C: CellUnit, D: DividerUnit>(
+fn run_turns<V: VectorUnit, P: SoundUnit, C: CellUnit, D: DividerUnit, B: Breaks>(
     mut cpu: Cpu,
+    bus: &mut BoardBus<V, P, C, D>,
+    tape: &Tape,
+    limit: u64,
+    breaks: &B,
+) -> Cpu
+    requires limit { limit ≤ CLOCK_LIMIT }
+    requires boundary { cpu.mid ≡ None }
+    requires range { IsInRange cpu bus.old }
+    requires between { bus.old.begun ≡ false }
+    requires room { HasRoomTo limit bus.old }
+    requires fits { Fits tape.now bus.old }
+    ensures runs { TurnsRun tape.now.entries limit (B.addresses breaks.now) cpu bus.old bus.new result }
+    ensures fits { Fits tape.now bus.new }
+{
+    // opens its range
+    let _clock = bus.clock();
+    while !is_at_break(&cpu, bus, limit, breaks) {
+        cpu = turn_slowly(cpu, bus, tape, WHOLE);
+        cpu = run_quietly(cpu, bus, tape, limit, breaks);
+    }
+    cpu
+}
+
+/// Does whole sequences up to the limit, or to the first of these addresses, of which there may be
+/// none.
+fn run_turns_to_break<V: VectorUnit, P: SoundUnit, C: CellUnit, D: DividerUnit>(
+    cpu: Cpu,
     bus: &mut BoardBus<V, P, C, D>,
     tape: &Tape,
     limit: u64,
@@ -135,15 +165,12 @@ fn run_turns<V: VectorUnit, P: SoundUnit, C: CellUnit, D: DividerUnit>(
     requires room { HasRoomTo limit bus.old }
     requires fits { Fits tape.now bus.old }
     ensures runs { TurnsRun tape.now.entries limit addresses.now cpu bus.old bus.new result }
-    ensures fits { Fits tape.now bus.new }
 {
-    // opens its range
-    let _clock = bus.clock();
-    while !is_at_break(&cpu, bus, limit, addresses) {
-        cpu = turn_slowly(cpu, bus, tape, WHOLE);
-        cpu = run_quietly(cpu, bus, tape, limit, addresses);
+    if addresses.is_empty() {
+        run_turns(cpu, bus, tape, limit, &Nowhere)
+    } else {
+        run_turns(cpu, bus, tape, limit, &BreakList::new(addresses))
     }
-    cpu
 }
 
 /// Does the rest of the sequence under way, if there is one, and then whole sequences up to the
@@ -168,7 +195,7 @@ pub(crate) fn run_until<V: VectorUnit, P: SoundUnit, C: CellUnit, D: DividerUnit
     if cpu.state().mid.is_some() {
         cpu = turn_slowly(cpu, bus, tape, WHOLE);
     }
-    run_turns(cpu, bus, tape, limit, &[])
+    run_turns(cpu, bus, tape, limit, &Nowhere)
 }
 
 /// Does a turn, unless the processor is jammed, and then others up to the limit or to the first of
@@ -195,7 +222,7 @@ pub(crate) fn run_to_break<V: VectorUnit, P: SoundUnit, C: CellUnit, D: DividerU
     if cpu.state().jam.is_none() {
         cpu = turn_slowly(cpu, bus, tape, WHOLE);
     }
-    run_turns(cpu, bus, tape, limit, addresses)
+    run_turns_to_break(cpu, bus, tape, limit, addresses)
 }
 
 /// Does turns up to the limit, of each of which a tracer is told, or up to one after which it has
@@ -266,7 +293,7 @@ pub(crate) fn run_to_cut<V: VectorUnit, P: SoundUnit, C: CellUnit, D: DividerUni
         let clocks = clocks_to(bus.clock(), cut);
         cpu = turn_slowly(cpu, bus, tape, clocks);
         if cpu.state().mid.is_none() {
-            cpu = run_turns(cpu, bus, tape, near, &[]);
+            cpu = run_turns(cpu, bus, tape, near, &Nowhere);
         }
     }
     cpu

@@ -39,3 +39,10 @@ gravitar show score.board
 gravitar run score.img score/first.tape --state score.board
 gravitar run score.img score/first.tape --cuts 3000,10500 > cut.log
 cmp cut.log score/first.log
+
+# A ship that flies, up to clock 100,000. Its tape is made of ship/ship.keys by recipes/keys.awk.
+cp ship/ship.tape ship.tape
+gravitar asm ship/ship.s ship/ship.v ship.img > ship.listing
+gravitar run ship.img ship.tape --until 100000 > ship.log
+gravitar frames ship.img ship.tape --until 100000 > ship.frames
+gravitar profile ship.img ship.tape --until 100000 > ship.profile

@@ -1,31 +1,67 @@
 use outside_io::*;
+use std::alloc::Global;
+use std::process::Abort;
+use std::rt::Files;
 use std::test::Fail;
 use std::{env, fs, io, process};
+
+/// Asserts what a shelf answers to a store.
+fn assert_stored<R: Abort, S: Shelf>(
+    rt: &R,
+    shelf: &mut S,
+    name: &str,
+    bytes: &[u8],
+    answer: Result<(), Failed>,
+) {
+    assert_eq!(rt;
+        shelf.store(name, bytes),
+        answer,
+        "{name} with {} bytes",
+        bytes.len()
+    );
+}
+
+/// Asserts what a shelf answers to a load, and the bytes that it gives.
+fn assert_loaded<R: Abort + Alloc<A = Global>, S: Shelf>(
+    rt: &R,
+    shelf: &mut S,
+    name: &str,
+    limit: usize,
+    answer: Result<Loaded, ShelfFault>,
+    bytes: &[u8],
+) {
+    let mut into = Vec::new(rt.alloc());
+    assert_eq!(rt;
+        shelf.load(name, limit, &mut into),
+        answer,
+        "{name} with limit {limit}"
+    );
+    assert_eq!(rt; into.as_slice(), bytes, "{name} with limit {limit}");
+}
+
+/// Asserts a store that a shelf took.
+fn assert_kept<R: Abort>(rt: &R, shelf: &MemoryShelf, number: usize, name: &str, bytes: &[u8]) {
+    match shelf.stores().get(number) {
+        Some(store) => {
+            assert_eq!(rt; store.name(), name);
+            assert_eq!(rt; store.bytes(), bytes, "{name}");
+        }
+        None => panic!(rt; "there is no store {number}"),
+    }
+}
 
 #[test]
 fn a_memory_shelf_fails_in_its_cases_alone(rt: HostRuntime) -> Result<(), Fail> {
     let mut shelf = MemoryShelf::new(rt.alloc(), 2, 5, &[2, 4])?;
-    let rows: [(&str, &[u8], Result<(), Failed>); 6] = [
-        ("ab", b"123", Ok(())),
-        ("a", b"1", Err(Failed)),
-        ("ab", b"1234", Err(Failed)),
-        ("a", b"1", Err(Failed)),
-        ("a", b"", Ok(())),
-        ("a", b"", Err(Failed)),
-    ];
-    for (name, bytes, answer) in rows {
-        assert_eq!(rt;
-            shelf.store(name, bytes),
-            answer,
-            "{name} with {} bytes",
-            bytes.len()
-        );
-    }
+    assert_stored(&rt, &mut shelf, "ab", b"123", Ok(()));
+    assert_stored(&rt, &mut shelf, "a", b"1", Err(Failed));
+    assert_stored(&rt, &mut shelf, "ab", b"1234", Err(Failed));
+    assert_stored(&rt, &mut shelf, "a", b"1", Err(Failed));
+    assert_stored(&rt, &mut shelf, "a", b"", Ok(()));
+    assert_stored(&rt, &mut shelf, "a", b"", Err(Failed));
     assert_eq!(rt; shelf.stores().len(), 2);
-    assert_eq!(rt; shelf.stores()[0].name(), "ab");
-    assert_eq!(rt; shelf.stores()[0].bytes(), b"123".as_slice());
-    assert_eq!(rt; shelf.stores()[1].name(), "a");
-    assert_eq!(rt; shelf.stores()[1].bytes(), b"".as_slice());
+    assert_kept(&rt, &shelf, 0, "ab", b"123");
+    assert_kept(&rt, &shelf, 1, "a", b"");
     Ok(())
 }
 
@@ -33,30 +69,15 @@ fn a_memory_shelf_fails_in_its_cases_alone(rt: HostRuntime) -> Result<(), Fail> 
 fn a_memory_shelf_loads_what_stands_last_under_a_name(rt: HostRuntime) -> Result<(), Fail> {
     let mut shelf = MemoryShelf::new(rt.alloc(), 1, 16, &[4])?;
     assert_eq!(rt; shelf.put("f", b"0123456789"), Ok(()));
-    let rows: [(&str, usize, Result<Loaded, ShelfFault>, &[u8]); 5] = [
-        ("f", 10, Ok(Loaded::Found), b"0123456789"),
-        ("f", 4, Ok(Loaded::Found), b"01234"),
-        ("g", 4, Ok(Loaded::Absent), b""),
-        ("f", 4, Err(ShelfFault::Failed), b""),
-        ("f", 0, Ok(Loaded::Found), b"0"),
-    ];
-    for (name, limit, answer, bytes) in rows {
-        let mut into = Vec::new(rt.alloc());
-        assert_eq!(rt;
-            shelf.load(name, limit, &mut into),
-            answer,
-            "{name} with limit {limit}"
-        );
-        assert_eq!(rt; into.as_slice(), bytes, "{name} with limit {limit}");
-    }
-    assert_eq!(rt; shelf.store("f", b"new"), Ok(()));
-    let mut into = Vec::new(rt.alloc());
-    assert_eq!(rt; shelf.load("f", 9, &mut into), Ok(Loaded::Found));
-    assert_eq!(rt; into.as_slice(), b"new".as_slice());
+    assert_loaded(&rt, &mut shelf, "f", 10, Ok(Loaded::Found), b"0123456789");
+    assert_loaded(&rt, &mut shelf, "f", 4, Ok(Loaded::Found), b"01234");
+    assert_loaded(&rt, &mut shelf, "g", 4, Ok(Loaded::Absent), b"");
+    assert_loaded(&rt, &mut shelf, "f", 4, Err(ShelfFault::Failed), b"");
+    assert_loaded(&rt, &mut shelf, "f", 0, Ok(Loaded::Found), b"0");
+    assert_stored(&rt, &mut shelf, "f", b"new", Ok(()));
+    assert_loaded(&rt, &mut shelf, "f", 9, Ok(Loaded::Found), b"new");
     assert_eq!(rt; shelf.put("f", b"newer"), Ok(()));
-    let mut into = Vec::new(rt.alloc());
-    assert_eq!(rt; shelf.load("f", 9, &mut into), Ok(Loaded::Found));
-    assert_eq!(rt; into.as_slice(), b"newer".as_slice());
+    assert_loaded(&rt, &mut shelf, "f", 9, Ok(Loaded::Found), b"newer");
     assert_eq!(rt; shelf.stores().len(), 1);
     Ok(())
 }
@@ -84,14 +105,33 @@ fn a_memory_sink_fails_in_its_cases_alone(rt: HostRuntime) -> Result<(), Fail> {
 fn the_steady_objects_never_fail(rt: HostRuntime) -> Result<(), Fail> {
     let mut shelf = SteadyShelf::new(rt.alloc());
     assert_eq!(rt; shelf.put("f", b"0123456789"), Ok(()));
-    let mut into = Vec::new(rt.alloc());
-    assert_eq!(rt; shelf.load("f", 4, &mut into), Ok(Loaded::Found));
-    assert_eq!(rt; into.as_slice(), b"01234".as_slice());
-    let mut into = Vec::new(rt.alloc());
-    assert_eq!(rt; shelf.load("g", 4, &mut into), Ok(Loaded::Absent));
-    assert_eq!(rt; shelf.store("f", b"new"), Ok(()));
+    assert_loaded(&rt, &mut shelf, "f", 4, Ok(Loaded::Found), b"01234");
+    assert_loaded(&rt, &mut shelf, "g", 4, Ok(Loaded::Absent), b"");
+    assert_stored(&rt, &mut shelf, "f", b"new", Ok(()));
     let mut sink = SteadySink::new();
     assert_eq!(rt; sink.write(b"abc"), Ok(()));
+    Ok(())
+}
+
+/// Asserts what a file shelf over a folder answers, where nothing stands in the way.
+fn assert_file_shelf<R: Abort + Alloc<A = Global> + Files>(
+    rt: &R,
+    folder: &str,
+) -> Result<(), Fail> {
+    let found = format!(in rt.alloc(); "{folder}/f")?;
+    let absent = format!(in rt.alloc(); "{folder}/g")?;
+    let astray = format!(in rt.alloc(); "{folder}/d/x")?;
+    let mut shelf = FileShelf::new(rt);
+    assert_stored(rt, &mut shelf, &found, b"0123456789", Ok(()));
+    assert_loaded(rt, &mut shelf, &found, 10, Ok(Loaded::Found), b"0123456789");
+    assert_loaded(rt, &mut shelf, &found, 4, Ok(Loaded::Found), b"01234");
+    assert_loaded(rt, &mut shelf, &absent, 10, Ok(Loaded::Absent), b"");
+    assert_loaded(rt, &mut shelf, folder, 10, Err(ShelfFault::Failed), b"");
+    for bytes in [b"abc".as_slice(), b"", b"abcdef", b"ghijkl"] {
+        assert_stored(rt, &mut shelf, &found, bytes, Ok(()));
+        assert_loaded(rt, &mut shelf, &found, 10, Ok(Loaded::Found), bytes);
+    }
+    assert_stored(rt, &mut shelf, &astray, b"0123456789", Err(Failed));
     Ok(())
 }
 
@@ -100,37 +140,7 @@ fn a_file_shelf_keeps_real_files(rt: HostRuntime) -> Result<(), Fail> {
     let number = process::id(rt.process());
     let folder = format!(in rt.alloc(); "{}/outside_io_{number}", env::temp_dir(&rt)?.display())?;
     fs::create_dir(&rt, folder.as_str())?;
-    let found = format!(in rt.alloc(); "{folder}/f")?;
-    let absent = format!(in rt.alloc(); "{folder}/g")?;
-    let astray = format!(in rt.alloc(); "{folder}/d/x")?;
-
-    let mut shelf = FileShelf::new(&rt);
-    assert_eq!(rt; shelf.store(found.as_str(), b"0123456789"), Ok(()));
-    let rows: [(&str, usize, Result<Loaded, ShelfFault>, &[u8]); 4] = [
-        (found.as_str(), 10, Ok(Loaded::Found), b"0123456789"),
-        (found.as_str(), 4, Ok(Loaded::Found), b"01234"),
-        (absent.as_str(), 10, Ok(Loaded::Absent), b""),
-        (folder.as_str(), 10, Err(ShelfFault::Failed), b""),
-    ];
-    for (name, limit, answer, bytes) in rows {
-        let mut into = Vec::new(rt.alloc());
-        assert_eq!(rt;
-            shelf.load(name, limit, &mut into),
-            answer,
-            "{name} with limit {limit}"
-        );
-        assert_eq!(rt; into.as_slice(), bytes, "{name} with limit {limit}");
-    }
-    for bytes in [b"abc".as_slice(), b"", b"abcdef", b"ghijkl"] {
-        assert_eq!(rt; shelf.store(found.as_str(), bytes), Ok(()));
-        let mut into = Vec::new(rt.alloc());
-        assert_eq!(rt;
-            shelf.load(found.as_str(), 10, &mut into),
-            Ok(Loaded::Found)
-        );
-        assert_eq!(rt; into.as_slice(), bytes, "a store of {} bytes", bytes.len());
-    }
-    assert_eq!(rt; shelf.store(astray.as_str(), b"0123456789"), Err(Failed));
+    assert_file_shelf(&rt, &folder)?;
     fs::remove_dir_all(&rt, folder.as_str())?;
     Ok(())
 }

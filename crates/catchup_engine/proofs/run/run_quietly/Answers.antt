@@ -14,14 +14,14 @@ use Rattle.catchup_engine.proofs.run.run_quietly.Goals as goal
 
 pub loop-calm-init : goal.loop-calm-init
 loop-calm-init g c = record {
-  on = turns-start c.args.tape.now.entries c.args.limit c.args.addresses.now c.args.cpu c.args.bus.now c.requires.between c.requires.boundary c.requires.range;
+  on = turns-start c.args.tape.now.entries c.args.limit (g.B.Breaks.addresses c.args.breaks.now) c.args.cpu c.args.bus.now c.requires.between c.requires.boundary c.requires.range;
   fits = c.requires.fits;
   calm = λ early. (let none = c.no_calm-calm.ensures in absurd (omega arith));
 }
 
 -- no run ends here, and the fetch reads an opcode
-goes_on : (g : Given.Over) (c : goal.After-perform_quietly g) → GoesOn c.args.limit c.args.addresses.now c.loop-calm.cpu c.loop-calm.bus
-goes_on g c = goes-on-tells c.args.limit c.args.addresses.now c.loop-calm.cpu c.loop-calm.bus (sym c.goes_on.ensures.value ∙ c.loop-calm-test.true)
+goes_on : (g : Given.Over) (c : goal.After-perform_quietly g) → GoesOn c.args.limit (g.B.Breaks.addresses c.args.breaks.now) c.loop-calm.cpu c.loop-calm.bus
+goes_on g c = goes-on-tells c.args.limit (g.B.Breaks.addresses c.args.breaks.now) c.loop-calm.cpu c.loop-calm.bus (sym c.goes_on.ensures.value ∙ c.loop-calm-test.true)
 
 -- an instruction is a turn
 turned : (g : Given.Over) (c : goal.After-perform_quietly g)
@@ -34,7 +34,7 @@ turned g c =
 pub loop-calm-smaller : goal.loop-calm-smaller
 loop-calm-smaller g c =
     let both =
-    or_parts (is_over c.args.limit (over_bus c.loop-calm.cpu c.loop-calm.bus)) (is_at_any c.args.addresses.now (over_bus c.loop-calm.cpu c.loop-calm.bus)) (goes_on g c).open_yet in
+    or_parts (is_over c.args.limit (over_bus c.loop-calm.cpu c.loop-calm.bus)) (is_at_any (g.B.Breaks.addresses c.args.breaks.now) (over_bus c.loop-calm.cpu c.loop-calm.bus)) (goes_on g c).open_yet in
     let early = (open-before c.args.limit (over_bus c.loop-calm.cpu c.loop-calm.bus) c.loop-calm.invariant.on.boundary both.0).clock in
     let later = (turned g c).turned.clock in
     omega arith
@@ -42,16 +42,16 @@ loop-calm-smaller g c =
 pub loop-calm-preserved : goal.loop-calm-preserved
 loop-calm-preserved g c = record {
   on =
-      turns-go_on c.args.tape.now.entries c.args.limit c.args.addresses.now c.args.cpu c.args.bus.now c.loop-calm.bus c.perform_quietly.new.bus c.loop-calm.cpu
+      turns-go_on c.args.tape.now.entries c.args.limit (g.B.Breaks.addresses c.args.breaks.now) c.args.cpu c.args.bus.now c.loop-calm.bus c.perform_quietly.new.bus c.loop-calm.cpu
       c.perform_quietly.new.cpu c.requires.limit c.loop-calm.invariant.on (goes_on g c).open_yet (turned g c);
   fits = c.perform_quietly.ensures.fits;
   calm =
       (let later = (turned g c).turned.clock in
-      calm-kept c.args.limit c.args.addresses.now c.goes_on.new.calm c.loop-calm.bus c.perform_quietly.new.bus (omega arith) c.perform_quietly.ensures.lines
+      calm-kept c.args.limit c.goes_on.new.calm c.loop-calm.bus c.perform_quietly.new.bus (omega arith) c.perform_quietly.ensures.lines
       c.goes_on.ensures.calm);
 }
 
 pub perform_quietly-requires-clause-quiet : goal.perform_quietly-requires-clause-quiet
 perform_quietly-requires-clause-quiet g c =
     (reads-opcode c.loop-calm.cpu c.loop-calm.bus
-    (goes-on-tells c.args.limit c.args.addresses.now c.loop-calm.cpu c.loop-calm.bus (sym c.goes_on.ensures.value ∙ c.loop-calm-test.true)).reads).quiet
+    (goes-on-tells c.args.limit (g.B.Breaks.addresses c.args.breaks.now) c.loop-calm.cpu c.loop-calm.bus (sym c.goes_on.ensures.value ∙ c.loop-calm-test.true)).reads).quiet

@@ -6,9 +6,9 @@ use Rattle.catchup_engine.proofs.run.run_quietly.Given as goal
 
 abbrev pub invariant-loop-calm : goal.invariant-loop-calm
 invariant-loop-calm g l = record {
-  on : TurnsOn l.tape.entries l.limit l.addresses l.fn.cpu l.fn.bus l.bus l.cpu;
+  on : TurnsOn l.tape.entries l.limit (g.B.Breaks.addresses l.breaks) l.fn.cpu l.fn.bus l.bus l.cpu;
   fits : Fits l.tape l.bus;
-  calm : IsCalm l.limit l.addresses l.calm l.bus;
+  calm : IsCalm l.limit l.calm l.bus;
 }
 
 abbrev pub decreases-loop-calm : goal.decreases-loop-calm

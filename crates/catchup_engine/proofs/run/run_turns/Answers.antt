@@ -7,19 +7,19 @@ use Rattle.catchup_engine.proofs.run.run_turns.Goals as goal
 
 pub loop-cpu-init : goal.loop-cpu-init
 loop-cpu-init g c = record {
-  on = turns-start c.args.tape.now.entries c.args.limit c.args.addresses.now c.args.cpu c.args.bus.now c.requires.between c.requires.boundary c.requires.range;
+  on = turns-start c.args.tape.now.entries c.args.limit (g.B.Breaks.addresses c.args.breaks.now) c.args.cpu c.args.bus.now c.requires.between c.requires.boundary c.requires.range;
   fits = c.requires.fits;
 }
 
 pub loop-cpu-preserved : goal.loop-cpu-preserved
 loop-cpu-preserved g c =
-    let open_yet : is_over c.args.limit (over_bus c.loop-cpu.cpu c.loop-cpu.bus) || is_at_any c.args.addresses.now (over_bus c.loop-cpu.cpu c.loop-cpu.bus) ≡ false =
+    let open_yet : is_over c.args.limit (over_bus c.loop-cpu.cpu c.loop-cpu.bus) || is_at_any (g.B.Breaks.addresses c.args.breaks.now) (over_bus c.loop-cpu.cpu c.loop-cpu.bus) ≡ false =
     sym c.is_at_break.ensures ∙ c.loop-cpu-test.true in
     record {
       on =
-          turns-join c.args.tape.now.entries c.args.limit c.args.addresses.now c.args.cpu c.args.bus.now c.turn_slowly-cpu.new.bus c.run_quietly-cpu.new.bus
+          turns-join c.args.tape.now.entries c.args.limit (g.B.Breaks.addresses c.args.breaks.now) c.args.cpu c.args.bus.now c.turn_slowly-cpu.new.bus c.run_quietly-cpu.new.bus
           c.turn_slowly-cpu.result c.run_quietly-cpu.result
-          (turns-go_on c.args.tape.now.entries c.args.limit c.args.addresses.now c.args.cpu c.args.bus.now c.loop-cpu.bus c.turn_slowly-cpu.new.bus c.loop-cpu.cpu
+          (turns-go_on c.args.tape.now.entries c.args.limit (g.B.Breaks.addresses c.args.breaks.now) c.args.cpu c.args.bus.now c.loop-cpu.bus c.turn_slowly-cpu.new.bus c.loop-cpu.cpu
           c.turn_slowly-cpu.result c.requires.limit c.loop-cpu.invariant.on open_yet c.turn_slowly-cpu.ensures.turned)
           c.run_quietly-cpu.ensures.runs.on;
       fits = c.run_quietly-cpu.ensures.fits;
