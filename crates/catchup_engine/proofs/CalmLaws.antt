@@ -22,7 +22,7 @@ use Rattle.catchup_engine.specs.Calm.{AreCalm, IsCalm, KeepsLines, LeavesLines}
 use Rattle.lockstep_board.specs.Lockstep.{is_reset, sequence_due}
 use Rattle.catchup_engine.specs.Quiet.{later, passed}
 use Rattle.lockstep_board.specs.Run.{is_over}
-use Rattle.catchup_engine.specs.Runs.{over_bus}
+use Rattle.catchup_engine.specs.Runs.{GoesOn, over_bus}
 use Rattle.catchup_engine.specs.Turn.{is_opcode, reads_opcode}
 use Rattle.lockstep_board.specs.Wires.{Wires, byte_put, devices_ticked, has_request, line_of, put_in}
 
@@ -161,11 +161,6 @@ unfolding line_of
 unwired w off leaves let_go =
     line-off (devices_ticked w).divider.irq (devices_ticked w).wired (has_request (devices_ticked w).sound1) (has_request (devices_ticked w).sound2)
     (leaves.irq ∙ let_go) (wired-ticked w ∙ off)
-
--- what is asked of a boundary where it is calm
-pub record GoesOn (limit : ℕ) (addresses : List ℕ) (c : CpuValue) (s : BusValue) : Type 0 where
-  pub open_yet : is_over limit (over_bus c s) || is_at_any addresses (over_bus c s) ≡ false
-  pub reads : reads_opcode c s ≡ true
 
 before-limit : (jam : Option ℕ) (boundary : Bool) (limit clock : ℕ) → is_none jam ≡ true → clock < limit
     → is_some jam || (boundary && nat_le limit clock) ≡ false

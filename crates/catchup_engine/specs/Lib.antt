@@ -9,3 +9,4 @@ pub mod Traced
 pub mod Quiet
 pub mod Calm
 pub mod BreakMarks
+pub mod NewBoard

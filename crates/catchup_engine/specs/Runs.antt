@@ -1,5 +1,5 @@
 -- A run of the processor over the bus.
-use Rattle.std.specs.Prelude.{◌≡◌, ℕ, ◌+◌, ◌-◌, ◌≤◌, ◌<◌, ◌⊎◌, ◌||◌, Bool, not, List, length, true, None, IsSome}
+use Rattle.std.specs.Prelude.{◌≡◌, ℕ, ◌+◌, ◌-◌, ◌≤◌, ◌<◌, ◌⊎◌, ◌||◌, Bool, not, List, length, true, false, None, IsSome}
 use Rattle.board_base.specs.declared.board.TheConstants.{CLOCK_LIMIT}
 use Rattle.board_base.specs.Cpu.{CpuValue}
 use Rattle.tape_ports.specs.declared.entry.TapeEntry.{TapeEntry}
@@ -54,6 +54,12 @@ pub record TurnsOn (entries : List TapeEntry) (limit : ℕ) (addresses : List �
 pub record QuietRun (entries : List TapeEntry) (limit : ℕ) (addresses : List ℕ) (c : CpuValue) (s t : BusValue) (e : CpuValue) : Type 0 where
   pub on : TurnsOn entries limit addresses c s t e
   pub ends : (is_over limit (over_bus e t) || is_at_any addresses (over_bus e t)) || not (reads_opcode e t) ≡ true
+
+-- neither is such a run over nor has it come to one of these addresses, and the next fetch reads an opcode in whose clocks nothing
+-- comes of itself
+pub record GoesOn (limit : ℕ) (addresses : List ℕ) (c : CpuValue) (s : BusValue) : Type 0 where
+  pub open_yet : is_over limit (over_bus c s) || is_at_any addresses (over_bus c s) ≡ false
+  pub reads : reads_opcode c s ≡ true
 
 -- and have come to where such a run is over, or to one of these addresses
 pub record TurnsRun (entries : List TapeEntry) (limit : ℕ) (addresses : List ℕ) (c : CpuValue) (s t : BusValue) (e : CpuValue) : Type 0 where

@@ -1,8 +1,9 @@
 //! Boundaries at which nothing but the clock has to be looked at.
-ghost use Rattle.std.specs.Prelude.{◌≡◌, ◌<◌, ◌&&◌, ◌||◌, is_none, nat_lt};
+ghost use Rattle.std.specs.Prelude.{◌≡◌, ◌+◌, ◌-◌, ◌<◌, ◌≤◌, ◌&&◌, ◌||◌, is_none, min, nat_lt};
+ghost use Rattle.board_base.specs.declared.divider.TheConstants.{DIVIDER_PERIOD};
 ghost use Rattle.board_base.specs.declared.divider.Pending.TheVariants.{Nothing};
 ghost use Rattle.cpu_alu.specs.Flags.{is_masked};
-ghost use Rattle.catchup_engine.specs.Calm.{IsCalm, LeavesLines};
+ghost use Rattle.catchup_engine.specs.Calm.{IsCalm};
 ghost use Rattle.lockstep_board.specs.Wires.{devices_ticked};
 
 use crate::bus::BoardBus;
@@ -23,17 +24,6 @@ pub(crate) struct Calm {
     pub silent: bool,
 }
 
-/// No boundary is known.
-#[inline(always)]
-pub(crate) fn no_calm() -> Calm
-    ensures { result.until ≡ 0 }
-{
-    Calm {
-        until: 0,
-        silent: false,
-    }
-}
-
 /// The boundaries from one on whose fetch reads an opcode. It is asked for once between two events.
 #[inline(never)]
 #[tactic(auto, using(crate::proofs::CalmLaws::calm))]
@@ -43,7 +33,8 @@ pub(crate) fn calm_since<V: VectorUnit, P: SoundUnit, C: CellUnit, D: DividerUni
 ) -> Calm
     requires quiet { bus.now.wires.clock < bus.now.event_at }
     requires pending { (devices_ticked bus.now.wires).divider.pending ≡ Nothing }
-    ensures { IsCalm limit result bus.now }
+    ensures calm { IsCalm limit result bus.now }
+    ensures until { result.until ≡ min limit (bus.now.event_at - 6) }
 {
     Calm {
         until: limit.min(bus.quiet_until()),
@@ -51,17 +42,19 @@ pub(crate) fn calm_since<V: VectorUnit, P: SoundUnit, C: CellUnit, D: DividerUni
     }
 }
 
-/// Whether the fetch at a boundary surely reads an opcode.
+/// Whether the fetch at a boundary surely reads an opcode. The board has yet to hear of so many clocks.
 #[inline(always)]
 pub(crate) fn lasts<V: VectorUnit, P: SoundUnit, C: CellUnit, D: DividerUnit>(
     calm: &Calm,
     cpu: &Cpu,
     bus: &BoardBus<V, P, C, D>,
+    made: u64,
 ) -> bool
-    ensures value { result ≡ (nat_lt bus.now.wires.clock calm.now.until && (is_none cpu.now.jam && (calm.now.silent || is_masked cpu.now.p))) }
-    ensures ticks { bus.now.wires.clock < bus.now.event_at → LeavesLines bus.now.wires }
+    requires quiet { bus.now.wires.clock + made ≤ bus.now.event_at }
+    ensures value { result ≡ (nat_lt (bus.now.wires.clock + made) calm.now.until && (is_none cpu.now.jam && (calm.now.silent || is_masked cpu.now.p))) }
+    ensures wrap { bus.now.wires.divider.phase + (bus.now.event_at - bus.now.wires.clock) < DIVIDER_PERIOD }
 {
-    bus.clock() < calm.until
+    bus.clock_after(made) < calm.until
         && cpu.state().jam.is_none()
         && (calm.silent || Flags::from_byte(cpu.state().p).interrupt)
 }

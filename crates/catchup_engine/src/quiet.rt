@@ -1,15 +1,15 @@
 //! Instructions in whose clocks nothing comes of itself.
-ghost use Rattle.std.specs.Prelude.{◌≡◌, ◌+◌, ◌≤◌, false, None};
-ghost use Rattle.board_base.specs.declared.cpu.Sequence.{Sequence};
-ghost use Rattle.cpu_core.specs.Registers.{registers_of};
-ghost use Rattle.cpu_core.specs.Sequences.{Runs};
-ghost use Rattle.catchup_engine.specs.Bus.{BusStep, Fits, room_of};
+ghost use Rattle.std.specs.Prelude.{◌≡◌, ◌+◌, ◌≤◌, ◌<◌, false};
+ghost use Rattle.catchup_engine.specs.Bus.{Fits};
 ghost use Rattle.catchup_engine.specs.Calm.{KeepsLines};
 ghost use Rattle.catchup_engine.specs.Quiet.{passed};
+ghost use Rattle.catchup_engine.specs.Runs.{GoesOn, HasRoomTo, IsInRange, TurnsOn};
 
-use crate::bus::{BoardBus, PROGRAM_START, WHOLE};
+use crate::breaks::Breaks;
+use crate::bus::{BoardBus, PROGRAM_START};
+use crate::calm::{calm_since, lasts};
 use avg_device::VectorUnit;
-use board_base::{CLOCK_END, RAM_LEN};
+use board_base::{CLOCK_END, CLOCK_LIMIT, RAM_LEN};
 use cpu_core::{Bus, Cpu};
 use earom_cells::CellUnit;
 use irq_watchdog::DividerUnit;
@@ -48,27 +48,6 @@ impl<'a, V: VectorUnit, P: SoundUnit, C: CellUnit, D: DividerUnit> QuietBus<'a, 
     {
         self.bus.pass(self.made);
         self.made = 0;
-    }
-
-    /// Does an instruction.
-    #[inline(always)]
-    fn instruction(&mut self, cpu: &mut Cpu, tape: &Tape)
-        requires none { self.old.made ≡ 0 }
-        requires running { cpu.old.jam ≡ None }
-        requires boundary { cpu.old.mid ≡ None }
-        requires between { self.old.bus.now.begun ≡ false }
-        requires fits { Fits tape.now self.old.bus.now }
-        requires quiet { self.old.bus.now.wires.clock + WHOLE ≤ self.old.bus.now.event_at }
-        requires room { WHOLE ≤ room_of self.old.bus.now }
-        ensures same_reference { self.new.bus.ghost_name ≡ self.old.bus.ghost_name }
-        ensures none { self.new.made ≡ 0 }
-        ensures runs { Runs (BusStep tape.now.entries) (registers_of cpu.old) Sequence.Opcode self.old.bus.now self.new.bus.now cpu.new }
-        ensures boundary { cpu.new.mid ≡ None }
-        ensures fits { Fits tape.now self.new.bus.now }
-        ensures lines { KeepsLines self.old.bus.now self.new.bus.now }
-    {
-        let _fetched = cpu.instruction(self, tape);
-        self.tell();
     }
 }
 
@@ -112,27 +91,36 @@ impl<'a, V: VectorUnit, P: SoundUnit, C: CellUnit, D: DividerUnit> Bus
     }
 }
 
-/// Does an instruction in whose clocks nothing comes of itself.
+/// Does the instruction at a boundary, and those at the calm boundaries after it, up to the first of
+/// these addresses. The board hears of their clocks where a device is reached, and at the end.
 #[inline(always)]
-pub(crate) fn perform_quietly<V: VectorUnit, P: SoundUnit, C: CellUnit, D: DividerUnit>(
-    cpu: &mut Cpu,
+pub(crate) fn run_calmly<V: VectorUnit, P: SoundUnit, C: CellUnit, D: DividerUnit, B: Breaks>(
+    mut cpu: Cpu,
     bus: &mut BoardBus<V, P, C, D>,
     tape: &Tape,
-)
-    requires running { cpu.old.jam ≡ None }
-    requires boundary { cpu.old.mid ≡ None }
+    limit: u64,
+    breaks: &B,
+) -> Cpu
+    requires limit { limit ≤ CLOCK_LIMIT }
+    requires range { IsInRange cpu bus.old }
     requires between { bus.old.begun ≡ false }
+    requires room { HasRoomTo limit bus.old }
     requires fits { Fits tape.now bus.old }
-    requires quiet { bus.old.wires.clock + WHOLE ≤ bus.old.event_at }
-    requires room { WHOLE ≤ room_of bus.old }
-    ensures runs { Runs (BusStep tape.now.entries) (registers_of cpu.old) Sequence.Opcode bus.old bus.new cpu.new }
-    ensures boundary { cpu.new.mid ≡ None }
+    requires goes_on { GoesOn limit (B.addresses breaks.now) cpu bus.old }
+    ensures on { TurnsOn tape.now.entries limit (B.addresses breaks.now) cpu bus.old bus.new result }
+    ensures later { bus.old.wires.clock < bus.new.wires.clock }
     ensures fits { Fits tape.now bus.new }
-    ensures lines { KeepsLines bus.old bus.new }
 {
+    let calm = calm_since(bus, limit);
     let mut quiet = QuietBus::new(bus);
-    quiet.instruction(cpu, tape);
+    let mut goes_on = true;
+    while goes_on {
+        let _fetched = cpu.instruction(&mut quiet, tape);
+        goes_on = lasts(&calm, &cpu, quiet.bus, quiet.made) && !breaks.has(cpu.state().pc);
+    }
+    quiet.tell();
     let QuietBus { bus: back, made: _ } = quiet;
     // opens the model
     let _same = &*back;
+    cpu
 }

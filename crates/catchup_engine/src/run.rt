@@ -3,15 +3,13 @@ ghost use Rattle.std.specs.Prelude.{◌≡◌, ◌+◌, ◌≤◌, ◌<◌, ◌�
 ghost use Rattle.cpu_core.specs.Places.{IsMiddle};
 ghost use Rattle.lockstep_board.specs.Breaks.{is_at_any};
 ghost use Rattle.catchup_engine.specs.Bus.{Fits};
-ghost use Rattle.catchup_engine.specs.Calm.{IsCalm};
 ghost use Rattle.lockstep_board.specs.Run.{is_over, is_cut};
 ghost use Rattle.catchup_engine.specs.Turn.{reads_opcode};
 ghost use Rattle.catchup_engine.specs.Runs.{over_bus, BoundaryRun, BreakRunBus, CutRun, HasRoomTo, IsInRange, QuietRun, TracedBusRun, TurnsRun};
 
 use crate::breaks::{BreakList, Breaks, Nowhere};
 use crate::bus::{BoardBus, TRAIL_ROOM, WHOLE};
-use crate::calm::{Calm, calm_since, lasts, no_calm};
-use crate::quiet::perform_quietly;
+use crate::quiet::run_calmly;
 use crate::trace::trace_running;
 use crate::tracer::Tracer;
 use crate::turn::{reads_opcode, turn_slowly};
@@ -63,32 +61,18 @@ fn is_at_break<V: VectorUnit, P: SoundUnit, C: CellUnit, D: DividerUnit, B: Brea
 }
 
 /// Whether no run ends here, and the next fetch reads an opcode in whose clocks nothing comes of
-/// itself. In clocks that are known to be calm the clock alone is asked for.
-#[inline(always)]
+/// itself. It is asked for once between two events.
+#[inline(never)]
 fn goes_on<V: VectorUnit, P: SoundUnit, C: CellUnit, D: DividerUnit, B: Breaks>(
     cpu: &Cpu,
     bus: &BoardBus<V, P, C, D>,
     limit: u64,
     breaks: &B,
-    calm: &mut Calm,
 ) -> bool
-    requires boundary { cpu.now.mid ≡ None }
     requires range { IsInRange cpu.now bus.now }
-    requires calm { IsCalm limit calm.old bus.now }
-    ensures value { result ≡ (not (is_over limit (over_bus cpu.now bus.now) || is_at_any (B.addresses breaks.now) (over_bus cpu.now bus.now)) && reads_opcode cpu.now bus.now) }
-    ensures calm { IsCalm limit calm.new bus.now }
+    ensures { result ≡ (not (is_over limit (over_bus cpu.now bus.now) || is_at_any (B.addresses breaks.now) (over_bus cpu.now bus.now)) && reads_opcode cpu.now bus.now) }
 {
-    if breaks.has(cpu.state().pc) {
-        return false;
-    }
-    if lasts(calm, cpu, bus) {
-        return true;
-    }
-    if is_done(cpu, bus, limit) || !reads_opcode(cpu, bus) {
-        return false;
-    }
-    *calm = calm_since(bus, limit);
-    true
+    !is_at_break(cpu, bus, limit, breaks) && reads_opcode(cpu, bus)
 }
 
 /// Does instructions in whose clocks nothing comes of itself, up to the limit or to the first of
@@ -113,16 +97,16 @@ fn run_quietly<V: VectorUnit, P: SoundUnit, C: CellUnit, D: DividerUnit, B: Brea
     ensures runs { QuietRun tape.now.entries limit (B.addresses breaks.now) cpu bus.old bus.new result }
     ensures fits { Fits tape.now bus.new }
 {
-    let mut calm = no_calm();
-    while goes_on(&cpu, bus, limit, breaks, &mut calm) {
-        perform_quietly(&mut cpu, bus, tape);
+    while goes_on(&cpu, bus, limit, breaks) {
+        cpu = run_calmly(cpu, bus, tape, limit, breaks);
     }
     cpu
 }
 
 /// Does whole sequences up to the limit, or to the first of these addresses.
 ///
-/// All runs share this one loop, since LLVM puts the processor into it only where it is called once.
+/// All runs without breaks share one such loop, since LLVM puts the processor into it only where it
+/// is called once. Runs to breaks have a second.
 #[inline(never)]
 fn run_turns<V: VectorUnit, P: SoundUnit, C: CellUnit, D: DividerUnit, B: Breaks>(
     mut cpu: Cpu,

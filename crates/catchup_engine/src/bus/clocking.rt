@@ -43,6 +43,17 @@ impl<V: VectorUnit, P: SoundUnit, C: CellUnit, D: DividerUnit> BoardBus<V, P, C,
         self.clock
     }
 
+    /// The clock so many clocks later, in which the divider doesn't wrap.
+    #[inline(always)]
+    #[tactic(auto, using(crate::proofs::DividerLaws::lines))]
+    pub fn clock_after(&self, clocks: u64) -> u64
+        requires quiet { self.now.wires.clock + clocks ≤ self.now.event_at }
+        ensures value { result ≡ self.now.wires.clock + clocks }
+        ensures wrap { self.now.wires.divider.phase + (self.now.event_at - self.now.wires.clock) < DIVIDER_PERIOD }
+    {
+        self.clock + clocks
+    }
+
     /// The clock of the divider's next wrap, when it is done.
     #[tactic(auto, using(crate::proofs::DividerLaws::lines))]
     pub fn next_wrap(&self) -> u64

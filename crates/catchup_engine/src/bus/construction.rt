@@ -1,6 +1,7 @@
 //! A board over an image, and another one in its place.
 ghost use Rattle.std.specs.Prelude.{◌≡◌, ◌+◌, ◌-◌, ◌≤◌, ◌^◌, false, length, drop, take, min, IfOk, ◌++◌, []};
 ghost use Rattle.catchup_engine.specs.Lags.{lagging_of, none_lags};
+ghost use Rattle.catchup_engine.specs.NewBoard.{IsNew, wires_over};
 ghost use Rattle.lockstep_board.specs.Wires.{reloaded, wires_of};
 
 use crate::bus::{BoardBus, TRAIL_ROOM};
@@ -14,13 +15,36 @@ use pokey_chip::SoundUnit;
 use rom_image::{Image, PROGRAM_ROM_LEN};
 use std::alloc::Global;
 
-/// A trail with room for the records of a window.
-fn new_trail(alloc: Global) -> Result<Trail, OutOfMemory>
-    ensures empty { IfOk result (λ trail. trail.records ≡ []) }
-    ensures room { IfOk result (λ trail. TRAIL_ROOM ≤ trail.room) }
-    ensures spare { IfOk result (λ trail. trail.spare ≡ trail.room) }
+/// The four trails of a board that runs from here.
+#[derive(Drop)]
+struct EmptyTrails {
+    vector: Trail,
+    sound1: Trail,
+    sound2: Trail,
+    written: Trail,
+}
+
+/// The bytes of a board: the vector memory, the RAM and the program ROM.
+#[derive(Drop)]
+struct BoardBytes {
+    memory: VectorMemory,
+    ram: Vec<u8>,
+    program: Vec<u8>,
+}
+
+/// Trails with room for the records of a window each.
+fn new_trails(alloc: Global) -> Result<EmptyTrails, OutOfMemory>
+    ensures vector { IfOk result (λ trails. IsNew trails.vector) }
+    ensures sound1 { IfOk result (λ trails. IsNew trails.sound1) }
+    ensures sound2 { IfOk result (λ trails. IsNew trails.sound2) }
+    ensures written { IfOk result (λ trails. IsNew trails.written) }
 {
-    Trail::new(alloc, TRAIL_ROOM)
+    Ok(EmptyTrails {
+        vector: Trail::new(alloc, TRAIL_ROOM)?,
+        sound1: Trail::new(alloc, TRAIL_ROOM)?,
+        sound2: Trail::new(alloc, TRAIL_ROOM)?,
+        written: Trail::new(alloc, TRAIL_ROOM)?,
+    })
 }
 
 /// The bytes of the vector memory of a board over an image.
@@ -34,19 +58,24 @@ fn new_memory(alloc: Global, image: &Image, state: &BoardState) -> Result<Vector
     Ok(memory)
 }
 
-/// The bytes of the program ROM of an image.
-fn new_program(alloc: Global, image: &Image) -> Result<Vec<u8>, OutOfMemory>
-    ensures bytes { IfOk result (λ program. program.items ≡ drop VECTOR_ROM_LEN image.now) }
-    ensures len { IfOk result (λ program. length program.items ≡ PROGRAM_ROM_LEN) }
+/// The bytes of a board over an image.
+fn new_bytes(alloc: Global, image: &Image, state: &BoardState) -> Result<BoardBytes, OutOfMemory>
+    ensures memory { IfOk result (λ bytes. bytes.memory ≡ state.now.vram ++ take VECTOR_ROM_LEN image.now) }
+    ensures ram { IfOk result (λ bytes. bytes.ram.items ≡ state.now.ram) }
+    ensures program { IfOk result (λ bytes. bytes.program.items ≡ drop VECTOR_ROM_LEN image.now) }
+    ensures len { IfOk result (λ bytes. length bytes.program.items ≡ PROGRAM_ROM_LEN) }
 {
+    let memory = new_memory(alloc, image, state)?;
     let (_, program) = image.bytes().split_at(VECTOR_ROM_LEN);
-    let program = Vec::from_slice(alloc, program)?;
-    Ok(program)
+    Ok(BoardBytes {
+        memory,
+        ram: Vec::from_slice(alloc, &state.ram)?,
+        program: Vec::from_slice(alloc, program)?,
+    })
 }
 
 impl<V: VectorUnit, P: SoundUnit, C: CellUnit, D: DividerUnit> BoardBus<V, P, C, D> {
     /// The wires of a board over an image. All the memory that the board ever needs is taken here.
-    #[tactic(auto, using(board_base::proofs::TickLaws::level, crate::proofs::SettledLaws::brought))]
     pub fn new(
         alloc: Global,
         image: &Image,
@@ -60,6 +89,32 @@ impl<V: VectorUnit, P: SoundUnit, C: CellUnit, D: DividerUnit> BoardBus<V, P, C,
         ensures calls { IfOk result (λ bus. bus.calls ≡ min (V.calls devices.vector + P.calls devices.sound1 + P.calls devices.sound2
             + C.calls devices.cells + D.calls devices.divider + 5) (2 ^ 64 - 1)) }
     {
+        let trails = new_trails(alloc)?;
+        let bytes = new_bytes(alloc, image, state)?;
+        Ok(BoardBus::from_parts(trails, bytes, state, devices, wired))
+    }
+
+    /// The wires of a board with these trails and bytes.
+    #[tactic(auto, using(board_base::proofs::TickLaws::level, crate::proofs::SettledLaws::brought))]
+    fn from_parts(
+        trails: EmptyTrails,
+        bytes: BoardBytes,
+        state: &BoardState,
+        devices: Devices<V, P, C, D>,
+        wired: bool,
+    ) -> BoardBus<V, P, C, D>
+        requires vector { IsNew trails.vector }
+        requires sound1 { IsNew trails.sound1 }
+        requires sound2 { IsNew trails.sound2 }
+        requires written { IsNew trails.written }
+        requires ram { bytes.ram.items ≡ state.now.ram }
+        requires program { length bytes.program.items ≡ PROGRAM_ROM_LEN }
+        ensures wires { result.wires ≡ wires_over wired state.now bytes.memory bytes.program.items }
+        ensures between { result.begun ≡ false }
+        ensures settled { result.lagging ≡ none_lags }
+        ensures calls { result.calls ≡ min (V.calls devices.vector + P.calls devices.sound1 + P.calls devices.sound2
+            + C.calls devices.cells + D.calls devices.divider + 5) (2 ^ 64 - 1) }
+    {
         let Devices {
             vector,
             sound1,
@@ -71,10 +126,10 @@ impl<V: VectorUnit, P: SoundUnit, C: CellUnit, D: DividerUnit> BoardBus<V, P, C,
         cells.load(&state.earom);
         divider.load(&state.divider);
         let wrap_at = clock + divider.quiet();
-        Ok(BoardBus {
-            vector: VectorLane::new(vector, &state.vg, clock, new_trail(alloc)?),
-            sound1: SoundLane::new(sound1, &state.sound1, clock, wired, new_trail(alloc)?),
-            sound2: SoundLane::new(sound2, &state.sound2, clock, wired, new_trail(alloc)?),
+        BoardBus {
+            vector: VectorLane::new(vector, &state.vg, clock, trails.vector),
+            sound1: SoundLane::new(sound1, &state.sound1, clock, wired, trails.sound1),
+            sound2: SoundLane::new(sound2, &state.sound2, clock, wired, trails.sound2),
             cells: Lane {
                 unit: cells,
                 done: clock,
@@ -83,9 +138,9 @@ impl<V: VectorUnit, P: SoundUnit, C: CellUnit, D: DividerUnit> BoardBus<V, P, C,
                 unit: divider,
                 done: clock,
             },
-            memory: new_memory(alloc, image, state)?,
-            ram: Vec::from_slice(alloc, &state.ram)?,
-            program: new_program(alloc, image)?,
+            memory: bytes.memory,
+            ram: bytes.ram,
+            program: bytes.program,
             out: state.out,
             in0: state.in0,
             in3: state.in3,
@@ -95,8 +150,8 @@ impl<V: VectorUnit, P: SoundUnit, C: CellUnit, D: DividerUnit> BoardBus<V, P, C,
             wrap_at,
             next: 0,
             event_at: 0,
-            written: new_trail(alloc)?,
-        })
+            written: trails.written,
+        }
     }
 
     /// Takes on another board over the same image.
