@@ -2,6 +2,7 @@
 use Rattle.std.proofs.Common.{◌≡◌, ℕ, ◌+◌, ◌-◌, ◌≤◌, ◌<◌, Bool, true, false, not, ◌&&◌, ◌||◌, nat_le, nat_lt, min, is_none, is_some, List, [], ◌∷◌, ◌++◌, slice_set, Option, Some, None, refl, sym, ap, ◌∙◌, arith, if◌then◌else◌}
 use Rattle.std.proofs.lemmas.Bool.{and_parts}
 use Rattle.std.proofs.lemmas.Bool.Decides.{nat_tests}
+use Rattle.board_base.specs.declared.divider.TheConstants.{DIVIDER_PERIOD}
 use Rattle.board_base.specs.declared.divider.Pending.{Pending}
 use Rattle.board_base.specs.declared.divider.Pending.TheVariants.{Nothing, Power, Watchdog}
 use Rattle.board_base.specs.declared.cpu.Sequence.{Sequence}
@@ -23,6 +24,7 @@ use Rattle.lockstep_board.specs.Lockstep.{is_reset, sequence_due}
 use Rattle.catchup_engine.specs.Quiet.{later, passed}
 use Rattle.lockstep_board.specs.Run.{is_over}
 use Rattle.catchup_engine.specs.Runs.{GoesOn, over_bus}
+use Rattle.catchup_engine.proofs.DividerLaws.{irq-after, irq-quiet, pending-after, pending-quiet}
 use Rattle.catchup_engine.specs.Turn.{is_opcode, reads_opcode}
 use Rattle.lockstep_board.specs.Wires.{Wires, byte_put, devices_ticked, has_request, line_of, put_in}
 
@@ -122,18 +124,32 @@ pub runs-keep : {S : Type 0} {T : Access → S → S → Type 0} (bus : S → Bu
     → (r : RegistersValue) (q : Sequence) (s t : S) (e : CpuValue) → Runs T r q s t e → KeepsLines (bus s) (bus t)
 runs-keep bus keeps r q s t e runs = moves-keep bus keeps r q [] runs.bytes s t runs.moves
 
--- an instruction in whose clocks nothing comes of itself leaves them calm
-pub calm-kept : (limit : ℕ) (calm : Calm) (s t : BusValue) → s.wires.clock ≤ t.wires.clock → KeepsLines s t → IsCalm limit calm s → IsCalm limit calm t
-calm-kept limit calm s t later keeps was = λ early.
-    let now = was (omega arith) in
+-- what keeps the lines leaves them calm
+pub are-kept : (limit : ℕ) (calm : Calm) (s t : BusValue) → KeepsLines s t → AreCalm limit calm s → AreCalm limit calm t
+are-kept limit calm s t keeps are =
     let event = keeps.event in
-    let quiet = now.quiet in
+    let quiet = are.quiet in
     record {
-      before = now.before;
+      before = are.before;
       quiet = omega arith;
-      pending = keeps.pending ∙ now.pending;
-      silent = λ e. (keeps.wired ∙ (now.silent e).0, keeps.irq (now.silent e).1);
+      pending = keeps.pending ∙ are.pending;
+      silent = λ e. (keeps.wired ∙ (are.silent e).0, keeps.irq (are.silent e).1);
     }
+
+-- clocks before the divider's wrap keep them
+pub passed-lines : (n : ℕ) (s : BusValue) → s.wires.clock + n ≤ s.event_at → s.wires.divider.phase + (s.event_at - s.wires.clock) < DIVIDER_PERIOD
+    → KeepsLines s (passed n s)
+unfolding passed later
+passed-lines n s h wrap = passed-keeps n s (passed n s) refl (irq-quiet n s.wires.divider (omega arith)) (pending-quiet n s.wires.divider (omega arith))
+
+-- and so does the clock after them
+pub passed-leaves : (n : ℕ) (s : BusValue) → s.wires.clock + n < s.event_at → s.wires.divider.phase + (s.event_at - s.wires.clock) < DIVIDER_PERIOD
+    → LeavesLines (passed n s).wires
+unfolding passed later devices_ticked
+passed-leaves n s h wrap = record {
+  irq = irq-after n s.wires.divider (omega arith) ∙ sym (irq-quiet n s.wires.divider (omega arith));
+  pending = pending-after n s.wires.divider (omega arith) ∙ sym (pending-quiet n s.wires.divider (omega arith));
+}
 
 -- no line is pulled, or it is masked
 opcode-due : (pending : Pending) (line masked : Bool) → pending ≡ Nothing → line && not masked ≡ false
@@ -203,36 +219,6 @@ lasts-tells clock until running silent masked e =
     let both = and_parts (nat_lt clock until) (running && (silent || masked)) e in
     let more = and_parts running (silent || masked) both.1 in
     (grind (arith, nat_tests), more.0, more.1)
-
--- the same from what is known of the boundaries before a clock
-pub calm-lasts : (limit : ℕ) (addresses : List ℕ) (calm : Calm) (c : CpuValue) (s : BusValue) → c.mid ≡ None → IsCalm limit calm s
-    → (s.wires.clock < s.event_at → LeavesLines s.wires)
-    → (nat_lt s.wires.clock calm.until && (is_none c.jam && (calm.silent || is_masked c.p))) ≡ true → is_at_any addresses (over_bus c s) ≡ false
-    → GoesOn limit addresses c s
-calm-lasts limit addresses calm c s boundary known ticks e elsewhere =
-    let tells = lasts-tells s.wires.clock calm.until (is_none c.jam) calm.silent (is_masked c.p) e in
-    let early = tells.0 in
-    let are = known early in
-    let quiet = are.quiet in
-    calm-goes_on limit addresses calm c s boundary early are (ticks (omega arith)) tells.1 tells.2 elsewhere
-
-pub goes-on : (limit : ℕ) (addresses : List ℕ) (c : CpuValue) (s : BusValue) → GoesOn limit addresses c s
-    → true ≡ (not (is_over limit (over_bus c s) || is_at_any addresses (over_bus c s)) && reads_opcode c s)
-goes-on limit addresses c s on = sym (yes (is_over limit (over_bus c s) || is_at_any addresses (over_bus c s)) (reads_opcode c s) on.open_yet on.reads)
-  where
-    yes : (ended reads : Bool) → ended ≡ false → reads ≡ true → (not ended && reads) ≡ true
-    yes ended reads e f = rw (e, f) refl
-
--- where it goes on, no run ends and an opcode is read
-pub goes-on-tells : (limit : ℕ) (addresses : List ℕ) (c : CpuValue) (s : BusValue)
-    → (not (is_over limit (over_bus c s) || is_at_any addresses (over_bus c s)) && reads_opcode c s) ≡ true → GoesOn limit addresses c s
-goes-on-tells limit addresses c s e =
-    let both = and_parts (not (is_over limit (over_bus c s) || is_at_any addresses (over_bus c s))) (reads_opcode c s) e in
-    record { open_yet = not-true (is_over limit (over_bus c s) || is_at_any addresses (over_bus c s)) both.0; reads = both.1 }
-  where
-    not-true : (b : Bool) → not b ≡ true → b ≡ false
-    not-true false f = refl
-    not-true true f = cc
 
 -- a fetch that reads an opcode finds no reset
 pub none-pending : (c : CpuValue) (w : Wires) → sequence_due c w ≡ Opcode → w.divider.pending ≡ Nothing

@@ -19,3 +19,4 @@ pub mod Traces
 pub mod TracedRuns
 pub mod QuietLaws
 pub mod BreakMarks
+pub mod CalmRuns

@@ -438,16 +438,3 @@ pub counted-start : (tape : TapeValue) (n : ℕ) (s : BusValue) → n ≡ 0 → 
     → IsCounted tape n s
 counted-start tape n s none fits between quiet room =
     rw none (record { fits = rw (passed-zero s) fits; between = between; quiet = omega arith; last = omega arith; until = omega arith })
-
-pub room-start : (n : ℕ) (s : BusValue) → n ≡ 0 → s.wires.clock + WHOLE ≤ s.event_at → WHOLE ≤ room_of s → WHOLE ≤ quiet_room n s
-room-start n s none quiet room = rw (none, passed-zero s) (omega arith)
-
--- the accesses of a whole sequence, with the clocks that are told at its end
-pub quiet-runs : {S : Type 0} {T : Access → S → S → Type 0} (entries : List TapeEntry) (bus : S → BusValue) (made : S → ℕ) (name : S → ℕ)
-    → ((x : Access) (a b : S) → T x a b → (name b ≡ name a) × BusStep entries x (passed (made a) (bus a)) (passed (made b) (bus b)))
-    → (r : RegistersValue) (q : Sequence) (s t : S) (e : CpuValue) (told : BusValue) → made s ≡ 0 → told ≡ passed (made t) (bus t) → Runs T r q s t e
-    → (name t ≡ name s) × Runs (BusStep entries) r q (bus s) told e
-quiet-runs {S} entries bus made name lift r q s t e told none is runs =
-    let seen = runs-seen (BusStep entries) (λ (k : S). passed (made k) (bus k)) name lift r q s t e runs in
-    let start : passed (made s) (bus s) ≡ bus s = ap (λ n. passed n (bus s)) none ∙ passed-zero (bus s) in
-    (seen.0, rw (is, ← start) seen.1)
