@@ -17,7 +17,7 @@ use Rattle.catchup_engine.specs.Bus.{BusStep, BusValue, Fits, room_of}
 use Rattle.catchup_engine.specs.Calm.{AreCalm, IsCalm, KeepsLines}
 use Rattle.catchup_engine.specs.Quiet.{IsCounted, later, passed, quiet_room}
 use Rattle.catchup_engine.specs.Runs.{GoesOn, HasRoomTo, IsInRange, TurnsOn, over_bus}
-use Rattle.catchup_engine.specs.Turn.{TurnedBus}
+use Rattle.catchup_engine.specs.Turn.{TurnedBus, reads_opcode}
 use Rattle.catchup_engine.proofs.BreaksOn.{turns-go_on, turns-start}
 use Rattle.catchup_engine.proofs.CalmLaws.{are-kept, calm-goes_on, lasts-tells, passed-leaves, passed-lines}
 use Rattle.catchup_engine.proofs.OpcodeLaws.{reads-opcode}
@@ -29,7 +29,7 @@ use Rattle.catchup_engine.proofs.Turns.{opcode-turn}
 pub record AtCalm (tape : TapeValue) (limit : ℕ) (addresses : List ℕ) (calm : Calm) (c : CpuValue) (s : BusValue) (made : ℕ) (t : BusValue) (e : CpuValue) (more : Bool) : Type 0 where
   pub on : TurnsOn tape.entries limit addresses c s (passed made t) e
   pub counted : IsCounted tape made t
-  pub calm : AreCalm limit calm t
+  pub are : AreCalm limit calm t
   pub goes : more ≡ true → GoesOn limit addresses e (passed made t)
   pub later : more ≡ false → s.wires.clock < (passed made t).wires.clock
 
@@ -67,27 +67,27 @@ module _ (tape : TapeValue) (limit : ℕ) (addresses : List ℕ) where
       record {
         on = rw (passed-zero s) on;
         counted = counted-start tape 0 s refl fits between quiet (room-before c c s s last room on early);
-        calm = known (omega arith);
+        are = known (omega arith);
         goes = λ _. rw (passed-zero s) goes;
         later = λ no. cc;
       }
 
-  pub calm-room : (calm : Calm) (c e : CpuValue) (s t : BusValue) (made : ℕ) → limit ≤ CLOCK_LIMIT → HasRoomTo limit s
-      → AtCalm tape limit addresses calm c s made t e true → WHOLE ≤ quiet_room made t
+  pub calm-room : (calm : Calm) (c e : CpuValue) (s t : BusValue) (made : ℕ) (more : Bool) → more ≡ true → limit ≤ CLOCK_LIMIT → HasRoomTo limit s
+      → AtCalm tape limit addresses calm c s made t e more → WHOLE ≤ quiet_room made t
   unfolding passed later
-  calm-room calm c e s t made last room at =
-      let before = goes-before e (passed made t) (at.goes refl) in
+  calm-room calm c e s t made more on_yet last room at =
+      let before = goes-before e (passed made t) (at.goes on_yet) in
       let early = before.clock in
       let quiet = before.quiet in
       let most = room-before c e s (passed made t) last room at.on early in
       omega arith
 
   -- an instruction is a turn
-  pub calm-turn : (calm : Calm) (c e f : CpuValue) (s t u : BusValue) (made n : ℕ) → AtCalm tape limit addresses calm c s made t e true
+  pub calm-turn : (calm : Calm) (c e f : CpuValue) (s t u : BusValue) (made n : ℕ) (more : Bool) → more ≡ true → AtCalm tape limit addresses calm c s made t e more
       → Runs (BusStep tape.entries) (registers_of e) Opcode (passed made t) (passed n u) f → f.mid ≡ None
       → TurnedBus tape.entries 7 e (passed made t) (passed n u) f
-  calm-turn calm c e f s t u made n at runs boundary =
-      let goes = at.goes refl in
+  calm-turn calm c e f s t u made n more on_yet at runs boundary =
+      let goes = at.goes on_yet in
       opcode-turn tape e (passed made t) (passed n u) f (reads-opcode e (passed made t) goes.reads).reads at.on.run.goes.between at.counted.fits runs boundary
 
   -- it goes on where the clocks and the flags tell so
@@ -96,9 +96,9 @@ module _ (tape : TapeValue) (limit : ℕ) (addresses : List ℕ) where
       → more ≡ ((nat_lt (u.wires.clock + n) calm.until && (is_none f.jam && (calm.silent || is_masked f.p))) && not (is_at_any addresses (over_bus f (passed n u))))
       → more ≡ true → GoesOn limit addresses f (passed n u)
   unfolding passed later
-  tells-on calm f u n more boundary counted are wrap is yes =
+  tells-on calm f u n more boundary counted are wrap is on_yet =
       let lasts = nat_lt (u.wires.clock + n) calm.until && (is_none f.jam && (calm.silent || is_masked f.p)) in
-      let both = and_parts lasts (not (is_at_any addresses (over_bus f (passed n u)))) (sym is ∙ yes) in
+      let both = and_parts lasts (not (is_at_any addresses (over_bus f (passed n u)))) (sym is ∙ on_yet) in
       let tells = lasts-tells (u.wires.clock + n) calm.until (is_none f.jam) calm.silent (is_masked f.p) both.0 in
       let early = tells.0 in
       let quiet = are.quiet in
@@ -110,21 +110,59 @@ module _ (tape : TapeValue) (limit : ℕ) (addresses : List ℕ) where
       not-true false e = refl
       not-true true e = cc
 
-  pub calm-goes : (calm : Calm) (c e f : CpuValue) (s t u : BusValue) (made n : ℕ) (more : Bool) → limit ≤ CLOCK_LIMIT → AtCalm tape limit addresses calm c s made t e true
+  pub calm-goes : (calm : Calm) (c e f : CpuValue) (s t u : BusValue) (made n : ℕ) (more then : Bool) → more ≡ true → limit ≤ CLOCK_LIMIT → AtCalm tape limit addresses calm c s made t e more
       → Runs (BusStep tape.entries) (registers_of e) Opcode (passed made t) (passed n u) f → f.mid ≡ None → IsCounted tape n u → KeepsLines t u
       → u.wires.divider.phase + (u.event_at - u.wires.clock) < DIVIDER_PERIOD
-      → more ≡ ((nat_lt (u.wires.clock + n) calm.until && (is_none f.jam && (calm.silent || is_masked f.p))) && not (is_at_any addresses (over_bus f (passed n u))))
-      → AtCalm tape limit addresses calm c s n u f more
-  calm-goes calm c e f s t u made n more last at runs boundary counted lines wrap is =
-      let goes = at.goes refl in
-      let turned = calm-turn calm c e f s t u made n at runs boundary in
-      let are = are-kept limit calm t u lines at.calm in
+      → then ≡ ((nat_lt (u.wires.clock + n) calm.until && (is_none f.jam && (calm.silent || is_masked f.p))) && not (is_at_any addresses (over_bus f (passed n u))))
+      → AtCalm tape limit addresses calm c s n u f then
+  calm-goes calm c e f s t u made n more then on_yet last at runs boundary counted lines wrap is =
+      let goes = at.goes on_yet in
+      let turned = calm-turn calm c e f s t u made n more on_yet at runs boundary in
+      let are = are-kept limit calm t u lines at.are in
       let so_far = at.on.run.clock in
       let clock = turned.turned.clock in
       record {
         on = turns-go_on tape.entries limit addresses c s (passed made t) (passed n u) e f last at.on goes.open_yet turned;
         counted = counted;
-        calm = are;
-        goes = tells-on calm f u n more boundary counted are wrap is;
+        are = are;
+        goes = tells-on calm f u n then boundary counted are wrap is;
         later = λ _. omega arith;
       }
+
+  pub calm-smaller : (calm : Calm) (c e f : CpuValue) (s t u : BusValue) (made n : ℕ) (more : Bool) → more ≡ true → AtCalm tape limit addresses calm c s made t e more
+      → Runs (BusStep tape.entries) (registers_of e) Opcode (passed made t) (passed n u) f → f.mid ≡ None
+      → limit - (passed n u).wires.clock < limit - (passed made t).wires.clock
+  calm-smaller calm c e f s t u made n more on_yet at runs boundary =
+      let before = goes-before e (passed made t) (at.goes on_yet) in
+      let early = before.clock in
+      let turned = calm-turn calm c e f s t u made n more on_yet at runs boundary in
+      let clock = turned.turned.clock in
+      omega arith
+
+  -- where it goes on, no run ends and an opcode is read
+  pub goes-on-tells : (c : CpuValue) (s : BusValue)
+      → (not (is_over limit (over_bus c s) || is_at_any addresses (over_bus c s)) && reads_opcode c s) ≡ true → GoesOn limit addresses c s
+  goes-on-tells c s e =
+      let both = and_parts (not (is_over limit (over_bus c s) || is_at_any addresses (over_bus c s))) (reads_opcode c s) e in
+      record { open_yet = not-true (is_over limit (over_bus c s) || is_at_any addresses (over_bus c s)) both.0; reads = both.1 }
+    where
+      not-true : (b : Bool) → not b ≡ true → b ≡ false
+      not-true false f = refl
+      not-true true f = cc
+
+  -- there is room for the rest of the run
+  pub room-kept : (c e : CpuValue) (s t : BusValue) → limit ≤ CLOCK_LIMIT → HasRoomTo limit s → TurnsOn tape.entries limit addresses c s t e → HasRoomTo limit t
+  room-kept c e s t last room on =
+      let clock = on.run.clock in
+      let written = on.run.written in
+      let until = on.run.goes.until in
+      let rooms : t.rooms.board ≡ s.rooms.board = ap (λ r. r.board) on.run.goes.rooms in
+      omega arith
+
+-- the boundary lasts, so that the breaks tell whether it goes on
+pub and-then : (lasts at has : Bool) → lasts ≡ true → at ≡ has → not has ≡ (lasts && not at)
+and-then lasts at has e f = rw (e, f) refl
+
+-- it doesn't
+pub and-else : (lasts told at : Bool) → told ≡ lasts → told ≡ false → told ≡ (lasts && not at)
+and-else lasts told at e f = rw (← e, f) refl

@@ -438,3 +438,11 @@ pub counted-start : (tape : TapeValue) (n : ℕ) (s : BusValue) → n ≡ 0 → 
     → IsCounted tape n s
 counted-start tape n s none fits between quiet room =
     rw none (record { fits = rw (passed-zero s) fits; between = between; quiet = omega arith; last = omega arith; until = omega arith })
+
+-- the accesses of a whole sequence, of whose clocks the bus has yet to be told
+pub quiet-runs : {S : Type 0} {T : Access → S → S → Type 0} (entries : List TapeEntry) (bus : S → BusValue) (made : S → ℕ) (name : S → ℕ)
+    → ((x : Access) (a b : S) → T x a b → (name b ≡ name a) × BusStep entries x (passed (made a) (bus a)) (passed (made b) (bus b)))
+    → (r : RegistersValue) (q : Sequence) (s t : S) (e : CpuValue) → Runs T r q s t e
+    → (name t ≡ name s) × Runs (BusStep entries) r q (passed (made s) (bus s)) (passed (made t) (bus t)) e
+quiet-runs {S} entries bus made name lift r q s t e runs =
+    runs-seen (BusStep entries) (λ (k : S). passed (made k) (bus k)) name lift r q s t e runs

@@ -1,5 +1,7 @@
 //! Instructions in whose clocks nothing comes of itself.
-ghost use Rattle.std.specs.Prelude.{◌≡◌, ◌+◌, ◌≤◌, ◌<◌, false};
+ghost use Rattle.std.specs.Prelude.{◌≡◌, ◌+◌, ◌-◌, ◌≤◌, ◌<◌, ◌&&◌, ◌||◌, false, is_none, nat_lt};
+ghost use Rattle.board_base.specs.declared.divider.TheConstants.{DIVIDER_PERIOD};
+ghost use Rattle.cpu_alu.specs.Flags.{is_masked};
 ghost use Rattle.catchup_engine.specs.Bus.{Fits};
 ghost use Rattle.catchup_engine.specs.Calm.{KeepsLines};
 ghost use Rattle.catchup_engine.specs.Quiet.{passed};
@@ -7,9 +9,10 @@ ghost use Rattle.catchup_engine.specs.Runs.{GoesOn, HasRoomTo, IsInRange, TurnsO
 
 use crate::breaks::Breaks;
 use crate::bus::{BoardBus, PROGRAM_START};
-use crate::calm::{calm_since, lasts};
+use crate::calm::{Calm, calm_since};
 use avg_device::VectorUnit;
 use board_base::{CLOCK_END, CLOCK_LIMIT, RAM_LEN};
+use cpu_alu::Flags;
 use cpu_core::{Bus, Cpu};
 use earom_cells::CellUnit;
 use irq_watchdog::DividerUnit;
@@ -48,6 +51,18 @@ impl<'a, V: VectorUnit, P: SoundUnit, C: CellUnit, D: DividerUnit> QuietBus<'a, 
     {
         self.bus.pass(self.made);
         self.made = 0;
+    }
+
+    /// Whether the fetch at this boundary surely reads an opcode.
+    #[inline(always)]
+    fn lasts(&self, calm: &Calm, cpu: &Cpu) -> bool
+        requires quiet { self.now.bus.now.wires.clock + self.now.made ≤ self.now.bus.now.event_at }
+        ensures value { result ≡ (nat_lt (self.now.bus.now.wires.clock + self.now.made) calm.now.until && (is_none cpu.now.jam && (calm.now.silent || is_masked cpu.now.p))) }
+        ensures wrap { self.now.bus.now.wires.divider.phase + (self.now.bus.now.event_at - self.now.bus.now.wires.clock) < DIVIDER_PERIOD }
+    {
+        self.bus.clock_after(self.made) < calm.until
+            && cpu.state().jam.is_none()
+            && (calm.silent || Flags::from_byte(cpu.state().p).interrupt)
     }
 }
 
@@ -116,7 +131,7 @@ pub(crate) fn run_calmly<V: VectorUnit, P: SoundUnit, C: CellUnit, D: DividerUni
     let mut goes_on = true;
     while goes_on {
         let _fetched = cpu.instruction(&mut quiet, tape);
-        goes_on = lasts(&calm, &cpu, quiet.bus, quiet.made) && !breaks.has(cpu.state().pc);
+        goes_on = quiet.lasts(&calm, &cpu) && !breaks.has(cpu.state().pc);
     }
     quiet.tell();
     let QuietBus { bus: back, made: _ } = quiet;

@@ -1,0 +1,103 @@
+use Rattle.std.proofs.Common.{◌≡◌, ◌&&◌, ◌||◌, is_none, nat_lt, sym, ap, ◌∙◌, ◌+◌, refl, subst}
+use Rattle.board_base.specs.declared.cpu.Sequence.TheVariants.{Opcode}
+use Rattle.board_base.specs.Cpu.{CpuValue}
+use Rattle.cpu_alu.specs.Flags.{is_masked}
+use Rattle.cpu_core.specs.Registers.{registers_of}
+use Rattle.cpu_core.specs.Sequences.{Runs}
+use Rattle.lockstep_board.specs.Breaks.{is_at_any}
+use Rattle.lockstep_board.specs.Wires.{devices_ticked}
+use Rattle.catchup_engine.specs.Bus.{BusStep}
+use Rattle.catchup_engine.specs.Calm.{KeepsLines}
+use Rattle.catchup_engine.specs.Quiet.{passed}
+use Rattle.catchup_engine.specs.Runs.{TurnsOn, over_bus}
+use Rattle.catchup_engine.proofs.CalmLaws.{none-pending, runs-keep}
+use Rattle.catchup_engine.proofs.CalmRuns.{AtCalm, and-else, and-then, calm-goes, calm-room, calm-smaller, calm-starts}
+use Rattle.catchup_engine.proofs.OpcodeLaws.{reads-opcode}
+use Rattle.catchup_engine.proofs.QuietLaws.{quiet-runs}
+use Rattle.catchup_engine.proofs.quiet.run_calmly.Goals as goal
+
+pub calm_since-calm-requires-clause-quiet : goal.calm_since-calm-requires-clause-quiet
+calm_since-calm-requires-clause-quiet g c = (reads-opcode c.args.cpu c.args.bus.now c.requires.goes_on.reads).reads.quiet
+
+pub calm_since-calm-requires-clause-pending : goal.calm_since-calm-requires-clause-pending
+calm_since-calm-requires-clause-pending g c =
+    none-pending c.args.cpu (devices_ticked c.args.bus.now.wires) (reads-opcode c.args.cpu c.args.bus.now c.requires.goes_on.reads).reads.due
+
+pub loop-goes_on-init : goal.loop-goes_on-init
+loop-goes_on-init g c = record {
+  at =
+      rw (c.new-quiet.ensures.none, c.new-quiet.ensures.bus) (calm-starts c.args.tape.now c.args.limit (g.B.Breaks.addresses c.args.breaks.now) c.calm_since-calm.result c.args.cpu
+      c.args.bus.now c.requires.limit c.requires.range c.requires.between c.requires.room c.requires.fits c.requires.goes_on c.calm_since-calm.ensures.calm
+      c.calm_since-calm.ensures.until);
+  same = refl;
+}
+
+pub instruction-fetched-requires-clause-room : goal.instruction-fetched-requires-clause-room
+instruction-fetched-requires-clause-room g c =
+    calm-room c.args.tape.now c.args.limit (g.B.Breaks.addresses c.args.breaks.now) c.calm_since-calm.result c.args.cpu c.loop-goes_on.cpu c.args.bus.now
+    c.loop-goes_on.quiet.bus.now c.loop-goes_on.quiet.made c.loop-goes_on.goes_on c.loop-goes_on-test.true c.requires.limit c.requires.room c.loop-goes_on.invariant.at
+
+pub loop-goes_on-smaller-then-lasts : goal.loop-goes_on-smaller-then-lasts
+loop-goes_on-smaller-then-lasts g c =
+    let seen =
+    quiet-runs c.args.tape.now.entries (λ s. s.bus.now) (λ s. s.made) (λ s. s.bus.ghost_name) (λ x a b h. (h.0, h.2)) (registers_of c.loop-goes_on.cpu) Opcode
+    c.loop-goes_on.quiet c.instruction-fetched.new.bus c.instruction-fetched.new.self c.instruction-fetched.ensures.runs in
+    calm-smaller c.args.tape.now c.args.limit (g.B.Breaks.addresses c.args.breaks.now) c.calm_since-calm.result c.args.cpu c.loop-goes_on.cpu
+    c.instruction-fetched.new.self c.args.bus.now c.loop-goes_on.quiet.bus.now c.instruction-fetched.new.bus.bus.now c.loop-goes_on.quiet.made
+    c.instruction-fetched.new.bus.made c.loop-goes_on.goes_on c.loop-goes_on-test.true c.loop-goes_on.invariant.at seen.1 c.instruction-fetched.ensures.boundary
+
+pub loop-goes_on-preserved-then-lasts : goal.loop-goes_on-preserved-then-lasts
+loop-goes_on-preserved-then-lasts g c =
+    let seen =
+    quiet-runs c.args.tape.now.entries (λ s. s.bus.now) (λ s. s.made) (λ s. s.bus.ghost_name) (λ x a b h. (h.0, h.2)) (registers_of c.loop-goes_on.cpu) Opcode
+    c.loop-goes_on.quiet c.instruction-fetched.new.bus c.instruction-fetched.new.self c.instruction-fetched.ensures.runs in
+    let lines =
+    runs-keep (λ s. s.bus.now) (λ x a b h. h.1) (registers_of c.loop-goes_on.cpu) Opcode c.loop-goes_on.quiet c.instruction-fetched.new.bus
+    c.instruction-fetched.new.self c.instruction-fetched.ensures.runs in
+    let addresses = g.B.Breaks.addresses c.args.breaks.now in
+    let t = c.instruction-fetched.new.bus.bus.now in
+    let n = c.instruction-fetched.new.bus.made in
+    let f = c.instruction-fetched.new.self in
+    let calm = c.calm_since-calm.result in
+    record {
+      at =
+          calm-goes c.args.tape.now c.args.limit addresses calm c.args.cpu c.loop-goes_on.cpu f c.args.bus.now c.loop-goes_on.quiet.bus.now t c.loop-goes_on.quiet.made n
+          c.loop-goes_on.goes_on _ c.loop-goes_on-test.true c.requires.limit c.loop-goes_on.invariant.at seen.1 c.instruction-fetched.ensures.boundary
+          c.instruction-fetched.ensures.fits lines c.lasts.ensures.wrap
+          (and-then (nat_lt (t.wires.clock + n) calm.until && (is_none f.jam && (calm.silent || is_masked f.p))) (is_at_any addresses (over_bus f (passed n t))) c.has.result
+          (sym c.lasts.ensures.value ∙ c.if-lasts.true)
+          (ap (λ (k : CpuValue). is_at_any addresses (over_bus k (passed n t))) (sym (c.behind-cpu.view_is ∙ c.state.ensures.value)) ∙ sym c.has.ensures));
+      same = seen.0 ∙ c.loop-goes_on.invariant.same;
+    }
+
+pub loop-goes_on-smaller : goal.loop-goes_on-smaller
+loop-goes_on-smaller g c =
+    let seen =
+    quiet-runs c.args.tape.now.entries (λ s. s.bus.now) (λ s. s.made) (λ s. s.bus.ghost_name) (λ x a b h. (h.0, h.2)) (registers_of c.loop-goes_on.cpu) Opcode
+    c.loop-goes_on.quiet c.instruction-fetched.new.bus c.instruction-fetched.new.self c.instruction-fetched.ensures.runs in
+    calm-smaller c.args.tape.now c.args.limit (g.B.Breaks.addresses c.args.breaks.now) c.calm_since-calm.result c.args.cpu c.loop-goes_on.cpu
+    c.instruction-fetched.new.self c.args.bus.now c.loop-goes_on.quiet.bus.now c.instruction-fetched.new.bus.bus.now c.loop-goes_on.quiet.made
+    c.instruction-fetched.new.bus.made c.loop-goes_on.goes_on c.loop-goes_on-test.true c.loop-goes_on.invariant.at seen.1 c.instruction-fetched.ensures.boundary
+
+pub loop-goes_on-preserved : goal.loop-goes_on-preserved
+loop-goes_on-preserved g c =
+    let seen =
+    quiet-runs c.args.tape.now.entries (λ s. s.bus.now) (λ s. s.made) (λ s. s.bus.ghost_name) (λ x a b h. (h.0, h.2)) (registers_of c.loop-goes_on.cpu) Opcode
+    c.loop-goes_on.quiet c.instruction-fetched.new.bus c.instruction-fetched.new.self c.instruction-fetched.ensures.runs in
+    let lines =
+    runs-keep (λ s. s.bus.now) (λ x a b h. h.1) (registers_of c.loop-goes_on.cpu) Opcode c.loop-goes_on.quiet c.instruction-fetched.new.bus
+    c.instruction-fetched.new.self c.instruction-fetched.ensures.runs in
+    let addresses = g.B.Breaks.addresses c.args.breaks.now in
+    let t = c.instruction-fetched.new.bus.bus.now in
+    let n = c.instruction-fetched.new.bus.made in
+    let f = c.instruction-fetched.new.self in
+    let calm = c.calm_since-calm.result in
+    record {
+      at =
+          calm-goes c.args.tape.now c.args.limit addresses calm c.args.cpu c.loop-goes_on.cpu f c.args.bus.now c.loop-goes_on.quiet.bus.now t c.loop-goes_on.quiet.made n
+          c.loop-goes_on.goes_on _ c.loop-goes_on-test.true c.requires.limit c.loop-goes_on.invariant.at seen.1 c.instruction-fetched.ensures.boundary
+          c.instruction-fetched.ensures.fits lines c.lasts.ensures.wrap
+          (and-else (nat_lt (t.wires.clock + n) calm.until && (is_none f.jam && (calm.silent || is_masked f.p))) c.lasts.result (is_at_any addresses (over_bus f (passed n t)))
+          c.lasts.ensures.value c.if-lasts.false);
+      same = seen.0 ∙ c.loop-goes_on.invariant.same;
+    }
