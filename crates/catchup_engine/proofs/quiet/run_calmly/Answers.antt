@@ -1,17 +1,14 @@
-use Rattle.std.proofs.Common.{◌≡◌, ◌&&◌, ◌||◌, is_none, nat_lt, sym, ap, ◌∙◌, ◌+◌, refl, subst}
+use Rattle.std.proofs.Common.{◌&&◌, ◌||◌, is_none, nat_lt, sym, ap, ◌∙◌, ◌+◌, refl}
 use Rattle.board_base.specs.declared.cpu.Sequence.TheVariants.{Opcode}
 use Rattle.board_base.specs.Cpu.{CpuValue}
 use Rattle.cpu_alu.specs.Flags.{is_masked}
 use Rattle.cpu_core.specs.Registers.{registers_of}
-use Rattle.cpu_core.specs.Sequences.{Runs}
 use Rattle.lockstep_board.specs.Breaks.{is_at_any}
 use Rattle.lockstep_board.specs.Wires.{devices_ticked}
-use Rattle.catchup_engine.specs.Bus.{BusStep}
-use Rattle.catchup_engine.specs.Calm.{KeepsLines}
 use Rattle.catchup_engine.specs.Quiet.{passed}
-use Rattle.catchup_engine.specs.Runs.{TurnsOn, over_bus}
+use Rattle.catchup_engine.specs.Runs.{over_bus}
 use Rattle.catchup_engine.proofs.CalmLaws.{none-pending, runs-keep}
-use Rattle.catchup_engine.proofs.CalmRuns.{AtCalm, and-else, and-then, calm-goes, calm-room, calm-smaller, calm-starts}
+use Rattle.catchup_engine.proofs.CalmRuns.{and-else, and-then, calm-goes, calm-room, calm-smaller, calm-starts}
 use Rattle.catchup_engine.proofs.OpcodeLaws.{reads-opcode}
 use Rattle.catchup_engine.proofs.QuietLaws.{quiet-runs}
 use Rattle.catchup_engine.proofs.quiet.run_calmly.Goals as goal

@@ -1,8 +1,6 @@
 use Rattle.std.proofs.Common.{arith, sym, ◌∙◌}
-use Rattle.catchup_engine.specs.Runs.{GoesOn, over_bus}
 use Rattle.catchup_engine.proofs.BreaksOn.{turns-join, turns-start}
 use Rattle.catchup_engine.proofs.CalmRuns.{goes-before, goes-on-tells, room-kept}
-use Rattle.catchup_engine.proofs.run.run_quietly.Given
 use Rattle.catchup_engine.proofs.run.run_quietly.Goals as goal
 
 pub loop-cpu-init : goal.loop-cpu-init
