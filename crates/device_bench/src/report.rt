@@ -238,15 +238,17 @@ fn print_part<R: io::Print>(rt: &R, name: &str, tally: Tally) -> io::Result<()> 
     println!(rt; "  {name}: {records} records, the sum of their clocks {sum}")
 }
 
-/// Prints what records a board has made, where sums are printed, and else its speed.
-fn print_board<R: io::Print>(
-    rt: &R,
-    report: Report,
-    name: &str,
-    clocks: u64,
+/// What a run of a board came to.
+#[derive(Clone, Copy)]
+struct Ran {
+    clock: u64,
     pc: u16,
     timed: Timed<BoardTally>,
-) -> io::Result<()> {
+}
+
+/// Prints what records a board has made, where sums are printed, and else its speed.
+fn print_board<R: io::Print>(rt: &R, report: Report, name: &str, ran: Ran) -> io::Result<()> {
+    let Ran { clock, pc, timed } = ran;
     let BoardTally {
         strokes,
         levels1,
@@ -255,14 +257,34 @@ fn print_board<R: io::Print>(
     } = timed.outcome;
     match report {
         Report::Sums => {
-            println!(rt; "{name}: {clocks} clocks, pc {pc}")?;
+            println!(rt; "{name}: {clock} clocks, pc {pc}")?;
             print_part(rt, "strokes", strokes)?;
             print_part(rt, "levels of POKEY 1", levels1)?;
             print_part(rt, "levels of POKEY 2", levels2)?;
             print_part(rt, "latches and resets", written)
         }
-        Report::Times { .. } => speed(rt, name, clocks, timed.nanos),
+        Report::Times { .. } => speed(rt, name, clock, timed.nanos),
     }
+}
+
+/// Runs a board from power-on.
+fn run_board<R: CpuClock, V: VectorUnit, P: SoundUnit>(
+    rt: &R,
+    alloc: Global,
+    image: &Image,
+    devices: Devices<V, P, Earom, Divider>,
+    limit: u64,
+) -> Result<Ran, Fault>
+    requires { limit ≤ CLOCK_LIMIT }
+{
+    let tape = Tape::new(alloc, &[], limit)?;
+    let mut engine = Engine::new(alloc, image, &BoardState::power_on(), devices, true)?;
+    let timed = timed_running(rt, &mut engine, &tape, limit)?;
+    Ok(Ran {
+        clock: engine.clock(),
+        pc: engine.cpu().pc,
+        timed,
+    })
 }
 
 /// Runs a board from power-on, and tells the time.
@@ -275,11 +297,9 @@ fn board<R: io::Print + CpuClock, V: VectorUnit, P: SoundUnit>(
     devices: Devices<V, P, Earom, Divider>,
 ) -> Result<u64, Fault> {
     let limit = report.work(BOARD_CLOCKS, SLICE).clocks;
-    let tape = Tape::new(alloc, &[], limit)?;
-    let mut engine = Engine::new(alloc, image, &BoardState::power_on(), devices, true)?;
-    let timed = timed_running(rt, &mut engine, &tape, limit)?;
-    print_board(rt, report, name, engine.clock(), engine.cpu().pc, timed)?;
-    Ok(timed.nanos)
+    let ran = run_board(rt, alloc, image, devices, limit)?;
+    print_board(rt, report, name, ran)?;
+    Ok(ran.timed.nanos)
 }
 
 /// Compares a board of plain devices and one of fast ones that do the same.
