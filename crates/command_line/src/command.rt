@@ -302,17 +302,12 @@ fn read_profile<'a>(arguments: &'a [String], settings: Settings<'a>) -> Option<C
     Some(Command::Profile(RunWords::of(image.as_str(), tape.as_str(), settings)?))
 }
 
-/// The command of the words of a command line, without the program's name.
-pub fn read_command<'a>(words: &'a [String]) -> Option<Command<'a>>
-    ensures command { option_map command_value result ≡ command_of (map string_bytes words.now) }
+/// A command with its arguments and what its options say.
+fn build<'a>(verb: Verb, arguments: &'a [String], settings: Settings<'a>) -> Option<Command<'a>>
+    requires { AreClocks settings }
+    ensures command { option_map command_value result ≡ built verb (map string_bytes arguments.now) settings.entry }
     ensures clocks { IfSome result (λ command. HasClocks (command_value command)) }
 {
-    let [verb, words @ ..] = words else {
-        return None;
-    };
-    let verb = Verb::of(verb.as_str())?;
-    let (arguments, options) = part(words);
-    let settings = read_settings(verb, options)?;
     match verb {
         Verb::Run => read_run(arguments, settings),
         Verb::Asm => read_asm(arguments, &settings),
@@ -324,4 +319,18 @@ pub fn read_command<'a>(words: &'a [String]) -> Option<Command<'a>>
         Verb::Seek => read_seek(arguments, settings),
         Verb::Profile => read_profile(arguments, settings),
     }
+}
+
+/// The command of the words of a command line, without the program's name.
+pub fn read_command<'a>(words: &'a [String]) -> Option<Command<'a>>
+    ensures command { option_map command_value result ≡ command_of (map string_bytes words.now) }
+    ensures clocks { IfSome result (λ command. HasClocks (command_value command)) }
+{
+    let [verb, words @ ..] = words else {
+        return None;
+    };
+    let verb = Verb::of(verb.as_str())?;
+    let (arguments, options) = part(words);
+    let settings = read_settings(verb, options)?;
+    build(verb, arguments, settings)
 }

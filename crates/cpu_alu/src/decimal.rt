@@ -1,5 +1,5 @@
 ghost use Rattle.std.specs.Prelude.{◌≡◌, ◌+◌, ◌≤◌, ◌<◌, ◌%◌, pos, negsuc, ◌+ℤ◌, ◌-ℤ◌, ◌≤ℤ◌};
-ghost use Rattle.std.specs.Int.{from_bool};
+ghost use Rattle.std.specs.Int.{cast_signed, from_bool, w8};
 ghost use Rattle.cpu_alu.specs.Decimal.{
   borrowed_digit,
   carried_digit,
@@ -26,7 +26,7 @@ pub(crate) fn add_decimal(a: u8, m: u8, flags: Flags) -> (u8, Flags)
     let (binary, _) = a.carrying_add(m, flags.carry);
     let flags = Flags {
         negative: (sum / 128) % 2 == 1,
-        overflow: leaves_signed_byte(a, m, low),
+        overflow: leaves_signed_byte(sum_signed(a, m, low)),
         zero: binary == 0,
         carry: corrected >= 256,
         ..flags
@@ -49,7 +49,7 @@ fn low_difference(a: u8, m: u8, carry: bool) -> i16
     ensures least { negsuc 15 ≤ℤ result }
     ensures most { result ≤ℤ pos 15 }
 {
-    i16::from(a % 16) - i16::from(m % 16) + i16::from(carry) - 1
+    i16::from(a % 16 + u8::from(carry)) - i16::from(m % 16 + 1)
 }
 
 /// The difference of the high digits, and that of the low ones.
@@ -99,14 +99,30 @@ fn correct_sum(sum: u16) -> u16
     if sum >= 160 { sum + 96 } else { sum }
 }
 
-/// Whether the sum with both high digits taken as signed lies outside a signed byte.
-#[tactic(auto, unfolding(crate::specs::Decimal::leaves_byte, crate::specs::Decimal::signed_sum))]
-fn leaves_signed_byte(a: u8, m: u8, low: u8) -> bool
-    requires { low < 32 }
-    ensures { result ≡ leaves_byte (signed_sum a m low) }
+/// The high digit of a byte, at its place, as a signed byte counts it.
+fn signed_high(byte: u8) -> i16
+    ensures value { result ≡ cast_signed w8 (high_part byte) }
+    ensures least { negsuc 127 ≤ℤ result }
+    ensures most { result ≤ℤ pos 127 }
 {
-    let sum = i16::from(high(a).cast_signed()) + i16::from(high(m).cast_signed()) + i16::from(low);
-    sum < -128 || sum > 127
+    i16::from(high(byte).cast_signed())
+}
+
+/// The sum with both high digits taken as signed.
+#[tactic(auto, unfolding(crate::specs::Decimal::signed_sum))]
+fn sum_signed(a: u8, m: u8, low: u8) -> i16
+    requires { low < 32 }
+    ensures { result ≡ signed_sum a m low }
+{
+    signed_high(a) + signed_high(m) + i16::from(low)
+}
+
+/// Whether a number lies outside a signed byte.
+#[tactic(auto, unfolding(crate::specs::Decimal::leaves_byte))]
+fn leaves_signed_byte(number: i16) -> bool
+    ensures { result ≡ leaves_byte number }
+{
+    number < -128 || number > 127
 }
 
 /// A difference of low digits: below 0 it is corrected, and borrows from the high digit.

@@ -18,7 +18,7 @@ use std::marker::Model;
 ///
 /// A jam opcode is always an undocumented one, and a place inside a sequence one that `is_middle`
 /// accepts.
-#[derive(Debug, Drop)]
+#[derive(Drop)]
 pub struct Cpu {
     state: CpuState,
 }

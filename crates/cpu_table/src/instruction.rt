@@ -1,5 +1,5 @@
 /// The 56 operations, by their names in the MCS6500 Programming Manual.
-#[derive(Clone, Copy, Debug, PartialEq, Eq)]
+#[derive(Clone, Copy, PartialEq, Eq)]
 pub enum Op {
     /// Adds memory and the carry to A.
     Adc,
@@ -116,7 +116,7 @@ pub enum Op {
 }
 
 /// The 13 addressing modes. `IndirectX` is `(zp,X)` and `IndirectY` is `(zp),Y`.
-#[derive(Clone, Copy, Debug, PartialEq, Eq)]
+#[derive(Clone, Copy, PartialEq, Eq)]
 pub enum Mode {
     /// No operand.
     Implied,

@@ -1,12 +1,12 @@
 /// So many items from an address on.
-#[derive(Clone, Copy, Debug, PartialEq, Eq)]
+#[derive(Clone, Copy, PartialEq, Eq)]
 pub struct Span {
     pub from: u16,
     pub count: u16,
 }
 
 /// A command of a script. Addresses are the processor's.
-#[derive(Clone, Copy, Debug, PartialEq, Eq)]
+#[derive(Clone, Copy, PartialEq, Eq)]
 pub enum Command {
     /// Stops where pc is this at a boundary.
     Break(u16),

@@ -1,6 +1,6 @@
 ghost use Rattle.std.specs.Prelude.{◌≡◌, ◌≤◌};
 ghost use Rattle.plain_text.specs.Lines.{words_of};
-ghost use Rattle.debug_script.specs.Commands.{address_of, argument_command, command_of, count_up_to, is_watchable, is_word_address, plain_command, span_command, span_of};
+ghost use Rattle.debug_script.specs.Commands.{address_of, argument_command, command_of, count_up_to, is_watchable, is_word_address, plain_command, span_command, span_of, where_it};
 
 use crate::command::{Command, Span};
 use command_line::read_number;
@@ -55,6 +55,18 @@ fn is_watchable(address: u16) -> bool
     matches!(address, 0..=0x7FF | 0x2000..=0x27FF)
 }
 
+/// The address of a byte that may be watched.
+fn read_watched(word: &[u8]) -> Option<u16>
+    ensures { result ≡ where_it is_watchable (address_of word.now) }
+{
+    let address = read_address(word)?;
+    if is_watchable(address) {
+        Some(address)
+    } else {
+        None
+    }
+}
+
 /// Whether a word of the vector generator begins there.
 fn is_word_address(address: u16) -> bool
     ensures { result ≡ is_word_address address }
@@ -62,19 +74,34 @@ fn is_word_address(address: u16) -> bool
     matches!(address, 0x2000..=0x5FFF) && address % 2 == 0
 }
 
+/// So many instructions of the vector generator, from an address on at which a word begins.
+fn read_vg_span(from: &[u8], count: &[u8]) -> Option<Span>
+    ensures { result ≡ where_it (λ span. is_word_address span.from) (span_of MOST_INSTRUCTIONS from.now count.now) }
+{
+    let span = read_span(MOST_INSTRUCTIONS, from, count)?;
+    if is_word_address(span.from) {
+        Some(span)
+    } else {
+        None
+    }
+}
+
 /// A command of one word.
 fn read_plain(word: &[u8]) -> Option<Command>
     ensures { result ≡ plain_command word.now }
 {
     if word == b"stopvg".as_slice() {
-        return Some(Command::StopVg);
-    }
-    match word {
-        b"clear" => Some(Command::Clear),
-        b"go" => Some(Command::Go),
-        b"regs" => Some(Command::Regs),
-        b"dev" => Some(Command::Dev),
-        _ => None,
+        Some(Command::StopVg)
+    } else if word == b"clear".as_slice() {
+        Some(Command::Clear)
+    } else if word == b"go".as_slice() {
+        Some(Command::Go)
+    } else if word == b"regs".as_slice() {
+        Some(Command::Regs)
+    } else if word == b"dev".as_slice() {
+        Some(Command::Dev)
+    } else {
+        None
     }
 }
 
@@ -82,15 +109,16 @@ fn read_plain(word: &[u8]) -> Option<Command>
 fn read_argument(verb: &[u8], argument: &[u8]) -> Option<Command>
     ensures { result ≡ argument_command verb.now argument.now }
 {
-    match verb {
-        b"break" => Some(Command::Break(read_address(argument)?)),
-        b"watch" => match read_address(argument) {
-            Some(address) if is_watchable(address) => Some(Command::Watch(address)),
-            _ => None,
-        },
-        b"step" => Some(Command::Step(read_count(MOST_TURNS, argument)?)),
-        b"until" => Some(Command::Until(read_number(argument)?)),
-        _ => None,
+    if verb == b"break".as_slice() {
+        Some(Command::Break(read_address(argument)?))
+    } else if verb == b"watch".as_slice() {
+        Some(Command::Watch(read_watched(argument)?))
+    } else if verb == b"step".as_slice() {
+        Some(Command::Step(read_count(MOST_TURNS, argument)?))
+    } else if verb == b"until".as_slice() {
+        Some(Command::Until(read_number(argument)?))
+    } else {
+        None
     }
 }
 
@@ -98,14 +126,14 @@ fn read_argument(verb: &[u8], argument: &[u8]) -> Option<Command>
 fn read_spanned(verb: &[u8], from: &[u8], count: &[u8]) -> Option<Command>
     ensures { result ≡ span_command verb.now from.now count.now }
 {
-    match verb {
-        b"mem" => Some(Command::Mem(read_span(MOST_BYTES, from, count)?)),
-        b"dis" => Some(Command::Dis(read_span(MOST_INSTRUCTIONS, from, count)?)),
-        b"vdis" => match read_span(MOST_INSTRUCTIONS, from, count) {
-            Some(span) if is_word_address(span.from) => Some(Command::Vdis(span)),
-            _ => None,
-        },
-        _ => None,
+    if verb == b"mem".as_slice() {
+        Some(Command::Mem(read_span(MOST_BYTES, from, count)?))
+    } else if verb == b"dis".as_slice() {
+        Some(Command::Dis(read_span(MOST_INSTRUCTIONS, from, count)?))
+    } else if verb == b"vdis".as_slice() {
+        Some(Command::Vdis(read_vg_span(from, count)?))
+    } else {
+        None
     }
 }
 

@@ -7,7 +7,7 @@ use std::alloc::{AllocError, Global};
 use std::marker::Model;
 
 /// Files in the order in which they came, with memory set aside for some more.
-#[derive(Debug, Drop)]
+#[derive(Drop)]
 pub(crate) struct FileList {
     files: Vec<Stored>,
     // An empty buffer for each file that may still be kept.

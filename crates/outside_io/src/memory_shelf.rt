@@ -17,7 +17,7 @@ use std::marker::Model;
 
 /// Files that were put, and the stores that were made in order. A store takes no memory: all of it
 /// is taken in `new`.
-#[derive(Debug, Drop)]
+#[derive(Drop)]
 pub struct MemoryShelf {
     files: FileList,
     stores: FileList,

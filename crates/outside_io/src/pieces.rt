@@ -12,7 +12,7 @@ use std::io::{ErrorKind, Read, Write};
 const CHUNK: usize = 8192;
 
 /// A piece that wasn't taken whole: so many bytes of it were.
-#[derive(Clone, Copy, Debug, PartialEq, Eq)]
+#[derive(Clone, Copy)]
 pub(crate) struct Short {
     pub(crate) taken: usize,
 }

@@ -12,7 +12,7 @@ use std::alloc::Global;
 use std::marker::Model;
 
 /// Tells its files until its first store, and keeps no stores. Its count of faults is always 0.
-#[derive(Debug, Drop)]
+#[derive(Drop)]
 pub struct SteadyShelf {
     files: FileList,
     changed: bool,

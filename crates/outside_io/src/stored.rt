@@ -6,7 +6,7 @@ use std::alloc::{AllocError, Global};
 use std::marker::Model;
 
 /// A file in memory: a name and the bytes under it. Contracts see it as the pair of the two.
-#[derive(Debug, Drop)]
+#[derive(Drop)]
 pub struct Stored {
     // The name, and then the bytes.
     text: Vec<u8>,

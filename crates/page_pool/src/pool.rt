@@ -12,7 +12,7 @@ pub const PAGE_LEN: usize = 256;
 pub const POOL_LIMIT: u32 = 65536;
 
 /// The answer of a pool whose pages are all held, with their number.
-#[derive(Clone, Copy, Debug, PartialEq, Eq)]
+#[derive(Clone, Copy, PartialEq, Eq)]
 pub struct Full {
     pub capacity: u32,
 }
@@ -20,7 +20,7 @@ pub struct Full {
 /// A held page: its place in the pool that made it, which alone is to be handed it.
 ///
 /// One that is dropped without `PagePool::give` stays a holder.
-#[derive(Debug, Drop)]
+#[derive(Drop)]
 pub struct Page {
     place: u32,
 }

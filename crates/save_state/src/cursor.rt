@@ -1,3 +1,7 @@
+ghost use Rattle.std.specs.Prelude.{◌≡◌, ◌≤◌, ◌&&◌, neg_ℤ, pos, true};
+ghost use Rattle.std.specs.Int.Signed.{le_z};
+ghost use Rattle.board_base.specs.Ranges.{IsWithin};
+
 use crate::STATE_LEN;
 use cpu_table::entry;
 use std::marker::Model;
@@ -19,6 +23,16 @@ impl<'a> Model for Cursor<'a> {
     ghost view = { λ c. c.rest.now };
 
     ghost invariant = { λ c. length c.rest.now ≤ STATE_LEN };
+}
+
+/// Whether a number is no further than `greatest` from 0.
+fn is_within(number: i32, greatest: u32) -> bool
+    requires { greatest ≤ 1073741824 }
+    ensures test { result ≡ (le_z (neg_ℤ (pos greatest)) number && le_z number (pos greatest)) }
+    ensures within { result ≡ true → IsWithin greatest number }
+{
+    let limit = greatest as i32;
+    -limit <= number && number <= limit
 }
 
 impl<'a> Cursor<'a> {
@@ -274,8 +288,7 @@ impl<'a> Cursor<'a> {
     {
         let at = self.offset();
         let number = i32::from_le_bytes(self.read_array());
-        let limit = greatest as i32;
-        if number < -limit || number > limit {
+        if !is_within(number, greatest) {
             return Err(at);
         }
         Ok(number)
