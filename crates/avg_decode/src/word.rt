@@ -1,6 +1,6 @@
 /// A word of the vector generator. Distances are signed, and those of `Svec` are even; `to` counts
 /// words. The `dx` and the `z` of a `Vctr` are in the word after it.
-#[derive(Clone, Copy)]
+#[derive(Clone, Copy, PartialEq, Eq)]
 pub enum VgWord {
     /// Draws a long vector.
     Vctr { dy: i16 },

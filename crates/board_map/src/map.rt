@@ -3,7 +3,7 @@
 /// `Ram`, `VectorRam`, `VectorRom` and `ProgramRom` have the offset in the region, `Sound1` and
 /// `Sound2` the POKEY's register 0 to 15, `EaromLatch` the cell 0 to 63. `In4` is read as the port
 /// and written as the output latch.
-#[derive(Clone, Copy)]
+#[derive(Clone, Copy, PartialEq, Eq)]
 pub enum Region {
     /// The RAM.
     Ram(u16),

@@ -3,7 +3,7 @@ ghost use Rattle.std.specs.Prelude.{◌≡◌, ◌+◌, ◌*◌, ◌%◌, ◌/�
 use bit_words::is_set;
 
 /// The six flags of the processor, as a status byte holds them.
-#[derive(Clone, Copy)]
+#[derive(Clone, Copy, PartialEq, Eq)]
 pub struct Flags {
     pub negative: bool,
     pub overflow: bool,

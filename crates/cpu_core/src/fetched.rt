@@ -2,7 +2,7 @@
 ///
 /// `Jammed` holds the undocumented opcode that stopped the processor (this project's own profile;
 /// the MCS6500 Programming Manual leaves such opcodes open).
-#[derive(Clone, Copy)]
+#[derive(Clone, Copy, PartialEq, Eq)]
 pub enum Fetched {
     /// It was done.
     Done,

@@ -6,7 +6,7 @@ use std::marker::Model;
 
 /// What comes next in a sequence: the address of a read, the address and the byte of a write, or the
 /// processor after its end.
-#[derive(Clone, Copy)]
+#[derive(Clone, Copy, PartialEq, Eq)]
 pub enum Next {
     /// A read of an address.
     Read(u16),
