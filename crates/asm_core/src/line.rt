@@ -1,11 +1,12 @@
-ghost use Rattle.std.specs.Prelude.{◌≡◌, ◌≤◌, IfOk, IfSome, OnOk, ok_or};
+ghost use Rattle.std.specs.Prelude.{◌≡◌, ◌≤◌, IfOk, IfSome, OnOk, drop, ok_or};
+ghost use Rattle.std.specs.Option.{option_map};
 ghost use Rattle.asm_core.specs.Cells.{IsCell, IsFieldPlace};
 ghost use Rattle.asm_core.specs.Forms.{AreCells, IsBody};
-ghost use Rattle.asm_core.specs.Lines.{body_of, body_of_form, cells_of, equals_of, label_of, line_of_words, named_body_of, value_cell};
+ghost use Rattle.asm_core.specs.Lines.{after_label, body_of, body_of_form, cells_of, equals_of, label_of, line_of_words, named_body_of, value_cell};
 ghost use Rattle.asm_core.specs.Words.{items_of};
 
 use crate::{
-    Cell, Dialect, Expression, Field, Form, Name, Names, Place, Row, WORD, Word, begins_with,
+    Cell, Dialect, Expression, Field, Form, Name, Names, Place, Row, WORD, Word, Words, behind_mark,
     is_plain, read_expression, split_item,
 };
 use board_base::OutOfMemory;
@@ -60,7 +61,7 @@ pub fn value_cell<'a>(
 /// A cell of so many bytes for each expression of a list that commas part.
 pub fn read_list<'a>(
     alloc: Global,
-    words: &[Word<'a>],
+    words: &Words<'a>,
     place: Place,
     size: u8,
 ) -> Result<Option<Row<Cell<'a>>>, OutOfMemory>
@@ -71,10 +72,10 @@ pub fn read_list<'a>(
     ensures cells { IfOk result (λ read. IfSome read AreCells) }
 {
     let mut cells = Row::new(alloc);
-    let mut list = Some(words);
+    let mut list = Some(words.copied());
     'items: while let Some(rest) = list {
-        let (item, after) = split_item(rest);
-        let Some(expression) = read_expression(alloc, item)? else {
+        let (item, after) = split_item(&rest);
+        let Some(expression) = read_expression(alloc, &item)? else {
             return Ok(None);
         };
         let cell = value_cell(alloc, place, size, expression)?;
@@ -84,13 +85,23 @@ pub fn read_list<'a>(
     Ok(Some(cells))
 }
 
-/// The label of a line.
-fn read_label<'a>(words: &[Word<'a>]) -> Option<Name<'a>>
-    ensures { result ≡ label_of words.now }
+/// The label of a line, and what stands behind it.
+fn read_label<'a>(words: &Words<'a>) -> Option<(Name<'a>, Words<'a>)>
+    ensures { result ≡ option_map (λ name. (name, drop 2 words.now)) (label_of words.now) }
 {
-    match words {
-        [first, second, ..] if second.is_mark(b':') => first.plain_name(),
-        _ => None,
+    let (first, rest) = words.split_first()?;
+    let behind = behind_mark(&rest, b':')?;
+    Some((first.plain_name()?, behind))
+}
+
+/// The label of a line, which may be missing, and its statement.
+fn split_label<'a>(words: &Words<'a>) -> (Option<Name<'a>>, Words<'a>)
+    ensures label { result.0 ≡ label_of words.now }
+    ensures statement { result.1 ≡ after_label words.now }
+{
+    match read_label(words) {
+        Some((name, statement)) => (Some(name), statement),
+        None => (None, words.copied()),
     }
 }
 
@@ -98,15 +109,18 @@ fn read_label<'a>(words: &[Word<'a>]) -> Option<Name<'a>>
 fn read_equals<'a>(
     alloc: Global,
     name: &Name<'a>,
-    rest: &[Word<'a>],
+    rest: &Words<'a>,
 ) -> Result<Option<Body<'a>>, OutOfMemory>
     ensures body { IfOk result (λ read. read ≡ equals_of name.now rest.now) }
     ensures cells { IfOk result (λ read. IfSome read IsBody) }
 {
-    if !begins_with(rest, b'=') || !is_plain(name.bytes()) {
+    let Some(given) = behind_mark(rest, b'=') else {
+        return Ok(None);
+    };
+    if !is_plain(name.bytes()) {
         return Ok(None);
     }
-    match read_expression(alloc, &rest[1..])? {
+    match read_expression(alloc, &given)? {
         Some(expression) => Ok(Some(Body::Equals(Name::new(name.bytes()), expression))),
         None => Ok(None),
     }
@@ -118,7 +132,7 @@ fn read_named<'a, D: Dialect>(
     alloc: Global,
     dialect: &D,
     name: &Name<'a>,
-    rest: &[Word<'a>],
+    rest: &Words<'a>,
     names: &Names<'a>,
     at: u32,
 ) -> Result<Option<Body<'a>>, OutOfMemory>
@@ -149,7 +163,7 @@ fn read_named<'a, D: Dialect>(
 fn read_body<'a, D: Dialect>(
     alloc: Global,
     dialect: &D,
-    words: &[Word<'a>],
+    words: &Words<'a>,
     names: &Names<'a>,
     at: u32,
 ) -> Result<Option<Body<'a>>, OutOfMemory>
@@ -157,11 +171,11 @@ fn read_body<'a, D: Dialect>(
     ensures body { IfOk result (λ read. read ≡ body_of (D.language names.now at) words.now) }
     ensures cells { IfOk result (λ read. IfSome read IsBody) }
 {
-    let [first, rest @ ..] = words else {
+    let Some((first, rest)) = words.split_first() else {
         return Ok(Some(Body::Nothing));
     };
-    match first {
-        Word::Name(name) => read_named(alloc, dialect, name, rest, names, at),
+    match &first {
+        Word::Name(name) => read_named(alloc, dialect, name, &rest, names, at),
         _ => Ok(None),
     }
 }
@@ -170,7 +184,7 @@ fn read_body<'a, D: Dialect>(
 pub(crate) fn read_line<'a, D: Dialect>(
     alloc: Global,
     dialect: &D,
-    words: &[Word<'a>],
+    words: &Words<'a>,
     names: &Names<'a>,
     at: u32,
 ) -> Result<Option<Line<'a>>, OutOfMemory>
@@ -178,9 +192,8 @@ pub(crate) fn read_line<'a, D: Dialect>(
     ensures line { IfOk result (λ read. read ≡ line_of_words (D.language names.now at) words.now) }
     ensures cells { IfOk result (λ read. IfSome read (λ line. IsBody line.body)) }
 {
-    let label = read_label(words);
-    let statement = if label.is_some() { &words[2..] } else { words };
-    match read_body(alloc, dialect, statement, names, at)? {
+    let (label, statement) = split_label(words);
+    match read_body(alloc, dialect, &statement, names, at)? {
         Some(body) => Ok(Some(Line { label, body })),
         None => Ok(None),
     }
