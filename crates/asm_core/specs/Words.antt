@@ -32,6 +32,11 @@ word_by first piece = if is_number_byte first then word.Number (unwrap_or (numbe
 abbrev pub is_blank_byte : ℕ → Bool
 is_blank_byte byte = is_one_of (32 ∷ 9 ∷ 10 ∷ 13 ∷ []) byte
 
+-- code begins with a blank
+abbrev pub begins_blank : List ℕ → Bool
+begins_blank [] = false
+begins_blank (first ∷ code) = is_blank_byte first
+
 -- the word that a piece of a line is, where it is no blank
 abbrev pub piece_word : List ℕ → Option Word
 piece_word [] = None

@@ -1,15 +1,12 @@
-ghost use Rattle.std.specs.Prelude.{◌≡◌, ◌+◌, ◌^◌, ◌<◌, ◌≤◌, IfErr, IfOk, OnOk, length};
-ghost use Rattle.std.specs.List.{All};
+ghost use Rattle.std.specs.Prelude.{◌≡◌, ◌≢◌, ◌+◌, ◌^◌, ◌<◌, ◌≤◌, Err, IfErr, IfOk, OnOk, length};
 ghost use Rattle.asm_text.specs.Answers.{Answers};
 ghost use Rattle.asm_text.specs.Lines.{lines_with_ends};
 ghost use Rattle.asm_text.specs.declared.fault.AsmFault.TheVariants.{OutOfMemory};
 ghost use Rattle.asm_text.specs.declared.scan.TheConstants.{TEXT_LIMIT};
-ghost use Rattle.asm_text.specs.Spans.{EndsBy};
-ghost use Rattle.asm_text.specs.Tokens.{line_tokens};
 ghost use Rattle.asm_core.specs.FirstRound.{IsRom, IsRound, known_of};
 ghost use Rattle.asm_core.specs.Forms.{IsBody};
 ghost use Rattle.asm_core.specs.Images.{assembled, at_the_start, given_by};
-ghost use Rattle.asm_core.specs.Rounds.{first_round, line_read, text_looked_at};
+ghost use Rattle.asm_core.specs.Rounds.{first_round, line_read, text_looked_at, words_read};
 
 use crate::first_round::{FirstRound, at_line, look_at};
 use crate::line::read_line;
@@ -22,7 +19,6 @@ use std::alloc::Global;
 /// The words of a line, where all its pieces are tokens or blanks.
 fn read_words<'a>(text: &'a [u8], number: u32) -> Result<Words<'a>, AsmFault>
     ensures words { Answers (λ words. words) result (words_read number text.now) }
-    ensures memory { result ≢ Err OutOfMemory }
 {
     let code = code_of(text);
     let mut rest = code;

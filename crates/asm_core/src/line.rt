@@ -1,8 +1,8 @@
-ghost use Rattle.std.specs.Prelude.{◌≡◌, ◌≤◌, IfOk, IfSome, OnOk, drop, ok_or};
+ghost use Rattle.std.specs.Prelude.{◌≡◌, ◌≤◌, ◌∷◌, IfOk, IfSome, OnOk, drop, ok_or};
 ghost use Rattle.std.specs.Option.{option_map};
 ghost use Rattle.asm_core.specs.Cells.{IsCell, IsFieldPlace};
 ghost use Rattle.asm_core.specs.Forms.{AreCells, IsBody};
-ghost use Rattle.asm_core.specs.Lines.{after_label, body_of, body_of_form, cells_of, equals_of, label_of, line_of_words, named_body_of, value_cell};
+ghost use Rattle.asm_core.specs.Lines.{body_of, body_of_form, cells_of, equals_of, label_of, line_of_words, named_body_of, value_cell};
 ghost use Rattle.asm_core.specs.Words.{items_of};
 
 use crate::{
@@ -85,24 +85,12 @@ pub fn read_list<'a>(
     Ok(Some(cells))
 }
 
-/// The label of a line, and what stands behind it.
-fn read_label<'a>(words: &Words<'a>) -> Option<(Name<'a>, Words<'a>)>
-    ensures { result ≡ option_map (λ name. (name, drop 2 words.now)) (label_of words.now) }
+/// The label that begins with a line's first word, and what stands behind it.
+fn read_label<'a>(first: &Word<'a>, rest: &Words<'a>) -> Option<(Name<'a>, Words<'a>)>
+    ensures { result ≡ option_map (λ name. (name, drop 2 (first.now ∷ rest.now))) (label_of (first.now ∷ rest.now)) }
 {
-    let (first, rest) = words.split_first()?;
-    let behind = behind_mark(&rest, b':')?;
+    let behind = behind_mark(rest, b':')?;
     Some((first.plain_name()?, behind))
-}
-
-/// The label of a line, which may be missing, and its statement.
-fn split_label<'a>(words: &Words<'a>) -> (Option<Name<'a>>, Words<'a>)
-    ensures label { result.0 ≡ label_of words.now }
-    ensures statement { result.1 ≡ after_label words.now }
-{
-    match read_label(words) {
-        Some((name, statement)) => (Some(name), statement),
-        None => (None, words.copied()),
-    }
 }
 
 /// A name that is given a value.
@@ -159,7 +147,26 @@ fn read_named<'a, D: Dialect>(
     }
 }
 
-/// A statement.
+/// A statement that has this word first.
+fn read_statement<'a, D: Dialect>(
+    alloc: Global,
+    dialect: &D,
+    first: &Word<'a>,
+    rest: &Words<'a>,
+    names: &Names<'a>,
+    at: u32,
+) -> Result<Option<Body<'a>>, OutOfMemory>
+    requires at { at ≤ 65536 }
+    ensures body { IfOk result (λ read. read ≡ body_of (D.language names.now at) (first.now ∷ rest.now)) }
+    ensures cells { IfOk result (λ read. IfSome read IsBody) }
+{
+    match first {
+        Word::Name(name) => read_named(alloc, dialect, name, rest, names, at),
+        _ => Ok(None),
+    }
+}
+
+/// A statement, which may be missing.
 fn read_body<'a, D: Dialect>(
     alloc: Global,
     dialect: &D,
@@ -171,12 +178,43 @@ fn read_body<'a, D: Dialect>(
     ensures body { IfOk result (λ read. read ≡ body_of (D.language names.now at) words.now) }
     ensures cells { IfOk result (λ read. IfSome read IsBody) }
 {
-    let Some((first, rest)) = words.split_first() else {
-        return Ok(Some(Body::Nothing));
-    };
-    match &first {
-        Word::Name(name) => read_named(alloc, dialect, name, &rest, names, at),
-        _ => Ok(None),
+    match words.split_first() {
+        Some((first, rest)) => read_statement(alloc, dialect, &first, &rest, names, at),
+        None => Ok(Some(Body::Nothing)),
+    }
+}
+
+/// The line with this label and this body, where there is a body.
+fn with_label<'a>(label: Option<Name<'a>>, body: Option<Body<'a>>) -> Option<Line<'a>>
+    requires { IfSome body IsBody }
+    ensures line { result ≡ option_map (λ body. record { label = label.entry; body = body }) body.entry }
+    ensures body { IfSome result (λ line. IsBody line.body) }
+{
+    Some(Line { label, body: body? })
+}
+
+/// The line that begins with this word.
+fn read_from<'a, D: Dialect>(
+    alloc: Global,
+    dialect: &D,
+    first: &Word<'a>,
+    rest: &Words<'a>,
+    names: &Names<'a>,
+    at: u32,
+) -> Result<Option<Line<'a>>, OutOfMemory>
+    requires at { at ≤ 65536 }
+    ensures line { IfOk result (λ read. read ≡ line_of_words (D.language names.now at) (first.now ∷ rest.now)) }
+    ensures cells { IfOk result (λ read. IfSome read (λ line. IsBody line.body)) }
+{
+    match read_label(first, rest) {
+        Some((name, statement)) => {
+            let body = read_body(alloc, dialect, &statement, names, at)?;
+            Ok(with_label(Some(name), body))
+        }
+        None => {
+            let body = read_statement(alloc, dialect, first, rest, names, at)?;
+            Ok(with_label(None, body))
+        }
     }
 }
 
@@ -192,9 +230,8 @@ pub(crate) fn read_line<'a, D: Dialect>(
     ensures line { IfOk result (λ read. read ≡ line_of_words (D.language names.now at) words.now) }
     ensures cells { IfOk result (λ read. IfSome read (λ line. IsBody line.body)) }
 {
-    let (label, statement) = split_label(words);
-    match read_body(alloc, dialect, &statement, names, at)? {
-        Some(body) => Ok(Some(Line { label, body })),
-        None => Ok(None),
+    match words.split_first() {
+        Some((first, rest)) => read_from(alloc, dialect, &first, &rest, names, at),
+        None => Ok(with_label(None, Some(Body::Nothing))),
     }
 }

@@ -1,7 +1,7 @@
-ghost use Rattle.std.specs.Prelude.{◌≡◌, ◌==◌, ◌+◌, ◌<◌, ◌∷◌, ◌++◌, [], true, length, drop, Some, None, IfSome, if◌then◌else◌};
-ghost use Rattle.std.specs.List.{position};
+ghost use Rattle.std.specs.Prelude.{◌≡◌, ◌==◌, ◌+◌, ◌<◌, ◌∷◌, [], true, false, not, length, drop, slice_index_or, Some, None, IfNone, IfSome, if◌then◌else◌};
+ghost use Rattle.std.specs.List.{list_all, position};
 ghost use Rattle.std.specs.Option.{option_map_or};
-ghost use Rattle.asm_core.specs.Words.{HasOther, IsLone, before_mark, begins_with, items_of, words_in};
+ghost use Rattle.asm_core.specs.Words.{before_close, begins_blank, begins_with, is_blank_byte, items_of, words_in};
 
 use crate::Word;
 use crate::word::{is_mark_byte, read_word};
@@ -13,6 +13,21 @@ fn is_blank_byte(byte: u8) -> bool
     ensures { result ≡ is_blank_byte byte }
 {
     matches!(byte, b' ' | b'\t' | b'\n' | b'\r')
+}
+
+/// The code behind the blanks at its front.
+fn behind_blanks(code: &[u8]) -> &[u8]
+    ensures words { words_in result.now ≡ words_in code.now }
+    ensures front { begins_blank result.now ≡ false }
+{
+    let mut rest = code;
+    'blanks: while let [first, after @ ..] = rest {
+        if !is_blank_byte(*first) {
+            return rest;
+        }
+        rest = after;
+    }
+    rest
 }
 
 /// The words of a part of a line. They are read from its text as they are wanted, and take no memory.
@@ -54,15 +69,10 @@ impl<'a> Words<'a> {
     pub fn split_first(&self) -> Option<(Word<'a>, Words<'a>)>
         ensures { self.now ≡ option_map_or (λ split. split.0 ∷ split.1) result [] }
     {
-        let mut rest = self.code;
-        'pieces: while !rest.is_empty() {
-            let (piece, after) = split_piece(rest);
-            if !is_blank_byte(piece[0]) {
-                return Some((read_word(piece[0], piece), Words::new(after)));
-            }
-            rest = after;
-        }
-        None
+        let code = behind_blanks(self.code);
+        let first = *code.first()?;
+        let (piece, after) = split_piece(code);
+        Some((read_word(first, piece), Words::new(after)))
     }
 
     /// Whether there is no word.
@@ -71,20 +81,6 @@ impl<'a> Words<'a> {
     {
         self.split_first().is_none()
     }
-}
-
-/// The code behind the blanks at its front.
-fn behind_blanks(code: &[u8]) -> &[u8]
-    ensures { words_in result.now ≡ words_in code.now }
-{
-    let mut rest = code;
-    'blanks: while let [first, after @ ..] = rest {
-        if !is_blank_byte(*first) {
-            return rest;
-        }
-        rest = after;
-    }
-    rest
 }
 
 /// Whether the first of these words is this punctuation mark.
@@ -117,7 +113,7 @@ fn find_first(code: &[u8], mark: u8) -> Option<usize>
 /// The place of the last such byte.
 fn find_last(code: &[u8], mark: u8) -> Option<usize>
     ensures none { IfNone result (list_all (λ byte. not (byte == mark)) code.now ≡ true) }
-    ensures some { IfSome result (λ place. (place < length code.now) × (get_or code.now place 0 ≡ mark) × (list_all (λ byte. not (byte == mark)) (drop (place + 1) code.now) ≡ true)) }
+    ensures some { IfSome result (λ place. (place < length code.now) × (slice_index_or code.now place 0 ≡ mark) × (list_all (λ byte. not (byte == mark)) (drop (place + 1) code.now) ≡ true)) }
 {
     let mut end = code.len();
     'bytes: while end > 0 {
