@@ -11,13 +11,13 @@ use Rattle.asm_text.specs.declared.token.Kind.TheVariants.{Name, Number, Punctua
 use Rattle.asm_text.specs.declared.token.Token.{Token}
 use Rattle.asm_text.specs.Lines.{code_of}
 use Rattle.asm_text.specs.Numbers.{number_of}
-use Rattle.asm_text.specs.Pieces.{is_blank, is_dotted_name, is_mark, is_name, is_number_start, kind_of, pieces_of}
+use Rattle.asm_text.specs.Pieces.{is_blank, is_dotted_name, is_mark, is_name, is_number_start, kind_of, pieces_of, takes_word}
 use Rattle.asm_text.specs.Tokens.{onto, piece_tokens, with_token}
 use Rattle.asm_text.proofs.Parting.{bool_cases}
 use Rattle.asm_text.proofs.Standing.{concat-pieces, part_after, part_slice}
 use Rattle.asm_core.specs.declared.word.Word.{Word}
 use Rattle.asm_core.specs.Rounds.{then_on, words_read}
-use Rattle.asm_core.specs.Words.{goes_on, is_blank_byte, is_number_byte, piece_word, said, word_by, words_in, words_of}
+use Rattle.asm_core.specs.Words.{is_blank_byte, is_number_byte, piece_word, said, word_by, words_in, words_of}
 
 -- an answer, or the fault of a piece before it
 told : {X : Type 0} → ℕ → Result (Option Kind) AsmCause → Result X AsmFault → Result X AsmFault
@@ -88,7 +88,7 @@ no_word (byte ∷ piece) is = kind_told (byte ∷ piece) (Ok None) (piece_word (
 record Begins (byte : ℕ) (number on : Bool) : Type 0 where
   solid : is_blank_byte byte ≡ false
   number : is_number_byte byte ≡ number
-  on : goes_on byte ≡ on
+  on : takes_word byte ≡ on
 
 mark_byte : (byte : ℕ) (piece : List ℕ) → is_mark (byte ∷ piece) ≡ true → Begins byte false false
 mark_byte byte [] mark = record { solid = grind (arith, nat_tests); number = grind (arith, nat_tests); on = grind (arith, nat_tests) }

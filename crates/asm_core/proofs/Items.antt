@@ -98,3 +98,7 @@ pub close-before : (code : List ℕ) (n : ℕ) → n < length code → get_or co
     → 0 < length (words_in (drop (n + 1) code)) → before_close (words_in code) ≡ None
 close-before code n inside is none some =
     ap before_close (words-close code n inside is) ∙ close-other (words_in (take n code)) (words_in (drop (n + 1) code)) (words-without 41 (drop (n + 1) code) none) some
+
+pub ruleset commas = (items-comma, items-none, words-fewer)
+
+pub ruleset closes = (close-none, close-end, close-before)

@@ -6,11 +6,11 @@ use Rattle.std.proofs.lemmas.Bool.{cond_both, eqb-true}
 use Rattle.std.proofs.lemmas.List.{take-append-drop}
 use Rattle.std.proofs.lemmas.Bool.Decides.{nat_tests}
 use Rattle.std.proofs.lemmas.List.Elements.{filter_map-append}
-use Rattle.asm_text.specs.Pieces.{joins, pieces_of}
+use Rattle.asm_text.specs.Pieces.{joins, pieces_of, takes_word}
 use Rattle.asm_text.proofs.Parting.{bool_cases}
 use Rattle.asm_core.specs.declared.word.Word.{Word}
 use Rattle.asm_core.specs.declared.word.Word.TheVariants as word
-use Rattle.asm_core.specs.Words.{begins_with, goes_on, is_blank_byte, is_mark, is_number_byte, piece_word, word_by, words_in}
+use Rattle.asm_core.specs.Words.{begins_with, is_blank_byte, is_mark, is_number_byte, piece_word, word_by, words_in}
 
 -- code has a first piece, which begins with its first byte
 pub first_piece : (byte : ℕ) (code : List ℕ) → (piece : List ℕ) × (pieces : List (List ℕ)) × (pieces_of (byte ∷ code) ≡ (byte ∷ piece) ∷ pieces)
@@ -50,24 +50,24 @@ unfolding words_in
 words-none = refl
 
 -- a mark stands alone in its piece
-lone_joins : (mark next : ℕ) → goes_on mark ≡ false → is_blank_byte mark ≡ false → joins mark next ≡ false
+lone_joins : (mark next : ℕ) → takes_word mark ≡ false → is_blank_byte mark ≡ false → joins mark next ≡ false
 unfolding joins
 lone_joins mark next lone solid = grind (arith, nat_tests)
 
-joins_lone : (byte mark : ℕ) → goes_on mark ≡ false → is_blank_byte mark ≡ false → joins byte mark ≡ false
+joins_lone : (byte mark : ℕ) → takes_word mark ≡ false → is_blank_byte mark ≡ false → joins byte mark ≡ false
 unfolding joins
 joins_lone byte mark lone solid = grind (arith, nat_tests)
 
-no_number : (byte : ℕ) → goes_on byte ≡ false → is_number_byte byte ≡ false
+no_number : (byte : ℕ) → takes_word byte ≡ false → is_number_byte byte ≡ false
 no_number byte lone = grind (arith, nat_tests)
 
-pieces-lone : (mark : ℕ) (code : List ℕ) → goes_on mark ≡ false → is_blank_byte mark ≡ false → pieces_of (mark ∷ code) ≡ (mark ∷ []) ∷ pieces_of code
+pieces-lone : (mark : ℕ) (code : List ℕ) → takes_word mark ≡ false → is_blank_byte mark ≡ false → pieces_of (mark ∷ code) ≡ (mark ∷ []) ∷ pieces_of code
 unfolding pieces_of
 pieces-lone mark [] lone solid = refl
 pieces-lone mark (next ∷ code) lone solid = rw (lone_joins mark next lone solid) refl
 
 -- a mark at the front
-pub words-mark : (mark : ℕ) (code : List ℕ) → goes_on mark ≡ false → is_blank_byte mark ≡ false → words_in (mark ∷ code) ≡ word.Mark mark ∷ words_in code
+pub words-mark : (mark : ℕ) (code : List ℕ) → takes_word mark ≡ false → is_blank_byte mark ≡ false → words_in (mark ∷ code) ≡ word.Mark mark ∷ words_in code
 unfolding words_in
 words-mark mark code lone solid = rw (pieces-lone mark code lone solid, solid, no_number mark lone, lone) refl
 
@@ -82,8 +82,8 @@ words-first first code after piece solid parted =
     rw (parted, is, solid) refl
 
 -- a word is a mark exactly where its first byte is
-mark_told : (mark first : ℕ) (piece : List ℕ) → is_mark mark (word_by first piece) ≡ (eqb first mark && not (goes_on first))
-mark_told mark first piece = elim (bool_cases (goes_on first)) [
+mark_told : (mark first : ℕ) (piece : List ℕ) → is_mark mark (word_by first piece) ≡ (eqb first mark && not (takes_word first))
+mark_told mark first piece = elim (bool_cases (takes_word first)) [
   | inl on ↦ elim (bool_cases (is_number_byte first)) [
     | inl number ↦ elim (bool_cases (eqb first mark)) [
       | inl same ↦ rw (on, number, same) refl
@@ -103,14 +103,14 @@ mark_told mark first piece = elim (bool_cases (goes_on first)) [
 ]
 
 -- the first word is a mark exactly where the first byte is
-pub words-begin : (mark first : ℕ) (code : List ℕ) → is_blank_byte first ≡ false → begins_with mark (words_in (first ∷ code)) ≡ (eqb first mark && not (goes_on first))
+pub words-begin : (mark first : ℕ) (code : List ℕ) → is_blank_byte first ≡ false → begins_with mark (words_in (first ∷ code)) ≡ (eqb first mark && not (takes_word first))
 unfolding words_in
 words-begin mark first code solid =
     let here = first_piece first code in
     rw (here.2, solid) (mark_told mark first (first ∷ here.0))
 
 -- a mark parts the pieces before it from those behind it
-pieces-parted : (mark : ℕ) (front back : List ℕ) → goes_on mark ≡ false → is_blank_byte mark ≡ false
+pieces-parted : (mark : ℕ) (front back : List ℕ) → takes_word mark ≡ false → is_blank_byte mark ≡ false
     → pieces_of (front ++ mark ∷ back) ≡ pieces_of front ++ (mark ∷ []) ∷ pieces_of back
 unfolding pieces_of
 pieces-parted mark [] back lone solid = pieces-lone mark back lone solid
@@ -124,7 +124,7 @@ pieces-parted mark (byte ∷ next ∷ front) back lone solid =
     ]
 
 -- a mark parts the words before it from those behind it
-pub words-parted : (mark : ℕ) (front back : List ℕ) → goes_on mark ≡ false → is_blank_byte mark ≡ false
+pub words-parted : (mark : ℕ) (front back : List ℕ) → takes_word mark ≡ false → is_blank_byte mark ≡ false
     → words_in (front ++ mark ∷ back) ≡ words_in front ++ word.Mark mark ∷ words_in back
 unfolding words_in
 words-parted mark front back lone solid =
@@ -219,3 +219,5 @@ parted-none mark (byte ∷ code) none = elim (bool_cases (eqb byte mark)) [
 pub parted-at : (mark : ℕ) (code : List ℕ) (n : ℕ) → n < length code → get_or code n 0 ≡ mark → code ≡ take n code ++ mark ∷ drop (n + 1) code
 parted-at mark code n inside is =
     sym (take-append-drop n code) ∙ ap (λ rest. take n code ++ rest) (let next : n + 1 ≡ Prim.Native.Nat.suc n = add-one n in rw (next, ← is) (drop-cons code n 0 inside))
+
+pub ruleset words = (words-blank, words-none, words-mark, words-first, words-begin)

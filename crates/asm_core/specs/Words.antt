@@ -6,7 +6,7 @@ use Rattle.asm_text.specs.declared.token.Kind.{Kind}
 use Rattle.asm_text.specs.declared.token.Kind.TheVariants as kind
 use Rattle.asm_text.specs.declared.token.Token.{Token}
 use Rattle.asm_text.specs.Numbers.{number_of}
-use Rattle.asm_text.specs.Pieces.{is_one_of, is_register, is_word_byte, pieces_of}
+use Rattle.asm_text.specs.Pieces.{is_one_of, is_register, pieces_of, takes_word}
 use Rattle.asm_core.specs.declared.word.Word.{Word}
 use Rattle.asm_core.specs.declared.word.Word.TheVariants as word
 
@@ -16,17 +16,13 @@ said kind.Name bytes = word.Name bytes
 said kind.Number bytes = word.Number (unwrap_or (number_of bytes) 0)
 said kind.Punctuation bytes = word.Mark (slice_index_or bytes 0 0)
 
--- a name or a number may go on behind this byte
-abbrev pub goes_on : ℕ → Bool
-goes_on byte = is_word_byte byte || is_one_of (codes "$%.") byte
-
 -- a number begins with this byte
 abbrev pub is_number_byte : ℕ → Bool
 is_number_byte byte = is_ascii_digit byte || is_one_of (codes "$%") byte
 
 -- the word that a token is, of which this is the first byte
 abbrev pub word_by : ℕ → List ℕ → Word
-word_by first piece = if is_number_byte first then word.Number (unwrap_or (number_of piece) 0) else (if goes_on first then word.Name piece else word.Mark first)
+word_by first piece = if is_number_byte first then word.Number (unwrap_or (number_of piece) 0) else (if takes_word first then word.Name piece else word.Mark first)
 
 -- a blank begins with this byte
 abbrev pub is_blank_byte : ℕ → Bool

@@ -16,6 +16,7 @@ fn is_blank_byte(byte: u8) -> bool
 }
 
 /// The code behind the blanks at its front.
+#[tactic(auto, using(crate::proofs::WordPieces::words))]
 fn behind_blanks(code: &[u8]) -> &[u8]
     ensures words { words_in result.now ≡ words_in code.now }
     ensures front { begins_blank result.now ≡ false }
@@ -66,6 +67,7 @@ impl<'a> Words<'a> {
     }
 
     /// The first word and those behind it.
+    #[tactic(auto, using(crate::proofs::WordPieces::words))]
     pub fn split_first(&self) -> Option<(Word<'a>, Words<'a>)>
         ensures { self.now ≡ option_map_or (λ split. split.0 ∷ split.1) result [] }
     {
@@ -84,6 +86,7 @@ impl<'a> Words<'a> {
 }
 
 /// Whether the first of these words is this punctuation mark.
+#[tactic(auto, using(crate::proofs::WordPieces::words))]
 pub fn begins_with(words: &Words, mark: u8) -> bool
     ensures { result ≡ begins_with mark words.now }
 {
@@ -94,6 +97,7 @@ pub fn begins_with(words: &Words, mark: u8) -> bool
 }
 
 /// The words behind the first, where that is this punctuation mark.
+#[tactic(auto, using(crate::proofs::WordPieces::words))]
 pub fn behind_mark<'a>(words: &Words<'a>, mark: u8) -> Option<Words<'a>>
     ensures { result ≡ (if begins_with mark words.now then Some (drop 1 words.now) else None) }
 {
@@ -126,6 +130,7 @@ fn find_last(code: &[u8], mark: u8) -> Option<usize>
 }
 
 /// The first item of a list and, where a comma ends it, what stands behind that.
+#[tactic(auto, using(crate::proofs::Items::commas))]
 pub fn split_item<'a>(words: &Words<'a>) -> (Words<'a>, Option<Words<'a>>)
     ensures items { items_of words.now ≡ result.0 ∷ option_map_or (λ rest. items_of rest) result.1 [] }
     ensures shorter { IfSome result.1 (λ rest. length rest < length words.now) }
@@ -140,6 +145,7 @@ pub fn split_item<'a>(words: &Words<'a>) -> (Words<'a>, Option<Words<'a>>)
 }
 
 /// The words before the last, where that is `)`.
+#[tactic(auto, using(crate::proofs::Items::closes))]
 pub fn before_close<'a>(words: &Words<'a>) -> Option<Words<'a>>
     ensures { result ≡ before_close words.now }
 {

@@ -1,8 +1,9 @@
 ghost use Rattle.std.specs.Prelude.{◌≡◌, ◌==◌, ◌&&◌, not};
-ghost use Rattle.asm_core.specs.Words.{goes_on, is_number_byte, is_plain, word_by};
+ghost use Rattle.asm_text.specs.Pieces.{takes_word};
+ghost use Rattle.asm_core.specs.Words.{is_number_byte, is_plain, word_by};
 
 use crate::Name;
-use asm_text::{is_register, number};
+use asm_text::{is_register, number, takes_word};
 
 /// A token with what it says. A name is with the dot that may stand before it.
 #[derive(Drop)]
@@ -40,13 +41,6 @@ impl<'a> Word<'a> {
     }
 }
 
-/// Whether a word goes on behind this byte.
-fn goes_on(byte: u8) -> bool
-    ensures { result ≡ goes_on byte }
-{
-    byte.is_ascii_alphanumeric() || matches!(byte, b'_' | b'$' | b'%' | b'.')
-}
-
 /// Whether these bytes begin as a number does.
 fn is_number_start(byte: u8) -> bool
     ensures { result ≡ is_number_byte byte }
@@ -60,7 +54,7 @@ pub(crate) fn read_word<'a>(first: u8, piece: &'a [u8]) -> Word<'a>
 {
     if is_number_start(first) {
         Word::Number(number(piece).unwrap_or(0))
-    } else if goes_on(first) {
+    } else if takes_word(first) {
         Word::Name(Name::new(piece))
     } else {
         Word::Mark(first)
@@ -69,9 +63,9 @@ pub(crate) fn read_word<'a>(first: u8, piece: &'a [u8]) -> Word<'a>
 
 /// Whether a token that begins with this byte is this punctuation mark.
 pub(crate) fn is_mark_byte(mark: u8, byte: u8) -> bool
-    ensures { result ≡ (byte == mark && not (goes_on byte)) }
+    ensures { result ≡ (byte == mark && not (takes_word byte)) }
 {
-    byte == mark && !goes_on(byte)
+    byte == mark && !takes_word(byte)
 }
 
 /// Whether a name may have a value, which one behind a dot and a register may not.

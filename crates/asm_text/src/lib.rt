@@ -13,6 +13,6 @@ pub use fault::{AsmCause, AsmFault};
 pub use laws::source_limits;
 pub use line::{code_of, split_line};
 pub use numeral::number;
-pub use piece::{is_register, read_kind, split_piece};
+pub use piece::{is_register, read_kind, split_piece, takes_word};
 pub use scan::{TEXT_LIMIT, push_line, tokens};
 pub use token::{Kind, Token};
