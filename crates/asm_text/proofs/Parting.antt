@@ -1,5 +1,5 @@
 -- A text parted after its first LF, and a line parted after its first piece.
-use Rattle.std.proofs.Common.{◌≡◌, ℕ, ◌+◌, ◌-◌, ◌<◌, ◌≤◌, ◌⊎◌, inl, inr, zero, Bool, true, false, eqb, ltb, List, [], ◌∷◌, Some, None, length, get_or, take, drop, refl, sym, ap, add-one, arith}
+use Rattle.std.proofs.Common.{◌≡◌, ℕ, ◌+◌, ◌-◌, ◌<◌, ◌≤◌, ◌⊎◌, inl, inr, zero, Bool, true, false, eqb, ltb, List, [], ◌∷◌, Some, None, length, get_or, take, drop, refl, sym, subst, ap, add-one, arith}
 use Rattle.std.specs.List.{before_first, position, position_or_len}
 use Rattle.std.proofs.lemmas.Bool.{cases_lt, cond_both, eqb-true, ltb-false, ltb-true}
 use Rattle.std.proofs.lemmas.List.{take_all}
@@ -153,7 +153,7 @@ pieces-feed [] feed = absurd (cc)
 pieces-feed (byte ∷ []) feed = absurd (cc)
 pieces-feed (byte ∷ next ∷ code) feed = elim (bool_cases (eqb byte 13)) [
   | inl same ↦ elim (bool_cases (eqb next 10)) [
-    | inl line ↦ let b : byte ≡ 13 = eqb-true byte 13 same in let n : next ≡ 10 = eqb-true next 10 line in (omega arith, rw (b, n) (parted code))
+    | inl line ↦ let b : byte ≡ 13 = eqb-true byte 13 same in let n : next ≡ 10 = eqb-true next 10 line in (omega arith, told byte next code b n)
     | inr other ↦ let no : false ≡ true = rw (same, other) at feed in absurd (cc)
   ]
   | inr other ↦ let no : false ≡ true = rw other at feed in absurd (cc)
@@ -162,6 +162,11 @@ pieces-feed (byte ∷ next ∷ code) feed = elim (bool_cases (eqb byte 13)) [
     parted : (code : List ℕ) → pieces_of (13 ∷ 10 ∷ code) ≡ (13 ∷ 10 ∷ []) ∷ pieces_of code
     parted [] = refl
     parted (byte ∷ code) = refl
+    told : (byte next : ℕ) (code : List ℕ) → byte ≡ 13 → next ≡ 10 → pieces_of (byte ∷ next ∷ code) ≡ (byte ∷ next ∷ []) ∷ pieces_of code
+    told byte next code b n =
+        let P : ℕ → Type 0 = λ x. pieces_of (13 ∷ x ∷ code) ≡ (13 ∷ x ∷ []) ∷ pieces_of code in
+        let Q : ℕ → Type 0 = λ x. pieces_of (x ∷ next ∷ code) ≡ (x ∷ next ∷ []) ∷ pieces_of code in
+        subst Q (sym b) (subst P (sym n) (parted code))
 
 -- a byte that no other follows in its piece
 pub pieces-lone : (code : List ℕ) → 0 < length code → takes_word (get_or code 0 0) ≡ false → ends_line code ≡ false → pieces_of code ≡ take 1 code ∷ pieces_of (drop 1 code)
