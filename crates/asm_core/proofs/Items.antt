@@ -1,7 +1,8 @@
 -- A list of items parted after its first comma, and words before the `)` that ends them.
-use Rattle.std.proofs.Common.{◌≡◌, ℕ, ◌+◌, ◌-◌, ◌<◌, ◌≤◌, inl, inr, zero, true, false, not, eqb, List, [], ◌∷◌, ◌++◌, Some, None, length, length-append, take, drop, get_or, refl, sym, ap, ◌∙◌, arith}
+use Rattle.std.proofs.Common.{◌≡◌, ℕ, ◌+◌, ◌-◌, ◌<◌, ◌≤◌, inl, inr, ◌↔◌, zero, Bool, true, false, not, eqb, List, [], ◌∷◌, ◌++◌, Some, None, length, length-append, take, drop, get_or, refl, sym, ap, ◌∙◌, arith}
 use Rattle.std.specs.List.{list_all, position, position_or_len}
 use Rattle.std.proofs.Math.Seq.{drop-append_seam, take-append_seam}
+use Rattle.std.proofs.lemmas.List.{take_rest}
 use Rattle.asm_text.proofs.Parting.{bool_cases, position_some, position_none}
 use Rattle.asm_core.specs.declared.word.Word.{Word}
 use Rattle.asm_core.specs.declared.word.Word.TheVariants as word
@@ -10,7 +11,7 @@ use Rattle.asm_core.proofs.WordPieces.{AreOthers, parted-at, parted-first, parte
 
 others-behind : (mark : ℕ) (w : Word) (ws : List Word) → AreOthers mark (w ∷ ws) → (is_mark mark w ≡ false) × AreOthers mark ws
 others-behind mark w ws all = elim (bool_cases (is_mark mark w)) [
-  | inl same ↦ let no : false ≡ true = rw same at all in absurd (cc)
+  | inl same ↦ let clash : false ≡ true = rw same at all in absurd (cc)
   | inr other ↦ (other, rw other at all)
 ]
 
@@ -98,6 +99,37 @@ pub close-before : (code : List ℕ) (n : ℕ) → n < length code → get_or co
     → 0 < length (words_in (drop (n + 1) code)) → before_close (words_in code) ≡ None
 close-before code n inside is none some =
     ap before_close (words-close code n inside is) ∙ close-other (words_in (take n code)) (words_in (drop (n + 1) code)) (words-without 41 (drop (n + 1) code) none) some
+
+-- the same of words by their code
+pub comma-items : (code : List ℕ) (n : ℕ) (ws front rest : List Word) → Some n ≡ position (λ byte. eqb byte 44) code → ws ≡ words_in code → front ≡ words_in (take n code)
+    → rest ≡ words_in (take (length code - (n + 1)) (drop (n + 1) code)) → items_of ws ≡ front ∷ items_of rest
+comma-items code n ws front rest found whole before behind =
+    let back : rest ≡ words_in (drop (n + 1) code) = behind ∙ ap (λ bytes. words_in bytes) (take_rest code (n + 1)) in
+    rw (whole, before, back) (items-comma code n found)
+
+pub comma-fewer : (code : List ℕ) (n : ℕ) (ws rest : List Word) → Some n ≡ position (λ byte. eqb byte 44) code → ws ≡ words_in code
+    → rest ≡ words_in (take (length code - (n + 1)) (drop (n + 1) code)) → length rest < length ws
+comma-fewer code n ws rest found whole behind =
+    let back : rest ≡ words_in (drop (n + 1) code) = behind ∙ ap (λ bytes. words_in bytes) (take_rest code (n + 1)) in
+    rw (whole, back) (words-fewer code n found)
+
+pub ended : (code : List ℕ) (n : ℕ) (ws front rest : List Word) → n < length code → get_or code n 0 ≡ 41 → ws ≡ words_in code → front ≡ words_in (take n code)
+    → rest ≡ words_in (take (length code - (n + 1)) (drop (n + 1) code)) → rest ≡ [] → Some front ≡ before_close ws
+ended code n ws front rest inside is whole before behind end =
+    let back : words_in (drop (n + 1) code) ≡ [] = sym (ap (λ bytes. words_in bytes) (take_rest code (n + 1))) ∙ sym behind ∙ end in
+    rw (whole, before) (sym (close-end code n inside is back))
+
+-- words that aren't empty
+some_word : (ws : List Word) (empty : Bool) → ((empty ≡ true) ↔ (ws ≡ [])) → empty ≡ false → 0 < length ws
+some_word [] empty same fails = let holds : empty ≡ true = same.1 refl in absurd (cc)
+some_word (w ∷ ws) empty same fails = omega arith
+
+pub not_ended : (code : List ℕ) (n : ℕ) (ws rest : List Word) (empty : Bool) → n < length code → get_or code n 0 ≡ 41 → list_all (λ byte. not (eqb byte 41)) (drop (n + 1) code) ≡ true
+    → ws ≡ words_in code → rest ≡ words_in (take (length code - (n + 1)) (drop (n + 1) code)) → ((empty ≡ true) ↔ (rest ≡ [])) → empty ≡ false → None ≡ before_close ws
+not_ended code n ws rest empty inside is none whole behind same fails =
+    let back : rest ≡ words_in (drop (n + 1) code) = behind ∙ ap (λ bytes. words_in bytes) (take_rest code (n + 1)) in
+    let some : 0 < length (words_in (drop (n + 1) code)) = rw back at (some_word rest empty same fails) in
+    rw whole (sym (close-before code n inside is none some))
 
 pub ruleset commas = (items-comma, items-none, words-fewer)
 

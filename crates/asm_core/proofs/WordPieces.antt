@@ -1,16 +1,17 @@
 -- The words of a part of a line's code: its first word, and where a mark parts it.
-use Rattle.std.proofs.Common.{◌≡◌, ℕ, ◌+◌, ◌-◌, ◌<◌, ◌≤◌, ◌⊎◌, inl, inr, zero, true, false, not, ◌&&◌, eqb, List, [], ◌∷◌, ◌++◌, Option, Some, None, length, take, drop, get_or, refl, sym, ap, ◌∙◌, add-one, arith}
+use Rattle.std.proofs.Common.{◌≡◌, ℕ, ◌+◌, ◌-◌, ◌<◌, ◌≤◌, ◌⊎◌, ◌↔◌, inl, inr, zero, Bool, true, false, not, ◌&&◌, ◌||◌, eqb, List, [], ◌∷◌, ◌++◌, Option, Some, None, length, take, drop, get_or, if◌then◌else◌, refl, sym, ap, ◌∙◌, add-one, arith}
 use Rattle.std.proofs.Math.Seq.{drop-cons}
 use Rattle.std.specs.List.{cons_option, filter_map, list_all, onto_first, position_or_len}
 use Rattle.std.proofs.lemmas.Bool.{cond_both, eqb-true}
-use Rattle.std.proofs.lemmas.List.{take-append-drop}
+use Rattle.std.proofs.lemmas.List.{take-append-drop, take_rest}
 use Rattle.std.proofs.lemmas.Bool.Decides.{nat_tests}
 use Rattle.std.proofs.lemmas.List.Elements.{filter_map-append}
-use Rattle.asm_text.specs.Pieces.{joins, pieces_of, takes_word}
+use Rattle.asm_text.specs.Pieces.{is_word_byte, joins, pieces_of, takes_word}
 use Rattle.asm_text.proofs.Parting.{bool_cases}
+use Rattle.asm_core.proofs.Covering.{both_pass}
 use Rattle.asm_core.specs.declared.word.Word.{Word}
 use Rattle.asm_core.specs.declared.word.Word.TheVariants as word
-use Rattle.asm_core.specs.Words.{begins_with, is_blank_byte, is_mark, is_number_byte, piece_word, word_by, words_in}
+use Rattle.asm_core.specs.Words.{begins_blank, begins_with, is_blank_byte, is_mark, is_number_byte, piece_word, word_by, words_in}
 
 -- code has a first piece, which begins with its first byte
 pub first_piece : (byte : ℕ) (code : List ℕ) → (piece : List ℕ) × (pieces : List (List ℕ)) × (pieces_of (byte ∷ code) ≡ (byte ∷ piece) ∷ pieces)
@@ -46,7 +47,7 @@ words-blank byte code blank = pieces-blank byte code blank
 
 -- no word
 pub words-none : words_in [] ≡ []
-unfolding words_in
+unfolding words_in pieces_of
 words-none = refl
 
 -- a mark stands alone in its piece
@@ -56,7 +57,19 @@ lone_joins mark next lone solid = grind (arith, nat_tests)
 
 joins_lone : (byte mark : ℕ) → takes_word mark ≡ false → is_blank_byte mark ≡ false → joins byte mark ≡ false
 unfolding joins
-joins_lone byte mark lone solid = grind (arith, nat_tests)
+joins_lone byte mark lone solid = elim (bool_cases (is_word_byte mark)) [
+  | inl on ↦ let clash : true ≡ false = rw on at lone in absurd (cc)
+  | inr off ↦ elim (bool_cases (eqb mark 10)) [
+    | inl feed ↦ let is : mark ≡ 10 = eqb-true mark 10 feed in let clash : is_blank_byte 10 ≡ false = rw is at solid in absurd (cc)
+    | inr other ↦ rw (off, other) (neither (takes_word byte) (eqb byte 13))
+  ]
+]
+  where
+    neither : (a b : Bool) → ((a && false) || (b && false)) ≡ false
+    neither true true = refl
+    neither true false = refl
+    neither false true = refl
+    neither false false = refl
 
 no_number : (byte : ℕ) → takes_word byte ≡ false → is_number_byte byte ≡ false
 no_number byte lone = grind (arith, nat_tests)
@@ -152,7 +165,7 @@ other_front mark first piece pieces other rest = elim (bool_cases (is_blank_byte
 
 not_here : (mark byte : ℕ) (code : List ℕ) → HasNone mark (byte ∷ code) → (eqb byte mark ≡ false) × HasNone mark code
 not_here mark byte code none = elim (bool_cases (eqb byte mark)) [
-  | inl same ↦ let no : false ≡ true = rw same at none in absurd (cc)
+  | inl same ↦ let clash : false ≡ true = rw same at none in absurd (cc)
   | inr other ↦ (other, rw other at none)
 ]
 
@@ -178,7 +191,7 @@ other_pieces mark (byte ∷ next ∷ code) none =
         told : (w : Option Word) (ws : List Word) → AreOthers mark (cons_option w ws) → AreOthers mark ws
         told None ws all = all
         told (Some w) ws all = elim (bool_cases (is_mark mark w)) [
-          | inl same ↦ let no : false ≡ true = rw same at all in absurd (cc)
+          | inl same ↦ let clash : false ≡ true = rw same at all in absurd (cc)
           | inr other ↦ rw other at all
         ]
 
@@ -219,5 +232,34 @@ parted-none mark (byte ∷ code) none = elim (bool_cases (eqb byte mark)) [
 pub parted-at : (mark : ℕ) (code : List ℕ) (n : ℕ) → n < length code → get_or code n 0 ≡ mark → code ≡ take n code ++ mark ∷ drop (n + 1) code
 parted-at mark code n inside is =
     sym (take-append-drop n code) ∙ ap (λ rest. take n code ++ rest) (let next : n + 1 ≡ Prim.Native.Nat.suc n = add-one n in rw (next, ← is) (drop-cons code n 0 inside))
+
+-- there is no word exactly where there is no code behind the blanks
+pub words-empty : (code : List ℕ) (ws : List Word) (empty : Bool) → begins_blank code ≡ false → words_in code ≡ ws → empty ≡ eqb (length code) 0 → (empty ≡ true) ↔ (ws ≡ [])
+unfolding words_in
+words-empty [] ws empty solid whole is = (λ _. sym whole ∙ words-none, λ _. is)
+words-empty (first ∷ code) ws empty solid whole is =
+    let here = first_piece first code in
+    let some : ws ≡ word_by first (first ∷ here.0) ∷ filter_map piece_word here.1 = sym whole ∙ rw (here.2, solid) refl in
+    (λ holds. let zero_len : length (first ∷ code) ≡ 0 = eqb-true (length (first ∷ code)) 0 (sym is ∙ holds) in absurd (omega arith), λ none. let clash : word_by first (first ∷ here.0) ∷ filter_map piece_word here.1 ≡ [] = sym some ∙ none in absurd (cc))
+
+-- the words behind a blank at the front
+pub words-skip : (code : List ℕ) → 1 ≤ length code → is_blank_byte (get_or code 0 0) ≡ true → words_in (take (length code - 1) (drop 1 code)) ≡ words_in code
+words-skip [] some blank = absurd (omega arith)
+words-skip (byte ∷ code) some blank = ap (λ rest. words_in rest) (take_rest (byte ∷ code) 1) ∙ sym (words-blank byte code blank)
+
+-- the words behind a mark at the front
+pub words-behind : (mark : ℕ) (code : List ℕ) (ws rest : List Word) → 1 ≤ length code → begins_blank code ≡ false → (eqb (get_or code 0 0) mark && not (takes_word (get_or code 0 0))) ≡ true
+    → words_in code ≡ ws → rest ≡ words_in (take (length code - 1) (drop 1 code)) → Some rest ≡ (if begins_with mark ws then Some (drop 1 ws) else None)
+words-behind mark [] ws rest some solid is whole behind = absurd (omega arith)
+words-behind mark (first ∷ code) ws rest some solid is whole behind =
+    let both = both_pass (eqb first mark) (not (takes_word first)) is in
+    let lone : takes_word first ≡ false = not_true (takes_word first) both.1 in
+    let front : ws ≡ word.Mark first ∷ words_in code = sym whole ∙ words-mark first code lone solid in
+    let back : rest ≡ words_in code = behind ∙ ap (λ bytes. words_in bytes) (take_rest (first ∷ code) 1) in
+    rw (front, back, both.0) refl
+  where
+    not_true : (b : Bool) → not b ≡ true → b ≡ false
+    not_true true holds = cc
+    not_true false holds = refl
 
 pub ruleset words = (words-blank, words-none, words-mark, words-first, words-begin)

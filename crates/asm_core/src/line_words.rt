@@ -81,7 +81,7 @@ impl<'a> Words<'a> {
     pub fn is_empty(&self) -> bool
         ensures { (result ≡ true) ↔ (self.now ≡ []) }
     {
-        self.split_first().is_none()
+        behind_blanks(self.code).is_empty()
     }
 }
 
