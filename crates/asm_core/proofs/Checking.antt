@@ -1,5 +1,5 @@
 -- The words of a line whose pieces are all tokens or blanks.
-use Rattle.std.proofs.Common.{◌≡◌, ℕ, ◌+◌, ◌<◌, inl, inr, Bool, true, false, not, ◌&&◌, ◌||◌, is_some, eqb, List, [], ◌∷◌, ◌++◌, Option, Some, None, Result, Ok, Err, length, drop, refl, sym, ap, ◌∙◌, append_assoc, subst, arith}
+use Rattle.std.proofs.Common.{◌≡◌, ℕ, ◌+◌, inl, inr, Bool, true, false, ◌||◌, is_some, eqb, List, [], ◌∷◌, ◌++◌, Option, Some, None, Result, Ok, Err, length, drop, refl, sym, ap, ◌∙◌, append_assoc, subst, arith}
 use Rattle.std.specs.List.{concat, filter_map, position_or_len, slice_range}
 use Rattle.std.proofs.lemmas.Bool.{eqb-true}
 use Rattle.std.proofs.lemmas.Bool.Decides.{nat_tests}
@@ -18,7 +18,7 @@ use Rattle.asm_text.proofs.Parting.{bool_cases}
 use Rattle.asm_text.proofs.Standing.{concat-pieces, part_after, part_slice}
 use Rattle.asm_core.specs.declared.word.Word.{Word}
 use Rattle.asm_core.specs.Rounds.{then_on, words_read}
-use Rattle.asm_core.specs.Words.{is_blank_byte, is_number_byte, piece_word, said, word_by, words_in, words_of}
+use Rattle.asm_core.specs.Words.{is_blank_byte, is_number_byte, piece_word, said, words_in, words_of}
 
 -- an answer, or the fault of a piece before it
 abbrev told : {X : Type 0} → ℕ → Result (Option Kind) AsmCause → Result X AsmFault → Result X AsmFault
@@ -106,18 +106,37 @@ of_one P (one ∷ bytes) byte all is = elim (bool_cases (eqb byte one)) [
 
 mark_byte : (byte : ℕ) (piece : List ℕ) → is_mark (byte ∷ piece) ≡ true → Begins byte false false
 mark_byte byte [] mark =
-    of_one (λ b. Begins b false false) (58 ∷ 61 ∷ 35 ∷ 40 ∷ 41 ∷ 44 ∷ 60 ∷ 62 ∷ 43 ∷ 45 ∷ []) byte
-    (record { solid = refl; number = refl; on = refl },
-    (record { solid = refl; number = refl; on = refl },
-    (record { solid = refl; number = refl; on = refl },
-    (record { solid = refl; number = refl; on = refl },
-    (record { solid = refl; number = refl; on = refl },
-    (record { solid = refl; number = refl; on = refl },
-    (record { solid = refl; number = refl; on = refl },
-    (record { solid = refl; number = refl; on = refl },
-    (record { solid = refl; number = refl; on = refl },
-    (record { solid = refl; number = refl; on = refl },
-    tt)))))))))) mark
+    of_one (λ b. Begins b false false) (58 ∷ 61 ∷ 35 ∷ 40 ∷ 41 ∷ 44 ∷ 60 ∷ 62 ∷ 43 ∷ 45 ∷ []) byte (
+      record { solid = refl; number = refl; on = refl },
+      (
+        record { solid = refl; number = refl; on = refl },
+        (
+          record { solid = refl; number = refl; on = refl },
+          (
+            record { solid = refl; number = refl; on = refl },
+            (
+              record { solid = refl; number = refl; on = refl },
+              (
+                record { solid = refl; number = refl; on = refl },
+                (
+                  record { solid = refl; number = refl; on = refl },
+                  (
+                    record { solid = refl; number = refl; on = refl },
+                    (
+                      record { solid = refl; number = refl; on = refl },
+                      (
+                        record { solid = refl; number = refl; on = refl },
+                        tt,
+                      ),
+                    ),
+                  ),
+                ),
+              ),
+            ),
+          ),
+        ),
+      ),
+    ) mark
 mark_byte byte (next ∷ piece) mark = absurd (cc)
 
 name_start : (byte : ℕ) (piece : List ℕ) → (is_name (byte ∷ piece) || is_dotted_name (byte ∷ piece)) ≡ true → (is_name_start byte || eqb byte 46) ≡ true
@@ -167,6 +186,7 @@ words-step text line place piece after pieces (Ok (Some kind)) rest here is more
   where
     slice : slice_range text place (place + length piece) ≡ piece
     slice = part_slice text place piece after here
+
     first : (rest : Result (List Token) AsmFault)
         → then_on (λ tokens. Ok (words_of text tokens)) (onto (record { kind = kind; start = place; end = place + length piece; line = line } ∷ []) rest)
         ≡ then_on (λ more. Ok (said kind piece ∷ more)) (then_on (λ tokens. Ok (words_of text tokens)) rest)

@@ -1,12 +1,12 @@
 -- A list of items parted after its first comma, and words before the `)` that ends them.
-use Rattle.std.proofs.Common.{◌≡◌, ℕ, ◌+◌, ◌-◌, ◌<◌, ◌≤◌, inl, inr, ◌↔◌, zero, Bool, true, false, not, eqb, List, [], ◌∷◌, ◌++◌, Some, None, length, length-append, take, drop, get_or, refl, sym, ap, ◌∙◌, arith}
-use Rattle.std.specs.List.{list_all, position, position_or_len}
+use Rattle.std.proofs.Common.{◌≡◌, ℕ, ◌+◌, ◌-◌, ◌<◌, inl, inr, ◌↔◌, zero, Bool, true, false, not, eqb, List, [], ◌∷◌, ◌++◌, Some, None, length, length-append, take, drop, get_or, refl, sym, ap, ◌∙◌, arith}
+use Rattle.std.specs.List.{list_all, position}
 use Rattle.std.proofs.Math.Seq.{drop-append_seam, take-append_seam}
 use Rattle.std.proofs.lemmas.List.{take_rest}
 use Rattle.asm_text.proofs.Parting.{bool_cases, position_some, position_none}
 use Rattle.asm_core.specs.declared.word.Word.{Word}
 use Rattle.asm_core.specs.declared.word.Word.TheVariants as word
-use Rattle.asm_core.specs.Words.{before_close, begins_with, is_comma, is_mark, items_of, words_in}
+use Rattle.asm_core.specs.Words.{before_close, begins_with, is_mark, items_of, words_in}
 use Rattle.asm_core.proofs.WordPieces.{AreOthers, parted-at, parted-first, parted-none, words-parted, words-without}
 
 others-behind : (mark : ℕ) (w : Word) (ws : List Word) → AreOthers mark (w ∷ ws) → (is_mark mark w ≡ false) × AreOthers mark ws

@@ -6,8 +6,8 @@ ghost use Rattle.asm_core.specs.Lines.{body_of, body_of_form, cells_of, equals_o
 ghost use Rattle.asm_core.specs.Words.{items_of};
 
 use crate::{
-    Cell, Dialect, Expression, Field, Form, Name, Names, Place, Row, WORD, Word, Words, behind_mark,
-    is_plain, read_expression, split_item,
+    Cell, Dialect, Expression, Field, Form, Name, Names, Place, Row, WORD, Word, Words,
+    behind_mark, is_plain, read_expression, split_item,
 };
 use board_base::OutOfMemory;
 use std::alloc::Global;

@@ -162,6 +162,7 @@ pieces-feed (byte ∷ next ∷ code) feed = elim (bool_cases (eqb byte 13)) [
     parted : (code : List ℕ) → pieces_of (13 ∷ 10 ∷ code) ≡ (13 ∷ 10 ∷ []) ∷ pieces_of code
     parted [] = refl
     parted (byte ∷ code) = refl
+
     told : (byte next : ℕ) (code : List ℕ) → byte ≡ 13 → next ≡ 10 → pieces_of (byte ∷ next ∷ code) ≡ (byte ∷ next ∷ []) ∷ pieces_of code
     told byte next code b n =
         let P : ℕ → Type 0 = λ x. pieces_of (13 ∷ x ∷ code) ≡ (13 ∷ x ∷ []) ∷ pieces_of code in

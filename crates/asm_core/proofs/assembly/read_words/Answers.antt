@@ -1,9 +1,7 @@
-use Rattle.std.proofs.Common.{◌≡◌, [], Err, Ok, length, sym, ap, ◌∙◌, eqb, true, arith}
+use Rattle.std.proofs.Common.{◌≡◌, Err, Ok, length, sym, ap, ◌∙◌, arith}
 use Rattle.std.proofs.lemmas.Grind.{common_steps}
 use Rattle.std.proofs.lemmas.List.{nil_from_length}
 use Rattle.asm_text.specs.declared.fault.AsmFault.TheVariants.{Line}
-use Rattle.asm_text.specs.Answers.{Faults}
-use Rattle.asm_text.specs.Lines.{code_of}
 use Rattle.asm_text.specs.Pieces.{kind_of, pieces_of}
 use Rattle.asm_core.specs.Rounds.{words_read}
 use Rattle.asm_core.specs.Words.{words_in}

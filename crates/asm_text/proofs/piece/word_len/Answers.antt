@@ -1,4 +1,4 @@
-use Rattle.std.proofs.Common.{◌≡◌, ◌+◌, ◌-◌, true, get_or, sym, ap, ◌∙◌, arith}
+use Rattle.std.proofs.Common.{◌≡◌, ◌+◌, ◌-◌, true, get_or, sym, ◌∙◌, arith}
 use Rattle.asm_text.specs.Pieces.{is_word_byte}
 use Rattle.asm_text.proofs.Parting.{IsJoined-more, word-byte, word-on}
 use Rattle.asm_text.proofs.piece.word_len.Goals as goal
