@@ -4,7 +4,7 @@ ghost use Rattle.asm_avg.specs.Language.{language, statement_of};
 
 use crate::Mnemonic;
 use crate::operands::read_fields;
-use asm_core::{Cell, Dialect, Form, Names, Row, Word};
+use asm_core::{Cell, Dialect, Form, Names, Row, Words};
 use board_base::OutOfMemory;
 use std::alloc::Global;
 
@@ -16,7 +16,7 @@ pub struct Avg;
 fn read_form<'a>(
     alloc: Global,
     mnemonic: Mnemonic,
-    rest: &[Word<'a>],
+    rest: &Words<'a>,
 ) -> Result<Form<'a>, OutOfMemory>
     ensures form { IfOk result (λ form. form ≡ statement_of mnemonic rest.now) }
     ensures cells { IfOk result IsForm }
@@ -42,7 +42,7 @@ impl Dialect for Avg {
         &self,
         alloc: Global,
         first: &'a [u8],
-        rest: &[Word<'a>],
+        rest: &Words<'a>,
         _names: &Names<'a>,
         _at: u32,
     ) -> Result<Form<'a>, OutOfMemory> {

@@ -3,17 +3,18 @@ ghost use Rattle.std.specs.Option.{option_map_or};
 ghost use Rattle.asm_core.specs.Words.{items_of};
 ghost use Rattle.asm_avg.specs.Operands.{fields_of, operands_of};
 
-use asm_core::{Field, Place, Row, Word, read_expression, split_item};
+use asm_core::{Field, Place, Row, Words, read_expression, split_item};
 use board_base::OutOfMemory;
 use std::alloc::Global;
 
 /// The list of the operands behind a statement's first word, where a word stands there.
-fn operand_list<'w, 'a>(words: &'w [Word<'a>]) -> Option<&'w [Word<'a>]>
-    ensures { option_map_or (λ list. items_of list.now) result [] ≡ operands_of words.now }
+fn operand_list<'a>(words: &Words<'a>) -> Option<Words<'a>>
+    ensures { option_map_or (λ list. items_of list) result [] ≡ operands_of words.now }
 {
-    match words {
-        [] => None,
-        _ => Some(words),
+    if words.is_empty() {
+        None
+    } else {
+        Some(words.copied())
     }
 }
 
@@ -23,7 +24,7 @@ pub(crate) fn read_fields<'a>(
     alloc: Global,
     origin: u32,
     places: &[Place],
-    words: &[Word<'a>],
+    words: &Words<'a>,
 ) -> Result<Option<Row<Field<'a>>>, OutOfMemory>
     ensures fields { IfOk result (λ read. read ≡ fields_of origin places.now (operands_of words.now)) }
     ensures places { IfOk result (λ read. IfSome read (λ fields. map (λ field. field.place) fields ≡ places.now)) }
@@ -34,8 +35,8 @@ pub(crate) fn read_fields<'a>(
         let Some(rest) = list else {
             return Ok(None);
         };
-        let (item, after) = split_item(rest);
-        let Some(expression) = read_expression(alloc, item)? else {
+        let (item, after) = split_item(&rest);
+        let Some(expression) = read_expression(alloc, &item)? else {
             return Ok(None);
         };
         fields.push(Field {

@@ -1,5 +1,6 @@
 pub mod Addresses
 pub mod Apart
+pub mod Checking
 pub mod Covering
 pub mod FindingNames
 pub mod Items
@@ -9,3 +10,4 @@ pub mod Putting
 pub mod SourceLaws
 pub mod Standing
 pub mod Terms
+pub mod WordPieces

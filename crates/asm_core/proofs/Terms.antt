@@ -1,5 +1,5 @@
 -- Terms one by one: as they are read, and as their values are summed.
-use Rattle.std.proofs.Common.{◌≡◌, ℕ, ◌+◌, ◌<◌, ◌≤◌, Bool, List, [], ◌∷◌, Option, Some, None, length, get_or, drop, refl, ℤ, arith}
+use Rattle.std.proofs.Common.{◌≡◌, ℕ, ◌+◌, ◌<◌, ◌≤◌, Bool, List, [], ◌∷◌, Some, None, length, get_or, drop, refl, ℤ}
 use Rattle.std.proofs.lemmas.List.{drop_all}
 use Rattle.std.specs.Option.{option_map}
 use Rattle.asm_core.specs.declared.word.Word.{Word}
@@ -9,41 +9,32 @@ use Rattle.asm_core.proofs.Lists.{item-drop}
 use Rattle.asm_core.specs.Expressions.{NameValues, minus_of, operand_of, operand_value, sum_value, summed, terms_of}
 
 -- a word that is no operand
-pub terms-bad : (negative : Bool) (ws : List Word) (i : ℕ) (w : Word) → i < length ws → w ≡ get_or ws i w → None ≡ operand_of w
-    → terms_of negative (drop i ws) ≡ None
+pub terms-bad : (negative : Bool) (w : Word) (ws : List Word) → None ≡ operand_of w → terms_of negative (w ∷ ws) ≡ None
 unfolding terms_of
-terms-bad negative ws i w inside here bad = rw (item-drop ws i w inside here) (none (drop (i + 1) ws))
-  where
-    none : (rest : List Word) → terms_of negative (w ∷ rest) ≡ None
-    none [] = rw (← bad) refl
-    none (sign ∷ rest) = rw (← bad) refl
+terms-bad negative w [] bad = rw (← bad) refl
+terms-bad negative w (sign ∷ ws) bad = rw (← bad) refl
 
 -- the last operand
-pub terms-last : (negative : Bool) (ws : List Word) (i : ℕ) (w : Word) (operand : Operand) → i + 1 ≡ length ws → w ≡ get_or ws i w → Some operand ≡ operand_of w
-    → terms_of negative (drop i ws) ≡ Some (record { negative = negative; operand = operand } ∷ [])
+pub terms-last : (negative : Bool) (w : Word) (operand : Operand) → Some operand ≡ operand_of w
+    → terms_of negative (w ∷ []) ≡ Some (record { negative = negative; operand = operand } ∷ [])
 unfolding terms_of
-terms-last negative ws i w operand end here good =
-    let last : drop (i + 1) ws ≡ [] = drop_all (i + 1) ws (omega arith) in
-    rw (item-drop ws i w (omega arith) here, last, ← good) refl
+terms-last negative w operand good = rw (← good) refl
 
 -- a word behind an operand that is no sign
-pub terms-no_sign : (negative : Bool) (ws : List Word) (i : ℕ) (w s : Word) → i + 1 < length ws → w ≡ get_or ws i w → s ≡ get_or ws (i + 1) s → None ≡ minus_of s
-    → terms_of negative (drop i ws) ≡ None
+pub terms-no_sign : (negative : Bool) (w s : Word) (ws : List Word) (operand : Operand) → Some operand ≡ operand_of w → None ≡ minus_of s → terms_of negative (w ∷ s ∷ ws) ≡ None
 unfolding terms_of
-terms-no_sign negative ws i w s inside here there bad = rw (item-drop ws i w (omega arith) here, item-drop ws (i + 1) s inside there) (none (operand_of w) refl)
-  where
-    none : (first : Option Operand) → operand_of w ≡ first → terms_of negative (w ∷ s ∷ drop (i + 1 + 1) ws) ≡ None
-    none None is = rw is refl
-    none (Some operand) is = rw (is, ← bad) refl
+terms-no_sign negative w s ws operand good bad = rw (← good, ← bad) refl
 
 -- an operand and a sign
-pub terms-next : (negative : Bool) (ws : List Word) (i : ℕ) (w s : Word) (operand : Operand) (next : Bool)
-    → i + 1 < length ws → w ≡ get_or ws i w → s ≡ get_or ws (i + 1) s → Some operand ≡ operand_of w → Some next ≡ minus_of s
-    → terms_of negative (drop i ws) ≡ option_map (λ terms. record { negative = negative; operand = operand } ∷ terms) (terms_of next (drop (i + 2) ws))
+pub terms-next : (negative : Bool) (w s : Word) (ws : List Word) (operand : Operand) (next : Bool) → Some operand ≡ operand_of w → Some next ≡ minus_of s
+    → terms_of negative (w ∷ s ∷ ws) ≡ option_map (λ terms. record { negative = negative; operand = operand } ∷ terms) (terms_of next ws)
 unfolding terms_of
-terms-next negative ws i w s operand next inside here there good sign =
-    let two : i + 1 + 1 ≡ i + 2 = omega arith in
-    rw (item-drop ws i w (omega arith) here, item-drop ws (i + 1) s inside there, ← good, ← sign, two) refl
+terms-next negative w s ws operand next good sign = rw (← good, ← sign) refl
+
+-- no operand
+pub terms-end : (negative : Bool) → terms_of negative [] ≡ None
+unfolding terms_of
+terms-end negative = refl
 
 -- an operand without a value
 pub sum-none : (names : NameValues) (before : ℤ) (terms : List Term) (i : ℕ) (t : Term) → i < length terms → t ≡ get_or terms i t → None ≡ operand_value names t.operand
@@ -61,8 +52,3 @@ sum-next names before value terms i t inside here some = rw (item-drop terms i t
 pub sum-end : (names : NameValues) (before : ℤ) (terms : List Term) (i : ℕ) → length terms ≤ i → sum_value names before (drop i terms) ≡ Some before
 unfolding sum_value
 sum-end names before terms i end = rw (drop_all i terms end) refl
-
--- no operand
-pub terms-end : (negative : Bool) (ws : List Word) (i : ℕ) → length ws ≤ i → terms_of negative (drop i ws) ≡ None
-unfolding terms_of
-terms-end negative ws i end = rw (drop_all i ws end) refl

@@ -13,6 +13,7 @@ use Rattle.asm_core.specs.declared.line.Body.{Body}
 use Rattle.asm_core.specs.declared.line.Body.TheVariants as body
 use Rattle.asm_core.specs.declared.line.Line.{Line}
 use Rattle.asm_core.specs.declared.placed.Placed.{Placed}
+use Rattle.asm_core.specs.declared.word.Word.{Word}
 use Rattle.asm_core.specs.Cells.{all_fine, all_known, cells_bytes, is_in_range, size_of}
 use Rattle.asm_core.specs.Expressions.{NameValues, value_of, value_of_name}
 use Rattle.asm_core.specs.Lines.{Language, line_of_words}
@@ -33,10 +34,14 @@ pub record Known : Type 0 where
   pub at : ℕ
   pub placed : List Placed
 
+-- the words of a line, or its first bad token
+abbrev pub words_read : ℕ → List ℕ → Result (List Word) AsmFault
+words_read number text = then_on (λ tokens. Ok (words_of text tokens)) (line_tokens number 0 text)
+
 -- a line, as its language reads it
 abbrev pub line_read : Language → ℕ → Known → List ℕ → Result Line AsmFault
 line_read language number known text =
-    then_on (λ tokens. ok_or (line_of_words (language known.names known.at) (words_of text tokens)) (fault.Line number NoSuchForm)) (line_tokens number 0 text)
+    then_on (λ ws. ok_or (line_of_words (language known.names known.at) ws) (fault.Line number NoSuchForm)) (words_read number text)
 
 -- the name has a value
 abbrev pub is_named : NameValues → List ℕ → Bool

@@ -1,11 +1,12 @@
 -- The words of a line: its tokens, with what they say. This project's own profile.
-use Rattle.std.specs.Prelude.{ℕ, ◌==◌, ◌&&◌, Bool, false, not, List, [], ◌∷◌, map, Option, Some, None, slice_range, slice_index_or, unwrap_or, if◌then◌else◌}
-use Rattle.std.specs.List.{onto_first}
+use Rattle.std.specs.Prelude.{ℕ, ◌==◌, ◌&&◌, Bool, false, not, List, [], ◌∷◌, ◌-◌, map, take, drop, length, Option, Some, None, ◌||◌, codes, slice_range, slice_index_or, unwrap_or, if◌then◌else◌}
+use Rattle.std.specs.Char.{is_ascii_digit}
+use Rattle.std.specs.List.{filter_map, onto_first}
 use Rattle.asm_text.specs.declared.token.Kind.{Kind}
 use Rattle.asm_text.specs.declared.token.Kind.TheVariants as kind
 use Rattle.asm_text.specs.declared.token.Token.{Token}
 use Rattle.asm_text.specs.Numbers.{number_of}
-use Rattle.asm_text.specs.Pieces.{is_register}
+use Rattle.asm_text.specs.Pieces.{is_one_of, is_register, pieces_of, takes_word}
 use Rattle.asm_core.specs.declared.word.Word.{Word}
 use Rattle.asm_core.specs.declared.word.Word.TheVariants as word
 
@@ -14,6 +15,32 @@ abbrev pub said : Kind → List ℕ → Word
 said kind.Name bytes = word.Name bytes
 said kind.Number bytes = word.Number (unwrap_or (number_of bytes) 0)
 said kind.Punctuation bytes = word.Mark (slice_index_or bytes 0 0)
+
+-- a number begins with this byte
+abbrev pub is_number_byte : ℕ → Bool
+is_number_byte byte = is_ascii_digit byte || is_one_of (codes "$%") byte
+
+-- the word that a token is, of which this is the first byte
+abbrev pub word_by : ℕ → List ℕ → Word
+word_by first piece = if is_number_byte first then word.Number (unwrap_or (number_of piece) 0) else (if takes_word first then word.Name piece else word.Mark first)
+
+-- a blank begins with this byte
+abbrev pub is_blank_byte : ℕ → Bool
+is_blank_byte byte = is_one_of (32 ∷ 9 ∷ 10 ∷ 13 ∷ []) byte
+
+-- code begins with a blank
+abbrev pub begins_blank : List ℕ → Bool
+begins_blank [] = false
+begins_blank (first ∷ code) = is_blank_byte first
+
+-- the word that a piece of a line is, where it is no blank
+abbrev pub piece_word : List ℕ → Option Word
+piece_word [] = None
+piece_word (first ∷ piece) = if is_blank_byte first then None else Some (word_by first (first ∷ piece))
+
+-- the words of a part of a line's code
+unfoldable pub words_in : List ℕ → List Word
+words_in code = filter_map piece_word (pieces_of code)
 
 -- the words of a line that has these tokens
 abbrev pub words_of : List ℕ → List Token → List Word
@@ -40,6 +67,10 @@ is_mark mark (word.Mark byte) = byte == mark
 abbrev pub begins_with : ℕ → List Word → Bool
 begins_with mark [] = false
 begins_with mark (w ∷ ws) = is_mark mark w
+
+-- the words before the `)` that ends them
+abbrev pub before_close : List Word → Option (List Word)
+before_close ws = if begins_with 41 (drop (length ws - 1) ws) then Some (take (length ws - 1) ws) else None
 
 -- the word is a comma
 abbrev pub is_comma : Word → Bool

@@ -1,63 +1,54 @@
-ghost use Rattle.std.specs.Prelude.{◌≡◌, ◌+◌, ◌^◌, ◌<◌, ◌≤◌, IfErr, IfOk, OnOk, length};
-ghost use Rattle.std.specs.List.{All};
+ghost use Rattle.std.specs.Prelude.{◌≡◌, ◌≢◌, ◌+◌, ◌^◌, ◌<◌, ◌≤◌, Err, IfErr, IfOk, OnOk, length};
 ghost use Rattle.asm_text.specs.Answers.{Answers};
 ghost use Rattle.asm_text.specs.Lines.{lines_with_ends};
 ghost use Rattle.asm_text.specs.declared.fault.AsmFault.TheVariants.{OutOfMemory};
 ghost use Rattle.asm_text.specs.declared.scan.TheConstants.{TEXT_LIMIT};
-ghost use Rattle.asm_text.specs.Spans.{EndsBy};
-ghost use Rattle.asm_text.specs.Tokens.{line_tokens};
 ghost use Rattle.asm_core.specs.FirstRound.{IsRom, IsRound, known_of};
 ghost use Rattle.asm_core.specs.Forms.{IsBody};
 ghost use Rattle.asm_core.specs.Images.{assembled, at_the_start, given_by};
-ghost use Rattle.asm_core.specs.Rounds.{first_round, line_read, text_looked_at};
+ghost use Rattle.asm_core.specs.Rounds.{first_round, line_read, text_looked_at, words_read};
 
 use crate::first_round::{FirstRound, at_line, look_at};
 use crate::line::read_line;
 use crate::second_round::write_lines;
-use crate::word::read_words;
-use crate::{Dialect, Line, Listing, Names, Rom, Row, Word};
-use asm_text::{AsmCause, AsmFault, TEXT_LIMIT, Token, push_line};
+use crate::{Dialect, Line, Listing, Names, Rom, Row, Words};
+use asm_text::{AsmCause, AsmFault, TEXT_LIMIT, code_of, read_kind, split_piece};
 use rom_image::Image;
 use std::alloc::Global;
 
-/// The tokens and the words of the line at hand, in memory that all lines use.
-#[derive(Drop)]
-struct LineBuffer<'a> {
-    tokens: Vec<Token>,
-    words: Vec<Word<'a>>,
-}
-
-/// Puts the tokens of a line in the place of others.
-fn read_tokens(tokens: &mut Vec<Token>, text: &[u8], number: u32) -> Result<(), AsmFault>
-    requires { length text.now < 2 ^ 64 }
-    ensures tokens { Answers (λ _. tokens.new.items) result (line_tokens number 0 text.now) }
-    ensures within { OnOk result (All (EndsBy (length text.now)) tokens.new.items) }
+/// The words of a line, where all its pieces are tokens or blanks.
+fn read_words<'a>(text: &'a [u8], number: u32) -> Result<Words<'a>, AsmFault>
+    ensures words { Answers (λ words. words) result (words_read number text.now) }
 {
-    tokens.clear();
-    push_line(tokens, text, number, 0)
+    let code = code_of(text);
+    let mut rest = code;
+    'pieces: while !rest.is_empty() {
+        let (piece, after) = split_piece(rest);
+        if let Err(cause) = read_kind(piece) {
+            return Err(at_line(number, cause));
+        }
+        rest = after;
+    }
+    Ok(Words::new(code))
 }
 
 /// A line, as its language reads it.
 fn read_text<'a, D: Dialect>(
     alloc: Global,
     dialect: &D,
-    buffer: &mut LineBuffer<'a>,
     number: u32,
     round: &FirstRound<'a>,
     text: &'a [u8],
 ) -> Result<Line<'a>, AsmFault>
-    requires text { length text.now < 2 ^ 64 }
     requires at { round.now.at ≤ 65536 }
     ensures line { Answers (λ line. line) result (line_read D.language number (known_of round.now) text.now) }
     ensures cells { IfOk result (λ line. IsBody line.body) }
 {
-    if let Err(fault) = read_tokens(&mut buffer.tokens, text, number) {
-        return Err(fault);
-    }
-    let Ok(()) = read_words(&mut buffer.words, text, &buffer.tokens) else {
-        return Err(AsmFault::OutOfMemory);
+    let words = match read_words(text, number) {
+        Ok(words) => words,
+        Err(fault) => return Err(fault),
     };
-    match read_line(alloc, dialect, &buffer.words, &round.names, round.at) {
+    match read_line(alloc, dialect, &words, &round.names, round.at) {
         Ok(Some(line)) => Ok(line),
         Ok(None) => Err(at_line(number, AsmCause::NoSuchForm)),
         Err(_) => Err(AsmFault::OutOfMemory),
@@ -69,19 +60,17 @@ fn read_text<'a, D: Dialect>(
 fn look_at_text<'a, D: Dialect>(
     alloc: Global,
     dialect: &D,
-    buffer: &mut LineBuffer<'a>,
     rom: Rom,
     number: u32,
     round: &mut FirstRound<'a>,
     text: &'a [u8],
 ) -> Result<(), AsmFault>
-    requires text { length text.now < 2 ^ 64 }
     requires rom { IsRom rom }
     requires round { IsRound rom round.old }
     ensures exact { Answers (λ _. known_of round.new) result (text_looked_at D.language rom number (known_of round.old) text.now) }
     ensures round { OnOk result (IsRound rom round.new) }
 {
-    match read_text(alloc, dialect, buffer, number, round, text) {
+    match read_text(alloc, dialect, number, round, text) {
         Ok(line) => look_at(round, rom, number, line),
         Err(fault) => Err(fault),
     }
@@ -121,23 +110,11 @@ fn look_at_lines<'a, D: Dialect>(
         Ok(round) => round,
         Err(fault) => return Err(fault),
     };
-    let mut buffer = LineBuffer {
-        tokens: Vec::new(alloc),
-        words: Vec::new(alloc),
-    };
     let mut rest = text;
     let mut number = 1;
     'lines: while !rest.is_empty() {
         let (line, after) = asm_text::split_line(rest);
-        if let Err(fault) = look_at_text(
-            alloc,
-            dialect,
-            &mut buffer,
-            rom,
-            number,
-            &mut round,
-            line,
-        ) {
+        if let Err(fault) = look_at_text(alloc, dialect, rom, number, &mut round, line) {
             return Err(fault);
         }
         number += 1;

@@ -1,4 +1,4 @@
-use crate::{Cell, Names, Row, Word};
+use crate::{Cell, Names, Row, Words};
 use board_base::OutOfMemory;
 use std::alloc::Global;
 
@@ -36,7 +36,7 @@ pub trait Dialect {
         &self,
         alloc: Global,
         first: &'a [u8],
-        rest: &[Word<'a>],
+        rest: &Words<'a>,
         names: &Names<'a>,
         at: u32,
     ) -> Result<Form<'a>, OutOfMemory>

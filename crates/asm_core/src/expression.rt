@@ -1,7 +1,7 @@
 ghost use Rattle.std.specs.Prelude.{◌≡◌, ◌+◌, ◌^◌, ◌≤◌, IfOk, IfSome, pos, unsigned_abs};
 ghost use Rattle.asm_core.specs.Expressions.{expression_of, minus_of, operand_of, operand_value, part_of, part_of_sum, sum_of, sum_value, summed, terms_of, value_of};
 
-use crate::{Name, Names, Row, Word, begins_with};
+use crate::{Name, Names, Row, Word, Words, behind_mark};
 use board_base::OutOfMemory;
 use std::alloc::Global;
 
@@ -64,38 +64,37 @@ fn minus(word: &Word) -> Option<bool>
 fn read_terms<'a>(
     alloc: Global,
     first: bool,
-    words: &[Word<'a>],
+    words: &Words<'a>,
 ) -> Result<Option<Row<Term<'a>>>, OutOfMemory>
     ensures { IfOk result (λ read. read ≡ terms_of first words.now) }
 {
     let mut terms = Row::new(alloc);
     let mut negative = first;
-    let mut at = 0;
-    'terms: while at < words.len() {
-        let Some(operand) = read_operand(&words[at]) else {
+    let mut rest = words.copied();
+    'terms: while let Some((word, after)) = rest.split_first() {
+        let Some(operand) = read_operand(&word) else {
             return Ok(None);
         };
         terms.push(Term { negative, operand })?;
-        if at + 1 == words.len() {
+        let Some((sign, behind)) = after.split_first() else {
             return Ok(Some(terms));
-        }
-        let Some(next) = minus(&words[at + 1]) else {
+        };
+        let Some(next) = minus(&sign) else {
             return Ok(None);
         };
         negative = next;
-        at += 2;
+        rest = behind;
     }
     Ok(None)
 }
 
 /// The terms of a sum, of which the first may have a minus.
-fn read_sum<'a>(alloc: Global, words: &[Word<'a>]) -> Result<Option<Row<Term<'a>>>, OutOfMemory>
+fn read_sum<'a>(alloc: Global, words: &Words<'a>) -> Result<Option<Row<Term<'a>>>, OutOfMemory>
     ensures { IfOk result (λ read. read ≡ sum_of words.now) }
 {
-    if begins_with(words, b'-') {
-        read_terms(alloc, true, &words[1..])
-    } else {
-        read_terms(alloc, false, words)
+    match behind_mark(words, b'-') {
+        Some(rest) => read_terms(alloc, true, &rest),
+        None => read_terms(alloc, false, words),
     }
 }
 
@@ -103,7 +102,7 @@ fn read_sum<'a>(alloc: Global, words: &[Word<'a>]) -> Result<Option<Row<Term<'a>
 fn read_part<'a>(
     alloc: Global,
     part: Part,
-    words: &[Word<'a>],
+    words: &Words<'a>,
 ) -> Result<Option<Expression<'a>>, OutOfMemory>
     ensures { IfOk result (λ read. read ≡ part_of_sum part words.now) }
 {
@@ -117,14 +116,14 @@ fn read_part<'a>(
 /// a `-` that may stand before the first, and a `<` or `>` for a byte of the sum before that.
 pub fn read_expression<'a>(
     alloc: Global,
-    words: &[Word<'a>],
+    words: &Words<'a>,
 ) -> Result<Option<Expression<'a>>, OutOfMemory>
     ensures { IfOk result (λ read. read ≡ expression_of words.now) }
 {
-    if begins_with(words, b'<') {
-        read_part(alloc, Part::Low, &words[1..])
-    } else if begins_with(words, b'>') {
-        read_part(alloc, Part::High, &words[1..])
+    if let Some(sum) = behind_mark(words, b'<') {
+        read_part(alloc, Part::Low, &sum)
+    } else if let Some(sum) = behind_mark(words, b'>') {
+        read_part(alloc, Part::High, &sum)
     } else {
         read_part(alloc, Part::Whole, words)
     }

@@ -1,12 +1,13 @@
-ghost use Rattle.std.specs.Prelude.{◌≡◌, ◌≤◌, IfOk, IfSome, OnOk, ok_or};
+ghost use Rattle.std.specs.Prelude.{◌≡◌, ◌≤◌, ◌∷◌, IfOk, IfSome, OnOk, drop, ok_or};
+ghost use Rattle.std.specs.Option.{option_map};
 ghost use Rattle.asm_core.specs.Cells.{IsCell, IsFieldPlace};
 ghost use Rattle.asm_core.specs.Forms.{AreCells, IsBody};
 ghost use Rattle.asm_core.specs.Lines.{body_of, body_of_form, cells_of, equals_of, label_of, line_of_words, named_body_of, value_cell};
 ghost use Rattle.asm_core.specs.Words.{items_of};
 
 use crate::{
-    Cell, Dialect, Expression, Field, Form, Name, Names, Place, Row, WORD, Word, begins_with,
-    is_plain, read_expression, split_item,
+    Cell, Dialect, Expression, Field, Form, Name, Names, Place, Row, WORD, Word, Words,
+    behind_mark, is_plain, read_expression, split_item,
 };
 use board_base::OutOfMemory;
 use std::alloc::Global;
@@ -60,7 +61,7 @@ pub fn value_cell<'a>(
 /// A cell of so many bytes for each expression of a list that commas part.
 pub fn read_list<'a>(
     alloc: Global,
-    words: &[Word<'a>],
+    words: &Words<'a>,
     place: Place,
     size: u8,
 ) -> Result<Option<Row<Cell<'a>>>, OutOfMemory>
@@ -71,10 +72,10 @@ pub fn read_list<'a>(
     ensures cells { IfOk result (λ read. IfSome read AreCells) }
 {
     let mut cells = Row::new(alloc);
-    let mut list = Some(words);
+    let mut list = Some(words.copied());
     'items: while let Some(rest) = list {
-        let (item, after) = split_item(rest);
-        let Some(expression) = read_expression(alloc, item)? else {
+        let (item, after) = split_item(&rest);
+        let Some(expression) = read_expression(alloc, &item)? else {
             return Ok(None);
         };
         let cell = value_cell(alloc, place, size, expression)?;
@@ -84,29 +85,30 @@ pub fn read_list<'a>(
     Ok(Some(cells))
 }
 
-/// The label of a line.
-fn read_label<'a>(words: &[Word<'a>]) -> Option<Name<'a>>
-    ensures { result ≡ label_of words.now }
+/// The label that begins with a line's first word, and what stands behind it.
+fn read_label<'a>(first: &Word<'a>, rest: &Words<'a>) -> Option<(Name<'a>, Words<'a>)>
+    ensures { result ≡ option_map (λ name. (name, drop 2 (first.now ∷ rest.now))) (label_of (first.now ∷ rest.now)) }
 {
-    match words {
-        [first, second, ..] if second.is_mark(b':') => first.plain_name(),
-        _ => None,
-    }
+    let behind = behind_mark(rest, b':')?;
+    Some((first.plain_name()?, behind))
 }
 
 /// A name that is given a value.
 fn read_equals<'a>(
     alloc: Global,
     name: &Name<'a>,
-    rest: &[Word<'a>],
+    rest: &Words<'a>,
 ) -> Result<Option<Body<'a>>, OutOfMemory>
     ensures body { IfOk result (λ read. read ≡ equals_of name.now rest.now) }
     ensures cells { IfOk result (λ read. IfSome read IsBody) }
 {
-    if !begins_with(rest, b'=') || !is_plain(name.bytes()) {
+    let Some(given) = behind_mark(rest, b'=') else {
+        return Ok(None);
+    };
+    if !is_plain(name.bytes()) {
         return Ok(None);
     }
-    match read_expression(alloc, &rest[1..])? {
+    match read_expression(alloc, &given)? {
         Some(expression) => Ok(Some(Body::Equals(Name::new(name.bytes()), expression))),
         None => Ok(None),
     }
@@ -118,7 +120,7 @@ fn read_named<'a, D: Dialect>(
     alloc: Global,
     dialect: &D,
     name: &Name<'a>,
-    rest: &[Word<'a>],
+    rest: &Words<'a>,
     names: &Names<'a>,
     at: u32,
 ) -> Result<Option<Body<'a>>, OutOfMemory>
@@ -145,11 +147,30 @@ fn read_named<'a, D: Dialect>(
     }
 }
 
-/// A statement.
+/// A statement that has this word first.
+fn read_statement<'a, D: Dialect>(
+    alloc: Global,
+    dialect: &D,
+    first: &Word<'a>,
+    rest: &Words<'a>,
+    names: &Names<'a>,
+    at: u32,
+) -> Result<Option<Body<'a>>, OutOfMemory>
+    requires at { at ≤ 65536 }
+    ensures body { IfOk result (λ read. read ≡ body_of (D.language names.now at) (first.now ∷ rest.now)) }
+    ensures cells { IfOk result (λ read. IfSome read IsBody) }
+{
+    match first {
+        Word::Name(name) => read_named(alloc, dialect, name, rest, names, at),
+        _ => Ok(None),
+    }
+}
+
+/// A statement, which may be missing.
 fn read_body<'a, D: Dialect>(
     alloc: Global,
     dialect: &D,
-    words: &[Word<'a>],
+    words: &Words<'a>,
     names: &Names<'a>,
     at: u32,
 ) -> Result<Option<Body<'a>>, OutOfMemory>
@@ -157,12 +178,43 @@ fn read_body<'a, D: Dialect>(
     ensures body { IfOk result (λ read. read ≡ body_of (D.language names.now at) words.now) }
     ensures cells { IfOk result (λ read. IfSome read IsBody) }
 {
-    let [first, rest @ ..] = words else {
-        return Ok(Some(Body::Nothing));
-    };
-    match first {
-        Word::Name(name) => read_named(alloc, dialect, name, rest, names, at),
-        _ => Ok(None),
+    match words.split_first() {
+        Some((first, rest)) => read_statement(alloc, dialect, &first, &rest, names, at),
+        None => Ok(Some(Body::Nothing)),
+    }
+}
+
+/// The line with this label and this body, where there is a body.
+fn with_label<'a>(label: Option<Name<'a>>, body: Option<Body<'a>>) -> Option<Line<'a>>
+    requires { IfSome body IsBody }
+    ensures line { result ≡ option_map (λ body. record { label = label.entry; body = body }) body.entry }
+    ensures body { IfSome result (λ line. IsBody line.body) }
+{
+    Some(Line { label, body: body? })
+}
+
+/// The line that begins with this word.
+fn read_from<'a, D: Dialect>(
+    alloc: Global,
+    dialect: &D,
+    first: &Word<'a>,
+    rest: &Words<'a>,
+    names: &Names<'a>,
+    at: u32,
+) -> Result<Option<Line<'a>>, OutOfMemory>
+    requires at { at ≤ 65536 }
+    ensures line { IfOk result (λ read. read ≡ line_of_words (D.language names.now at) (first.now ∷ rest.now)) }
+    ensures cells { IfOk result (λ read. IfSome read (λ line. IsBody line.body)) }
+{
+    match read_label(first, rest) {
+        Some((name, statement)) => {
+            let body = read_body(alloc, dialect, &statement, names, at)?;
+            Ok(with_label(Some(name), body))
+        }
+        None => {
+            let body = read_statement(alloc, dialect, first, rest, names, at)?;
+            Ok(with_label(None, body))
+        }
     }
 }
 
@@ -170,7 +222,7 @@ fn read_body<'a, D: Dialect>(
 pub(crate) fn read_line<'a, D: Dialect>(
     alloc: Global,
     dialect: &D,
-    words: &[Word<'a>],
+    words: &Words<'a>,
     names: &Names<'a>,
     at: u32,
 ) -> Result<Option<Line<'a>>, OutOfMemory>
@@ -178,10 +230,8 @@ pub(crate) fn read_line<'a, D: Dialect>(
     ensures line { IfOk result (λ read. read ≡ line_of_words (D.language names.now at) words.now) }
     ensures cells { IfOk result (λ read. IfSome read (λ line. IsBody line.body)) }
 {
-    let label = read_label(words);
-    let statement = if label.is_some() { &words[2..] } else { words };
-    match read_body(alloc, dialect, statement, names, at)? {
-        Some(body) => Ok(Some(Line { label, body })),
-        None => Ok(None),
+    match words.split_first() {
+        Some((first, rest)) => read_from(alloc, dialect, &first, &rest, names, at),
+        None => Ok(with_label(None, Some(Body::Nothing))),
     }
 }

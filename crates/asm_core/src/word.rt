@@ -1,12 +1,9 @@
-ghost use Rattle.std.specs.Prelude.{◌≡◌, ◌+◌, ◌<◌, ◌≤◌, [], ◌∷◌, true, IfSome, OnOk, length, slice_range};
-ghost use Rattle.std.specs.List.{All, position};
-ghost use Rattle.std.specs.Option.{option_map_or};
-ghost use Rattle.asm_text.specs.Spans.{EndsBy};
-ghost use Rattle.asm_core.specs.Words.{begins_with, is_comma, is_plain, items_of, said, words_of};
+ghost use Rattle.std.specs.Prelude.{◌≡◌, ◌==◌, ◌&&◌, not};
+ghost use Rattle.asm_text.specs.Pieces.{takes_word};
+ghost use Rattle.asm_core.specs.Words.{is_number_byte, is_plain, word_by};
 
 use crate::Name;
-use asm_text::{Kind, Token, is_register, number};
-use board_base::OutOfMemory;
+use asm_text::{is_register, number, takes_word};
 
 /// A token with what it says. A name is with the dot that may stand before it.
 #[derive(Drop)]
@@ -44,33 +41,31 @@ impl<'a> Word<'a> {
     }
 }
 
-/// The word that a token's bytes are.
-fn read_word<'a>(kind: Kind, bytes: &'a [u8]) -> Word<'a>
-    requires { 0 < length bytes.now }
-    ensures { result ≡ said kind bytes.now }
+/// Whether these bytes begin as a number does.
+fn is_number_start(byte: u8) -> bool
+    ensures { result ≡ is_number_byte byte }
 {
-    match kind {
-        Kind::Name => Word::Name(Name::new(bytes)),
-        Kind::Number => Word::Number(number(bytes).unwrap_or(0)),
-        Kind::Punctuation => Word::Mark(bytes[0]),
+    matches!(byte, b'0'..=b'9' | b'$' | b'%')
+}
+
+/// The word that a token's bytes are, by the first of them.
+pub(crate) fn read_word<'a>(first: u8, piece: &'a [u8]) -> Word<'a>
+    ensures { result ≡ word_by first piece.now }
+{
+    if is_number_start(first) {
+        Word::Number(number(piece).unwrap_or(0))
+    } else if takes_word(first) {
+        Word::Name(Name::new(piece))
+    } else {
+        Word::Mark(first)
     }
 }
 
-/// Puts the words of a line that has these tokens in the place of others. After a refusal `words` is
-/// only to be dropped.
-pub(crate) fn read_words<'a>(
-    words: &mut Vec<Word<'a>>,
-    line: &'a [u8],
-    tokens: &[Token],
-) -> Result<(), OutOfMemory>
-    requires { All (EndsBy (length line.now)) tokens.now }
-    ensures { OnOk result (words.new.items ≡ words_of line.now tokens.now) }
+/// Whether a token that begins with this byte is this punctuation mark.
+pub(crate) fn is_mark_byte(mark: u8, byte: u8) -> bool
+    ensures { result ≡ (byte == mark && not (takes_word byte)) }
 {
-    words.clear();
-    for token in tokens {
-        words.push(read_word(token.kind, &line[token.start..token.end]))?;
-    }
-    Ok(())
+    byte == mark && !takes_word(byte)
 }
 
 /// Whether a name may have a value, which one behind a dot and a register may not.
@@ -80,42 +75,5 @@ pub fn is_plain(name: &[u8]) -> bool
     match name {
         [] | [b'.', ..] => false,
         _ => !is_register(name),
-    }
-}
-
-/// Whether the first of these words is this punctuation mark.
-pub fn begins_with(words: &[Word], mark: u8) -> bool
-    ensures value { result ≡ begins_with mark words.now }
-    ensures some { result ≡ true → 1 ≤ length words.now }
-{
-    match words {
-        [first, ..] => first.is_mark(mark),
-        [] => false,
-    }
-}
-
-/// Whether a word is a comma.
-fn is_comma(word: &Word) -> bool
-    ensures { result ≡ is_comma word.now }
-{
-    word.is_mark(b',')
-}
-
-/// The place of the first comma.
-fn find_comma(words: &[Word]) -> Option<usize>
-    ensures { result ≡ position (λ word. is_comma word) words.now }
-{
-    words.iter().position(|word| is_comma(word))
-}
-
-/// The first item of a list and, where a comma ends it, what stands behind that.
-#[tactic(auto, using(crate::proofs::Items::items))]
-pub fn split_item<'w, 'a>(words: &'w [Word<'a>]) -> (&'w [Word<'a>], Option<&'w [Word<'a>]>)
-    ensures items { items_of words.now ≡ result.0.now ∷ option_map_or (λ rest. items_of rest.now) result.1 [] }
-    ensures shorter { IfSome result.1 (λ rest. length rest.now < length words.now) }
-{
-    match find_comma(words) {
-        Some(end) => (&words[..end], Some(&words[end + 1..])),
-        None => (words, None),
     }
 }

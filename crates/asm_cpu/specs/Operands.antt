@@ -1,10 +1,10 @@
 -- The operands of a processor source, as they are written. This project's own profile.
-use Rattle.std.specs.Prelude.{ℕ, ◌-◌, Bool, false, List, [], ◌∷◌, take, drop, length, Option, Some, None, if◌then◌else◌}
+use Rattle.std.specs.Prelude.{ℕ, Bool, false, List, [], ◌∷◌, drop, Option, Some, None, if◌then◌else◌}
 use Rattle.std.specs.Str.{str_eq_ignore_ascii_case}
 use Rattle.std.specs.Option.{option_map, option_map_or}
 use Rattle.asm_core.specs.declared.word.Word.{Word}
 use Rattle.asm_core.specs.declared.word.Word.TheVariants as word
-use Rattle.asm_core.specs.Words.{begins_with, items_of}
+use Rattle.asm_core.specs.Words.{before_close, begins_with, items_of}
 use Rattle.asm_cpu.specs.declared.operand.Shape.{Shape}
 use Rattle.asm_cpu.specs.declared.operand.Shape.TheVariants.{Immediate, Direct, IndexedX, IndexedY, Indirect, IndirectX, IndirectY}
 
@@ -19,10 +19,6 @@ abbrev pub is_register : ℕ → List Word → Bool
 is_register letter [] = false
 is_register letter (w ∷ []) = is_letter letter w
 is_register letter (w ∷ v ∷ ws) = false
-
--- the words before the `)` that ends them
-abbrev pub before_close : List Word → Option (List Word)
-before_close ws = if begins_with 41 (drop (length ws - 1) ws) then Some (take (length ws - 1) ws) else None
 
 -- `x` and `)`
 abbrev pub closes_x : List Word → Bool

@@ -1,8 +1,7 @@
 ghost use Rattle.std.specs.Prelude.{◌≡◌};
-ghost use Rattle.std.specs.Option.{option_map};
-ghost use Rattle.asm_cpu.specs.Operands.{before_close, closes_x, indexed_shape, indirect_shape, is_letter, is_register, shape_of, whole_shape};
+ghost use Rattle.asm_cpu.specs.Operands.{closes_x, indexed_shape, indirect_shape, is_letter, is_register, shape_of, whole_shape};
 
-use asm_core::{Word, begins_with, split_item};
+use asm_core::{Word, Words, before_close, behind_mark, split_item};
 
 /// How an operand with an expression `e` is written.
 #[derive(Clone, Copy, Debug, PartialEq, Eq)]
@@ -34,59 +33,44 @@ fn is_letter(word: &Word, letter: u8) -> bool
 }
 
 /// Whether the words are this letter alone, of either case.
-pub(crate) fn is_register(words: &[Word], letter: u8) -> bool
+pub(crate) fn is_register(words: &Words, letter: u8) -> bool
     ensures { result ≡ is_register letter words.now }
 {
-    match words {
-        [word] => is_letter(word, letter),
-        _ => false,
-    }
-}
-
-/// The words before the `)` that ends them.
-fn before_close<'w, 'a>(words: &'w [Word<'a>]) -> Option<&'w [Word<'a>]>
-    ensures { option_map (λ inner. inner.now) result ≡ before_close words.now }
-{
-    let (inner, last) = words.split_at(words.len().saturating_sub(1));
-    if begins_with(last, b')') {
-        Some(inner)
-    } else {
-        None
+    match words.split_first() {
+        Some((word, rest)) => rest.is_empty() && is_letter(&word, letter),
+        None => false,
     }
 }
 
 /// Whether the words are `x` and `)`.
-fn closes_x(words: &[Word]) -> bool
+fn closes_x(words: &Words) -> bool
     ensures { result ≡ closes_x words.now }
 {
     match before_close(words) {
-        Some(inner) => is_register(inner, b'x'),
+        Some(inner) => is_register(&inner, b'x'),
         None => false,
     }
 }
 
 /// The shape of an operand without a comma.
-fn whole_shape<'w, 'a>(words: &'w [Word<'a>]) -> Option<(Shape, &'w [Word<'a>])>
-    ensures { option_map (λ shaped. (shaped.0, shaped.1.now)) result ≡ whole_shape words.now }
+fn whole_shape<'a>(words: &Words<'a>) -> Option<(Shape, Words<'a>)>
+    ensures { result ≡ whole_shape words.now }
 {
-    if begins_with(words, b'#') {
-        Some((Shape::Immediate, &words[1..]))
-    } else if begins_with(words, b'(') {
-        Some((Shape::Indirect, before_close(&words[1..])?))
+    if let Some(rest) = behind_mark(words, b'#') {
+        Some((Shape::Immediate, rest))
+    } else if let Some(rest) = behind_mark(words, b'(') {
+        Some((Shape::Indirect, before_close(&rest)?))
     } else {
-        Some((Shape::Direct, words))
+        Some((Shape::Direct, words.copied()))
     }
 }
 
 /// The shape of an operand behind its `(`, up to its comma and behind that.
-fn indirect_shape<'w, 'a>(
-    words: &'w [Word<'a>],
-    index: &[Word<'a>],
-) -> Option<(Shape, &'w [Word<'a>])>
-    ensures { option_map (λ shaped. (shaped.0, shaped.1.now)) result ≡ indirect_shape words.now index.now }
+fn indirect_shape<'a>(words: &Words<'a>, index: &Words) -> Option<(Shape, Words<'a>)>
+    ensures { result ≡ indirect_shape words.now index.now }
 {
     if closes_x(index) {
-        Some((Shape::IndirectX, words))
+        Some((Shape::IndirectX, words.copied()))
     } else if is_register(index, b'y') {
         Some((Shape::IndirectY, before_close(words)?))
     } else {
@@ -95,18 +79,15 @@ fn indirect_shape<'w, 'a>(
 }
 
 /// The shape of an operand up to its comma and behind that.
-fn indexed_shape<'w, 'a>(
-    words: &'w [Word<'a>],
-    index: &[Word<'a>],
-) -> Option<(Shape, &'w [Word<'a>])>
-    ensures { option_map (λ shaped. (shaped.0, shaped.1.now)) result ≡ indexed_shape words.now index.now }
+fn indexed_shape<'a>(words: &Words<'a>, index: &Words) -> Option<(Shape, Words<'a>)>
+    ensures { result ≡ indexed_shape words.now index.now }
 {
-    if begins_with(words, b'(') {
-        indirect_shape(&words[1..], index)
+    if let Some(rest) = behind_mark(words, b'(') {
+        indirect_shape(&rest, index)
     } else if is_register(index, b'x') {
-        Some((Shape::IndexedX, words))
+        Some((Shape::IndexedX, words.copied()))
     } else if is_register(index, b'y') {
-        Some((Shape::IndexedY, words))
+        Some((Shape::IndexedY, words.copied()))
     } else {
         None
     }
@@ -114,13 +95,13 @@ fn indexed_shape<'w, 'a>(
 
 /// The shape of an operand, and the words of its expression.
 #[tactic(auto, using(crate::proofs::Operands::shapes))]
-pub(crate) fn read_shape<'w, 'a>(words: &'w [Word<'a>]) -> Option<(Shape, &'w [Word<'a>])>
-    ensures { option_map (λ shaped. (shaped.0, shaped.1.now)) result ≡ shape_of words.now }
+pub(crate) fn read_shape<'a>(words: &Words<'a>) -> Option<(Shape, Words<'a>)>
+    ensures { result ≡ shape_of words.now }
 {
     match split_item(words) {
-        (item, None) => whole_shape(item),
-        (item, Some(rest)) => match split_item(rest) {
-            (index, None) => indexed_shape(item, index),
+        (item, None) => whole_shape(&item),
+        (item, Some(rest)) => match split_item(&rest) {
+            (index, None) => indexed_shape(&item, &index),
             (_, Some(_)) => None,
         },
     }

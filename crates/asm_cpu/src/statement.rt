@@ -10,7 +10,7 @@ use crate::mnemonics::read_op;
 use crate::mode::{choose_mode, origin, place};
 use crate::operand::{Shape, is_register, read_shape};
 use asm_core::{
-    BYTE, Cell, Dialect, Expression, Field, Form, Names, Row, Word, read_expression, read_list,
+    BYTE, Cell, Dialect, Expression, Field, Form, Names, Row, Words, read_expression, read_list,
 };
 use board_base::OutOfMemory;
 use cpu_table::{Mode, Op, encode, length};
@@ -97,7 +97,7 @@ fn with_expression<'a>(
 fn with_operand<'a>(
     alloc: Global,
     op: Op,
-    words: &[Word<'a>],
+    words: &Words<'a>,
     names: &Names<'a>,
     at: u32,
 ) -> Result<Form<'a>, OutOfMemory>
@@ -108,7 +108,7 @@ fn with_operand<'a>(
     let Some((shape, inner)) = read_shape(words) else {
         return Ok(Form::NoSuchForm);
     };
-    let Some(expression) = read_expression(alloc, inner)? else {
+    let Some(expression) = read_expression(alloc, &inner)? else {
         return Ok(Form::NoSuchForm);
     };
     let mode = choose_mode(names, op, shape, &expression);
@@ -120,7 +120,7 @@ fn with_operand<'a>(
 fn read_instruction<'a>(
     alloc: Global,
     op: Op,
-    words: &[Word<'a>],
+    words: &Words<'a>,
     names: &Names<'a>,
     at: u32,
 ) -> Result<Form<'a>, OutOfMemory>
@@ -138,7 +138,7 @@ fn read_instruction<'a>(
 }
 
 /// A list of bytes.
-fn read_bytes<'a>(alloc: Global, words: &[Word<'a>]) -> Result<Form<'a>, OutOfMemory>
+fn read_bytes<'a>(alloc: Global, words: &Words<'a>) -> Result<Form<'a>, OutOfMemory>
     ensures form { IfOk result (λ form. form ≡ list_form (cells_of BYTE 1 (items_of words.now))) }
     ensures cells { IfOk result IsForm }
 {
@@ -161,7 +161,7 @@ impl Dialect for Cpu {
         &self,
         alloc: Global,
         first: &'a [u8],
-        rest: &[Word<'a>],
+        rest: &Words<'a>,
         names: &Names<'a>,
         at: u32,
     ) -> Result<Form<'a>, OutOfMemory> {

@@ -1,4 +1,4 @@
-use asm_core::{Dialect, Form, Names, Rom, Word, assemble};
+use asm_core::{Dialect, Form, Names, Rom, Words, assemble};
 use board_base::{OutOfMemory, VECTOR_ROM_LEN};
 use rom_image::Image;
 use std::alloc::Global;
@@ -16,7 +16,7 @@ impl Dialect for NoWords {
         &self,
         _alloc: Global,
         _first: &'a [u8],
-        _rest: &[Word<'a>],
+        _rest: &Words<'a>,
         _names: &Names<'a>,
         _at: u32,
     ) -> Result<Form<'a>, OutOfMemory> {

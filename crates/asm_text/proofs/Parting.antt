@@ -1,10 +1,10 @@
 -- A text parted after its first LF, and a line parted after its first piece.
-use Rattle.std.proofs.Common.{◌≡◌, ℕ, ◌+◌, ◌-◌, ◌<◌, ◌≤◌, ◌⊎◌, inl, inr, zero, Bool, true, false, eqb, ltb, List, [], ◌∷◌, Some, None, length, get_or, take, drop, refl, sym, ap, add-one, arith}
+use Rattle.std.proofs.Common.{◌≡◌, ℕ, ◌+◌, ◌-◌, ◌<◌, ◌≤◌, ◌⊎◌, inl, inr, zero, Bool, true, false, eqb, ltb, List, [], ◌∷◌, Some, None, length, get_or, take, drop, refl, sym, subst, ap, add-one, arith}
 use Rattle.std.specs.List.{before_first, position, position_or_len}
-use Rattle.std.proofs.lemmas.Bool.{cases_lt, cond_both, ltb-false, ltb-true}
+use Rattle.std.proofs.lemmas.Bool.{cases_lt, cond_both, eqb-true, ltb-false, ltb-true}
 use Rattle.std.proofs.lemmas.List.{take_all}
 use Rattle.asm_text.specs.Lines.{lines_with_ends}
-use Rattle.asm_text.specs.Pieces.{joins, pieces_of}
+use Rattle.asm_text.specs.Pieces.{ends_line, is_word_byte, joins, pieces_of, takes_word}
 
 -- a test passes or fails
 pub bool_cases : (b : Bool) → (b ≡ true) ⊎ (b ≡ false)
@@ -126,4 +126,52 @@ pieces_of_first (byte ∷ next ∷ code) (Prim.Native.Nat.suc (Prim.Native.Nat.s
     pieces_of_first (next ∷ code) (Prim.Native.Nat.suc n) (omega arith) (omega arith) (IsJoined-tail byte (next ∷ code) (Prim.Native.Nat.suc n) whole) (λ inside. let apart = last (omega arith) in let before : Prim.Native.Nat.suc (Prim.Native.Nat.suc n) - 1 ≡ Prim.Native.Nat.suc (Prim.Native.Nat.suc n - 1) = omega arith in rw before at apart) in
     rw together (rw rest refl)
 
-pub ruleset pieces = (IsJoined-one, IsJoined-more, pieces_of_first)
+-- a word goes on with its bytes, and ends with another
+pub word-on : (before byte : ℕ) → takes_word before ≡ true → is_word_byte byte ≡ true → joins before byte ≡ true
+unfolding joins
+word-on before byte takes on = rw (takes, on) refl
+
+pub word-end : (before byte : ℕ) → takes_word before ≡ true → is_word_byte byte ≡ false → joins before byte ≡ false
+unfolding joins
+word-end before byte takes end = elim (bool_cases (eqb before 13)) [
+  | inl same ↦
+      let is : before ≡ 13 = eqb-true before 13 same in
+      let no : takes_word 13 ≡ true = rw is at takes in
+      absurd (cc)
+  | inr other ↦ rw (takes, end, other) refl
+]
+
+pub word-byte : (byte : ℕ) → is_word_byte byte ≡ true → takes_word byte ≡ true
+word-byte byte on = rw on refl
+
+pub ruleset pieces = (IsJoined-one, IsJoined-more, pieces_of_first, word-on, word-end, word-byte)
+
+-- the end of a line
+pub pieces-feed : (code : List ℕ) → ends_line code ≡ true → (2 ≤ length code) × (pieces_of code ≡ take 2 code ∷ pieces_of (drop 2 code))
+unfolding pieces_of joins
+pieces-feed [] feed = absurd (cc)
+pieces-feed (byte ∷ []) feed = absurd (cc)
+pieces-feed (byte ∷ next ∷ code) feed = elim (bool_cases (eqb byte 13)) [
+  | inl same ↦ elim (bool_cases (eqb next 10)) [
+    | inl line ↦ let b : byte ≡ 13 = eqb-true byte 13 same in let n : next ≡ 10 = eqb-true next 10 line in (omega arith, told byte next code b n)
+    | inr other ↦ let no : false ≡ true = rw (same, other) at feed in absurd (cc)
+  ]
+  | inr other ↦ let no : false ≡ true = rw other at feed in absurd (cc)
+]
+  where
+    parted : (code : List ℕ) → pieces_of (13 ∷ 10 ∷ code) ≡ (13 ∷ 10 ∷ []) ∷ pieces_of code
+    parted [] = refl
+    parted (byte ∷ code) = refl
+
+    told : (byte next : ℕ) (code : List ℕ) → byte ≡ 13 → next ≡ 10 → pieces_of (byte ∷ next ∷ code) ≡ (byte ∷ next ∷ []) ∷ pieces_of code
+    told byte next code b n =
+        let P : ℕ → Type 0 = λ x. pieces_of (13 ∷ x ∷ code) ≡ (13 ∷ x ∷ []) ∷ pieces_of code in
+        let Q : ℕ → Type 0 = λ x. pieces_of (x ∷ next ∷ code) ≡ (x ∷ next ∷ []) ∷ pieces_of code in
+        subst Q (sym b) (subst P (sym n) (parted code))
+
+-- a byte that no other follows in its piece
+pub pieces-lone : (code : List ℕ) → 0 < length code → takes_word (get_or code 0 0) ≡ false → ends_line code ≡ false → pieces_of code ≡ take 1 code ∷ pieces_of (drop 1 code)
+unfolding pieces_of joins
+pieces-lone [] some lone other = absurd (omega arith)
+pieces-lone (byte ∷ []) some lone other = refl
+pieces-lone (byte ∷ next ∷ code) some lone other = rw (lone, other) refl

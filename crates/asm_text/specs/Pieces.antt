@@ -16,9 +16,19 @@ is_one_of bytes byte = list_any (λ one. byte == one) bytes
 abbrev pub is_word_byte : ℕ → Bool
 is_word_byte byte = is_ascii_alphanumeric byte || byte == 95
 
+-- a letter, a digit or `_` behind this byte belongs to its piece: behind another of these, and behind `$`, `%` or `.`
+abbrev pub takes_word : ℕ → Bool
+takes_word byte = is_word_byte byte || is_one_of (codes "$%.") byte
+
+-- code begins with CR and LF
+abbrev pub ends_line : List ℕ → Bool
+ends_line [] = false
+ends_line (byte ∷ []) = false
+ends_line (byte ∷ next ∷ code) = byte == 13 && next == 10
+
 -- two neighbours are of one piece: a letter, a digit or `_` after another or after `$`, `%` or `.`, and LF after CR
 unfoldable pub joins : ℕ → ℕ → Bool
-joins before byte = ((is_word_byte before || is_one_of (codes "$%.") before) && is_word_byte byte) || (before == 13 && byte == 10)
+joins before byte = (takes_word before && is_word_byte byte) || (before == 13 && byte == 10)
 
 -- the pieces of a line: they end where two neighbours aren't of one piece
 unfoldable pub pieces_of : List ℕ → List (List ℕ)

@@ -1,6 +1,6 @@
-ghost use Rattle.std.specs.Prelude.{◌≡◌, ◌<◌, ◌∷◌, ◌++◌, length};
+ghost use Rattle.std.specs.Prelude.{◌≡◌, ◌<◌, ◌≤◌, ◌∷◌, ◌++◌, true, drop, length, slice_index_or, take};
 ghost use Rattle.std.specs.List.{list_all};
-ghost use Rattle.asm_text.specs.Pieces.{is_blank, is_dotted_name, is_mark, is_name, is_name_start, is_number_start, is_register, is_word_byte, joins, kind_of, pieces_of};
+ghost use Rattle.asm_text.specs.Pieces.{ends_line, is_blank, is_dotted_name, is_mark, is_name, is_name_start, is_number_start, is_register, is_word_byte, kind_of, pieces_of, takes_word};
 
 use crate::fault::AsmCause;
 use crate::numeral::number;
@@ -13,28 +13,57 @@ fn is_word_byte(byte: u8) -> bool
     byte.is_ascii_alphanumeric() || byte == b'_'
 }
 
-/// Whether a byte belongs to the piece of the byte directly before it.
-#[tactic(auto, unfolding(crate::specs::Pieces::joins))]
-fn joins(before: u8, byte: u8) -> bool
-    ensures { result ≡ joins before byte }
+/// Whether letters, digits and `_` behind this byte belong to its piece.
+pub fn takes_word(byte: u8) -> bool
+    ensures { result ≡ takes_word byte }
 {
-    let takes_word = is_word_byte(before) || matches!(before, b'$' | b'%' | b'.');
-    (takes_word && is_word_byte(byte)) || (before == b'\r' && byte == b'\n')
+    is_word_byte(byte) || matches!(byte, b'$' | b'%' | b'.')
+}
+
+/// How many bytes of code belong to its first piece, where a word may go on behind its first byte.
+#[tactic(auto, using(crate::proofs::Parting::pieces))]
+fn word_len(code: &[u8]) -> usize
+    requires some { 0 < length code.now }
+    requires word { takes_word (slice_index_or code.now 0 0) ≡ true }
+    ensures some { 0 < result }
+    ensures within { result ≤ length code.now }
+    ensures pieces { pieces_of code.now ≡ take result code.now ∷ pieces_of (drop result code.now) }
+{
+    let mut end = 1;
+    'word: while end < code.len() && is_word_byte(code[end]) {
+        end += 1;
+    }
+    end
+}
+
+/// Whether code begins with CR and LF.
+fn ends_line(code: &[u8]) -> bool
+    ensures { result ≡ ends_line code.now }
+{
+    matches!(code, [b'\r', b'\n', ..])
+}
+
+/// How many bytes of code belong to its first piece.
+fn piece_len(code: &[u8]) -> usize
+    requires { 0 < length code.now }
+    ensures some { 0 < result }
+    ensures within { result ≤ length code.now }
+    ensures pieces { pieces_of code.now ≡ take result code.now ∷ pieces_of (drop result code.now) }
+{
+    if takes_word(code[0]) {
+        return word_len(code);
+    }
+    if ends_line(code) { 2 } else { 1 }
 }
 
 /// The first piece of a line's code, and what stands after it.
-#[tactic(auto, using(crate::proofs::Parting::pieces))]
 pub fn split_piece(code: &[u8]) -> (&[u8], &[u8])
     requires { 0 < length code.now }
     ensures pieces { pieces_of code.now ≡ result.0.now ∷ pieces_of result.1.now }
     ensures whole { code.now ≡ result.0.now ++ result.1.now }
     ensures some { 0 < length result.0.now }
 {
-    let mut end = 1;
-    'piece: while end < code.len() && joins(code[end - 1], code[end]) {
-        end += 1;
-    }
-    code.split_at(end)
+    code.split_at(piece_len(code))
 }
 
 /// Whether a piece is a blank.

@@ -8,10 +8,10 @@ use Rattle.asm_core.proofs.line.read_list.Given as goal
 
 abbrev pub invariant-items : goal.invariant-items
 invariant-items l = record {
-  list : option_map (λ cells. l.cells ++ cells) (cells_of l.place l.size (option_map_or (λ rest. items_of rest.now) l.list [])) ≡ cells_of l.place l.size (items_of l.words);
+  list : option_map (λ cells. l.cells ++ cells) (cells_of l.place l.size (option_map_or (λ rest. items_of rest) l.list [])) ≡ cells_of l.place l.size (items_of l.words);
   each : All IsCell l.cells;
   some : IfNone l.list (1 ≤ length l.cells);
 }
 
 abbrev pub decreases-items : goal.decreases-items
-decreases-items l = option_map_or (λ rest. 1 + length rest.now) l.list 0
+decreases-items l = option_map_or (λ rest. 1 + length rest) l.list 0
