@@ -8,6 +8,6 @@ kept room text = if nat_le (length text) room then text else []
 
 -- what is kept of a text, and its length
 pub record IsKept (room : ℕ) (text : List ℕ) (t : Told) : Type 0 where
-  pub room : t.room ≡ room
+  pub limit : t.room ≡ room
   pub bytes : t.bytes.items ≡ kept room text
   pub wanted : t.wanted ≡ length text

@@ -32,11 +32,12 @@ impl Told {
         let Some(wanted) = self.wanted.checked_add(more.len() as u64) else {
             return Err(AllocError);
         };
-        if wanted <= self.room as u64 {
-            self.bytes.extend_from_slice(more)?;
-        } else {
+        if wanted > self.room as u64 {
             self.bytes.clear();
+            self.wanted = wanted;
+            return Ok(());
         }
+        self.bytes.extend_from_slice(more)?;
         self.wanted = wanted;
         Ok(())
     }
