@@ -54,18 +54,18 @@ pub record Tells (words : List ℕ) (spot : ℕ) (ended : Status) (c : Call) : T
 abbrev pub TellsOrNot : List ℕ → ℕ → Status → Call → Type 0
 TellsOrNot words spot ended c = Tells words spot ended c ⊎ Refuses NoMemory (report_of 0 0 0) c
 
--- the board stands at the end of a stretch, and the buffer has what it told
+-- the board stands at the end of a stretch, and the buffer, which has room for all of it, has what the stretch tells
 pub record Gives (s : Stretch) (c : Call) : Type 0 where
   pub status : c.number ≡ number_of (if s.jammed then Jammed else Done)
-  pub report : c.report ≡ report_of s.clock (length s.told.items) 0
+  pub report : c.report ≡ report_of s.clock s.wanted 0
   pub place : c.after ≡ s.board
   pub buffer : c.filled ≡ put_in s.told.items c.buffer
-  pub room : length s.told.items ≤ length c.buffer
+  pub room : s.wanted ≤ length c.buffer
 
 -- the buffer is too short for it
 pub record WantsRoom (s : Stretch) (c : Call) : Type 0 where
-  pub refused : Refuses NoRoom (report_of 0 (length s.told.items) 0) c
-  pub short : length c.buffer < length s.told.items
+  pub refused : Refuses NoRoom (report_of 0 s.wanted 0) c
+  pub short : length c.buffer < s.wanted
 
 -- what comes of a stretch
 abbrev pub AnswersStretch : Result Stretch StretchFault → Call → Type 0

@@ -86,18 +86,19 @@ pub fn give(
     report: &mut GravitarReport,
 ) -> u32
     requires board { length board.old ≡ STATE_LEN }
+    requires fits { length stretch.now.told.items ≤ stretch.now.wanted }
     ensures { (Gives stretch.now (call_of board.old board.new buffer.old buffer.new report.new result))
         ⊎ WantsRoom stretch.now (call_of board.old board.new buffer.old buffer.new report.new result) }
 {
-    let used = stretch.told.len();
-    if buffer.len() < used {
-        return report_number(Status::NoRoom, used as u64, 0, report);
+    let used = stretch.wanted;
+    if (buffer.len() as u64) < used {
+        return report_number(Status::NoRoom, used, 0, report);
     }
     put(&stretch.told, buffer);
     board.copy_from_slice(&stretch.board);
     *report = GravitarReport {
         clock: stretch.clock,
-        used: used as u64,
+        used,
         place: 0,
     };
     if stretch.jammed {

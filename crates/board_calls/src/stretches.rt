@@ -44,6 +44,7 @@ fn answer(
     report: &mut GravitarReport,
 ) -> u32
     requires board { IfOk came (λ _. length board.old ≡ STATE_LEN) }
+    requires fits { IfOk came (λ s. length s.told.items ≤ s.wanted) }
     ensures { AnswersStretch came (call_of board.old board.new buffer.old buffer.new report.new result) }
 {
     match came {
@@ -71,7 +72,7 @@ pub fn advance(
     report: &mut GravitarReport,
 ) -> u32
     ensures range { CLOCK_LIMIT < clock → Refuses BadNumber (report_of 0 0 clock) (call_of board.old board.new text.old text.new report.new result) }
-    ensures answer { clock ≤ CLOCK_LIMIT → AnswersOver image.now board.old tape.now (IsAdvanced (is_asked timers) (end_asked boundary clock))
+    ensures answer { clock ≤ CLOCK_LIMIT → AnswersOver image.now board.old tape.now (IsAdvanced (length text.old) (is_asked timers) (end_asked boundary clock))
         (call_of board.old board.new text.old text.new report.new result) }
 {
     if CLOCK_LIMIT < clock {
@@ -84,7 +85,7 @@ pub fn advance(
         tape,
         timers: is_so(timers),
     };
-    let came = board_stretch::advance(alloc, start, until);
+    let came = board_stretch::advance(alloc, start, until, text.len());
     answer(alloc, came, board, text, report)
 }
 
@@ -105,7 +106,7 @@ pub fn pcm(
 ) -> u32
     ensures range { CLOCK_LIMIT < clock → Refuses BadNumber (report_of 0 0 clock) (call_of board.old board.new samples.old samples.new report.new result) }
     ensures group { clock ≤ CLOCK_LIMIT → (per < 1) ⊎ (MAX_PER < per) → Refuses BadNumber (report_of 0 0 per) (call_of board.old board.new samples.old samples.new report.new result) }
-    ensures answer { clock ≤ CLOCK_LIMIT → 1 ≤ per → per ≤ MAX_PER → AnswersOver image.now board.old tape.now (IsSampled (is_asked timers) clock per)
+    ensures answer { clock ≤ CLOCK_LIMIT → 1 ≤ per → per ≤ MAX_PER → AnswersOver image.now board.old tape.now (IsSampled (length samples.old) (is_asked timers) clock per)
         (call_of board.old board.new samples.old samples.new report.new result) }
 {
     if CLOCK_LIMIT < clock {
@@ -120,6 +121,6 @@ pub fn pcm(
         tape,
         timers: is_so(timers),
     };
-    let came = sample(alloc, start, clock, per);
+    let came = sample(alloc, start, clock, per, samples.len());
     answer(alloc, came, board, samples, report)
 }

@@ -1,5 +1,5 @@
 -- A stretch behind another. This project's own.
-use Rattle.std.specs.Prelude.{◌≡◌, ◌≤◌, ◌++◌}
+use Rattle.std.specs.Prelude.{◌≡◌, ◌≤◌, ◌+◌, ◌++◌, length}
 use Rattle.board_watch.specs.declared.until.Until.{Until}
 use Rattle.board_watch.specs.declared.until.Until.TheVariants.{Boundary, Clock}
 use Rattle.board_watch.specs.Windows.{clock_in}
@@ -12,9 +12,14 @@ IsOnTheWay (Clock c) until = c ≤ clock_in until
 IsOnTheWay (Boundary c) (Boundary d) = c ≤ d
 IsOnTheWay (Boundary c) (Clock d) = ⊥
 
+-- there was room for all that a stretch tells
+abbrev pub HasAll : Stretch → Type 0
+HasAll s = length s.told.items ≡ s.wanted
+
 -- two stretches, the second from the board of the first on, tell and come to what the whole does
 pub record AreOne (first second whole : Stretch) : Type 0 where
-  pub told : whole.told.items ≡ first.told.items ++ second.told.items
+  pub told : HasAll first → HasAll second → HasAll whole → whole.told.items ≡ first.told.items ++ second.told.items
+  pub wanted : whole.wanted ≡ first.wanted + second.wanted
   pub board : whole.board ≡ second.board
   pub clock : whole.clock ≡ second.clock
   pub jammed : whole.jammed ≡ second.jammed

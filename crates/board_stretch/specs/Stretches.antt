@@ -1,5 +1,5 @@
 -- A stretch of a run, from a saved board to another. This project's own.
-use Rattle.std.specs.Prelude.{◌≡◌, ℕ, Bool, List, Result, Ok, Err}
+use Rattle.std.specs.Prelude.{◌≡◌, ℕ, Bool, List, length, Result, Ok, Err}
 use Rattle.std.specs.Option.{is_some}
 use Rattle.board_watch.specs.declared.until.Until.{Until}
 use Rattle.board_watch.specs.declared.until.Until.TheVariants.{Boundary}
@@ -13,31 +13,33 @@ use Rattle.sliced_run.specs.Slices.{saved_bytes}
 use Rattle.board_stretch.specs.declared.ended.Stretch.{Stretch}
 use Rattle.board_stretch.specs.declared.fault.StretchFault.{StretchFault}
 use Rattle.board_stretch.specs.declared.parts.Parts.{Parts}
+use Rattle.board_stretch.specs.Kept.{kept}
 use Rattle.board_stretch.specs.Reading.{ReadsParts}
 
 -- the board with which a stretch begins, without records
 abbrev pub first_board : Bool → Parts → Board
 first_board timers parts = record { cpu = parts.board.cpu; wires = wires_of parts.image timers parts.board }
 
--- a stretch that told these bytes and ended at this board, each of whose fields is in its range
-pub record EndsAt (told : List ℕ) (last : Board) (s : Stretch) : Type 0 where
-  pub bytes : s.told.items ≡ told
+-- a stretch that tells these bytes, where there is room for so many, and ended at this board, each of whose fields is in its range
+pub record EndsAt (room : ℕ) (told : List ℕ) (last : Board) (s : Stretch) : Type 0 where
+  pub bytes : s.told.items ≡ kept room told
+  pub wanted : s.wanted ≡ length told
   pub board : s.board ≡ saved_bytes last
   pub whole : IsWhole (board_of last.cpu last.wires)
   pub clock : s.clock ≡ last.wires.clock
   pub jammed : s.jammed ≡ is_some last.cpu.jam
 
 -- a stretch that tells the lines of its records: those of a log without its last line
-abbrev pub IsAdvanced : Bool → Until → Parts → Stretch → Type 0
-IsAdvanced timers until parts s =
+abbrev pub IsAdvanced : ℕ → Bool → Until → Parts → Stretch → Type 0
+IsAdvanced room timers until parts s =
     let first = first_board timers parts in
-    EndsAt (slice_text parts.tape.entries until first) (end_of parts.tape.entries until first) s
+    EndsAt room (slice_text parts.tape.entries until first) (end_of parts.tape.entries until first) s
 
 -- a stretch to a boundary that tells the samples of the sound
-abbrev pub IsSampled : Bool → ℕ → ℕ → Parts → Stretch → Type 0
-IsSampled timers limit per parts s =
+abbrev pub IsSampled : ℕ → Bool → ℕ → ℕ → Parts → Stretch → Type 0
+IsSampled room timers limit per parts s =
     let first = first_board timers parts in
-    EndsAt (sampled_bytes parts.tape.entries limit per first) (end_of parts.tape.entries (Boundary limit) first) s
+    EndsAt room (sampled_bytes parts.tape.entries limit per first) (end_of parts.tape.entries (Boundary limit) first) s
 
 -- what comes of the bytes of an image, a board and a tape: this stretch over their parts, or their refusal
 abbrev pub Comes : List ℕ → List ℕ → List ℕ → (Parts → Stretch → Type 0) → Result Stretch StretchFault → Type 0

@@ -1,6 +1,8 @@
-ghost use Rattle.std.specs.Prelude.{◌≡◌};
+ghost use Rattle.std.specs.Prelude.{◌≡◌, ℕ, List};
+ghost use Rattle.board_stretch.specs.Kept.{IsKept};
 ghost use Rattle.board_stretch.specs.Stretches.{EndsAt};
 
+use crate::told::Told;
 use avg_device::VectorUnit;
 use board_base::BoardState;
 use catchup_engine::Engine;
@@ -14,21 +16,23 @@ use save_state::STATE_LEN;
 pub struct Stretch {
     /// The board at its end, as bytes of a saved board.
     pub board: [u8; STATE_LEN],
-    /// What it tells: the lines of its records, or its samples.
+    /// What it tells, the lines of its records or its samples, where there is room for all of it.
     pub told: Vec<u8>,
+    /// How many bytes it tells, also where there is no room for them.
+    pub wanted: u64,
     /// The clock at its end.
     pub clock: u64,
     /// Whether an undocumented opcode has stopped the processor there, or before it.
     pub jammed: bool,
 }
 
-/// A stretch that told these bytes, and ended where an engine stands.
-pub fn ended<V: VectorUnit, P: SoundUnit, C: CellUnit, D: DividerUnit>(
+/// A stretch of which this is kept, and which ended where an engine stands.
+pub(crate) fn ended<V: VectorUnit, P: SoundUnit, C: CellUnit, D: DividerUnit>(
     engine: &Engine<V, P, C, D>,
-    told: Vec<u8>,
+    told: Told,
 ) -> Stretch
     requires settled { engine.now.lagging ≡ 0 }
-    ensures { EndsAt told.items engine.now.board result }
+    ensures { (room : ℕ) → (text : List ℕ) → IsKept room text told → EndsAt room text engine.now.board result }
 {
     let mut state = BoardState::power_on();
     engine.state(&mut state);
@@ -36,7 +40,8 @@ pub fn ended<V: VectorUnit, P: SoundUnit, C: CellUnit, D: DividerUnit>(
     save_state::write(&state, &mut board);
     Stretch {
         board,
-        told,
+        told: told.bytes,
+        wanted: told.wanted,
         clock: engine.clock(),
         jammed: engine.cpu().jam.is_some(),
     }

@@ -25,10 +25,17 @@ impl GrowingSink {
     }
 
     /// What was taken.
-    pub fn into_bytes(self) -> Vec<u8>
-        ensures { result.items ≡ self.bytes.items }
+    pub fn bytes(&self) -> &[u8]
+        ensures { result.now ≡ self.now.bytes.items }
     {
-        self.bytes
+        &self.bytes
+    }
+
+    /// Forgets what was taken, and keeps its memory.
+    pub fn clear(&mut self)
+        ensures { self.new.bytes.items ≡ [] }
+    {
+        self.bytes.clear();
     }
 }
 

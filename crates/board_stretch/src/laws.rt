@@ -7,12 +7,12 @@ ghost use Rattle.board_stretch.specs.Stretches.{Comes, IsAdvanced};
 
 /// A run that is done in stretches is the run: where a first stretch goes part of the way and a second
 /// goes on from the bytes of its board, over the same image, tape and wiring, what they tell, joined, is
-/// what the whole tells, and the second ends where the whole does.
+/// what the whole tells, and the second ends where the whole does. Each may have a room of its own.
 pub fn stretches_are_the_run()
-    ensures { (image board tape : List ℕ) → (timers : Bool) → (one other : until_value) → IsOnTheWay one other
+    ensures { (image board tape : List ℕ) → (timers : Bool) → (some more all : ℕ) → (one other : until_value) → IsOnTheWay one other
         → (first second whole : stretch_value)
-        → Comes image board tape (IsAdvanced timers one) (Ok first)
-        → Comes image first.board tape (IsAdvanced timers other) (Ok second)
-        → Comes image board tape (IsAdvanced timers other) (Ok whole)
+        → Comes image board tape (IsAdvanced some timers one) (Ok first)
+        → Comes image first.board tape (IsAdvanced more timers other) (Ok second)
+        → Comes image board tape (IsAdvanced all timers other) (Ok whole)
         → AreOne first second whole }
 {}

@@ -10,6 +10,8 @@ mod growing;
 mod laws;
 mod parts;
 mod stretch;
+mod told;
+mod watching;
 
 pub use assembling::{AssemblyFault, assemble};
 pub use ended::Stretch;

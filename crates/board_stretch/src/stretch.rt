@@ -1,5 +1,5 @@
 //! A stretch of a run, as a function of bytes.
-ghost use Rattle.std.specs.Prelude.{◌≡◌, ◌≤◌, IfOk, IfErr};
+ghost use Rattle.std.specs.Prelude.{◌≡◌, ◌≤◌, length, IfOk, IfErr};
 ghost use Rattle.board_base.specs.Board.{board_at_power_on};
 ghost use Rattle.board_watch.specs.Windows.{clock_in};
 ghost use Rattle.cpu_core.specs.Places.{IsProcessor};
@@ -9,12 +9,12 @@ ghost use Rattle.board_stretch.specs.Stretches.{Comes, IsAdvanced, IsSampled};
 
 use crate::ended::{Stretch, ended};
 use crate::fault::StretchFault;
-use crate::growing::GrowingSink;
 use crate::parts::{Parts, Start, read_parts};
+use crate::watching::watch_within;
 use board_base::{BoardState, CLOCK_LIMIT};
 use board_watch::{Rested, Until};
 use catchup_engine::{Devices, Engine};
-use sampled_run::run_sampled;
+use sampled_run::Sampler;
 use save_state::STATE_LEN;
 use sliced_run::LogWriter;
 use std::alloc::Global;
@@ -34,38 +34,46 @@ fn advance_parts(
     parts: &Parts,
     timers: bool,
     until: Until,
+    room: usize,
 ) -> Result<Stretch, StretchFault>
     requires place { IsProcessor parts.now.board.cpu }
     requires limit { clock_in until ≤ CLOCK_LIMIT }
-    ensures done { IfOk result (λ s. IsAdvanced timers until parts.now s) }
+    ensures done { IfOk result (λ s. IsAdvanced room timers until parts.now s) }
+    ensures fits { IfOk result (λ s. length s.told.items ≤ s.wanted) }
     ensures memory { IfErr result (λ fault. fault ≡ StretchFault.NoMemory) }
 {
     let Ok(mut engine) = Engine::new(alloc, &parts.image, &parts.board, Devices::fast(), timers)
     else {
         return Err(StretchFault::NoMemory);
     };
-    let mut lines = GrowingSink::new(alloc);
     let mut rested = Rested::of(&mut engine);
-    match rested.watch(&parts.tape, until, &mut LogWriter, &mut lines) {
-        Ok(_) => Ok(ended(rested.engine(), lines.into_bytes())),
+    match watch_within(alloc, &mut rested, &parts.tape, until, &mut LogWriter, room) {
+        Ok(told) => Ok(ended(rested.engine(), told)),
         Err(_) => Err(StretchFault::NoMemory),
     }
 }
 
 /// Runs an image with a tape from a saved board to a clock, or to the first boundary that isn't before
 /// it. It tells the lines of the records on the way, as the log of `run` has them, without a last line.
+/// Where they are more bytes than there is room for, it tells only how many they are.
 ///
 /// Entries of the tape whose clocks are done aren't applied, and its END is only a line. A board that has
 /// come so far stays as it is, and a jammed one too.
-pub fn advance(alloc: Global, start: Start<'_>, until: Until) -> Result<Stretch, StretchFault>
+pub fn advance(
+    alloc: Global,
+    start: Start<'_>,
+    until: Until,
+    room: usize,
+) -> Result<Stretch, StretchFault>
     requires limit { clock_in until ≤ CLOCK_LIMIT }
-    ensures { Comes start.entry.image.now start.entry.board.now start.entry.tape.now (IsAdvanced start.entry.timers until) result }
+    ensures comes { Comes start.entry.image.now start.entry.board.now start.entry.tape.now (IsAdvanced room start.entry.timers until) result }
+    ensures fits { IfOk result (λ s. length s.told.items ≤ s.wanted) }
 {
     let parts = match read_parts(alloc, start) {
         Ok(parts) => parts,
         Err(fault) => return Err(fault),
     };
-    advance_parts(alloc, &parts, start.timers, until)
+    advance_parts(alloc, &parts, start.timers, until, room)
 }
 
 /// Runs a stretch, and tells its samples.
@@ -75,45 +83,49 @@ fn sample_parts(
     timers: bool,
     limit: u64,
     per: u32,
+    room: usize,
 ) -> Result<Stretch, StretchFault>
     requires place { IsProcessor parts.now.board.cpu }
     requires limit { limit ≤ CLOCK_LIMIT }
     requires some { 1 ≤ per }
     requires longest { per ≤ MAX_PER }
-    ensures done { IfOk result (λ s. IsSampled timers limit per parts.now s) }
+    ensures done { IfOk result (λ s. IsSampled room timers limit per parts.now s) }
+    ensures fits { IfOk result (λ s. length s.told.items ≤ s.wanted) }
     ensures memory { IfErr result (λ fault. fault ≡ StretchFault.NoMemory) }
 {
     let Ok(mut engine) = Engine::new(alloc, &parts.image, &parts.board, Devices::fast(), timers)
     else {
         return Err(StretchFault::NoMemory);
     };
-    let mut samples = GrowingSink::new(alloc);
-    match run_sampled(&mut engine, &parts.tape, limit, per, &mut samples) {
-        Ok(()) => {
-            engine.settle();
-            Ok(ended(&engine, samples.into_bytes()))
-        }
+    let mut rested = Rested::of(&mut engine);
+    let mut sampler = Sampler::of(&rested, per);
+    let until = Until::Boundary(limit);
+    match watch_within(alloc, &mut rested, &parts.tape, until, &mut sampler, room) {
+        Ok(told) => Ok(ended(rested.engine(), told)),
         Err(_) => Err(StretchFault::NoMemory),
     }
 }
 
 /// Runs an image with a tape from a saved board to the first boundary that isn't before a clock. It
 /// tells a sample for each `per` clocks, 1 to 65,535: the sum of both POKEYs' eight levels over them, as
-/// four bytes, the lowest first. Clocks at the end that are no whole group tell none.
+/// four bytes, the lowest first. Clocks at the end that are no whole group tell none. Where the samples
+/// are more bytes than there is room for, it tells only how many they are.
 pub fn sample(
     alloc: Global,
     start: Start<'_>,
     limit: u64,
     per: u32,
+    room: usize,
 ) -> Result<Stretch, StretchFault>
     requires limit { limit ≤ CLOCK_LIMIT }
     requires some { 1 ≤ per }
     requires longest { per ≤ MAX_PER }
-    ensures { Comes start.entry.image.now start.entry.board.now start.entry.tape.now (IsSampled start.entry.timers limit per) result }
+    ensures comes { Comes start.entry.image.now start.entry.board.now start.entry.tape.now (IsSampled room start.entry.timers limit per) result }
+    ensures fits { IfOk result (λ s. length s.told.items ≤ s.wanted) }
 {
     let parts = match read_parts(alloc, start) {
         Ok(parts) => parts,
         Err(fault) => return Err(fault),
     };
-    sample_parts(alloc, &parts, start.timers, limit, per)
+    sample_parts(alloc, &parts, start.timers, limit, per, room)
 }

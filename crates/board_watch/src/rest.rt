@@ -125,8 +125,10 @@ impl<'a, V: VectorUnit, P: SoundUnit, C: CellUnit, D: DividerUnit> Rested<'a, V,
         self.engine.load(state);
     }
 
-    /// Runs up to the end of a window, and hands its records to a watcher.
-    fn window<W: Watch, O: Sink>(
+    /// Runs up to the end of a window, the first one of `watch`, and hands its records to a watcher.
+    /// `Window` says that the run isn't over. After a fault the engine is at rest too, and the watcher
+    /// is only to be dropped.
+    pub fn window<W: Watch, O: Sink>(
         &mut self,
         tape: &Tape,
         until: Until,

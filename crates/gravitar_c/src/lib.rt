@@ -66,7 +66,7 @@ pub extern "C" fn gravitar_advance(
     report: &mut GravitarReport,
 ) -> u32
     ensures range { CLOCK_LIMIT < clock → Refuses BadNumber (report_of 0 0 clock) (call_of board.old board.new text.old text.new report.new result) }
-    ensures answer { clock ≤ CLOCK_LIMIT → AnswersOver image.now board.old tape.now (IsAdvanced (is_asked timers) (end_asked boundary clock))
+    ensures answer { clock ≤ CLOCK_LIMIT → AnswersOver image.now board.old tape.now (IsAdvanced (length text.old) (is_asked timers) (end_asked boundary clock))
         (call_of board.old board.new text.old text.new report.new result) }
 {
     board_calls::advance(
@@ -90,7 +90,7 @@ pub extern "C" fn gravitar_pcm(
 ) -> u32
     ensures range { CLOCK_LIMIT < clock → Refuses BadNumber (report_of 0 0 clock) (call_of board.old board.new samples.old samples.new report.new result) }
     ensures group { clock ≤ CLOCK_LIMIT → (per < 1) ⊎ (MAX_PER < per) → Refuses BadNumber (report_of 0 0 per) (call_of board.old board.new samples.old samples.new report.new result) }
-    ensures answer { clock ≤ CLOCK_LIMIT → 1 ≤ per → per ≤ MAX_PER → AnswersOver image.now board.old tape.now (IsSampled (is_asked timers) clock per)
+    ensures answer { clock ≤ CLOCK_LIMIT → 1 ≤ per → per ≤ MAX_PER → AnswersOver image.now board.old tape.now (IsSampled (length samples.old) (is_asked timers) clock per)
         (call_of board.old board.new samples.old samples.new report.new result) }
 {
     board_calls::pcm(

@@ -39,15 +39,18 @@ fn a_run_is_done_in_two_stretches(rt: HostRuntime) -> Result<(), StretchFault> {
         return Err(StretchFault::NoMemory);
     };
     let board = power_on();
-    let first = advance(rt.alloc(), start(&image, &board), Until::Clock(12))?;
+    let first = advance(rt.alloc(), start(&image, &board), Until::Clock(12), 0)?;
     assert_eq!(rt;
         (first.told.len(), first.clock, first.jammed),
         (0, 12, false)
     );
-    let second = advance(rt.alloc(), start(&image, &first.board), Until::Boundary(20))?;
+    let second = advance(rt.alloc(), start(&image, &first.board), Until::Boundary(20), 8)?;
     assert!(rt; second.told.as_slice() == b"L 12 05\n".as_slice());
     assert_eq!(rt; (second.clock, second.jammed), (22, false));
-    let whole = advance(rt.alloc(), start(&image, &board), Until::Boundary(20))?;
+    let short = advance(rt.alloc(), start(&image, &first.board), Until::Boundary(20), 7)?;
+    assert_eq!(rt; (short.told.len(), short.wanted), (0, 8));
+    assert!(rt; short.board == second.board);
+    let whole = advance(rt.alloc(), start(&image, &board), Until::Boundary(20), 8)?;
     assert!(rt; whole.board == second.board);
     Ok(())
 }
@@ -57,7 +60,7 @@ fn a_sample_is_the_sum_of_its_levels(rt: HostRuntime) -> Result<(), StretchFault
     let Ok(image) = assemble(rt.alloc(), TONE, b"") else {
         return Err(StretchFault::NoMemory);
     };
-    let stretch = sample(rt.alloc(), start(&image, &power_on()), 28, 8)?;
+    let stretch = sample(rt.alloc(), start(&image, &power_on()), 28, 8, 12)?;
     let samples = [0, 0, 0, 0, 0, 0, 0, 0, 20, 0, 0, 0];
     assert!(rt; stretch.told.as_slice() == samples.as_slice());
     Ok(())

@@ -8,6 +8,7 @@ use Rattle.board_base.specs.declared.record.Record.{Record}
 use Rattle.board_base.specs.Records.{clock_of, MadeBetween}
 use Rattle.board_base.proofs.RecordLaws.{made-within}
 use Rattle.std.proofs.lemmas.List.Elements.{All-nil, All-cons}
+use Rattle.lockstep_board.specs.Lockstep.{Board}
 use Rattle.lockstep_board.specs.Order.{Recorded}
 use Rattle.board_watch.specs.Watch.{TakesInParts}
 use Rattle.sound_pcm.specs.Mixing.{MixerValue, mixed, samples_of}
@@ -16,6 +17,7 @@ use Rattle.sound_pcm.specs.WholeRun.{AreBefore, IsCut}
 use Rattle.sound_pcm.proofs.GatherLaws.{bytes-append}
 use Rattle.sound_pcm.proofs.MixLaws.{made-from}
 use Rattle.sound_pcm.proofs.PartLaws.{taken_in_parts}
+use Rattle.sampled_run.specs.BoardSamples.{IsMixerOf}
 use Rattle.sampled_run.specs.declared.samples.Sampler.{Sampler}
 
 -- the records are those of the clocks from the mixer's own on
@@ -24,6 +26,10 @@ pub record CanMix (m : MixerValue) (from : ℕ) (l : Recorded) (upto : ℕ) : Ty
   pub to : upto ≤ CLOCK_END
   pub made1 : MadeBetween Pokey1 from l.levels1 upto
   pub made2 : MadeBetween Pokey2 from l.levels2 upto
+
+-- a sampler that begins a group of `per` clocks where a board stands
+abbrev pub IsSamplerOf : Board → ℕ → Sampler → Type 0
+IsSamplerOf b per s = IsMixerOf b per s.mixer
 
 -- the samples that the records make, and the mixer after them
 abbrev pub samples_in : Sampler → Recorded → ℕ → List ℕ

@@ -5,4 +5,4 @@ mod laws;
 mod samples;
 
 pub use laws::run_samples_fit;
-pub use samples::run_sampled;
+pub use samples::{Sampler, run_sampled};

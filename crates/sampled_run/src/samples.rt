@@ -7,7 +7,7 @@ ghost use Rattle.board_watch.specs.Rested.{engine_of, loan_of};
 ghost use Rattle.sound_pcm.specs.Mixing.{AreLevels};
 ghost use Rattle.sound_pcm.specs.declared.mixer.TheConstants.{MAX_PER};
 ghost use Rattle.sampled_run.specs.BoardSamples.{sampled_bytes, IsMixerOf};
-ghost use Rattle.sampled_run.specs.Sampling.{CanMix, sampled_in_parts, sampler_after, samples_in};
+ghost use Rattle.sampled_run.specs.Sampling.{CanMix, IsSamplerOf, sampled_in_parts, sampler_after, samples_in};
 
 use avg_device::VectorUnit;
 use board_base::{BoardState, CLOCK_LIMIT, PokeyState, Trails};
@@ -20,9 +20,9 @@ use pokey_chip::SoundUnit;
 use sound_pcm::Mixer;
 use tape_ports::Tape;
 
-/// Writes the samples of a run.
+/// Writes the samples of a run: a watcher of its records.
 #[derive(Drop)]
-pub(crate) struct Sampler {
+pub struct Sampler {
     mixer: Mixer,
 }
 
@@ -83,6 +83,24 @@ fn mixer_at<V: VectorUnit, P: SoundUnit, C: CellUnit, D: DividerUnit>(
     mixer_of(state.clock, per, first, second)
 }
 
+impl Sampler {
+    /// A sampler that begins a group of `per` clocks, 1 to 65,535, where the board of an engine at rest
+    /// stands.
+    pub fn of<V: VectorUnit, P: SoundUnit, C: CellUnit, D: DividerUnit>(
+        rested: &Rested<'_, V, P, C, D>,
+        per: u32,
+    ) -> Sampler
+        requires some { 1 ≤ per }
+        requires longest { per ≤ MAX_PER }
+        ensures begins { IsSamplerOf (engine_of rested.now).board per result }
+        ensures clock { (engine_of rested.now).board.wires.clock ≤ CLOCK_LIMIT + 16 }
+    {
+        Sampler {
+            mixer: mixer_at(rested, per),
+        }
+    }
+}
+
 /// Runs the board of an engine at rest, and writes its samples.
 fn run_rested<V: VectorUnit, P: SoundUnit, C: CellUnit, D: DividerUnit, O: Sink>(
     rested: &mut Rested<'_, V, P, C, D>,
@@ -99,9 +117,7 @@ fn run_rested<V: VectorUnit, P: SoundUnit, C: CellUnit, D: DividerUnit, O: Sink>
     ensures cause { HasCause (O.faults out.old) (O.faults out.new) result }
     ensures board { OnOk result ((engine_of rested.new).board ≡ cleared (to_boundary tape.now.entries limit (engine_of rested.old).board)) }
 {
-    let mut sampler = Sampler {
-        mixer: mixer_at(rested, per),
-    };
+    let mut sampler = Sampler::of(rested, per);
     match rested.watch(tape, Until::Boundary(limit), &mut sampler, out) {
         Ok(_) => Ok(()),
         Err(_) => Err(SinkFault),

@@ -5,14 +5,14 @@ use Rattle.sampled_run.proofs.samples.run_rested.Goals as goal
 pub watch-requires-clause-room : goal.watch-requires-clause-room
 unfolding to_boundary
 watch-requires-clause-room g c =
-    run-room c.args.tape.now.entries c.args.rested.now.engine.now.board c.args.rested.now.rest.empty c.args.limit c.args.per c.mixer_at.result
-    c.requires.limit c.mixer_at.ensures.clock c.mixer_at.ensures.mixer
+    run-room c.args.tape.now.entries c.args.rested.now.engine.now.board c.args.rested.now.rest.empty c.args.limit c.args.per c.of-sampler.result.mixer
+    c.requires.limit c.of-sampler.ensures.clock c.of-sampler.ensures.begins
 
 pub returns-in-Ok-clause-taken : goal.returns-in-Ok-clause-taken
 unfolding to_boundary
 returns-in-Ok-clause-taken g c =
-    rw (run-sampled c.args.tape.now.entries c.args.rested.now.engine.now.board c.args.rested.now.rest.empty c.args.limit c.args.per c.mixer_at.result
-    c.requires.some c.mixer_at.ensures.mixer) at c.in-Ok.ensures.taken
+    rw (run-sampled c.args.tape.now.entries c.args.rested.now.engine.now.board c.args.rested.now.rest.empty c.args.limit c.args.per c.of-sampler.result.mixer
+    c.requires.some c.of-sampler.ensures.begins) at c.in-Ok.ensures.taken
 
 pub returns-in-Ok-clause-board : goal.returns-in-Ok-clause-board
 unfolding to_boundary
@@ -21,5 +21,5 @@ returns-in-Ok-clause-board g c = c.in-Ok.ensures.board
 pub returns-in-Err-clause-taken : goal.returns-in-Err-clause-taken
 unfolding to_boundary
 returns-in-Err-clause-taken g c =
-    rw (run-sampled c.args.tape.now.entries c.args.rested.now.engine.now.board c.args.rested.now.rest.empty c.args.limit c.args.per c.mixer_at.result
-    c.requires.some c.mixer_at.ensures.mixer) at c.in-Err.ensures.taken
+    rw (run-sampled c.args.tape.now.entries c.args.rested.now.engine.now.board c.args.rested.now.rest.empty c.args.limit c.args.per c.of-sampler.result.mixer
+    c.requires.some c.of-sampler.ensures.begins) at c.in-Err.ensures.taken
