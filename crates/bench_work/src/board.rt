@@ -18,7 +18,7 @@ use tape_ports::Tape;
 
 /// What records a board has made, part by part: strokes, levels of each POKEY, and latches and
 /// resets.
-#[derive(Clone, Copy, Debug, PartialEq, Eq)]
+#[derive(Clone, Copy, PartialEq, Eq)]
 pub struct BoardTally {
     pub strokes: Tally,
     pub levels1: Tally,

@@ -6,7 +6,7 @@ use board_base::CLOCK_LIMIT;
 
 /// What is printed: sums over a fixed number of clocks, or times of as many as were asked for, at
 /// most `CLOCK_LIMIT`.
-#[derive(Clone, Copy, Debug, PartialEq, Eq)]
+#[derive(Clone, Copy, PartialEq, Eq)]
 pub enum Report {
     /// Sums, which are the same on every machine.
     Sums,

@@ -7,7 +7,7 @@ use pokey_poly::Poly;
 
 /// The four polynomial registers of a POKEY, as wide as they stand in its state: where all are
 /// `u32`, LLVM keeps two of them in one vector register, and a shift takes twice as long.
-#[derive(Clone, Copy, Debug, PartialEq, Eq)]
+#[derive(Clone, Copy, PartialEq, Eq)]
 pub struct Registers {
     pub four: u8,
     pub five: u8,
@@ -83,7 +83,7 @@ fn leaps(clocks: u64) -> Registers
 }
 
 /// How the registers are moved.
-#[derive(Clone, Copy, Debug, PartialEq, Eq)]
+#[derive(Clone, Copy, PartialEq, Eq)]
 pub enum Form {
     /// Shift by shift.
     Shifts,

@@ -20,7 +20,7 @@ const SKCTL: u8 = 0xF;
 const TONE: u8 = 0xAF;
 
 /// What a POKEY is told to play.
-#[derive(Clone, Copy, Debug, PartialEq, Eq)]
+#[derive(Clone, Copy, PartialEq, Eq)]
 pub enum Tune {
     /// Four channels on the base clock, with periods of 21, 81, 141 and 201 pulses of 28 clocks each.
     FourOnTheBaseClock,

@@ -4,7 +4,7 @@ ghost use Rattle.bench_work.specs.Tally.{empty_tally, with_record};
 use board_base::Record;
 
 /// What records there were: how many, and the sum of their clocks.
-#[derive(Clone, Copy, Debug, PartialEq, Eq)]
+#[derive(Clone, Copy, PartialEq, Eq)]
 pub struct Tally {
     pub records: u64,
     pub sum: u64,

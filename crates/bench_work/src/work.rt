@@ -9,7 +9,7 @@ use board_base::DIVIDER_PERIOD;
 pub const SLICE: u64 = DIVIDER_PERIOD as u64;
 
 /// The clocks that a device does, and those of one call of it.
-#[derive(Clone, Copy, Debug)]
+#[derive(Clone, Copy)]
 pub struct Work {
     pub clocks: u64,
     pub slice: u64,

@@ -6,7 +6,7 @@ use crate::option::{
 };
 
 /// What a command does.
-#[derive(Clone, Copy, Debug, PartialEq, Eq)]
+#[derive(Clone, Copy)]
 pub enum Verb {
     /// Runs an image with a tape.
     Run,

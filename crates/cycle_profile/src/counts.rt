@@ -1,6 +1,6 @@
 /// The counts of one routine: how often it was entered, and the clocks and device accesses that its
 /// own instructions took. A count stands at the greatest `u64`.
-#[derive(Clone, Copy, Debug, PartialEq, Eq)]
+#[derive(Clone, Copy)]
 pub struct Counts {
     pub entries: u64,
     pub clocks: u64,

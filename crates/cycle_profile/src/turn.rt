@@ -6,7 +6,7 @@ use board_base::Sequence;
 use cpu_table::{Op, entry};
 
 /// What a sequence does to the list of routines.
-#[derive(Clone, Copy, Debug, PartialEq, Eq)]
+#[derive(Clone, Copy)]
 pub(crate) enum Turn {
     /// A routine is called.
     Call,
