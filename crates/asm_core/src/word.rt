@@ -41,7 +41,7 @@ impl<'a> Word<'a> {
     }
 }
 
-/// Whether these bytes begin as a number does.
+/// Whether a number begins with this byte.
 fn is_number_start(byte: u8) -> bool
     ensures { result ≡ is_number_byte byte }
 {

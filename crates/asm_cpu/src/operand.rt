@@ -37,7 +37,7 @@ pub(crate) fn is_register(words: &Words, letter: u8) -> bool
     ensures { result ≡ is_register letter words.now }
 {
     match words.split_first() {
-        Some((word, rest)) => rest.is_empty() && is_letter(&word, letter),
+        Some((word, rest)) => is_letter(&word, letter) && rest.is_empty(),
         None => false,
     }
 }
