@@ -4,5 +4,6 @@ mod LineLaws
 pub mod LogLaws
 mod NextLaws
 pub mod PartLaws
+mod RowLaws
 mod SortLaws
 mod WriteLaws

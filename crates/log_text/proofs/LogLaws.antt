@@ -1,13 +1,10 @@
 -- What the merged text of the four parts of the board says.
-use Rattle.std.proofs.Common.{◌≡◌, ℕ, ◌<◌, ◌≤◌, ◌==◌, List, [], ◌∷◌, ◌++◌, true, false, if◌then◌else◌, refl, ap, ◌∙◌, arith, append-nil}
+use Rattle.std.proofs.Common.{◌≡◌, ℕ, ◌<◌, ◌≤◌, ◌==◌, List, [], ◌∷◌, true, false, if◌then◌else◌, refl, ap, ◌∙◌, arith}
 use Rattle.std.specs.Prelude.{Some, None}
 use Rattle.std.specs.List.{cons_option}
 use Rattle.std.proofs.lemmas.Bool.{eqb-true}
-use Rattle.std.proofs.lemmas.List.Concat.{flat_map-append}
-use Rattle.board_base.specs.declared.record.Record.{Record}
 use Rattle.board_base.specs.declared.part.Part.{Part}
 use Rattle.board_base.specs.declared.part.Part.TheVariants.{Generator, Pokey1, Pokey2, Board}
-use Rattle.log_text.specs.Lines.{record_text}
 use Rattle.board_base.specs.Sooner.{sooner_of}
 use Rattle.log_text.specs.LogText.{PartRecord, merged, merged_text, log_text, made_by, place_of, IsNotAfter, IsInOrder, MergedIsOneLog}
 use Rattle.log_text.proofs.Each.{Each, EachLater, each_later-from_all_pairs}
@@ -67,18 +64,12 @@ merged-made_by ((Board, made) ∷ others) (here, rest) =
     (after-made_by (Board, made) Pokey2 others (omega arith) here) (from-made_by (Board, made) Board others here)
     ∙ ap (λ records. (Board, made) ∷ records) (merged-made_by others rest)
 
--- Over the records of each part of one list in order, the merged text is the text of that list.
+-- Over the records of each part of one list in order, the merged list is that list.
+pub merged_is_one : (records : List PartRecord) → IsInOrder records
+    → merged (made_by Generator records) (made_by Pokey1 records) (made_by Pokey2 records) (made_by Board records) ≡ records
+merged_is_one records ordered = merged-made_by records (each_later-from_all_pairs IsNotAfter records ordered)
+
+-- And the merged text is the text of that list.
 pub merged_is_one_log : (records : List PartRecord) → IsInOrder records → MergedIsOneLog records
 unfolding merged_text
-merged_is_one_log records ordered = ap log_text (merged-made_by records (each_later-from_all_pairs IsNotAfter records ordered))
-
--- the text of one record more
-pub log_text-more : (records : List PartRecord) (part : Part) (made : Record) → log_text (records ++ (part, made) ∷ []) ≡ log_text records ++ record_text part made
-unfolding log_text
-log_text-more records part made = flat_map-append (λ made. record_text made.0 made.1) records ((part, made) ∷ []) ∙ ap (λ text. log_text records ++ text) (append-nil (record_text part made))
-
--- the text of all records, around one of them
-pub log_text-around : (records others : List PartRecord) (part : Part) (made : Record)
-    → log_text (records ++ (part, made) ∷ others) ≡ log_text records ++ (record_text part made ++ log_text others)
-unfolding log_text
-log_text-around records others part made = flat_map-append (λ made. record_text made.0 made.1) records ((part, made) ∷ others)
+merged_is_one_log records ordered = ap log_text (merged_is_one records ordered)

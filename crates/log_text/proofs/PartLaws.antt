@@ -125,13 +125,13 @@ pub log_text-append : (xs ys : List PartRecord) → log_text (xs ++ ys) ≡ log_
 unfolding log_text
 log_text-append xs ys = flat_map-append _ xs ys
 
--- the log of four trails in two parts
-pub log_in_parts : (from at upto : ℕ) (v1 v2 a1 a2 b1 b2 w1 w2 : List Record)
+-- the records of four trails in two parts
+pub merged_in_parts : (from at upto : ℕ) (v1 v2 a1 a2 b1 b2 w1 w2 : List Record)
     → MadeBetween Generator from v1 at → MadeBetween Generator at v2 upto → MadeBetween Pokey1 from a1 at → MadeBetween Pokey1 at a2 upto
     → MadeBetween Pokey2 from b1 at → MadeBetween Pokey2 at b2 upto → MadeBetween Board from w1 at → MadeBetween Board at w2 upto
-    → merged_text (v1 ++ v2) (a1 ++ a2) (b1 ++ b2) (w1 ++ w2) ≡ merged_text v1 a1 b1 w1 ++ merged_text v2 a2 b2 w2
-unfolding merged_text merged
-log_in_parts from at upto v1 v2 a1 a2 b1 b2 w1 w2 v v' a a' b b' w w' =
+    → merged (v1 ++ v2) (a1 ++ a2) (b1 ++ b2) (w1 ++ w2) ≡ merged v1 a1 b1 w1 ++ merged v2 a2 b2 w2
+unfolding merged
+merged_in_parts from at upto v1 v2 a1 a2 b1 b2 w1 w2 v v' a a' b b' w w' =
     let board = one-part at Board from upto w1 w2 [] [] [] w w' (parted-none at) in
     let sound2 = one-part at Pokey2 from upto b1 b2 _ _ _ b b' board in
     let sound1 = one-part at Pokey1 from upto a1 a2 _ _ _ a a' sound2 in
@@ -139,4 +139,13 @@ log_in_parts from at upto v1 v2 a1 a2 b1 b2 w1 w2 v v' a a' b b' w w' =
     let none_all = append-nil (from_part Board (w1 ++ w2)) in
     let none_first = append-nil (from_part Board w1) in
     let none_rest = append-nil (from_part Board w2) in
-    ap log_text (rw (none_all, none_first, none_rest) at all.sorted) ∙ log_text-append (merged v1 a1 b1 w1) (merged v2 a2 b2 w2)
+    rw (none_all, none_first, none_rest) at all.sorted
+
+-- and their log
+pub log_in_parts : (from at upto : ℕ) (v1 v2 a1 a2 b1 b2 w1 w2 : List Record)
+    → MadeBetween Generator from v1 at → MadeBetween Generator at v2 upto → MadeBetween Pokey1 from a1 at → MadeBetween Pokey1 at a2 upto
+    → MadeBetween Pokey2 from b1 at → MadeBetween Pokey2 at b2 upto → MadeBetween Board from w1 at → MadeBetween Board at w2 upto
+    → merged_text (v1 ++ v2) (a1 ++ a2) (b1 ++ b2) (w1 ++ w2) ≡ merged_text v1 a1 b1 w1 ++ merged_text v2 a2 b2 w2
+unfolding merged_text
+log_in_parts from at upto v1 v2 a1 a2 b1 b2 w1 w2 v v' a a' b b' w w' =
+    ap log_text (merged_in_parts from at upto v1 v2 a1 a2 b1 b2 w1 w2 v v' a a' b b' w w') ∙ log_text-append (merged v1 a1 b1 w1) (merged v2 a2 b2 w2)

@@ -2,3 +2,4 @@ pub mod Gathering
 pub mod Lines
 pub mod LogText
 pub mod Merging
+pub mod RecordBytes

@@ -3,15 +3,15 @@ ghost use Rattle.std.specs.Iterator.{YieldsFirst, item_count};
 ghost use Rattle.log_text.specs.LogText.{merged};
 ghost use Rattle.log_text.specs.Merging.{first_clock, earliest_of, TakesAt, AreSorted};
 
-use board_base::{Part, Record, sooner};
+use board_base::{Part, Record, Trails, sooner};
 
 /// The records of four trails by clock, within a clock in the order of the parts.
 #[derive(Clone, Copy)]
 pub(crate) struct Merge<'a> {
-    pub(crate) vector: &'a [Record],
-    pub(crate) sound1: &'a [Record],
-    pub(crate) sound2: &'a [Record],
-    pub(crate) board: &'a [Record],
+    vector: &'a [Record],
+    sound1: &'a [Record],
+    sound2: &'a [Record],
+    board: &'a [Record],
 }
 
 /// The clock of the first record.
@@ -33,7 +33,22 @@ fn take_at(records: &mut &[Record], at: u64) -> Option<Record>
     Some(*record)
 }
 
-impl Merge<'_> {
+impl<'a> Merge<'a> {
+    /// The records of these trails.
+    pub(crate) fn of(trails: &Trails<'a>) -> Merge<'a>
+        ensures vector { result.vector.now ≡ trails.now.vector.now.records }
+        ensures sound1 { result.sound1.now ≡ trails.now.sound1.now.records }
+        ensures sound2 { result.sound2.now ≡ trails.now.sound2.now.records }
+        ensures board { result.board.now ≡ trails.now.board.now.records }
+    {
+        Merge {
+            vector: trails.vector.records(),
+            sound1: trails.sound1.records(),
+            sound2: trails.sound2.records(),
+            board: trails.board.records(),
+        }
+    }
+
     /// The earliest clock of a record that is left.
     fn earliest(&self) -> Option<u64>
         ensures { result ≡ earliest_of self.now.vector.now self.now.sound1.now self.now.sound2.now self.now.board.now }

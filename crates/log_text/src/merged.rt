@@ -1,12 +1,14 @@
 ghost use Rattle.std.specs.Prelude.{◌≡◌, ℕ, List, ◌++◌};
 ghost use Rattle.board_base.specs.Records.{IsTrailOf, MadeBetween};
 ghost use Rattle.board_base.specs.declared.record.Record.{Record as record_value};
-ghost use Rattle.log_text.specs.LogText.{PartRecord, IsInOrder, MergedIsOneLog, merged_text};
+ghost use Rattle.log_text.specs.LogText.{PartRecord, IsInOrder, MergedIsOneLog, merged, merged_text};
+ghost use Rattle.log_text.specs.RecordBytes.{records_bytes};
 ghost use Rattle.outside_io.specs.Causes.{HasCause};
 ghost use Rattle.outside_io.specs.Sink.{Takes};
 
 use crate::block::Block;
 use crate::merge::Merge;
+use crate::record_bytes::RecordRow;
 use crate::record_line::set_line;
 use board_base::{Part, Trails};
 use outside_io::{Sink, SinkFault};
@@ -25,17 +27,31 @@ pub fn write_merged<O: Sink>(trails: &Trails<'_>, out: &mut O) -> Result<(), Sin
         trails.now.sound2.now.records trails.now.board.now.records) result }
     ensures cause { HasCause (O.faults out.old) (O.faults out.new) result }
 {
-    let merge = Merge {
-        vector: trails.vector.records(),
-        sound1: trails.sound1.records(),
-        sound2: trails.sound2.records(),
-        board: trails.board.records(),
-    };
     let mut block = Block::new();
     let mut line = Line::empty();
-    for (part, record) in merge {
+    for (part, record) in Merge::of(trails) {
         set_line(&mut line, part, record);
         block.push(line.bytes(), out)?;
+    }
+    block.flush(out)
+}
+
+/// Writes 40 bytes for each record, in the order of `write_merged` and in blocks as there.
+pub fn write_records<O: Sink>(trails: &Trails<'_>, out: &mut O) -> Result<(), SinkFault>
+    requires vector { IsTrailOf Part.Generator trails.now.vector.now.records }
+    requires sound1 { IsTrailOf Part.Pokey1 trails.now.sound1.now.records }
+    requires sound2 { IsTrailOf Part.Pokey2 trails.now.sound2.now.records }
+    requires board { IsTrailOf Part.Board trails.now.board.now.records }
+    ensures taken { Takes (O.taken out.old) (O.taken out.new)
+        (records_bytes (merged trails.now.vector.now.records trails.now.sound1.now.records
+        trails.now.sound2.now.records trails.now.board.now.records)) result }
+    ensures cause { HasCause (O.faults out.old) (O.faults out.new) result }
+{
+    let mut block = Block::new();
+    let mut row = RecordRow::empty();
+    for (part, record) in Merge::of(trails) {
+        row.set_record(part, record);
+        block.push(row.bytes(), out)?;
     }
     block.flush(out)
 }
