@@ -12,12 +12,15 @@
  * - What a call writes (board, buffer, report) overlaps nothing else that the call is given.
  * - While a call runs, nobody writes what it was given, and nobody reads what it writes.
  * - The thread has 256 KiB of stack. A thread of musl has 128 KiB where it isn't told otherwise. A library of
- *   tools/quick.sh --lib takes less, measured on a painted stack: 63,880 bytes in gravitar_pcm, 59,544 in
+ *   tools/quick.sh --lib takes less, measured on a painted stack: 63,960 bytes in gravitar_pcm, 59,496 in
  *   gravitar_advance, 13,196 in gravitar_power_on, and with 50,000 names 6,904 in gravitar_assemble.
  *
  * The caller owns all memory. malloc, realloc and free are called inside, and nothing is left
- * allocated. A call takes some 3 to 5 ns of a processor for each clock that it runs, and keeps its whole
- * text in memory until it has ended, also where text_len is too short for it.
+ * allocated. A call that runs takes as many bytes as its buffer has (text_len or samples_len) for what it
+ * puts out, and beside them at most 12 MB and the tape; measured are 1.1 MB. A text that is too long for
+ * the buffer is counted and not kept, however long it is. A call takes some 3 to 5 ns of a processor for each clock that it
+ * runs, and up to 20 ns where the program writes the output latch again and again; so whoever limits
+ * the clocks of a call limits its time.
  * docs/EMBED.md shows a program in C, one in Python and one in Rust.
  */
 #ifndef GRAVITAR_H

@@ -1,5 +1,6 @@
 -- Two stretches are one.
-use Rattle.std.proofs.Common.{◌≡◌, ℕ, ◌+◌, Bool, List, ◌++◌, Ok, refl, sym, ap, ◌∙◌, is_some}
+use Rattle.std.proofs.Common.{◌≡◌, ℕ, ◌+◌, Bool, List, ◌++◌, length, Ok, refl, sym, ap, ◌∙◌, arith, is_some}
+use Rattle.std.proofs.lemmas.List.{length-append}
 use Rattle.board_watch.specs.declared.until.Until.{Until}
 use Rattle.board_watch.specs.declared.until.Until.TheVariants.{Boundary, Clock}
 use Rattle.board_watch.specs.Windows.{end_of, steps_to}
@@ -19,6 +20,7 @@ use Rattle.board_stretch.specs.declared.ended.Stretch.{Stretch}
 use Rattle.board_stretch.specs.Joined.{AreOne, IsOnTheWay}
 use Rattle.board_stretch.specs.Stretches.{Comes, EndsAt, IsAdvanced, first_board}
 use Rattle.board_stretch.proofs.ReadingLaws.{begins-again, begins-same, entries-same, first-placed}
+use Rattle.board_stretch.proofs.StretchLaws.{ends-all}
 
 module _ (entries : List TapeEntry) where
   -- the steps of a run are those to an end on its way, and then the rest
@@ -63,23 +65,34 @@ module _ (entries : List TapeEntry) where
         ∙ stepped-add entries (steps_to entries one b) (steps_to entries other half) b
 
     -- the second stretch begins at the board of the first without its records
-    one-run : (first second whole : Stretch) → EndsAt (slice_text entries one b) half first
-        → EndsAt (slice_text entries other (cleared half)) (end_of entries other (cleared half)) second
-        → EndsAt (slice_text entries other b) (end_of entries other b) whole → AreOne first second whole
+    one-run : (some more all : ℕ) (first second whole : Stretch) → EndsAt some (slice_text entries one b) half first
+        → EndsAt more (slice_text entries other (cleared half)) (end_of entries other (cleared half)) second
+        → EndsAt all (slice_text entries other b) (end_of entries other b) whole → AreOne first second whole
     unfolding half
-    one-run first second whole e1 e2 e3 = record {
-      told = e3.bytes ∙ text-whole ∙ sym (ap (λ (l : List ℕ). l ++ second.told.items) e1.bytes ∙ ap (λ (l : List ℕ). slice_text entries one b ++ l) e2.bytes);
+    one-run some more all first second whole e1 e2 e3 = record {
+      told = λ has_first has_second has_whole.
+          ends-all all _ _ whole e3 has_whole
+          ∙ text-whole
+          ∙ sym (ap (λ (l : List ℕ). l ++ second.told.items) (ends-all some _ _ first e1 has_first)
+          ∙ ap (λ (l : List ℕ). slice_text entries one b ++ l) (ends-all more _ _ second e2 has_second));
+      wanted =
+          let sum : length (slice_text entries other b) ≡ length (slice_text entries one b) + length (slice_text entries other (cleared half)) =
+          ap length text-whole ∙ length-append (slice_text entries one b) (slice_text entries other (cleared half)) in
+          let of_first = e1.wanted in
+          let of_second = e2.wanted in
+          let of_whole = e3.wanted in
+          omega arith;
       board = e3.board ∙ ap saved_bytes end-whole ∙ sym (e2.board ∙ end-cleared saved_bytes saved-behind other half);
       clock = e3.clock ∙ ap (λ (x : Board). x.wires.clock) end-whole ∙ sym (e2.clock ∙ end-cleared (λ x. x.wires.clock) (λ l x. refl) other half);
       jammed = e3.jammed ∙ ap (λ (x : Board). is_some x.cpu.jam) end-whole ∙ sym (e2.jammed ∙ end-cleared (λ x. is_some x.cpu.jam) (λ l x. refl) other half);
     }
 
 -- stretches over the bytes of files
-pub joined : (image board tape : List ℕ) → (timers : Bool) → (one other : Until) → IsOnTheWay one other → (first second whole : Stretch)
-    → Comes image board tape (IsAdvanced timers one) (Ok first) → Comes image first.board tape (IsAdvanced timers other) (Ok second)
-    → Comes image board tape (IsAdvanced timers other) (Ok whole) → AreOne first second whole
+pub joined : (image board tape : List ℕ) → (timers : Bool) → (some more all : ℕ) → (one other : Until) → IsOnTheWay one other → (first second whole : Stretch)
+    → Comes image board tape (IsAdvanced some timers one) (Ok first) → Comes image first.board tape (IsAdvanced more timers other) (Ok second)
+    → Comes image board tape (IsAdvanced all timers other) (Ok whole) → AreOne first second whole
 unfolding half
-joined image board tape timers one other way first second whole came1 came2 came3 =
+joined image board tape timers some more all one other way first second whole came1 came2 came3 =
     let p = came1.0 in
     let q = came2.0 in
     let r = came3.0 in
@@ -91,4 +104,4 @@ joined image board tape timers one other way first second whole came1 came2 came
     let b2 : first_board timers q ≡ cleared there =
     begins-again image board first.board tape timers p q there came1.1 came2.1 came1.2.board came1.2.whole (stepped-image entries (steps_to entries one b) b) in
     let b3 : first_board timers r ≡ b = begins-same image board tape timers p r came1.1 came3.1 in
-    one-run entries one other b way (first-placed timers p came1.1.1.2) first second whole came1.2 (rw (e2, b2) at came2.2) (rw (e3, b3) at came3.2)
+    one-run entries one other b way (first-placed timers p came1.1.1.2) some more all first second whole came1.2 (rw (e2, b2) at came2.2) (rw (e3, b3) at came3.2)

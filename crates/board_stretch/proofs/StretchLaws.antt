@@ -1,5 +1,5 @@
 -- Laws of stretches.
-use Rattle.std.proofs.Common.{◌≡◌, ℕ, List, [], Some, ap, subst, ◌∙◌, is_some}
+use Rattle.std.proofs.Common.{◌≡◌, ℕ, ◌≤◌, List, [], length, Some, sym, ap, subst, ◌∙◌, arith, is_some}
 use Rattle.lockstep_board.specs.Order.{cleared}
 use Rattle.lockstep_board.specs.Lockstep.{Board}
 use Rattle.lockstep_board.specs.Wires.{board_of}
@@ -7,17 +7,32 @@ use Rattle.save_state.specs.Reading.{IsWhole}
 use Rattle.outside_io.specs.Known.{grown}
 use Rattle.sliced_run.proofs.SlicesLaws.{saved-cleared}
 use Rattle.board_stretch.specs.declared.ended.Stretch.{Stretch}
+use Rattle.board_stretch.specs.Kept.{kept}
 use Rattle.board_stretch.specs.Stretches.{EndsAt}
+use Rattle.board_stretch.proofs.KeptLaws.{kept-all, kept-most}
 
 -- a stretch ends where its engine stands, but for the records
-pub ends-behind : (told0 told : List ℕ) (now last : Board) (s : Stretch) → EndsAt told0 now s → told0 ≡ told → now ≡ cleared last → EndsAt told last s
-ends-behind told0 told now last s ends same is = record {
-  bytes = ends.bytes ∙ same;
+pub ends-behind : (room : ℕ) (told : List ℕ) (now last : Board) (s : Stretch) → EndsAt room told now s → now ≡ cleared last → EndsAt room told last s
+ends-behind room told now last s ends is = record {
+  bytes = ends.bytes;
+  wanted = ends.wanted;
   board = saved-cleared last now s.board is ends.board;
   whole = subst (λ (b : Board). IsWhole (board_of b.cpu b.wires)) is ends.whole;
   clock = ends.clock ∙ ap (λ (b : Board). b.wires.clock) is;
   jammed = ends.jammed ∙ ap (λ (b : Board). is_some b.cpu.jam) is;
 }
+
+-- it has no more bytes than it tells
+pub ends-fit : (room : ℕ) (told : List ℕ) (last : Board) (s : Stretch) → EndsAt room told last s → length s.told.items ≤ s.wanted
+ends-fit room told last s ends =
+    let most = kept-most room told in
+    let bytes : length s.told.items ≡ length (kept room told) = ap length ends.bytes in
+    let wanted = ends.wanted in
+    omega arith
+
+-- and where it has as many, it has all
+pub ends-all : (room : ℕ) (told : List ℕ) (last : Board) (s : Stretch) → EndsAt room told last s → length s.told.items ≡ s.wanted → s.told.items ≡ told
+ends-all room told last s ends all = ends.bytes ∙ kept-all room told (ap length (sym ends.bytes) ∙ all ∙ ends.wanted)
 
 -- a sink that had taken nothing has what it took
 pub told-whole : (now before text : List ℕ) → Some now ≡ grown (Some before) text → before ≡ [] → now ≡ text

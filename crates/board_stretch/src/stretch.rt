@@ -39,6 +39,7 @@ fn advance_parts(
     requires place { IsProcessor parts.now.board.cpu }
     requires limit { clock_in until ≤ CLOCK_LIMIT }
     ensures done { IfOk result (λ s. IsAdvanced room timers until parts.now s) }
+    ensures fits { IfOk result (λ s. length s.told.items ≤ s.wanted) }
     ensures memory { IfErr result (λ fault. fault ≡ StretchFault.NoMemory) }
 {
     let Ok(mut engine) = Engine::new(alloc, &parts.image, &parts.board, Devices::fast(), timers)
@@ -89,6 +90,7 @@ fn sample_parts(
     requires some { 1 ≤ per }
     requires longest { per ≤ MAX_PER }
     ensures done { IfOk result (λ s. IsSampled room timers limit per parts.now s) }
+    ensures fits { IfOk result (λ s. length s.told.items ≤ s.wanted) }
     ensures memory { IfErr result (λ fault. fault ≡ StretchFault.NoMemory) }
 {
     let Ok(mut engine) = Engine::new(alloc, &parts.image, &parts.board, Devices::fast(), timers)

@@ -19,13 +19,7 @@ use tape_ports::Tape;
 
 /// Runs to a clock or to a boundary, as `Rested::watch` does, and keeps what the watcher tells as far as
 /// there is room for it. It takes memory for that room and for what is told of one window.
-pub(crate) fn watch_within<
-    V: VectorUnit,
-    P: SoundUnit,
-    C: CellUnit,
-    D: DividerUnit,
-    W: Watch,
->(
+pub(crate) fn watch_within<V: VectorUnit, P: SoundUnit, C: CellUnit, D: DividerUnit, W: Watch>(
     alloc: Global,
     rested: &mut Rested<'_, V, P, C, D>,
     tape: &Tape,

@@ -1,4 +1,4 @@
-use Rattle.std.proofs.Common.{refl, ap, subst, ◌∙◌, is_some}
+use Rattle.std.proofs.Common.{ap, subst, ◌∙◌, is_some}
 use Rattle.board_base.specs.Cpu.{CpuValue}
 use Rattle.save_state.specs.Reading.{IsWhole}
 use Rattle.save_state.specs.StateBytes.{state_bytes}
@@ -7,8 +7,9 @@ use Rattle.board_stretch.proofs.ended.ended.Goals as goal
 
 pub returns : goal.returns
 unfolding saved_bytes
-returns g c = record {
-  bytes = refl;
+returns g c = λ room text kept. record {
+  bytes = kept.bytes;
+  wanted = kept.wanted;
   board = c.write.ensures.bytes ∙ ap state_bytes c.state.ensures.board;
   whole = subst IsWhole c.state.ensures.board c.write.ensures.range;
   clock = c.clock.ensures;

@@ -1,26 +1,39 @@
-use Rattle.std.proofs.Common.{◌≡◌, ap, ◌∙◌}
+use Rattle.std.proofs.Common.{◌≡◌, ℕ, List, ap, subst, ◌∙◌}
 use Rattle.board_watch.specs.declared.until.Until.TheVariants.{Boundary}
 use Rattle.board_watch.specs.Windows.{end_of}
 use Rattle.catchup_engine.specs.EngineValue.{EngineValue}
 use Rattle.lockstep_board.specs.Order.{cleared}
 use Rattle.lockstep_board.specs.Run.{to_boundary}
 use Rattle.sampled_run.specs.BoardSamples.{sampled_bytes}
+use Rattle.sampled_run.proofs.SampleLaws.{run-room, run-sampled}
+use Rattle.board_stretch.specs.Kept.{IsKept}
 use Rattle.board_stretch.specs.Stretches.{first_board}
-use Rattle.board_stretch.proofs.StretchLaws.{ends-behind, told-whole}
+use Rattle.board_stretch.proofs.StretchLaws.{ends-behind, ends-fit}
 use Rattle.board_stretch.proofs.stretch.sample_parts.Goals as goal
 
-pub returns-in-Ok-run_sampled-clause-done : goal.returns-in-Ok-run_sampled-clause-done
+pub watch_within-requires-clause-room : goal.watch_within-requires-clause-room
 unfolding to_boundary
-returns-in-Ok-run_sampled-clause-done c =
+watch_within-requires-clause-room c =
+    run-room c.args.parts.now.tape.entries c.of-rested.result.engine.now.board c.of-rested.result.rest.empty c.args.limit c.args.per c.of-sampler.result.mixer
+    c.requires.limit c.of-sampler.ensures.clock c.of-sampler.ensures.begins
+
+pub returns-in-Ok-watch_within-clause-done : goal.returns-in-Ok-watch_within-clause-done
+unfolding to_boundary
+returns-in-Ok-watch_within-clause-done c =
     let entries = c.args.parts.now.tape.entries in
     let limit = c.args.limit in
     let first = first_board c.args.timers c.args.parts.now in
-    let samples : c.into_bytes.result.items ≡ sampled_bytes entries limit c.args.per first =
-    c.into_bytes.ensures
-    ∙ told-whole _ _ _ c.in-Ok-run_sampled.ensures.taken c.new-samples.ensures
-    ∙ ap (sampled_bytes entries limit c.args.per) c.in-Ok.ensures.board in
-    let there : c.settle.new.self.board ≡ cleared (end_of entries (Boundary limit) first) =
-    ap (λ (e : EngineValue). e.board) c.settle.ensures.value
-    ∙ c.in-Ok-run_sampled.ensures.board
-    ∙ ap (λ b. cleared (end_of entries (Boundary limit) b)) c.in-Ok.ensures.board in
-    ends-behind _ _ _ _ c.ended.result c.ended.ensures samples there
+    let before = c.of-rested.result.engine.now.board in
+    let begins : before ≡ first = ap (λ (e : EngineValue). e.board) c.of-rested.ensures.engine ∙ c.in-Ok.ensures.board in
+    let kept : IsKept c.args.room (sampled_bytes entries limit c.args.per first) c.in-Ok-watch_within.told =
+    subst (λ (l : List ℕ). IsKept c.args.room l c.in-Ok-watch_within.told)
+    (run-sampled entries before c.of-rested.result.rest.empty limit c.args.per c.of-sampler.result.mixer c.requires.some c.of-sampler.ensures.begins
+    ∙ ap (sampled_bytes entries limit c.args.per) begins) c.in-Ok-watch_within.ensures.told in
+    let there : c.engine.result.now.board ≡ cleared (end_of entries (Boundary limit) first) =
+    ap (λ (e : EngineValue). e.board) c.engine.ensures.engine
+    ∙ c.in-Ok-watch_within.ensures.board
+    ∙ ap (λ b. cleared (end_of entries (Boundary limit) b)) begins in
+    ends-behind _ _ _ _ c.ended.result (c.ended.ensures c.args.room _ kept) there
+
+pub returns-in-Ok-watch_within-clause-fits : goal.returns-in-Ok-watch_within-clause-fits
+returns-in-Ok-watch_within-clause-fits c = ends-fit _ _ _ c.ended.result (c.ended.ensures c.args.room _ c.in-Ok-watch_within.ensures.told)
