@@ -16,7 +16,7 @@ use Rattle.board_stretch.proofs.StretchLaws.{told-whole}
 
 -- what holds of a call that succeeds, of one that did
 pub ok-holds : {T E : Type 0} (r : Result T E) (x : T) (P : Type 0) → r ≡ Ok x → OnOk r P → P
-ok-holds r x P is h = subst (λ (o : Result T E). OnOk o P) is h
+ok-holds r x P is h = rw is at h
 
 module _ {W : Type 0} (can_take : W → ℕ → Recorded → ℕ → Type 0) (tells : W → Recorded → ℕ → List ℕ) (next : W → Recorded → ℕ → W) where
   -- a watcher has told a first part of a run, of which so much is kept as there is room for; the rest is still to come

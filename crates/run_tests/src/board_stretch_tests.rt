@@ -44,10 +44,20 @@ fn a_run_is_done_in_two_stretches(rt: HostRuntime) -> Result<(), StretchFault> {
         (first.told.len(), first.clock, first.jammed),
         (0, 12, false)
     );
-    let second = advance(rt.alloc(), start(&image, &first.board), Until::Boundary(20), 8)?;
+    let second = advance(
+        rt.alloc(),
+        start(&image, &first.board),
+        Until::Boundary(20),
+        8,
+    )?;
     assert!(rt; second.told.as_slice() == b"L 12 05\n".as_slice());
     assert_eq!(rt; (second.clock, second.jammed), (22, false));
-    let short = advance(rt.alloc(), start(&image, &first.board), Until::Boundary(20), 7)?;
+    let short = advance(
+        rt.alloc(),
+        start(&image, &first.board),
+        Until::Boundary(20),
+        7,
+    )?;
     assert_eq!(rt; (short.told.len(), short.wanted), (0, 8));
     assert!(rt; short.board == second.board);
     let whole = advance(rt.alloc(), start(&image, &board), Until::Boundary(20), 8)?;

@@ -8,7 +8,7 @@ use Rattle.board_stretch.proofs.watching.watch_within.Goals as goal
 pub windows-init : goal.windows-init
 windows-init g c = record {
   same = refl;
-  kept = keeps-start g.W.Watch.can_take g.W.Watch.tells g.W.Watch.next c.args.room _ _ _ _ c.requires.room c.in_ok-new.ensures;
+  kept = keeps-start g.W.Watch.can_take g.W.Watch.tells g.W.Watch.next c.args.room _ _ _ _ c.requires.room c.in_ok-told.ensures;
 }
 
 pub window-requires-clause-room : goal.window-requires-clause-room
