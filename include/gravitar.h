@@ -88,7 +88,31 @@ uint32_t gravitar_advance(const uint8_t *image, size_t image_len, uint8_t *board
                           uint32_t timers, uint8_t *text, size_t text_len,
                           struct gravitar_report *report);
 
-/* The same to the first boundary that isn't before the clock, with samples in place of lines: for each
+/* A record of the board, as gravitar_records gives it. On a machine whose numbers have their lowest byte first, as
+ * each that this library is built for, the array is one of these structs. */
+enum gravitar_kind {
+    GRAVITAR_STROKE = 0,   /* values: x0, y0, x1, y1, colour 0 to 7, intensity 1 to 15 */
+    GRAVITAR_POKEY_1 = 1,  /* values: four levels 0 to 15, which are those of POKEY 1 from this clock on */
+    GRAVITAR_POKEY_2 = 2,  /* those of POKEY 2 */
+    GRAVITAR_LATCH = 3,    /* values: the byte written to the output latch */
+    GRAVITAR_WATCHDOG = 4  /* a watchdog reset */
+};
+struct gravitar_record {
+    uint64_t clock;    /* in which it came */
+    uint32_t kind;
+    int32_t values[6]; /* those that the kind doesn't have are 0 */
+    uint32_t unused;   /* 0 */
+};
+
+/* gravitar_advance with structs in place of lines: a record for each line, in the same order. array has
+ * array_len bytes, 40 for each record, and is aligned as the struct; used is the bytes of all records.
+ * Where bytes are refused, array gets the words of it. */
+uint32_t gravitar_records(const uint8_t *image, size_t image_len, uint8_t *board, size_t board_len,
+                          const uint8_t *tape, size_t tape_len, uint64_t clock, uint32_t boundary,
+                          uint32_t timers, uint8_t *array, size_t array_len,
+                          struct gravitar_report *report);
+
+/* gravitar_advance to the first boundary that isn't before the clock, with samples in place of lines: for each
  * `per` clocks, 1 to 65535, the sum of both POKEYs' eight levels over them, as four bytes, the lowest
  * first. Clocks at the end that are no whole group give none. */
 uint32_t gravitar_pcm(const uint8_t *image, size_t image_len, uint8_t *board, size_t board_len,

@@ -18,7 +18,7 @@ sed -e '/^\/\/!/d' -e '/^#!\[tactic/d' lib.rt >exports.rt
     cat <<'END'
 
 use board_calls::GravitarReport;
-use exports::{gravitar_advance, gravitar_assemble, gravitar_pcm, gravitar_power_on, gravitar_version};
+use exports::{gravitar_advance, gravitar_assemble, gravitar_pcm, gravitar_power_on, gravitar_records, gravitar_version};
 
 fn calls(alloc: Global) -> u8 {
     let mut board = [0u8; 8];
@@ -28,6 +28,7 @@ fn calls(alloc: Global) -> u8 {
     if gravitar_version() == 0
         || gravitar_power_on(&mut board) == 0
         || gravitar_advance(alloc, &image, &mut board, &image, 1, 0, 0, &mut text, &mut report) == 0
+        || gravitar_records(alloc, &image, &mut board, &image, 1, 0, 0, &mut text, &mut report) == 0
         || gravitar_pcm(alloc, &image, &mut board, &image, 1, 1, 0, &mut text, &mut report) == 0
         || gravitar_assemble(alloc, &image, &image, &mut board, &mut text, &mut report) == 0
     {

@@ -14,6 +14,7 @@ import array
 import ctypes
 import os
 import pathlib
+import struct
 import sys
 from typing import NamedTuple
 
@@ -61,6 +62,15 @@ class Stroke(NamedTuple):
     intensity: int
 
 
+class Record(NamedTuple):
+    """A record of the board: a stroke (kind 0: x0, y0, x1, y1, colour, intensity), the four levels of POKEY 1 or 2
+    (kind 1 or 2), a write of the latch (kind 3), or a watchdog reset (kind 4)."""
+
+    clock: int
+    kind: int
+    values: tuple
+
+
 class _Report(ctypes.Structure):
     _fields_ = [("clock", ctypes.c_uint64), ("used", ctypes.c_uint64), ("place", ctypes.c_uint64)]
 
@@ -77,6 +87,7 @@ def _load():
         "version": [],
         "power_on": written,
         "advance": stretch,
+        "records": stretch,
         "pcm": stretch,
         "assemble": [*given, *given, *written, *written, report],
     }.items():
@@ -146,6 +157,16 @@ def _stretch(call, image, board, tape, clock, number, timers):
 def advance(image, board, tape, clock, boundary=True, timers=False):
     """The board at the first boundary between instructions from a clock on, or at just that clock, and the log."""
     return _stretch(_calls.gravitar_advance, image, board, tape, clock, bool(boundary), timers)
+
+
+def records(image, board, tape, clock, boundary=True, timers=False):
+    """The same board, and the records on the way, 40 bytes each: `record_list` reads them."""
+    return _stretch(_calls.gravitar_records, image, board, tape, clock, bool(boundary), timers)
+
+
+def record_list(output):
+    """The records of the output of `records`."""
+    return [Record(clock, kind, tuple(values)) for clock, kind, *values, _ in struct.iter_unpack("<QI6iI", output)]
 
 
 def pcm(image, board, tape, clock, per, timers=False):

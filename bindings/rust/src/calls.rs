@@ -8,7 +8,7 @@ pub struct Report {
     pub place: u64,
 }
 
-/// `gravitar_advance` and `gravitar_pcm`. The number before `timers` is `boundary` or `per`.
+/// `gravitar_advance`, `gravitar_records` and `gravitar_pcm`. The number before `timers` is `boundary` or `per`.
 pub type StretchCall = unsafe extern "C" fn(
     image: *const u8,
     image_len: usize,
@@ -39,6 +39,20 @@ unsafe extern "C" {
         timers: u32,
         text: *mut u8,
         text_len: usize,
+        report: *mut Report,
+    ) -> u32;
+    pub fn gravitar_records(
+        image: *const u8,
+        image_len: usize,
+        board: *mut u8,
+        board_len: usize,
+        tape: *const u8,
+        tape_len: usize,
+        clock: u64,
+        boundary: u32,
+        timers: u32,
+        array: *mut u8,
+        array_len: usize,
         report: *mut Report,
     ) -> u32;
     pub fn gravitar_pcm(

@@ -73,6 +73,15 @@ pub struct Stroke {
     pub intensity: u8,
 }
 
+/// A record of the board: a stroke (kind 0: x0, y0, x1, y1, colour, intensity), the four levels of POKEY 1
+/// or 2 (kind 1 or 2), a write of the latch (kind 3), or a watchdog reset (kind 4).
+#[derive(Debug, Clone, Copy, PartialEq, Eq)]
+pub struct Record {
+    pub clock: u64,
+    pub kind: u32,
+    pub values: [i32; 6],
+}
+
 /// The version of the library's calls.
 pub fn version() -> u32 {
     // SAFETY: it takes nothing.
@@ -119,6 +128,28 @@ pub fn advance(run: Run<'_>, board: &[u8], end: End) -> Result<Stretch, Error> {
         End::Boundary(clock) => (clock, 1),
     };
     stretch(calls::gravitar_advance, run, board, clock, boundary)
+}
+
+/// Runs from a board as `advance` does, and gives the records on the way, 40 bytes each: `record_list`
+/// reads them.
+pub fn records(run: Run<'_>, board: &[u8], end: End) -> Result<Stretch, Error> {
+    let (clock, boundary) = match end {
+        End::Clock(clock) => (clock, 0),
+        End::Boundary(clock) => (clock, 1),
+    };
+    stretch(calls::gravitar_records, run, board, clock, boundary)
+}
+
+/// The records of the output of `records`.
+pub fn record_list(output: &[u8]) -> impl Iterator<Item = Record> + '_ {
+    output.chunks_exact(40).map(|bytes| {
+        let word = |at: usize| i32::from_le_bytes([bytes[at], bytes[at + 1], bytes[at + 2], bytes[at + 3]]);
+        Record {
+            clock: u64::from(word(0) as u32) | u64::from(word(4) as u32) << 32,
+            kind: word(8) as u32,
+            values: [word(12), word(16), word(20), word(24), word(28), word(32)],
+        }
+    })
 }
 
 /// Runs from a board to the first boundary that isn't before a clock, and gives a sample for each `per`

@@ -9,4 +9,4 @@ mod stretches;
 
 pub use report::{GravitarReport, Status};
 pub use sources::{assemble, power_on, version};
-pub use stretches::{advance, pcm};
+pub use stretches::{advance, pcm, records};

@@ -4,7 +4,7 @@ ghost use Rattle.board_base.specs.declared.board.TheConstants.{CLOCK_LIMIT};
 ghost use Rattle.board_watch.specs.Windows.{clock_in};
 ghost use Rattle.save_state.specs.declared.TheConstants.{STATE_LEN};
 ghost use Rattle.sound_pcm.specs.declared.mixer.TheConstants.{MAX_PER};
-ghost use Rattle.board_stretch.specs.Stretches.{IsAdvanced, IsSampled};
+ghost use Rattle.board_stretch.specs.Stretches.{IsAdvanced, IsRecorded, IsSampled};
 ghost use Rattle.board_calls.specs.Answers.{AnswersOver, AnswersStretch, Refuses, call_of, end_asked, is_asked, report_of};
 ghost use Rattle.board_calls.specs.declared.report.Status.TheVariants.{BadNumber};
 
@@ -87,6 +87,40 @@ pub fn advance(
     };
     let came = board_stretch::advance(alloc, start, until, text.len());
     answer(alloc, came, board, text, report)
+}
+
+/// Runs an image with a tape as `advance` does. The buffer gets the records on the way, 40 bytes each:
+/// those of which `advance` gives lines, in the same order. A record is its clock in 8 bytes, its kind in
+/// 4 (0 a stroke, 1 and 2 the levels of a POKEY, 3 a write of the latch, 4 a watchdog reset), six numbers
+/// of 4 (of a stroke x0, y0, x1, y1, colour and intensity, of levels all four, of the latch its byte), and
+/// 4 bytes of 0, each number with its lowest byte first.
+pub fn records(
+    alloc: Global,
+    image: &[u8],
+    board: &mut [u8],
+    tape: &[u8],
+    clock: u64,
+    boundary: u32,
+    timers: u32,
+    array: &mut [u8],
+    report: &mut GravitarReport,
+) -> u32
+    ensures range { CLOCK_LIMIT < clock → Refuses BadNumber (report_of 0 0 clock) (call_of board.old board.new array.old array.new report.new result) }
+    ensures answer { clock ≤ CLOCK_LIMIT → AnswersOver image.now board.old tape.now (IsRecorded (length array.old) (is_asked timers) (end_asked boundary clock))
+        (call_of board.old board.new array.old array.new report.new result) }
+{
+    if CLOCK_LIMIT < clock {
+        return report_number(Status::BadNumber, 0, clock, report);
+    }
+    let until = end(boundary, clock);
+    let start = Start {
+        image,
+        board,
+        tape,
+        timers: is_so(timers),
+    };
+    let came = board_stretch::records(alloc, start, until, array.len());
+    answer(alloc, came, board, array, report)
 }
 
 /// Runs an image with a tape from a saved board to the first boundary that isn't before a clock, and

@@ -8,7 +8,7 @@ use Rattle.lockstep_board.specs.Lockstep.{Board}
 use Rattle.lockstep_board.specs.Wires.{board_of, wires_of}
 use Rattle.save_state.specs.Reading.{IsWhole}
 use Rattle.sampled_run.specs.BoardSamples.{sampled_bytes}
-use Rattle.sliced_run.specs.Slice.{slice_text}
+use Rattle.sliced_run.specs.Slice.{slice_records, slice_text}
 use Rattle.sliced_run.specs.Slices.{saved_bytes}
 use Rattle.board_stretch.specs.declared.ended.Stretch.{Stretch}
 use Rattle.board_stretch.specs.declared.fault.StretchFault.{StretchFault}
@@ -34,6 +34,12 @@ abbrev pub IsAdvanced : ℕ → Bool → Until → Parts → Stretch → Type 0
 IsAdvanced room timers until parts s =
     let first = first_board timers parts in
     EndsAt room (slice_text parts.tape.entries until first) (end_of parts.tape.entries until first) s
+
+-- a stretch that tells its records as bytes, 40 of each
+abbrev pub IsRecorded : ℕ → Bool → Until → Parts → Stretch → Type 0
+IsRecorded room timers until parts s =
+    let first = first_board timers parts in
+    EndsAt room (slice_records parts.tape.entries until first) (end_of parts.tape.entries until first) s
 
 -- a stretch to a boundary that tells the samples of the sound
 abbrev pub IsSampled : ℕ → Bool → ℕ → ℕ → Parts → Stretch → Type 0

@@ -18,4 +18,4 @@ pub use ended::Stretch;
 pub use fault::StretchFault;
 pub use laws::stretches_are_the_run;
 pub use parts::Start;
-pub use stretch::{advance, power_on, sample};
+pub use stretch::{advance, power_on, records, sample};

@@ -5,7 +5,7 @@ ghost use Rattle.board_watch.specs.Windows.{clock_in};
 ghost use Rattle.cpu_core.specs.Places.{IsProcessor};
 ghost use Rattle.save_state.specs.StateBytes.{state_bytes};
 ghost use Rattle.sound_pcm.specs.declared.mixer.TheConstants.{MAX_PER};
-ghost use Rattle.board_stretch.specs.Stretches.{Comes, IsAdvanced, IsSampled};
+ghost use Rattle.board_stretch.specs.Stretches.{Comes, IsAdvanced, IsRecorded, IsSampled};
 
 use crate::ended::{Stretch, ended};
 use crate::fault::StretchFault;
@@ -16,7 +16,7 @@ use board_watch::{Rested, Until};
 use catchup_engine::{Devices, Engine};
 use sampled_run::Sampler;
 use save_state::STATE_LEN;
-use sliced_run::LogWriter;
+use sliced_run::{LogWriter, RecordWriter};
 use std::alloc::Global;
 
 /// The board at power-on, as bytes of a saved board.
@@ -74,6 +74,50 @@ pub fn advance(
         Err(fault) => return Err(fault),
     };
     advance_parts(alloc, &parts, start.timers, until, room)
+}
+
+/// Runs a stretch, and tells its records as bytes.
+fn record_parts(
+    alloc: Global,
+    parts: &Parts,
+    timers: bool,
+    until: Until,
+    room: usize,
+) -> Result<Stretch, StretchFault>
+    requires place { IsProcessor parts.now.board.cpu }
+    requires limit { clock_in until ≤ CLOCK_LIMIT }
+    ensures done { IfOk result (λ s. IsRecorded room timers until parts.now s) }
+    ensures fits { IfOk result (λ s. length s.told.items ≤ s.wanted) }
+    ensures memory { IfErr result (λ fault. fault ≡ StretchFault.NoMemory) }
+{
+    let Ok(mut engine) = Engine::new(alloc, &parts.image, &parts.board, Devices::fast(), timers)
+    else {
+        return Err(StretchFault::NoMemory);
+    };
+    let mut rested = Rested::of(&mut engine);
+    match watch_within(alloc, &mut rested, &parts.tape, until, &mut RecordWriter, room) {
+        Ok(told) => Ok(ended(rested.engine(), told)),
+        Err(_) => Err(StretchFault::NoMemory),
+    }
+}
+
+/// Runs an image with a tape as `advance` does, and tells the records on the way as bytes, 40 of each:
+/// those that `advance` tells as lines, in the same order.
+pub fn records(
+    alloc: Global,
+    start: Start<'_>,
+    until: Until,
+    room: usize,
+) -> Result<Stretch, StretchFault>
+    requires limit { clock_in until ≤ CLOCK_LIMIT }
+    ensures comes { Comes start.entry.image.now start.entry.board.now start.entry.tape.now (IsRecorded room start.entry.timers until) result }
+    ensures fits { IfOk result (λ s. length s.told.items ≤ s.wanted) }
+{
+    let parts = match read_parts(alloc, start) {
+        Ok(parts) => parts,
+        Err(fault) => return Err(fault),
+    };
+    record_parts(alloc, &parts, start.timers, until, room)
 }
 
 /// Runs a stretch, and tells its samples.

@@ -9,7 +9,7 @@ ghost use Rattle.rom_image.specs.declared.image.TheConstants.{IMAGE_LEN};
 ghost use Rattle.save_state.specs.StateBytes.{state_bytes};
 ghost use Rattle.save_state.specs.declared.TheConstants.{STATE_LEN};
 ghost use Rattle.sound_pcm.specs.declared.mixer.TheConstants.{MAX_PER};
-ghost use Rattle.board_stretch.specs.Stretches.{IsAdvanced, IsSampled};
+ghost use Rattle.board_stretch.specs.Stretches.{IsAdvanced, IsRecorded, IsSampled};
 ghost use Rattle.board_calls.specs.Answers.{AnswersOver, AnswersSources, Refuses, call_of, end_asked, is_asked, put_in, report_of};
 ghost use Rattle.board_calls.specs.Statuses.{number_of};
 ghost use Rattle.board_calls.specs.declared.report.Status.TheVariants.{BadNumber, Done, NoRoom};
@@ -71,6 +71,29 @@ pub extern "C" fn gravitar_advance(
 {
     board_calls::advance(
         alloc, image, board, tape, clock, boundary, timers, text, report,
+    )
+}
+
+/// Runs an image with a tape from a saved board, and tells its records as structs
+/// (`board_calls::records`).
+#[unsafe(no_mangle)]
+pub extern "C" fn gravitar_records(
+    alloc: Global,
+    image: &[u8],
+    board: &mut [u8],
+    tape: &[u8],
+    clock: u64,
+    boundary: u32,
+    timers: u32,
+    array: &mut [u8],
+    report: &mut GravitarReport,
+) -> u32
+    ensures range { CLOCK_LIMIT < clock → Refuses BadNumber (report_of 0 0 clock) (call_of board.old board.new array.old array.new report.new result) }
+    ensures answer { clock ≤ CLOCK_LIMIT → AnswersOver image.now board.old tape.now (IsRecorded (length array.old) (is_asked timers) (end_asked boundary clock))
+        (call_of board.old board.new array.old array.new report.new result) }
+{
+    board_calls::records(
+        alloc, image, board, tape, clock, boundary, timers, array, report,
     )
 }
 

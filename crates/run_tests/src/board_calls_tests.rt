@@ -1,7 +1,7 @@
 //! The calls of the library for C, over bytes as a caller has them.
 
 use crate::programs::{LATCH, program_image};
-use board_calls::{GravitarReport, advance, assemble, pcm, power_on};
+use board_calls::{GravitarReport, advance, assemble, pcm, power_on, records};
 use std::test::Fail;
 
 /// A report that no call has set.
@@ -35,6 +35,33 @@ fn a_call_runs_the_board_of_its_bytes(rt: HostRuntime) -> Result<(), Fail> {
         (0, 20, 8, 0)
     );
     assert!(rt; text == *b"L 12 05\n");
+    Ok(())
+}
+
+#[test]
+fn a_record_has_40_bytes(rt: HostRuntime) -> Result<(), Fail> {
+    let image = program_image(rt.alloc(), LATCH)?;
+    let mut board = [0; 4_356];
+    assert_eq!(rt; power_on(&mut board), 0);
+    let mut array = [7; 40];
+    let mut report = UNSET;
+    let status = records(
+        rt.alloc(),
+        &image,
+        &mut board,
+        b"20 END\n",
+        20,
+        0,
+        0,
+        &mut array,
+        &mut report,
+    );
+    assert_eq!(rt; (status, report.clock, report.used), (0, 20, 40));
+    let mut wanted = [0; 40];
+    wanted[0] = 12;
+    wanted[8] = 3;
+    wanted[12] = 5;
+    assert!(rt; array == wanted);
     Ok(())
 }
 

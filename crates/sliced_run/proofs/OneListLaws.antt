@@ -10,8 +10,8 @@ use Rattle.board_base.specs.declared.part.Part.{Part}
 use Rattle.board_base.specs.declared.part.Part.TheVariants.{Generator, Pokey1, Pokey2, Board}
 use Rattle.board_base.specs.Records.{clock_of, MadeBetween}
 use Rattle.tape_ports.specs.declared.entry.TapeEntry.{TapeEntry}
-use Rattle.log_text.specs.LogText.{PartRecord, log_text, from_part, made_by, place_of, IsNotAfter, IsInOrder}
-use Rattle.log_text.proofs.LogLaws.{merged_is_one_log}
+use Rattle.log_text.specs.LogText.{PartRecord, log_text, merged, merged_text, from_part, made_by, place_of, IsNotAfter, IsInOrder}
+use Rattle.log_text.proofs.LogLaws.{merged_is_one}
 use Rattle.lockstep_board.specs.Lockstep as lockstep
 use Rattle.lockstep_board.specs.Run.{stepped, to_boundary, boundary_steps}
 use Rattle.lockstep_board.specs.Order.{HasNoRecords, cleared, Recorded, behind, records_of, AddsOneClock}
@@ -232,17 +232,23 @@ pub one_list-in_order : (entries : List TapeEntry) (n : ℕ) (b : lockstep.Board
 one_list-in_order entries n b =
     in_order-rising (4 * b.wires.clock) (4 * (b.wires.clock + n)) (one_list entries n b) (rising-list entries n (b.wires.clock + n) b refl)
 
--- the lines of the four lists are those of the one list
-pub stepped-one_list : (entries : List TapeEntry) (n : ℕ) (b : lockstep.Board) → HasNoRecords b
-    → text_of_lists (stepped entries n b) ≡ log_text (one_list entries n b)
-unfolding text_of_lists
-stepped-one_list entries n b none =
+-- the four lists, merged, are the one list
+pub stepped-merged : (entries : List TapeEntry) (n : ℕ) (b : lockstep.Board) → HasNoRecords b → (last : lockstep.Board) → last ≡ stepped entries n b
+    → merged last.wires.strokes last.wires.levels1 last.wires.levels2 last.wires.written ≡ one_list entries n b
+stepped-merged entries n b none last is =
     rw (
+      is,
       list_of-fresh entries Generator n b none.strokes,
       list_of-fresh entries Pokey1 n b none.levels1,
       list_of-fresh entries Pokey2 n b none.levels2,
       list_of-fresh entries Board n b none.written,
-    ) (merged_is_one_log (one_list entries n b) (one_list-in_order entries n b))
+    ) (merged_is_one (one_list entries n b) (one_list-in_order entries n b))
+
+-- their lines are those of the one list
+pub stepped-one_list : (entries : List TapeEntry) (n : ℕ) (b : lockstep.Board) → HasNoRecords b
+    → text_of_lists (stepped entries n b) ≡ log_text (one_list entries n b)
+unfolding text_of_lists merged_text
+stepped-one_list entries n b none = ap log_text (stepped-merged entries n b none (stepped entries n b) refl)
 
 -- so are those of a run
 pub run-one_list : (entries : List TapeEntry) (limit : ℕ) (b : lockstep.Board) → HasNoRecords b

@@ -1,8 +1,9 @@
 -- The log of a slice.
-use Rattle.std.proofs.Common.{◌≡◌, ℕ, ◌+◌, List, ◌++◌, sym, ap, ◌∙◌}
+use Rattle.std.proofs.Common.{◌≡◌, ℕ, ◌+◌, List, ◌++◌, refl, sym, ap, ◌∙◌}
 use Rattle.board_base.specs.declared.part.Part.TheVariants.{Generator, Pokey1, Pokey2, Board}
 use Rattle.board_base.proofs.RecordLaws.{trail-made}
 use Rattle.log_text.specs.LogText.{log_text}
+use Rattle.log_text.specs.RecordBytes.{records_bytes}
 use Rattle.tape_ports.specs.declared.entry.TapeEntry.{TapeEntry}
 use Rattle.lockstep_board.specs.Lockstep as lockstep
 use Rattle.lockstep_board.specs.Run.{stepped}
@@ -10,9 +11,9 @@ use Rattle.lockstep_board.specs.Order.{HasNoRecords, cleared, records_of}
 use Rattle.board_watch.specs.declared.until.Until.{Until}
 use Rattle.board_watch.specs.Windows.{end_of, steps_to}
 use Rattle.board_watch.proofs.WatchLaws.{run-made}
-use Rattle.sliced_run.specs.Slice.{AreTrails, slice_text, text_of_records, text_of_steps}
+use Rattle.sliced_run.specs.Slice.{AreTrails, bytes_of_records, slice_records, slice_text, text_of_records, text_of_steps}
 use Rattle.sliced_run.specs.OneList.{one_list, text_of_lists}
-use Rattle.sliced_run.proofs.OneListLaws.{log_text-append, one_list-add, one_list-cleared, stepped-one_list}
+use Rattle.sliced_run.proofs.OneListLaws.{log_text-append, one_list-add, one_list-cleared, stepped-merged, stepped-one_list}
 
 -- what doesn't look at records is the same of two boards that differ in them alone
 pub same-of : {X : Type 0} (f : lockstep.Board → X) → ((b : lockstep.Board) → f (cleared b) ≡ f b) → (a b : lockstep.Board) → cleared a ≡ cleared b
@@ -43,3 +44,8 @@ module _ (entries : List TapeEntry) where
       → text_of_records (records_of (end_of entries until b)) ≡ slice_text entries until b
   unfolding text_of_lists
   run-text until b none = stepped-one_list entries (steps_to entries until b) b none
+
+  -- and so are their bytes
+  pub run-bytes : (until : Until) (b : lockstep.Board) → HasNoRecords b
+      → bytes_of_records (records_of (end_of entries until b)) ≡ slice_records entries until b
+  run-bytes until b none = ap records_bytes (stepped-merged entries (steps_to entries until b) b none (end_of entries until b) refl)
