@@ -95,7 +95,14 @@ fn record_parts(
         return Err(StretchFault::NoMemory);
     };
     let mut rested = Rested::of(&mut engine);
-    match watch_within(alloc, &mut rested, &parts.tape, until, &mut RecordWriter, room) {
+    match watch_within(
+        alloc,
+        &mut rested,
+        &parts.tape,
+        until,
+        &mut RecordWriter,
+        room,
+    ) {
         Ok(told) => Ok(ended(rested.engine(), told)),
         Err(_) => Err(StretchFault::NoMemory),
     }
