@@ -59,25 +59,41 @@ static double seconds(void)
     return now.tv_sec + now.tv_nsec / 1e9;
 }
 
+/* Gives a buffer room for so many bytes. */
+static void grow(struct bytes *buffer, size_t len)
+{
+    buffer->at = realloc(buffer->at, len);
+    buffer->len = len;
+    if (!buffer->at)
+        fail("no memory", GRAVITAR_NO_MEMORY);
+}
+
 /* Runs the board from power-on to a clock by a call, which takes `number`. */
 static struct run run(stretch *call, uint32_t number, const uint8_t *image, struct bytes tape, uint64_t last)
 {
     struct run it = {.seconds = 0};
-    struct bytes frame = {malloc(1 << 16), 1 << 16};
+    struct bytes frame = {NULL, 0};
     FILE *output = open_memstream((char **)&it.output.at, &it.output.len);
-    struct gravitar_report report = {0, 0, 0};
-    if (!frame.at || !output)
+    grow(&frame, 1 << 16);
+    struct gravitar_report report;
+    uint64_t clock = 0;
+    if (!output)
         fail("no memory", GRAVITAR_NO_MEMORY);
     gravitar_power_on(it.board, sizeof it.board);
-    while (report.clock < last) {
-        uint64_t next = last - report.clock < FRAME ? last : report.clock + FRAME;
+    while (clock < last) {
+        uint64_t next = last - clock < FRAME ? last : clock + FRAME;
         double before = seconds();
         uint32_t status = call(image, GRAVITAR_IMAGE_LEN, it.board, sizeof it.board, tape.at, tape.len, next,
                                number, 0, frame.at, frame.len, &report);
-        it.seconds += seconds() - before;
+        if (status == GRAVITAR_NO_ROOM) {
+            grow(&frame, report.used);
+            continue;
+        }
         if (status != GRAVITAR_DONE)
             fail("a call", status);
+        it.seconds += seconds() - before;
         fwrite(frame.at, 1, report.used, output);
+        clock = report.clock;
     }
     fclose(output);
     free(frame.at);
