@@ -12,8 +12,9 @@
  * - What a call writes (board, buffer, report) overlaps nothing else that the call is given.
  * - While a call runs, nobody writes what it was given, and nobody reads what it writes.
  * - The thread has 256 KiB of stack. A thread of musl has 128 KiB where it isn't told otherwise. A library of
- *   tools/quick.sh --lib takes less, measured on a painted stack: 63,960 bytes in gravitar_pcm, 59,496 in
- *   gravitar_advance, 13,196 in gravitar_power_on, and with 50,000 names 6,904 in gravitar_assemble.
+ *   tools/quick.sh --lib takes less, measured on a painted stack: 63,896 bytes in gravitar_pcm, 59,464 in
+ *   gravitar_advance, 59,416 in gravitar_records, 13,196 in gravitar_power_on, and with 50,000 names 6,904
+ *   in gravitar_assemble.
  *
  * The caller owns all memory. malloc, realloc and free are called inside, and nothing is left
  * allocated. A call that runs takes as many bytes as its buffer has (text_len, array_len or samples_len)

@@ -10,23 +10,24 @@
 /* Writes the line of a record, as gravitar_advance gives it. */
 static inline void write_record_line(const struct gravitar_record *record, FILE *out)
 {
-    const int32_t *values = record->values;
-    fprintf(out, "%c %" PRIu64, "SABLW"[record->kind], record->clock);
+    const int32_t *at = record->values;
+    uint64_t clock = record->clock;
     switch (record->kind) {
     case GRAVITAR_STROKE:
-        for (int i = 0; i < 6; i++)
-            fprintf(out, " %" PRId32, values[i]);
+        fprintf(out, "S %" PRIu64 " %d %d %d %d %d %d\n", clock, at[0], at[1], at[2], at[3], at[4], at[5]);
         break;
     case GRAVITAR_POKEY_1:
     case GRAVITAR_POKEY_2:
-        for (int i = 0; i < 4; i++)
-            fprintf(out, " %" PRId32, values[i]);
+        fprintf(out, "%c %" PRIu64 " %d %d %d %d\n", record->kind == GRAVITAR_POKEY_1 ? 'A' : 'B', clock, at[0],
+                at[1], at[2], at[3]);
         break;
     case GRAVITAR_LATCH:
-        fprintf(out, " %02" PRIX32, (uint32_t)values[0]);
+        fprintf(out, "L %" PRIu64 " %02X\n", clock, (unsigned)at[0]);
+        break;
+    case GRAVITAR_WATCHDOG:
+        fprintf(out, "W %" PRIu64 "\n", clock);
         break;
     }
-    putc('\n', out);
 }
 
 #endif
