@@ -12,15 +12,16 @@
  * - What a call writes (board, buffer, report) overlaps nothing else that the call is given.
  * - While a call runs, nobody writes what it was given, and nobody reads what it writes.
  * - The thread has 256 KiB of stack. A thread of musl has 128 KiB where it isn't told otherwise. A library of
- *   tools/quick.sh --lib takes less, measured on a painted stack: 63,960 bytes in gravitar_pcm, 59,496 in
- *   gravitar_advance, 13,196 in gravitar_power_on, and with 50,000 names 6,904 in gravitar_assemble.
+ *   tools/quick.sh --lib takes less, measured on a painted stack: 63,896 bytes in gravitar_pcm, 59,464 in
+ *   gravitar_advance, 59,416 in gravitar_records, 13,196 in gravitar_power_on, and with 50,000 names 6,904
+ *   in gravitar_assemble.
  *
  * The caller owns all memory. malloc, realloc and free are called inside, and nothing is left
- * allocated. A call that runs takes as many bytes as its buffer has (text_len or samples_len) for what it
- * puts out, and beside them at most 12 MB and the tape; measured are 1.1 MB. A text that is too long for
- * the buffer is counted and not kept, however long it is. A call takes some 3 to 5 ns of a processor for each clock that it
- * runs, and up to 20 ns where the program writes the output latch again and again; so whoever limits
- * the clocks of a call limits its time.
+ * allocated. A call that runs takes as many bytes as its buffer has (text_len, array_len or samples_len)
+ * for what it puts out, and beside them at most 12 MB and the tape; measured are 1.1 MB. A text that is too
+ * long for the buffer is counted and not kept, however long it is, and so are records and samples. A call
+ * takes some 3 to 5 ns of a processor for each clock that it runs, and up to 20 ns where the program writes
+ * the output latch again and again; so whoever limits the clocks of a call limits its time.
  * docs/EMBED.md shows a program in C, one in Python and one in Rust.
  */
 #ifndef GRAVITAR_H
@@ -88,8 +89,9 @@ uint32_t gravitar_advance(const uint8_t *image, size_t image_len, uint8_t *board
                           uint32_t timers, uint8_t *text, size_t text_len,
                           struct gravitar_report *report);
 
-/* A record of the board, as gravitar_records gives it. On a machine whose numbers have their lowest byte first, as
- * each that this library is built for, the array is one of these structs. */
+/* A record of the board, as gravitar_records gives it: 40 bytes, and sizeof(struct gravitar_record) is 40. On
+ * a machine whose numbers have their lowest byte first, as each that this library is built for, these bytes are
+ * the struct, so the array is one of structs. */
 enum gravitar_kind {
     GRAVITAR_STROKE = 0,   /* values: x0, y0, x1, y1, colour 0 to 7, intensity 1 to 15 */
     GRAVITAR_POKEY_1 = 1,  /* values: four levels 0 to 15, which are those of POKEY 1 from this clock on */

@@ -107,7 +107,7 @@ static void unfence(const char *call, struct fenced it)
     munmap(it.pages - PAGE, it.pages_len + 2 * PAGE);
 }
 
-enum kind { EMPTY, POWER_ON, ADVANCE, PCM, ASSEMBLE };
+enum kind { EMPTY, POWER_ON, ADVANCE, RECORDS, PCM, ASSEMBLE };
 
 /* A call, and what it is to answer. */
 struct call {
@@ -135,6 +135,10 @@ static void *run(void *given)
         break;
     case ADVANCE:
         it->status = gravitar_advance(in[0].at, in[0].len, it->board.at, it->board.len, in[1].at, in[1].len,
+                                      it->clock, 0, 1, it->output.at, it->output.len, report);
+        break;
+    case RECORDS:
+        it->status = gravitar_records(in[0].at, in[0].len, it->board.at, it->board.len, in[1].at, in[1].len,
                                       it->clock, 0, 1, it->output.at, it->output.len, report);
         break;
     case PCM:
@@ -259,6 +263,11 @@ int main(int argc, char **argv)
     it = advance, it.name = "  BAD_IMAGE", it.answer = GRAVITAR_BAD_IMAGE, it.first_len--;
     measure(it);
     it = advance, it.name = "  BAD_TAPE", it.answer = GRAVITAR_BAD_TAPE, it.second_len = 0;
+    measure(it);
+    struct call records = advance;
+    records.name = "gravitar_records", records.kind = RECORDS;
+    measure(records);
+    it = records, it.name = "  NO_ROOM", it.answer = GRAVITAR_NO_ROOM, it.output_len = 0;
     measure(it);
     it = advance, it.name = "gravitar_pcm", it.kind = PCM;
     measure(it);

@@ -5,6 +5,8 @@
     machine.set("IN3", 0xFB)
     for strokes in machine.frames(60):
         ...
+    for clock, kind, values in machine.records(25_000):
+        ...
     saved = machine.save()
 
 Boards, images, tapes and logs are bytes, and no call changes those that it is given. The library is
@@ -23,7 +25,9 @@ IMAGE_LEN = 43008
 CLOCK_LIMIT = 1 << 48
 CLOCKS_A_SECOND = 1_512_000
 FRAME = 25_000
+STROKE, POKEY_1, POKEY_2, LATCH, WATCHDOG = range(5)
 
+_RECORD = struct.Struct("<QI6iI")
 _VERSION = 2
 _DONE, _JAMMED, _NO_ROOM, _NO_MEMORY = 0, 1, 6, 7
 _NAMES = [
@@ -42,7 +46,7 @@ class Error(Exception):
 
 
 class Stretch(NamedTuple):
-    """The end of a stretch of a run, and what was put out on the way: lines of the log, or samples."""
+    """The end of a stretch of a run, and what was put out on the way: lines of the log, records, or samples."""
 
     board: bytes
     output: bytes
@@ -63,8 +67,9 @@ class Stroke(NamedTuple):
 
 
 class Record(NamedTuple):
-    """A record of the board: a stroke (kind 0: x0, y0, x1, y1, colour, intensity), the four levels of POKEY 1 or 2
-    (kind 1 or 2), a write of the latch (kind 3), or a watchdog reset (kind 4)."""
+    """A record of the board. By its kind its values are: STROKE x0, y0, x1, y1, colour, intensity; POKEY_1 and
+    POKEY_2 four levels, 0 to 15; LATCH the byte written to the output latch; WATCHDOG, a reset, none. There are six
+    values, and those that the kind doesn't have are 0."""
 
     clock: int
     kind: int
@@ -166,7 +171,7 @@ def records(image, board, tape, clock, boundary=True, timers=False):
 
 def record_list(output):
     """The records of the output of `records`."""
-    return [Record(clock, kind, tuple(values)) for clock, kind, *values, _ in struct.iter_unpack("<QI6iI", output)]
+    return [Record(clock, kind, tuple(values)) for clock, kind, *values, _ in _RECORD.iter_unpack(output)]
 
 
 def pcm(image, board, tape, clock, per, timers=False):
@@ -183,7 +188,8 @@ class Machine:
     """A board that runs: an image, the bytes of the board, and the inputs to come.
 
     The inputs are a tape's, or else those that `set` gives. `clock` is the board's, `jammed` says whether an
-    undocumented opcode has stopped its processor, and `log` has the lines of the last run.
+    undocumented opcode has stopped its processor, and `log` has the lines of the last `run`, unless `records` ran
+    after it: then it is empty.
     """
 
     def __init__(self, image, board=None, tape=None, timers=False):
@@ -215,6 +221,14 @@ class Machine:
         self._take(advance(self._image, self._board, self._inputs(end), end, False, self._timers))
         self._changes = b""
         return self.log
+
+    def records(self, clocks):
+        """Runs that many clocks, and returns the records on the way."""
+        end = self.clock + clocks
+        stretch = records(self._image, self._board, self._inputs(end), end, False, self._timers)
+        self._take(stretch._replace(output=b""))
+        self._changes = b""
+        return record_list(stretch.output)
 
     def frames(self, count, clocks=FRAME):
         """Runs stretches of so many clocks, and yields the strokes of each."""

@@ -8,8 +8,15 @@ EXAMPLES = pathlib.Path(__file__).resolve().parents[3] / "examples"
 TAPE = b"160000 END\n"
 
 
-def image_of(name):
-    return gravitar.assemble(*((EXAMPLES / name / f"{name}.{kind}").read_bytes() for kind in "sv"))
+def image_of(name, folder=None):
+    return gravitar.assemble(*((EXAMPLES / (folder or name) / f"{name}.{kind}").read_bytes() for kind in "sv"))
+
+
+def line(record):
+    """The line that the log has of a record."""
+    count = {gravitar.STROKE: 6, gravitar.POKEY_1: 4, gravitar.POKEY_2: 4}.get(record.kind, 0)
+    latch = ["%02X" % record.values[0]] if record.kind == gravitar.LATCH else []
+    return " ".join(["SABLW"[record.kind], str(record.clock), *map(str, record.values[:count]), *latch]) + "\n"
 
 
 class Tests(unittest.TestCase):
@@ -34,6 +41,24 @@ class Tests(unittest.TestCase):
         log = gravitar.Machine(self.square).run(100_000)
         self.assertEqual(sum(frames, []), gravitar.strokes(log))
         self.assertEqual(len(sum(frames, [])), log.count(b"S"))
+
+    def test_records_are_the_lines_of_the_log(self):
+        for image in (self.ship, image_of("kinds", "embed")):
+            other, machine = gravitar.Machine(image), gravitar.Machine(image)
+            for clocks in (1, 24_999, 100_000, 3_000_000):
+                records, log = machine.records(clocks), other.run(clocks)
+                self.assertEqual("".join(map(line, records)).encode(), log)
+                self.assertEqual((machine.save(), machine.clock, machine.log), (other.save(), other.clock, b""))
+        self.assertEqual({it.kind for it in gravitar.Machine(image).records(100_000)}, set(range(5)))
+
+    def test_records_run_with_the_inputs(self):
+        machine, other = gravitar.Machine(self.ship), gravitar.Machine(self.ship)
+        for value in (0xFB, 0xFD):
+            machine.set("IN3", value)
+            other.set("IN3", value)
+            self.assertEqual("".join(map(line, machine.records(500_000))).encode(), other.run(500_000))
+        with self.assertRaises(gravitar.Error):
+            machine.records(gravitar.CLOCK_LIMIT)
 
     def test_a_saved_board_goes_on(self):
         machine = gravitar.Machine(self.ship)

@@ -31,6 +31,7 @@ pub const CLOCK_LIMIT: u64 = 1 << 48;
 /// Clocks of a frame, of which there are some 60 in the 1,512,000 clocks of a second.
 pub const FRAME: u64 = 25_000;
 
+const RECORD_LEN: usize = 40;
 const DONE: u32 = 0;
 const JAMMED: u32 = 1;
 const NO_ROOM: u32 = 6;
@@ -53,7 +54,17 @@ pub enum End {
     Boundary(u64),
 }
 
-/// The end of a stretch, and what it put out on the way: lines of the log, or samples.
+impl End {
+    /// The clock, and `boundary` of `include/gravitar.h`.
+    fn numbers(self) -> (u64, u32) {
+        match self {
+            Self::Clock(clock) => (clock, 0),
+            Self::Boundary(clock) => (clock, 1),
+        }
+    }
+}
+
+/// The end of a stretch, and what it put out on the way: lines of the log, records, or samples.
 #[derive(Debug, Clone, PartialEq, Eq)]
 pub struct Stretch {
     pub board: Vec<u8>,
@@ -73,13 +84,38 @@ pub struct Stroke {
     pub intensity: u8,
 }
 
-/// A record of the board: a stroke (kind 0: x0, y0, x1, y1, colour, intensity), the four levels of POKEY 1
-/// or 2 (kind 1 or 2), a write of the latch (kind 3), or a watchdog reset (kind 4).
+/// A record of the board, with the clock in which it came.
 #[derive(Debug, Clone, Copy, PartialEq, Eq)]
-pub struct Record {
-    pub clock: u64,
-    pub kind: u32,
-    pub values: [i32; 6],
+pub enum Record {
+    Stroke(Stroke),
+    /// The four levels of POKEY 1 from that clock on, 0 to 15 each.
+    Pokey1 {
+        clock: u64,
+        levels: [u8; 4],
+    },
+    /// Those of POKEY 2.
+    Pokey2 {
+        clock: u64,
+        levels: [u8; 4],
+    },
+    /// The byte written to the output latch.
+    Latch {
+        clock: u64,
+        value: u8,
+    },
+    WatchdogReset {
+        clock: u64,
+    },
+}
+
+impl Record {
+    /// The stroke, where it is one.
+    pub fn stroke(self) -> Option<Stroke> {
+        match self {
+            Self::Stroke(stroke) => Some(stroke),
+            _ => None,
+        }
+    }
 }
 
 /// The version of the library's calls.
@@ -123,32 +159,47 @@ pub fn assemble(processor: &[u8], generator: &[u8]) -> Result<Vec<u8>, Error> {
 
 /// Runs from a board, and gives the lines of the log on the way.
 pub fn advance(run: Run<'_>, board: &[u8], end: End) -> Result<Stretch, Error> {
-    let (clock, boundary) = match end {
-        End::Clock(clock) => (clock, 0),
-        End::Boundary(clock) => (clock, 1),
-    };
+    let (clock, boundary) = end.numbers();
     stretch(calls::gravitar_advance, run, board, clock, boundary)
 }
 
 /// Runs from a board as `advance` does, and gives the records on the way, 40 bytes each: `record_list`
 /// reads them.
 pub fn records(run: Run<'_>, board: &[u8], end: End) -> Result<Stretch, Error> {
-    let (clock, boundary) = match end {
-        End::Clock(clock) => (clock, 0),
-        End::Boundary(clock) => (clock, 1),
-    };
+    let (clock, boundary) = end.numbers();
     stretch(calls::gravitar_records, run, board, clock, boundary)
 }
 
 /// The records of the output of `records`.
 pub fn record_list(output: &[u8]) -> impl Iterator<Item = Record> + '_ {
-    output.chunks_exact(40).map(|bytes| {
-        let word = |at: usize| i32::from_le_bytes([bytes[at], bytes[at + 1], bytes[at + 2], bytes[at + 3]]);
-        Record {
-            clock: u64::from(word(0) as u32) | u64::from(word(4) as u32) << 32,
-            kind: word(8) as u32,
-            values: [word(12), word(16), word(20), word(24), word(28), word(32)],
-        }
+    output.chunks_exact(RECORD_LEN).filter_map(record)
+}
+
+/// The record of its bytes, where it is of a kind that the header of this crate's version has.
+fn record(bytes: &[u8]) -> Option<Record> {
+    let (clock, words) = bytes.split_first_chunk()?;
+    let clock = u64::from_le_bytes(*clock);
+    let [kind, a, b, c, d, e, f] = std::array::from_fn(|index| {
+        let at = 4 * index;
+        i32::from_le_bytes([words[at], words[at + 1], words[at + 2], words[at + 3]])
+    });
+    let levels = [a, b, c, d].map(|level| level as u8);
+    Some(match kind {
+        0 => Record::Stroke(Stroke {
+            clock,
+            from: (a, b),
+            to: (c, d),
+            colour: e as u8,
+            intensity: f as u8,
+        }),
+        1 => Record::Pokey1 { clock, levels },
+        2 => Record::Pokey2 { clock, levels },
+        3 => Record::Latch {
+            clock,
+            value: a as u8,
+        },
+        4 => Record::WatchdogReset { clock },
+        _ => return None,
     })
 }
 

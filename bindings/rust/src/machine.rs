@@ -1,5 +1,7 @@
 //! A board that runs.
-use crate::{End, Error, Run, Stretch, Stroke, advance, pcm, power_on, strokes};
+use crate::{
+    End, Error, Record, Run, Stretch, Stroke, advance, pcm, power_on, record_list, records,
+};
 
 /// An image, the board that runs it, and the inputs to come.
 #[derive(Debug, Clone)]
@@ -65,9 +67,17 @@ impl Machine {
         Ok(self.take(stretch))
     }
 
+    /// Runs that many clocks, and returns the records on the way.
+    pub fn records(&mut self, clocks: u64) -> Result<Vec<Record>, Error> {
+        let end = self.clock.saturating_add(clocks);
+        let stretch = records(self.over(&self.inputs(end)), &self.board, End::Clock(end))?;
+        Ok(record_list(&self.take(stretch)).collect())
+    }
+
     /// Runs that many clocks, and returns the strokes on the way.
     pub fn frame(&mut self, clocks: u64) -> Result<Vec<Stroke>, Error> {
-        Ok(strokes(&self.run(clocks)?).collect())
+        let records = self.records(clocks)?.into_iter();
+        Ok(records.filter_map(Record::stroke).collect())
     }
 
     /// Runs `count` times `per` clocks, and returns a sample for each `per` of them, so that nothing is

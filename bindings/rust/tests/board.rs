@@ -1,7 +1,7 @@
 //! Tests over the examples' sources.
 use gravitar::{
-    BOARD_LEN, CLOCK_LIMIT, End, Error, FRAME, Machine, Run, advance, assemble, pcm, power_on,
-    strokes, version,
+    BOARD_LEN, CLOCK_LIMIT, End, Error, FRAME, Machine, Record, Run, advance, assemble, pcm,
+    power_on, strokes, version,
 };
 
 const TAPE: &[u8] = b"2000000 END\n";
@@ -18,6 +18,26 @@ fn square() -> Vec<u8> {
 
 fn ship() -> Vec<u8> {
     assemble(source!("ship/ship.s"), source!("ship/ship.v")).unwrap()
+}
+
+/// A board with records of each kind.
+fn kinds() -> Vec<u8> {
+    assemble(source!("embed/kinds.s"), source!("embed/kinds.v")).unwrap()
+}
+
+/// The line that the log has of a record.
+fn line(record: Record) -> String {
+    let levels = |[a, b, c, d]: [u8; 4]| format!("{a} {b} {c} {d}");
+    match record {
+        Record::Stroke(it) => format!(
+            "S {} {} {} {} {} {} {}\n",
+            it.clock, it.from.0, it.from.1, it.to.0, it.to.1, it.colour, it.intensity
+        ),
+        Record::Pokey1 { clock, levels: it } => format!("A {clock} {}\n", levels(it)),
+        Record::Pokey2 { clock, levels: it } => format!("B {clock} {}\n", levels(it)),
+        Record::Latch { clock, value } => format!("L {clock} {value:02X}\n"),
+        Record::WatchdogReset { clock } => format!("W {clock}\n"),
+    }
 }
 
 fn over<'a>(image: &'a [u8], tape: &'a [u8]) -> Run<'a> {
@@ -74,6 +94,32 @@ fn a_frame_has_strokes() {
         log.iter().filter(|byte| **byte == b'S').count()
     );
     assert!(!frames.is_empty());
+}
+
+#[test]
+fn records_are_the_lines_of_the_log() {
+    for image in [ship(), kinds()] {
+        let mut machine = Machine::new(image, false).unwrap();
+        machine.set("IN3", 0xFB).unwrap();
+        let mut other = machine.clone();
+        for clocks in [1, 24_999, 100_000, 3_000_000] {
+            let records = machine.records(clocks).unwrap();
+            let lines: String = records.into_iter().map(line).collect();
+            assert_eq!(lines.into_bytes(), other.run(clocks).unwrap());
+            assert_eq!(machine.save(), other.save());
+            assert_eq!(machine.clock(), other.clock());
+        }
+    }
+    let records = Machine::new(kinds(), false)
+        .unwrap()
+        .records(100_000)
+        .unwrap();
+    for kind in ["S ", "A ", "B ", "L ", "W "] {
+        assert!(
+            records.iter().any(|it| line(*it).starts_with(kind)),
+            "{kind}"
+        );
+    }
 }
 
 #[test]
@@ -137,7 +183,10 @@ fn what_is_refused_is_an_error() {
         to(&image, &board[1..], TAPE, 1),
         Err(Error::BoardLength(_))
     ));
-    assert!(matches!(to(&image, b"", TAPE, 1), Err(Error::BoardLength(_))));
+    assert!(matches!(
+        to(&image, b"", TAPE, 1),
+        Err(Error::BoardLength(_))
+    ));
     assert!(matches!(to(&image, &board, b"", 1), Err(Error::Tape(_))));
     let tape = to(&image, &board, b"1 IN9 00\n1 END\n", 1).unwrap_err();
     assert!(matches!(&tape, Error::Tape(fault) if fault.place == 1 && tape.to_string().len() > 6));

@@ -13,13 +13,15 @@
 #include <time.h>
 
 #include "gravitar.h"
-#include "records.h"
+#include "record_line.h"
 
 #define CLOCKS_A_SECOND 1512000
 #define FRAME 25000   /* clocks */
 #define PER 34        /* clocks of a sample: 44,470 samples a second */
-#define STROKES 2048  /* that a frame can show */
+#define RECORDS 256   /* of a frame, to begin with */
 #define RING 8192     /* samples; a power of two, some 180 ms */
+
+_Static_assert(sizeof(struct gravitar_record) == 40, "a record has 40 bytes");
 
 /* Samples from the game loop to who plays them, on another thread too: each side changes its own count only. */
 struct ring {
@@ -38,10 +40,9 @@ struct game {
     uint8_t image[GRAVITAR_IMAGE_LEN], board[GRAVITAR_BOARD_LEN];
     uint64_t clock;
     int buttons;
-    uint8_t *text;
-    size_t text_len;
-    struct stroke strokes[STROKES];
-    size_t stroke_count;
+    struct gravitar_record *records; /* of a frame */
+    size_t records_len;              /* bytes that there is room for */
+    size_t record_count;
     struct mixer mixer;
     struct ring ring;
 };
@@ -96,26 +97,40 @@ static void mix(struct mixer *mixer, uint64_t clock, struct ring *ring)
     }
 }
 
-/* Takes the records of a frame: the strokes to be shown, the levels to be heard. */
-static void take(struct game *game, const uint8_t *at, const uint8_t *end)
+/* Shows the strokes of a frame. A game draws them; here they are counted. */
+static unsigned long show(const struct game *game)
 {
-    struct record record;
-    game->stroke_count = 0;
-    while (at < end) {
-        at = record_read(at, &record);
-        if (record.kind == STROKE && game->stroke_count < STROKES)
-            game->strokes[game->stroke_count++] = record.is.stroke;
-        if (record.kind == POKEY_1 || record.kind == POKEY_2) {
-            const uint8_t *levels = record.is.levels;
-            mix(&game->mixer, record.clock, &game->ring);
-            game->mixer.level[record.kind == POKEY_2] = levels[0] + levels[1] + levels[2] + levels[3];
-        }
+    unsigned long shown = 0;
+    for (size_t i = 0; i < game->record_count; i++)
+        shown += game->records[i].kind == GRAVITAR_STROKE;
+    return shown;
+}
+
+/* Makes samples of the levels of a frame. */
+static void hear(struct game *game)
+{
+    for (size_t i = 0; i < game->record_count; i++) {
+        const struct gravitar_record *record = &game->records[i];
+        const int32_t *levels = record->values;
+        if (record->kind != GRAVITAR_POKEY_1 && record->kind != GRAVITAR_POKEY_2)
+            continue;
+        mix(&game->mixer, record->clock, &game->ring);
+        game->mixer.level[record->kind == GRAVITAR_POKEY_2] = levels[0] + levels[1] + levels[2] + levels[3];
     }
     mix(&game->mixer, game->clock, &game->ring);
 }
 
-/* Runs a frame with the buttons as they are. The inputs go to the tape, and the lines to the log. */
-static void run_frame(struct game *game, int buttons, FILE *log, FILE *tape)
+/* Makes room for so many bytes of records. */
+static void make_room(struct game *game, size_t len)
+{
+    game->records = realloc(game->records, len);
+    game->records_len = len;
+    if (!game->records)
+        fail("no memory", GRAVITAR_NO_MEMORY);
+}
+
+/* Runs a frame with the buttons as they are. The inputs go to the tape. */
+static void run_frame(struct game *game, int buttons, FILE *tape)
 {
     char inputs[64] = "";
     struct gravitar_report report;
@@ -125,19 +140,14 @@ static void run_frame(struct game *game, int buttons, FILE *log, FILE *tape)
     fputs(inputs, tape);
     game->buttons = buttons;
     sprintf(inputs + strlen(inputs), "%llu END\n", (unsigned long long)game->clock);
-    while ((status = gravitar_advance(game->image, GRAVITAR_IMAGE_LEN, game->board, GRAVITAR_BOARD_LEN,
+    while ((status = gravitar_records(game->image, GRAVITAR_IMAGE_LEN, game->board, GRAVITAR_BOARD_LEN,
                                       (const uint8_t *)inputs, strlen(inputs), game->clock + FRAME, 0, 0,
-                                      game->text, game->text_len, &report)) == GRAVITAR_NO_ROOM) {
-        game->text_len = report.used;
-        game->text = realloc(game->text, game->text_len);
-        if (!game->text)
-            fail("no memory", status);
-    }
+                                      (uint8_t *)game->records, game->records_len, &report)) == GRAVITAR_NO_ROOM)
+        make_room(game, report.used);
     if (status != GRAVITAR_DONE)
-        fail("advance", status);
+        fail("records", status);
     game->clock = report.clock;
-    take(game, game->text, game->text + report.used);
-    fwrite(game->text, 1, report.used, log);
+    game->record_count = report.used / sizeof *game->records;
 }
 
 /* Plays all samples of the ring. A game's sound does this on its own thread, when its device asks. */
@@ -194,19 +204,23 @@ int main(int argc, char **argv)
     FILE *log = file(argv[4], "wb"), *tape = file(argv[5], "wb"), *pcm = file(argv[6], "wb");
     unsigned long shown = 0;
     load_image(game.image, argv[1], argv[2]);
+    make_room(&game, RECORDS * sizeof *game.records);
     gravitar_power_on(game.board, sizeof game.board);
     double start = seconds(CLOCK_MONOTONIC), before = seconds(CLOCK_PROCESS_CPUTIME_ID);
     for (int frame = 0; frame < frames; frame++) {
         if (is_live)
             wait_for(start, frame);
-        run_frame(&game, pressed(frame), log, tape);
-        shown += game.stroke_count;
+        run_frame(&game, pressed(frame), tape);
+        shown += show(&game);
+        hear(&game);
         play(&game.ring, pcm);
+        for (size_t i = 0; i < game.record_count; i++)
+            write_record_line(&game.records[i], log);
     }
     double cost = (seconds(CLOCK_PROCESS_CPUTIME_ID) - before) / frames;
     fprintf(tape, "%llu END\n", (unsigned long long)game.clock);
     printf("%d frames, %lu strokes, %.0f microseconds a frame: %.2f %% of a processor at 60 frames a second\n",
            frames, shown, cost * 1e6, cost * 60 * 100);
-    free(game.text);
+    free(game.records);
     return fclose(log) | fclose(tape) | fclose(pcm);
 }

@@ -1,6 +1,7 @@
 #!/bin/sh
 # Builds the examples and the bindings over the library for C, runs them, and holds what they write against the
-# program's own log and samples. The callers are built with the sanitizers of addresses and undefined behaviour.
+# program's own log and samples, and the records against the lines of the log. The callers are built with the
+# sanitizers of addresses and undefined behaviour.
 #     try.sh [FOLDER]     FOLDER is the library's, as tools/quick.sh --lib or tools/lib_folder.sh leaves it, by
 #                         default what GRAVITAR_LIB names; else the library is proved and built
 # The program is GRAVITAR of the environment, else FOLDER/gravitar, else that of crates/gravitar_program/out. It
@@ -47,7 +48,7 @@ can() { # COMPILER OPTIONS..
 try_c() { # NAME COMPILER OPTIONS..
     say=$1
     shift
-    for example in frames game; do
+    for example in frames game records; do
         "$@" -std=c11 -Wall -Wextra -Werror -pedantic -I "$lib" -o "$example" "$here/$example.c" \
             "$lib/libgravitar.a"
     done
@@ -57,6 +58,9 @@ try_c() { # NAME COMPILER OPTIONS..
     "$gravitar" run ship.img game.tape | sed '$d' | cmp - game.log
     "$gravitar" pcm ship.img game.tape 34 | cmp - game.pcm
     echo "$say: game: $(cat game.txt)"
+    ./records "$here/kinds.s" "$here/kinds.v" ship/ship.tape 1000000 >records.txt
+    ./records ship/ship.s ship/ship.v ship/ship.tape 13600000 >records.txt
+    echo "$say: records: $(cat records.txt)"
     "$@" -std=c11 -Wall -Wextra -Werror -I "$lib" -o limits "$root/bindings/c/limits.c" "$lib/libgravitar.a" \
         -Wl,--wrap=malloc,--wrap=realloc,--wrap=free -pthread
     ./limits ship/ship.s ship/ship.v ship/ship.tape >limits.txt
