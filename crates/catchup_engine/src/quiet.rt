@@ -17,24 +17,40 @@ use cpu_core::{Bus, Cpu};
 use earom_cells::CellUnit;
 use irq_watchdog::DividerUnit;
 use pokey_chip::SoundUnit;
+use std::marker::PhantomData;
 use tape_ports::Tape;
 
 /// The bus in clocks in which no entry of the tape is due and the divider doesn't wrap. They are
 /// counted here, and the board hears of them where a device is reached, and at the end.
-struct QuietBus<'a, V: VectorUnit, P: SoundUnit, C: CellUnit, D: DividerUnit> {
+///
+/// It is a type of its own for each kind of breaks. So each loop has the only call of the processor on
+/// its bus, and LLVM puts the processor into the loop.
+struct QuietBus<'a, V: VectorUnit, P: SoundUnit, C: CellUnit, D: DividerUnit, B: Breaks> {
     bus: &'a mut BoardBus<V, P, C, D>,
     made: u64,
+    breaks: PhantomData<B>,
 }
 
-impl<'a, V: VectorUnit, P: SoundUnit, C: CellUnit, D: DividerUnit> QuietBus<'a, V, P, C, D> {
+impl<'a, V: VectorUnit, P: SoundUnit, C: CellUnit, D: DividerUnit, B: Breaks> QuietBus<
+    'a,
+    V,
+    P,
+    C,
+    D,
+    B,
+> {
     /// A bus with no clock counted yet.
     #[inline(always)]
-    fn new(bus: &'a mut BoardBus<V, P, C, D>) -> QuietBus<'a, V, P, C, D>
+    fn new(bus: &'a mut BoardBus<V, P, C, D>) -> QuietBus<'a, V, P, C, D, B>
         ensures same_reference { result.bus.ghost_name ≡ bus.entry.ghost_name }
         ensures bus { result.bus.now ≡ bus.old }
         ensures none { result.made ≡ 0 }
     {
-        QuietBus { bus, made: 0 }
+        QuietBus {
+            bus,
+            made: 0,
+            breaks: PhantomData,
+        }
     }
 
     /// Tells the board of the clocks counted.
@@ -66,8 +82,8 @@ impl<'a, V: VectorUnit, P: SoundUnit, C: CellUnit, D: DividerUnit> QuietBus<'a, 
     }
 }
 
-impl<'a, V: VectorUnit, P: SoundUnit, C: CellUnit, D: DividerUnit> Bus
-    for QuietBus<'a, V, P, C, D> {
+impl<'a, V: VectorUnit, P: SoundUnit, C: CellUnit, D: DividerUnit, B: Breaks> Bus
+    for QuietBus<'a, V, P, C, D, B> {
     ghost use Rattle.std.specs.Prelude.{◌≡◌, ◌-◌, false};
     ghost use Rattle.catchup_engine.specs.Bus.{BusStep, Fits, room_of};
     ghost use Rattle.catchup_engine.specs.Calm.{KeepsLines};
@@ -127,14 +143,18 @@ pub(crate) fn run_calmly<V: VectorUnit, P: SoundUnit, C: CellUnit, D: DividerUni
     ensures fits { Fits tape.now bus.new }
 {
     let calm = calm_since(bus, limit);
-    let mut quiet = QuietBus::new(bus);
+    let mut quiet = QuietBus::<V, P, C, D, B>::new(bus);
     let mut goes_on = true;
     while goes_on {
         let _fetched = cpu.instruction(&mut quiet, tape);
         goes_on = quiet.lasts(&calm, &cpu) && !breaks.has(cpu.state().pc);
     }
     quiet.tell();
-    let QuietBus { bus: back, made: _ } = quiet;
+    let QuietBus {
+        bus: back,
+        made: _,
+        breaks: _,
+    } = quiet;
     // opens the model
     let _same = &*back;
     cpu
