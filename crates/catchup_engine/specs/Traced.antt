@@ -16,6 +16,17 @@ module _ {T : Type 0} (next : T → TraceValue → ℕ → T) where
   told entries zero w b = w
   told entries (suc n) w b = told entries n (told_once entries w b) (turn entries b)
 
+  -- From b some turns lead to c, and one that was w and is told of each of them is v then; the flag says whether he has enough.
+  -- After none of them but the last a run to this limit is over, or has he enough.
+  pub record ToldTurns (enough : T → Bool) (entries : List TapeEntry) (limit : ℕ) (b c : Board) (w v : T) (flag : Bool) : Type 0 where
+    pub count : ℕ
+    pub board : c ≡ turned entries count b
+    pub tracer : v ≡ told entries count w b
+    pub over : (k : ℕ) → k < count → is_over limit (turned entries k b) ≡ false
+    pub goes_on : (k : ℕ) → 1 ≤ k → k < count → enough (told entries k w b) ≡ false
+    pub first : count ≡ 0 → flag ≡ false
+    pub later : 1 ≤ count → flag ≡ enough v
+
   -- From b some turns lead to c, and one that was w and is told of each of them is v then. After none of them but the last a run
   -- to this limit is over, or has he enough; after the last it is so.
   pub record TracedRun (enough : T → Bool) (entries : List TapeEntry) (limit : ℕ) (b c : Board) (w v : T) : Type 0 where

@@ -23,25 +23,25 @@ use tape_ports::Tape;
 /// The bus in clocks in which no entry of the tape is due and the divider doesn't wrap. They are
 /// counted here, and the board hears of them where a device is reached, and at the end.
 ///
-/// It is a type of its own for each kind of breaks. So each loop has the only call of the processor on
-/// its bus, and LLVM puts the processor into the loop.
-struct QuietBus<'a, V: VectorUnit, P: SoundUnit, C: CellUnit, D: DividerUnit, B: Breaks> {
-    bus: &'a mut BoardBus<V, P, C, D>,
-    made: u64,
-    breaks: PhantomData<B>,
+/// It is a type of its own for each user, which is a kind of breaks or a tracer. So each loop has the
+/// only call of the processor on its bus, and LLVM puts the processor into the loop.
+pub(crate) struct QuietBus<'a, V: VectorUnit, P: SoundUnit, C: CellUnit, D: DividerUnit, U> {
+    pub(crate) bus: &'a mut BoardBus<V, P, C, D>,
+    pub(crate) made: u64,
+    pub(crate) user: PhantomData<U>,
 }
 
-impl<'a, V: VectorUnit, P: SoundUnit, C: CellUnit, D: DividerUnit, B: Breaks> QuietBus<
+impl<'a, V: VectorUnit, P: SoundUnit, C: CellUnit, D: DividerUnit, U> QuietBus<
     'a,
     V,
     P,
     C,
     D,
-    B,
+    U,
 > {
     /// A bus with no clock counted yet.
     #[inline(always)]
-    fn new(bus: &'a mut BoardBus<V, P, C, D>) -> QuietBus<'a, V, P, C, D, B>
+    pub(crate) fn new(bus: &'a mut BoardBus<V, P, C, D>) -> QuietBus<'a, V, P, C, D, U>
         ensures same_reference { result.bus.ghost_name ≡ bus.entry.ghost_name }
         ensures bus { result.bus.now ≡ bus.old }
         ensures none { result.made ≡ 0 }
@@ -49,13 +49,13 @@ impl<'a, V: VectorUnit, P: SoundUnit, C: CellUnit, D: DividerUnit, B: Breaks> Qu
         QuietBus {
             bus,
             made: 0,
-            breaks: PhantomData,
+            user: PhantomData,
         }
     }
 
     /// Tells the board of the clocks counted.
     #[inline(always)]
-    fn tell(&mut self)
+    pub(crate) fn tell(&mut self)
         requires quiet { self.old.bus.now.wires.clock + self.old.made ≤ self.old.bus.now.event_at }
         requires clock { self.old.bus.now.wires.clock + self.old.made ≤ CLOCK_END }
         requires room { self.old.bus.now.wires.clock + self.old.made ≤ self.old.bus.now.until }
@@ -69,9 +69,18 @@ impl<'a, V: VectorUnit, P: SoundUnit, C: CellUnit, D: DividerUnit, B: Breaks> Qu
         self.made = 0;
     }
 
+    /// The clock, with those counted.
+    #[inline(always)]
+    pub(crate) fn clock(&self) -> u64
+        requires quiet { self.now.bus.now.wires.clock + self.now.made ≤ self.now.bus.now.event_at }
+        ensures { result ≡ self.now.bus.now.wires.clock + self.now.made }
+    {
+        self.bus.clock_after(self.made)
+    }
+
     /// Whether the fetch at this boundary surely reads an opcode.
     #[inline(always)]
-    fn lasts(&self, calm: &Calm, cpu: &Cpu) -> bool
+    pub(crate) fn lasts(&self, calm: &Calm, cpu: &Cpu) -> bool
         requires quiet { self.now.bus.now.wires.clock + self.now.made ≤ self.now.bus.now.event_at }
         ensures value { result ≡ (nat_lt (self.now.bus.now.wires.clock + self.now.made) calm.now.until && (is_none cpu.now.jam && (calm.now.silent || is_masked cpu.now.p))) }
         ensures wrap { self.now.bus.now.wires.divider.phase + (self.now.bus.now.event_at - self.now.bus.now.wires.clock) < DIVIDER_PERIOD }
@@ -82,8 +91,8 @@ impl<'a, V: VectorUnit, P: SoundUnit, C: CellUnit, D: DividerUnit, B: Breaks> Qu
     }
 }
 
-impl<'a, V: VectorUnit, P: SoundUnit, C: CellUnit, D: DividerUnit, B: Breaks> Bus
-    for QuietBus<'a, V, P, C, D, B> {
+impl<'a, V: VectorUnit, P: SoundUnit, C: CellUnit, D: DividerUnit, U> Bus
+    for QuietBus<'a, V, P, C, D, U> {
     ghost use Rattle.std.specs.Prelude.{◌≡◌, ◌-◌, false};
     ghost use Rattle.catchup_engine.specs.Bus.{BusStep, Fits, room_of};
     ghost use Rattle.catchup_engine.specs.Calm.{KeepsLines};
@@ -153,7 +162,7 @@ pub(crate) fn run_calmly<V: VectorUnit, P: SoundUnit, C: CellUnit, D: DividerUni
     let QuietBus {
         bus: back,
         made: _,
-        breaks: _,
+        user: _,
     } = quiet;
     // opens the model
     let _same = &*back;

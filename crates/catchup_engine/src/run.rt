@@ -9,6 +9,8 @@ ghost use Rattle.catchup_engine.specs.Runs.{over_bus, BoundaryRun, BreakRunBus, 
 
 use crate::breaks::{BreakList, Breaks, Nowhere};
 use crate::bus::{BoardBus, TRAIL_ROOM, WHOLE};
+use crate::note::TurnNote;
+use crate::noted::trace_calmly;
 use crate::quiet::run_calmly;
 use crate::trace::trace_running;
 use crate::tracer::Tracer;
@@ -232,8 +234,14 @@ pub(crate) fn run_traced<V: VectorUnit, P: SoundUnit, C: CellUnit, D: DividerUni
     let _clock = bus.clock();
     let mut enough = false;
     while !enough && !is_done(&cpu, bus, limit) {
-        let trace = trace_running(&mut cpu, bus, tape);
-        enough = tracer.trace(&trace, cpu.state().pc);
+        if goes_on(&cpu, bus, limit, &Nowhere) {
+            let told = trace_calmly(cpu, bus, tape, limit, tracer);
+            cpu = told.cpu;
+            enough = told.enough;
+        } else {
+            let trace = trace_running(&mut cpu, bus, tape);
+            enough = tracer.turn(&TurnNote::of(&trace), cpu.state().pc);
+        }
     }
     cpu
 }

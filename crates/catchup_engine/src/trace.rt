@@ -20,7 +20,7 @@ use std::marker::Model;
 use tape_ports::Tape;
 
 /// An access of the processor: its clock, its address, and the byte read or written.
-#[derive(Clone, Copy, Debug, PartialEq, Eq)]
+#[derive(Clone, Copy, Debug, Default, PartialEq, Eq)]
 pub struct Access {
     pub clock: u64,
     pub addr: u16,

@@ -42,11 +42,11 @@ newest routines = drop (length routines - LONGEST_LIST) routines
 abbrev pub returned : List ℕ → List ℕ
 returned routines = if nat_lt 1 (length routines) then take (length routines - 1) routines else routines
 
--- the clocks and device accesses of a sequence are charged to the last routine of the list
-abbrev pub charged : ProfileValue → TraceValue → ProfileValue
-charged p trace = record p {
-  counts = changed (λ c. more_taken c trace.count (device_accesses trace)) (last_of p.routines) p.counts;
-  clocks = raised p.clocks trace.count;
+-- so many clocks and device accesses are charged to the last routine of the list
+abbrev pub charged : ProfileValue → ℕ → ℕ → ProfileValue
+charged p clocks accesses = record p {
+  counts = changed (λ c. more_taken c clocks accesses) (last_of p.routines) p.counts;
+  clocks = raised p.clocks clocks;
 }
 
 -- the list after a turn, of which `pc` is the program counter behind it
@@ -70,7 +70,7 @@ after_turn turn pc p = record p { routines = turned turn pc p.routines; counts =
 -- the profile after a sequence, behind which the program counter is `pc`; a trace of no access tells of no sequence
 unfoldable pub after : ProfileValue → TraceValue → ℕ → ProfileValue
 after p trace pc =
-    if trace.count == 0 then p else after_turn (turn_of trace.sequence trace.opcode) pc (charged p trace)
+    if trace.count == 0 then p else after_turn (turn_of trace.sequence trace.opcode) pc (charged p trace.count (device_accesses trace))
 
 -- the clocks of all addresses add up to those of all sequences
 abbrev pub AddsUp : ProfileValue → Type 0

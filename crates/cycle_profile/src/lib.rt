@@ -1,7 +1,6 @@
 //! A profile: the clocks, the entries and the device accesses of each routine of the program.
 #![tactic(auto)]
 
-mod charge;
 mod counts;
 mod laws;
 mod profile;

@@ -1,13 +1,12 @@
 //! The routines that are under way, and the counts of each address.
 ghost use Rattle.std.specs.Prelude.{◌≡◌};
 
-use crate::charge::count_accesses;
 use crate::counts::Counts;
 use crate::turn::{Turn, turn_by};
 use crate::write::write_table;
 use arrayvec::ArrayVec;
 use board_base::OutOfMemory;
-use catchup_engine::Trace;
+use catchup_engine::{Trace, TurnNote};
 use outside_io::{Sink, SinkFault};
 use std::alloc::Global;
 use std::marker::Model;
@@ -41,6 +40,8 @@ impl Profile {
     ghost use Rattle.std.specs.Prelude.{◌≡◌, [], ◌∷◌, ◌++◌, IfOk, replicate};
     ghost use Rattle.outside_io.specs.Causes.{HasCause};
     ghost use Rattle.outside_io.specs.Sink.{Takes};
+    ghost use Rattle.catchup_engine.specs.Notes.{note_of};
+    ghost use Rattle.catchup_engine.specs.Trace.{TraceValue};
     ghost use Rattle.cycle_profile.specs.Counts.{more_entered, no_counts};
     ghost use Rattle.cycle_profile.specs.Profile.{after, changed, charged, last_of, newest, returned};
     ghost use Rattle.cycle_profile.specs.Text.{profile_text};
@@ -64,15 +65,23 @@ impl Profile {
     /// BRK and an interrupt add the address `pc` behind the sequence, of at most 128 the newest are
     /// kept, RTS and RTI take the last one away where there are more, and a reset leaves `pc` alone.
     /// A trace of no access changes nothing.
-    #[tactic(auto, unfolding(crate::specs::Profile::after))]
     pub fn take(&mut self, trace: &Trace, pc: u16)
         ensures { self.new ≡ after self.old trace.now pc }
     {
-        if trace.count == 0 {
+        self.take_note(&TurnNote::of(trace), pc);
+    }
+
+    /// Does what `take` does, by the note of a trace.
+    #[inline(always)]
+    #[tactic(auto, unfolding(crate::specs::Profile::after))]
+    pub fn take_note(&mut self, note: &TurnNote, pc: u16)
+        ensures { (trace : TraceValue) → note.now ≡ note_of trace → self.new ≡ after self.old trace pc }
+    {
+        if note.clocks == 0 {
             return;
         }
-        self.charge(trace);
-        match turn_by(trace.sequence, trace.opcode) {
+        self.charge(u64::from(note.clocks), note.reached.len() as u64);
+        match turn_by(note.sequence, note.opcode) {
             Turn::Call => self.call(pc),
             Turn::Return => self.leave(),
             Turn::Restart => self.restart(pc),
@@ -96,13 +105,12 @@ impl Profile {
         self.routines.as_slice()[self.routines.len() - 1]
     }
 
-    /// Charges the clocks and the device accesses of a sequence.
-    fn charge(&mut self, trace: &Trace)
-        ensures { self.new ≡ charged self.old trace.now }
+    /// Charges so many clocks and device accesses.
+    fn charge(&mut self, clocks: u64, accesses: u64)
+        ensures { self.new ≡ charged self.old clocks accesses }
     {
         let routine = usize::from(self.last());
-        let clocks = u64::from(trace.count);
-        self.counts[routine] = self.counts[routine].taken(clocks, count_accesses(trace));
+        self.counts[routine] = self.counts[routine].taken(clocks, accesses);
         self.clocks = self.clocks.saturating_add(clocks);
     }
 

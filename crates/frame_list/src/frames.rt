@@ -3,9 +3,10 @@ ghost use Rattle.std.specs.Prelude.{◌≡◌, ◌+◌, ◌<◌, ◌≤◌, ◌^
 ghost use Rattle.std.specs.Fmt.{signed_decimal};
 ghost use Rattle.outside_io.specs.Causes.{HasCause};
 ghost use Rattle.outside_io.specs.Sink.{Takes};
-ghost use Rattle.frame_list.specs.Events.{by_clock, marks_in, stroke_of, starts_generator, through};
+ghost use Rattle.frame_list.specs.Events.{by_clock, marks_in, marks_of, stroke_of, starts_generator, through};
 
 use crate::frame::{Bounds, Point};
+use arrayvec::ArrayVec;
 use board_base::{Record, Trails};
 use board_map::{Region, region};
 use catchup_engine::{Access, Trace};
@@ -38,6 +39,20 @@ fn starts(access: &Access) -> bool
     ensures { result ≡ starts_generator access.now }
 {
     access.write && matches!(region(access.addr), Region::Go)
+}
+
+/// The clocks of the writes that start the generator, among seven accesses at most.
+pub fn start_clocks(accesses: &[Access]) -> ArrayVec<u64, 7>
+    requires { length accesses.now ≤ 7 }
+    ensures { result.items ≡ marks_of accesses.now }
+{
+    let mut clocks = ArrayVec::new();
+    for access in accesses {
+        if starts(access) {
+            clocks.push(access.clock);
+        }
+    }
+    clocks
 }
 
 /// How many strokes at the front came up to this clock, its own strokes with them.
@@ -94,14 +109,31 @@ impl Frames {
         ensures cause { HasCause (O.faults out.old) (O.faults out.new) result }
         ensures frame { OnOk result (self.new ≡ under_way self.old (by_clock trails.now.vector.now.records (marks_in trace.now))) }
     {
+        let marks = start_clocks(&trace.accesses[..usize::from(trace.count)]);
+        self.take_marks(&marks, trails, out)
+    }
+
+    /// Does what `take` does, by the clocks of the writes that start the generator, of which there are
+    /// seven at most.
+    pub fn take_marks<O: Sink>(
+        &mut self,
+        marks: &[u64],
+        trails: &Trails<'_>,
+        out: &mut O,
+    ) -> Result<(), SinkFault>
+        requires number { self.old.number < 2 ^ 62 }
+        requires strokes { self.old.strokes < 2 ^ 62 }
+        requires few { length marks.now ≤ 7 }
+        ensures taken { Takes (O.taken out.old) (O.taken out.new) (frames_text (ended self.old (by_clock trails.now.vector.now.records marks.now))) result }
+        ensures cause { HasCause (O.faults out.old) (O.faults out.new) result }
+        ensures frame { OnOk result (self.new ≡ under_way self.old (by_clock trails.now.vector.now.records marks.now)) }
+    {
         let mut strokes = trails.vector.records();
-        for access in &trace.accesses[..usize::from(trace.count)] {
-            if starts(access) {
-                let (before, later) = strokes.split_at(count_through(access.clock, strokes));
-                self.count_all(before);
-                self.begin(access.clock, out)?;
-                strokes = later;
-            }
+        for mark in marks {
+            let (before, later) = strokes.split_at(count_through(*mark, strokes));
+            self.count_all(before);
+            self.begin(*mark, out)?;
+            strokes = later;
         }
         self.count_all(strokes);
         Ok(())

@@ -1,51 +1,45 @@
 //! The frames of a run.
-ghost use Rattle.std.specs.Prelude.{◌≡◌, ◌+◌, ◌≤◌, OnOk};
+ghost use Rattle.std.specs.Prelude.{◌≡◌, ◌+◌, ◌≤◌, [], OnOk};
 ghost use Rattle.outside_io.specs.Causes.{HasCause};
 ghost use Rattle.outside_io.specs.Sink.{Takes};
 ghost use Rattle.lockstep_board.specs.Order.{HasNoRecords, cleared};
 ghost use Rattle.lockstep_board.specs.Run.{to_boundary};
-ghost use Rattle.catchup_engine.specs.Trace.{no_trace};
 ghost use Rattle.board_watch.specs.Rested.{engine_of, loan_of};
-ghost use Rattle.frame_list.specs.Events.{starts_generator};
 ghost use Rattle.frame_list.specs.Frames.{begun};
 ghost use Rattle.traced_run.specs.BoardFrames.{framed_text};
-ghost use Rattle.traced_run.specs.Framing.{behind_part, behind_run, framer_told, has_marks, keeps_marks, part_framed, run_framed_text, CanFrame, HasNumbers};
+ghost use Rattle.traced_run.specs.Framing.{behind_part, behind_run, framer_told, keeps_marks, part_framed, run_framed_text, CanFrame, HasNumbers};
 ghost use Rattle.traced_run.specs.FramingLaws.{framed_in_parts, framed_still};
 
+use arrayvec::ArrayVec;
 use avg_device::VectorUnit;
 use board_base::{BoardState, CLOCK_LIMIT, Trails};
-use board_map::{Region, region};
 use board_watch::{Follow, Rested};
-use catchup_engine::{Access, Engine, Trace, Tracer};
+use catchup_engine::{Engine, Tracer, TurnNote};
 use earom_cells::CellUnit;
-use frame_list::Frames;
+use frame_list::{Frames, start_clocks};
 use irq_watchdog::DividerUnit;
 use outside_io::{Sink, SinkFault};
 use pokey_chip::SoundUnit;
 use sliced_run::write_last;
+use std::marker::Model;
 use tape_ports::Tape;
 
-/// Groups the strokes of a run by the writes that start the generator. The trace of such a write is
-/// kept until the strokes before it are taken.
+/// Groups the strokes of a run by the writes that start the generator. The clocks of a turn's writes
+/// are kept until the strokes before them are taken.
 #[derive(Drop)]
 pub(crate) struct Framer {
     frames: Frames,
-    trace: Trace,
+    marks: ArrayVec<u64, 7>,
 }
 
-/// Is it a write that starts the generator?
-fn starts(access: &Access) -> bool
-    ensures { result ≡ starts_generator access.now }
-{
-    access.write && matches!(region(access.addr), Region::Go)
-}
+impl Model for Framer {
+    ghost use Rattle.traced_run.specs.Framing.{FramerValue, IsFramer};
 
-/// Has the trace such a write?
-fn has_marks(trace: &Trace) -> bool
-    ensures { result ≡ has_marks trace.now }
-{
-    let made = &trace.accesses[..usize::from(trace.count)];
-    made.iter().any(|access| starts(access))
+    ghost Value = { FramerValue };
+
+    ghost view = { λ f. record { frames = f.frames; marks = f.marks.items } };
+
+    ghost invariant = { λ f. IsFramer (record { frames = f.frames; marks = f.marks.items }) };
 }
 
 impl Tracer for Framer {
@@ -53,11 +47,12 @@ impl Tracer for Framer {
 
     ghost has_enough = { keeps_marks };
 
-    fn trace(&mut self, trace: &Trace, _pc: u16) -> bool {
-        if has_marks(trace) {
-            self.trace = *trace;
+    fn turn(&mut self, note: &TurnNote, _pc: u16) -> bool {
+        let marks = start_clocks(&note.reached);
+        if !marks.is_empty() {
+            self.marks = marks;
         }
-        has_marks(&self.trace)
+        !self.marks.is_empty()
     }
 }
 
@@ -75,8 +70,8 @@ impl Follow for Framer {
     ghost behind_part = { behind_part };
 
     fn take_part<O: Sink>(&mut self, trails: &Trails<'_>, out: &mut O) -> Result<(), SinkFault> {
-        self.frames.take(&self.trace, trails, out)?;
-        self.trace = Trace::new();
+        self.frames.take_marks(&self.marks, trails, out)?;
+        self.marks.clear();
         Ok(())
     }
 
@@ -90,14 +85,14 @@ fn framer_at<V: VectorUnit, P: SoundUnit, C: CellUnit, D: DividerUnit>(
     rested: &Rested<'_, V, P, C, D>,
 ) -> Framer
     ensures frames { result.frames ≡ begun 0 (engine_of rested.now).board.wires.clock }
-    ensures trace { result.trace ≡ no_trace }
+    ensures marks { result.marks ≡ [] }
     ensures clock { (engine_of rested.now).board.wires.clock ≤ CLOCK_LIMIT + 16 }
 {
     let mut state = BoardState::power_on();
     rested.engine().state(&mut state);
     Framer {
         frames: Frames::new(state.clock),
-        trace: Trace::new(),
+        marks: ArrayVec::new(),
     }
 }
 

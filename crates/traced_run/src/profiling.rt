@@ -12,7 +12,7 @@ ghost use Rattle.traced_run.specs.ProfilingLaws.{profiled_in_parts, profiled_sti
 use avg_device::VectorUnit;
 use board_base::{CLOCK_LIMIT, Trails};
 use board_watch::{Follow, Rested};
-use catchup_engine::{Engine, Trace, Tracer};
+use catchup_engine::{Engine, Tracer, TurnNote};
 use cycle_profile::Profile;
 use earom_cells::CellUnit;
 use irq_watchdog::DividerUnit;
@@ -32,8 +32,8 @@ impl Tracer for Profiler {
 
     ghost has_enough = { λ _. false };
 
-    fn trace(&mut self, trace: &Trace, pc: u16) -> bool {
-        self.profile.take(trace, pc);
+    fn turn(&mut self, note: &TurnNote, pc: u16) -> bool {
+        self.profile.take_note(note, pc);
         false
     }
 }

@@ -1,0 +1,138 @@
+//! Instructions in whose clocks nothing comes of itself, of each of which a tracer is told.
+ghost use Rattle.std.specs.Prelude.{◌≡◌, ◌+◌, ◌-◌, ◌<◌, ◌≤◌, [], false};
+ghost use Rattle.catchup_engine.specs.Bus.{Fits};
+ghost use Rattle.catchup_engine.specs.Notes.{no_note};
+ghost use Rattle.catchup_engine.specs.Runs.{over_bus, GoesOn, HasRoomTo, IsInRange, TurnsOn};
+ghost use Rattle.catchup_engine.specs.Traced.{ToldTurns};
+
+use crate::bus::{BoardBus, PROGRAM_START};
+use crate::calm::calm_since;
+use crate::note::TurnNote;
+use crate::quiet::QuietBus;
+use crate::trace::Access;
+use crate::tracer::Tracer;
+use avg_device::VectorUnit;
+use board_base::{CLOCK_LIMIT, RAM_LEN};
+use cpu_core::{Bus, Cpu};
+use earom_cells::CellUnit;
+use irq_watchdog::DividerUnit;
+use pokey_chip::SoundUnit;
+use tape_ports::Tape;
+
+/// The quiet bus, with a note of what a turn does.
+struct NotedBus<'a, V: VectorUnit, P: SoundUnit, C: CellUnit, D: DividerUnit, T: Tracer> {
+    quiet: QuietBus<'a, V, P, C, D, T>,
+    note: TurnNote,
+}
+
+impl<'a, V: VectorUnit, P: SoundUnit, C: CellUnit, D: DividerUnit, T: Tracer> NotedBus<
+    'a,
+    V,
+    P,
+    C,
+    D,
+    T,
+> {
+    /// The access of the clock that is just done.
+    fn access(&self, addr: u16, value: u8, write: bool) -> Access
+        requires quiet { self.now.quiet.bus.now.wires.clock + self.now.quiet.made ≤ self.now.quiet.bus.now.event_at }
+        requires some { 1 ≤ self.now.quiet.bus.now.wires.clock + self.now.quiet.made }
+        ensures { result ≡ record { clock = self.now.quiet.bus.now.wires.clock + self.now.quiet.made - 1; addr = addr; value = value; write = write } }
+    {
+        Access {
+            clock: self.quiet.clock() - 1,
+            addr,
+            value,
+            write,
+        }
+    }
+}
+
+impl<'a, V: VectorUnit, P: SoundUnit, C: CellUnit, D: DividerUnit, T: Tracer> Bus
+    for NotedBus<'a, V, P, C, D, T> {
+    ghost use Rattle.std.specs.Prelude.{◌≡◌, ◌-◌, min};
+    ghost use Rattle.catchup_engine.specs.Calm.{KeepsLines};
+    ghost use Rattle.catchup_engine.specs.Notes.{NotedStep, noting};
+    ghost use Rattle.catchup_engine.specs.Quiet.{passed, IsCounted, quiet_room};
+
+    type Feed = Tape;
+
+    ghost step = { λ tape x s t. (t.quiet.bus.ghost_name ≡ s.quiet.bus.ghost_name) × KeepsLines s.quiet.bus.now t.quiet.bus.now × NotedStep tape.entries x (noting (passed s.quiet.made s.quiet.bus.now) s.note) (noting (passed t.quiet.made t.quiet.bus.now) t.note) };
+
+    ghost fits = { λ tape s. IsCounted tape s.quiet.made s.quiet.bus.now };
+
+    ghost room = { λ s. min (quiet_room s.quiet.made s.quiet.bus.now) (7 - s.note.clocks) };
+
+    #[inline(always)]
+    fn read(&mut self, tape: &Tape, addr: u16) -> u8 {
+        let value = self.quiet.read(tape, addr);
+        if addr >= PROGRAM_START || addr < RAM_LEN as u16 {
+            self.note.pass(value);
+        } else {
+            self.note.push(self.access(addr, value, false));
+        }
+        value
+    }
+
+    #[inline(always)]
+    fn write(&mut self, tape: &Tape, addr: u16, value: u8) {
+        self.quiet.write(tape, addr, value);
+        if addr < RAM_LEN as u16 {
+            self.note.pass(value);
+        } else {
+            self.note.push(self.access(addr, value, true));
+        }
+    }
+}
+
+/// Where some turns led to, and whether the tracer has enough of them.
+#[derive(Drop)]
+pub(crate) struct Told {
+    pub cpu: Cpu,
+    pub enough: bool,
+}
+
+/// Does the instruction at a boundary, and those at the calm boundaries after it, up to one after
+/// which a tracer has enough.
+pub(crate) fn trace_calmly<V: VectorUnit, P: SoundUnit, C: CellUnit, D: DividerUnit, T: Tracer>(
+    mut cpu: Cpu,
+    bus: &mut BoardBus<V, P, C, D>,
+    tape: &Tape,
+    limit: u64,
+    tracer: &mut T,
+) -> Told
+    requires limit { limit ≤ CLOCK_LIMIT }
+    requires range { IsInRange cpu bus.old }
+    requires between { bus.old.begun ≡ false }
+    requires room { HasRoomTo limit bus.old }
+    requires fits { Fits tape.now bus.old }
+    requires goes_on { GoesOn limit [] cpu bus.old }
+    ensures on { TurnsOn tape.now.entries limit [] cpu bus.old bus.new result.cpu }
+    ensures told { ToldTurns T.next T.has_enough tape.now.entries limit (over_bus cpu bus.old) (over_bus result.cpu bus.new) tracer.old tracer.new result.enough }
+    ensures later { bus.old.wires.clock < bus.new.wires.clock }
+    ensures fits { Fits tape.now bus.new }
+{
+    let calm = calm_since(bus, limit);
+    let mut noted = NotedBus::<V, P, C, D, T> {
+        quiet: QuietBus::new(bus),
+        note: TurnNote::new(),
+    };
+    let mut goes_on = true;
+    let mut enough = false;
+    while goes_on {
+        noted.note = TurnNote::new();
+        let _fetched = cpu.instruction(&mut noted, tape);
+        enough = tracer.turn(&noted.note, cpu.state().pc);
+        goes_on = !enough && noted.quiet.lasts(&calm, &cpu);
+    }
+    noted.quiet.tell();
+    let NotedBus { quiet, note: _ } = noted;
+    let QuietBus {
+        bus: back,
+        made: _,
+        user: _,
+    } = quiet;
+    // opens the model
+    let _same = &*back;
+    Told { cpu, enough }
+}
