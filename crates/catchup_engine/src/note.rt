@@ -79,6 +79,17 @@ impl TurnNote {
         }
     }
 
+    /// Forgets all.
+    #[inline(always)]
+    pub(crate) fn clear(&mut self)
+        requires { self.old.sequence ≡ Sequence.Opcode }
+        ensures { self.new ≡ no_note }
+    {
+        self.opcode = 0;
+        self.clocks = 0;
+        self.reached.clear();
+    }
+
     /// What a trace tells.
     pub fn of(trace: &Trace) -> TurnNote
         ensures { result ≡ note_of trace.now }

@@ -120,7 +120,7 @@ pub(crate) fn trace_calmly<V: VectorUnit, P: SoundUnit, C: CellUnit, D: DividerU
     let mut goes_on = true;
     let mut enough = false;
     while goes_on {
-        noted.note = TurnNote::new();
+        noted.note.clear();
         let _fetched = cpu.instruction(&mut noted, tape);
         enough = tracer.turn(&noted.note, cpu.state().pc);
         goes_on = !enough && noted.quiet.lasts(&calm, &cpu);

@@ -48,9 +48,11 @@ impl Tracer for Framer {
     ghost has_enough = { keeps_marks };
 
     fn turn(&mut self, note: &TurnNote, _pc: u16) -> bool {
-        let marks = start_clocks(&note.reached);
-        if !marks.is_empty() {
-            self.marks = marks;
+        if !note.reached.is_empty() {
+            let marks = start_clocks(&note.reached);
+            if !marks.is_empty() {
+                self.marks = marks;
+            }
         }
         !self.marks.is_empty()
     }
