@@ -1,14 +1,13 @@
 -- What a turn did, as one who counts is told of it: of its accesses those alone that reach a device. This project's own.
-use Rattle.std.specs.Prelude.{◌≡◌, ℕ, ◌+◌, ◌-◌, ◌≤◌, ◌==◌, List, [], ◌∷◌, ◌++◌, length, take, if◌then◌else◌}
+use Rattle.std.specs.Prelude.{◌≡◌, ℕ, ◌+◌, ◌-◌, ◌≤◌, ◌==◌, List, [], ◌∷◌, ◌++◌, length, take, Some, if◌then◌else◌}
 use Rattle.std.specs.List.{filter}
 use Rattle.board_base.specs.declared.cpu.Sequence.{Sequence}
-use Rattle.board_base.specs.declared.cpu.Sequence.TheVariants.{Opcode}
 use Rattle.cpu_core.specs.Course as course
 use Rattle.tape_ports.specs.declared.entry.TapeEntry.{TapeEntry}
 use Rattle.lockstep_board.specs.Budget.{reaches_device}
 use Rattle.catchup_engine.specs.declared.trace.Access.{Access}
 use Rattle.catchup_engine.specs.Bus.{BusStep, BusValue}
-use Rattle.catchup_engine.specs.Trace.{TraceValue, access_at, made_of}
+use Rattle.catchup_engine.specs.Trace.{TraceValue, access_at, byte_of, made_of}
 
 -- the sequence, its opcode, its clocks, and its accesses that reach a device
 pub record NoteValue : Type 0 where
@@ -35,26 +34,23 @@ note_of trace = record {
   reached = reaching (take trace.count trace.accesses);
 }
 
-abbrev pub no_note : NoteValue
-no_note = record { sequence = Opcode; opcode = 0; clocks = 0; reached = [] }
+-- some accesses with one more, where it reaches a device
+abbrev pub with_reached : List Access → Access → List Access
+with_reached reached access = if reaches_device (made_of access) then reached ++ access ∷ [] else reached
 
--- a note with one access more; the byte of the first is the opcode
-abbrev pub noted : NoteValue → Access → NoteValue
-noted n access = record n {
-  opcode = if n.clocks == 0 then access.value else n.opcode;
-  clocks = n.clocks + 1;
-  reached = if reaches_device (made_of access) then n.reached ++ access ∷ [] else n.reached;
-}
-
--- a bus, and the note of the accesses that it made
+-- a bus, and what is noted of the accesses that it made: the byte of the first, their number, and those that reach a device
 pub record NotedValue : Type 0 where
   pub bus : BusValue
-  pub note : NoteValue
+  pub opcode : ℕ
+  pub clocks : ℕ
+  pub reached : List Access
 
-abbrev pub noting : BusValue → NoteValue → NotedValue
-noting bus note = record { bus = bus; note = note }
+abbrev pub noting : BusValue → ℕ → ℕ → List Access → NotedValue
+noting bus opcode clocks reached = record { bus = bus; opcode = opcode; clocks = clocks; reached = reached }
 
 -- an access is made, and noted with its clock
-abbrev pub NotedStep : List TapeEntry → course.Access → NotedValue → NotedValue → Type 0
-NotedStep entries x s t =
-    BusStep entries x s.bus t.bus × (t.note ≡ noted s.note (access_at (t.bus.wires.clock - 1) x))
+pub record NotedStep (entries : List TapeEntry) (x : course.Access) (s t : NotedValue) : Type 0 where
+  pub step : BusStep entries x s.bus t.bus
+  pub opcode : t.opcode ≡ (if s.clocks == 0 then byte_of (Some x) else s.opcode)
+  pub clocks : t.clocks ≡ s.clocks + 1
+  pub reached : t.reached ≡ with_reached s.reached (access_at (t.bus.wires.clock - 1) x)

@@ -11,18 +11,32 @@ use crate::note::TurnNote;
 use crate::quiet::QuietBus;
 use crate::trace::Access;
 use crate::tracer::Tracer;
+use arrayvec::ArrayVec;
 use avg_device::VectorUnit;
-use board_base::{CLOCK_LIMIT, RAM_LEN};
+use board_base::{CLOCK_LIMIT, RAM_LEN, Sequence};
 use cpu_core::{Bus, Cpu};
 use earom_cells::CellUnit;
 use irq_watchdog::DividerUnit;
 use pokey_chip::SoundUnit;
 use tape_ports::Tape;
 
-/// The quiet bus, with a note of what a turn does.
+/// The quiet bus, with what a note of a turn tells: the byte of its first access, its clocks, and its
+/// accesses that reach a device.
+///
+/// LLVM keeps the first two in registers, since nothing but the loop sees them.
 struct NotedBus<'a, V: VectorUnit, P: SoundUnit, C: CellUnit, D: DividerUnit, T: Tracer> {
     quiet: QuietBus<'a, V, P, C, D, T>,
-    note: TurnNote,
+    opcode: u8,
+    clocks: u8,
+    reached: ArrayVec<Access, 7>,
+}
+
+/// Adds an access to those that reach a device, where it is one of them.
+fn add_reached(reached: &mut ArrayVec<Access, 7>, access: Access)
+{
+    if access.reaches_device() {
+        reached.push(access);
+    }
 }
 
 impl<'a, V: VectorUnit, P: SoundUnit, C: CellUnit, D: DividerUnit, T: Tracer> NotedBus<
@@ -33,18 +47,21 @@ impl<'a, V: VectorUnit, P: SoundUnit, C: CellUnit, D: DividerUnit, T: Tracer> No
     D,
     T,
 > {
-    /// The access of the clock that is just done.
-    fn access(&self, addr: u16, value: u8, write: bool) -> Access
-        requires quiet { self.now.quiet.bus.now.wires.clock + self.now.quiet.made ≤ self.now.quiet.bus.now.event_at }
-        requires some { 1 ≤ self.now.quiet.bus.now.wires.clock + self.now.quiet.made }
-        ensures { result ≡ record { clock = self.now.quiet.bus.now.wires.clock + self.now.quiet.made - 1; addr = addr; value = value; write = write } }
-    {
-        Access {
-            clock: self.quiet.clock() - 1,
-            addr,
-            value,
-            write,
+    /// Begins the note of a turn.
+    #[inline(always)]
+    fn begin(&mut self) {
+        self.opcode = 0;
+        self.clocks = 0;
+        self.reached.clear();
+    }
+
+    /// Notes the byte of an access: that of the first is the opcode.
+    #[inline(always)]
+    fn count(&mut self, value: u8) {
+        if self.clocks == 0 {
+            self.opcode = value;
         }
+        self.clocks += 1;
     }
 }
 
@@ -57,19 +74,19 @@ impl<'a, V: VectorUnit, P: SoundUnit, C: CellUnit, D: DividerUnit, T: Tracer> Bu
 
     type Feed = Tape;
 
-    ghost step = { λ tape x s t. (t.quiet.bus.ghost_name ≡ s.quiet.bus.ghost_name) × KeepsLines s.quiet.bus.now t.quiet.bus.now × NotedStep tape.entries x (noting (passed s.quiet.made s.quiet.bus.now) s.note) (noting (passed t.quiet.made t.quiet.bus.now) t.note) };
+    ghost step = { λ tape x s t. (t.quiet.bus.ghost_name ≡ s.quiet.bus.ghost_name) × KeepsLines s.quiet.bus.now t.quiet.bus.now × NotedStep tape.entries x (noting (passed s.quiet.made s.quiet.bus.now) s.opcode s.clocks s.reached.items) (noting (passed t.quiet.made t.quiet.bus.now) t.opcode t.clocks t.reached.items) };
 
     ghost fits = { λ tape s. IsCounted tape s.quiet.made s.quiet.bus.now };
 
-    ghost room = { λ s. min (quiet_room s.quiet.made s.quiet.bus.now) (7 - s.note.clocks) };
+    ghost room = { λ s. min (quiet_room s.quiet.made s.quiet.bus.now) (7 - s.clocks) };
 
     #[inline(always)]
     fn read(&mut self, tape: &Tape, addr: u16) -> u8 {
         let value = self.quiet.read(tape, addr);
-        if addr >= PROGRAM_START || addr < RAM_LEN as u16 {
-            self.note.pass(value);
-        } else {
-            self.note.push(self.access(addr, value, false));
+        self.count(value);
+        if addr >= RAM_LEN as u16 && addr < PROGRAM_START {
+            let clock = self.quiet.clock() - 1;
+            add_reached(&mut self.reached, Access { clock, addr, value, write: false });
         }
         value
     }
@@ -77,10 +94,10 @@ impl<'a, V: VectorUnit, P: SoundUnit, C: CellUnit, D: DividerUnit, T: Tracer> Bu
     #[inline(always)]
     fn write(&mut self, tape: &Tape, addr: u16, value: u8) {
         self.quiet.write(tape, addr, value);
-        if addr < RAM_LEN as u16 {
-            self.note.pass(value);
-        } else {
-            self.note.push(self.access(addr, value, true));
+        self.count(value);
+        if addr >= RAM_LEN as u16 {
+            let clock = self.quiet.clock() - 1;
+            add_reached(&mut self.reached, Access { clock, addr, value, write: true });
         }
     }
 }
@@ -115,18 +132,31 @@ pub(crate) fn trace_calmly<V: VectorUnit, P: SoundUnit, C: CellUnit, D: DividerU
     let calm = calm_since(bus, limit);
     let mut noted = NotedBus::<V, P, C, D, T> {
         quiet: QuietBus::new(bus),
-        note: TurnNote::new(),
+        opcode: 0,
+        clocks: 0,
+        reached: ArrayVec::new(),
     };
     let mut goes_on = true;
     let mut enough = false;
     while goes_on {
-        noted.note.clear();
+        noted.begin();
         let _fetched = cpu.instruction(&mut noted, tape);
-        enough = tracer.turn(&noted.note, cpu.state().pc);
+        let note = TurnNote {
+            sequence: Sequence::Opcode,
+            opcode: noted.opcode,
+            clocks: noted.clocks,
+            reached: &noted.reached,
+        };
+        enough = tracer.turn(&note, cpu.state().pc);
         goes_on = !enough && noted.quiet.lasts(&calm, &cpu);
     }
     noted.quiet.tell();
-    let NotedBus { quiet, note: _ } = noted;
+    let NotedBus {
+        quiet,
+        opcode: _,
+        clocks: _,
+        reached: _,
+    } = noted;
     let QuietBus {
         bus: back,
         made: _,

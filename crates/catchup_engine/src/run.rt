@@ -240,7 +240,8 @@ pub(crate) fn run_traced<V: VectorUnit, P: SoundUnit, C: CellUnit, D: DividerUni
             enough = told.enough;
         } else {
             let trace = trace_running(&mut cpu, bus, tape);
-            enough = tracer.turn(&TurnNote::of(&trace), cpu.state().pc);
+            let reached = trace.reached();
+            enough = tracer.turn(&TurnNote::of(&trace, &reached), cpu.state().pc);
         }
     }
     cpu

@@ -15,7 +15,7 @@ pub trait Tracer {
 
     /// Takes the note of a turn and the program counter behind it, and answers whether the run is to
     /// end there.
-    fn turn(&mut self, note: &TurnNote, pc: u16) -> bool
+    fn turn(&mut self, note: &TurnNote<'_>, pc: u16) -> bool
         ensures next { (trace : TraceValue) → note.now ≡ note_of trace → self.new ≡ next self.old trace pc }
         ensures enough { result ≡ has_enough self.new };
 }

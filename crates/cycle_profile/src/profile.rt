@@ -68,13 +68,14 @@ impl Profile {
     pub fn take(&mut self, trace: &Trace, pc: u16)
         ensures { self.new ≡ after self.old trace.now pc }
     {
-        self.take_note(&TurnNote::of(trace), pc);
+        let reached = trace.reached();
+        self.take_note(&TurnNote::of(trace, &reached), pc);
     }
 
     /// Does what `take` does, by the note of a trace.
     #[inline(always)]
     #[tactic(auto, unfolding(crate::specs::Profile::after))]
-    pub fn take_note(&mut self, note: &TurnNote, pc: u16)
+    pub fn take_note(&mut self, note: &TurnNote<'_>, pc: u16)
         ensures { (trace : TraceValue) → note.now ≡ note_of trace → self.new ≡ after self.old trace pc }
     {
         if note.clocks == 0 {

@@ -47,9 +47,9 @@ impl Tracer for Framer {
 
     ghost has_enough = { keeps_marks };
 
-    fn turn(&mut self, note: &TurnNote, _pc: u16) -> bool {
+    fn turn(&mut self, note: &TurnNote<'_>, _pc: u16) -> bool {
         if !note.reached.is_empty() {
-            let marks = start_clocks(&note.reached);
+            let marks = start_clocks(note.reached);
             if !marks.is_empty() {
                 self.marks = marks;
             }

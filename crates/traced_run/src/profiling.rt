@@ -32,7 +32,7 @@ impl Tracer for Profiler {
 
     ghost has_enough = { λ _. false };
 
-    fn turn(&mut self, note: &TurnNote, pc: u16) -> bool {
+    fn turn(&mut self, note: &TurnNote<'_>, pc: u16) -> bool {
         self.profile.take_note(note, pc);
         false
     }
