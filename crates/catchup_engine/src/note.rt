@@ -48,7 +48,7 @@ impl Trace {
 /// accesses that reach a device, in their order.
 ///
 /// `opcode` is 0 for an interrupt and for a reset. There are at most 7 clocks.
-#[derive(Clone, Copy)]
+#[derive(Drop)]
 pub struct TurnNote<'a> {
     pub sequence: Sequence,
     pub opcode: u8,
