@@ -19,6 +19,6 @@ pub use devices::Devices;
 pub use engine::Engine;
 pub use laws::engine_numbers;
 pub use lockstep_board::Stop;
-pub use note::TurnNote;
+pub use note::{Reached, TurnNote};
 pub use trace::{Access, Trace};
 pub use tracer::Tracer;

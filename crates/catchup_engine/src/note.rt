@@ -5,7 +5,6 @@ ghost use Rattle.catchup_engine.specs.Trace.{made_of};
 ghost use Rattle.catchup_engine.specs.Notes.{reaching};
 
 use crate::trace::{Access, Trace};
-use arrayvec::ArrayVec;
 use board_base::Sequence;
 use board_map::region;
 use lockstep_board::uses_of;
@@ -27,20 +26,73 @@ impl Access {
     }
 }
 
-impl Trace {
-    ghost use Rattle.std.specs.Prelude.{take};
+/// The accesses of a turn that reach a device, in their order.
+#[derive(Drop)]
+pub struct Reached {
+    accesses: [Access; 7],
+    count: u8,
+}
 
-    /// Its accesses that reach a device.
-    pub fn reached(&self) -> ArrayVec<Access, 7>
-        ensures { result.items ≡ reaching (take self.now.count self.now.accesses) }
+impl Model for Reached {
+    ghost use Rattle.std.specs.Prelude.{◌≡◌, ◌≤◌, List, length, take};
+
+    ghost Value = { List Access };
+
+    ghost view = { λ r. take r.count r.accesses };
+
+    ghost invariant = { λ r. (r.count ≤ 7) × (length r.accesses ≡ 7) };
+}
+
+impl Reached {
+    ghost use Rattle.std.specs.Prelude.{[], length, take};
+    ghost use Rattle.catchup_engine.specs.Notes.{with_reached};
+
+    /// None.
+    pub(crate) fn new() -> Reached
+        ensures { result ≡ [] }
     {
-        let mut reached = ArrayVec::new();
-        for access in &self.accesses[..usize::from(self.count)] {
-            if access.reaches_device() {
-                reached.push(*access);
-            }
+        Reached {
+            accesses: [Access::none(); 7],
+            count: 0,
+        }
+    }
+
+    /// Those of a trace.
+    pub fn of(trace: &Trace) -> Reached
+        ensures { result ≡ reaching (take trace.now.count trace.now.accesses) }
+    {
+        let mut reached = Reached::new();
+        for access in &trace.accesses[..usize::from(trace.count)] {
+            reached.add(*access);
         }
         reached
+    }
+
+    /// Forgets them.
+    #[inline(always)]
+    pub(crate) fn clear(&mut self)
+        ensures { self.new ≡ [] }
+    {
+        self.count = 0;
+    }
+
+    /// Adds an access, where it reaches a device.
+    pub(crate) fn add(&mut self, access: Access)
+        requires { length self.old < 7 }
+        ensures { self.new ≡ with_reached self.old access }
+    {
+        if access.reaches_device() {
+            self.accesses[usize::from(self.count)] = access;
+            self.count += 1;
+        }
+    }
+
+    /// The accesses.
+    #[inline(always)]
+    pub fn as_slice(&self) -> &[Access]
+        ensures { result.now ≡ self.now }
+    {
+        &self.accesses[..usize::from(self.count)]
     }
 }
 
@@ -71,7 +123,7 @@ impl<'a> TurnNote<'a> {
     ghost use Rattle.catchup_engine.specs.Notes.{note_of};
 
     /// What a trace tells, of which these are the accesses that reach a device.
-    pub fn of(trace: &Trace, reached: &'a [Access]) -> TurnNote<'a>
+    pub fn of(trace: &Trace, reached: &'a Reached) -> TurnNote<'a>
         requires { reached.now ≡ reaching (take trace.now.count trace.now.accesses) }
         ensures { result ≡ note_of trace.now }
     {
@@ -79,7 +131,7 @@ impl<'a> TurnNote<'a> {
             sequence: trace.sequence,
             opcode: trace.opcode,
             clocks: trace.count,
-            reached,
+            reached: reached.as_slice(),
         }
     }
 }

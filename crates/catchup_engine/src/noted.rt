@@ -7,11 +7,10 @@ ghost use Rattle.catchup_engine.specs.Traced.{ToldTurns};
 
 use crate::bus::{BoardBus, PROGRAM_START};
 use crate::calm::calm_since;
-use crate::note::TurnNote;
+use crate::note::{Reached, TurnNote};
 use crate::quiet::QuietBus;
 use crate::trace::Access;
 use crate::tracer::Tracer;
-use arrayvec::ArrayVec;
 use avg_device::VectorUnit;
 use board_base::{CLOCK_LIMIT, RAM_LEN, Sequence};
 use cpu_core::{Bus, Cpu};
@@ -28,15 +27,7 @@ struct NotedBus<'a, V: VectorUnit, P: SoundUnit, C: CellUnit, D: DividerUnit, T:
     quiet: QuietBus<'a, V, P, C, D, T>,
     opcode: u8,
     clocks: u8,
-    reached: ArrayVec<Access, 7>,
-}
-
-/// Adds an access to those that reach a device, where it is one of them.
-fn add_reached(reached: &mut ArrayVec<Access, 7>, access: Access)
-{
-    if access.reaches_device() {
-        reached.push(access);
-    }
+    reached: &'a mut Reached,
 }
 
 impl<'a, V: VectorUnit, P: SoundUnit, C: CellUnit, D: DividerUnit, T: Tracer> NotedBus<
@@ -74,7 +65,7 @@ impl<'a, V: VectorUnit, P: SoundUnit, C: CellUnit, D: DividerUnit, T: Tracer> Bu
 
     type Feed = Tape;
 
-    ghost step = { λ tape x s t. (t.quiet.bus.ghost_name ≡ s.quiet.bus.ghost_name) × KeepsLines s.quiet.bus.now t.quiet.bus.now × NotedStep tape.entries x (noting (passed s.quiet.made s.quiet.bus.now) s.opcode s.clocks s.reached.items) (noting (passed t.quiet.made t.quiet.bus.now) t.opcode t.clocks t.reached.items) };
+    ghost step = { λ tape x s t. (t.quiet.bus.ghost_name ≡ s.quiet.bus.ghost_name) × (t.reached.ghost_name ≡ s.reached.ghost_name) × KeepsLines s.quiet.bus.now t.quiet.bus.now × NotedStep tape.entries x (noting (passed s.quiet.made s.quiet.bus.now) s.opcode s.clocks s.reached.now) (noting (passed t.quiet.made t.quiet.bus.now) t.opcode t.clocks t.reached.now) };
 
     ghost fits = { λ tape s. IsCounted tape s.quiet.made s.quiet.bus.now };
 
@@ -86,7 +77,7 @@ impl<'a, V: VectorUnit, P: SoundUnit, C: CellUnit, D: DividerUnit, T: Tracer> Bu
         self.count(value);
         if addr >= RAM_LEN as u16 && addr < PROGRAM_START {
             let clock = self.quiet.clock() - 1;
-            add_reached(&mut self.reached, Access { clock, addr, value, write: false });
+            self.reached.add(Access { clock, addr, value, write: false });
         }
         value
     }
@@ -97,7 +88,7 @@ impl<'a, V: VectorUnit, P: SoundUnit, C: CellUnit, D: DividerUnit, T: Tracer> Bu
         self.count(value);
         if addr >= RAM_LEN as u16 {
             let clock = self.quiet.clock() - 1;
-            add_reached(&mut self.reached, Access { clock, addr, value, write: true });
+            self.reached.add(Access { clock, addr, value, write: true });
         }
     }
 }
@@ -130,11 +121,12 @@ pub(crate) fn trace_calmly<V: VectorUnit, P: SoundUnit, C: CellUnit, D: DividerU
     ensures fits { Fits tape.now bus.new }
 {
     let calm = calm_since(bus, limit);
+    let mut reached = Reached::new();
     let mut noted = NotedBus::<V, P, C, D, T> {
         quiet: QuietBus::new(bus),
         opcode: 0,
         clocks: 0,
-        reached: ArrayVec::new(),
+        reached: &mut reached,
     };
     let mut goes_on = true;
     let mut enough = false;
@@ -145,7 +137,7 @@ pub(crate) fn trace_calmly<V: VectorUnit, P: SoundUnit, C: CellUnit, D: DividerU
             sequence: Sequence::Opcode,
             opcode: noted.opcode,
             clocks: noted.clocks,
-            reached: &noted.reached,
+            reached: noted.reached.as_slice(),
         };
         enough = tracer.turn(&note, cpu.state().pc);
         goes_on = !enough && noted.quiet.lasts(&calm, &cpu);

@@ -9,7 +9,7 @@ ghost use Rattle.catchup_engine.specs.Runs.{over_bus, BoundaryRun, BreakRunBus, 
 
 use crate::breaks::{BreakList, Breaks, Nowhere};
 use crate::bus::{BoardBus, TRAIL_ROOM, WHOLE};
-use crate::note::TurnNote;
+use crate::note::{Reached, TurnNote};
 use crate::noted::trace_calmly;
 use crate::quiet::run_calmly;
 use crate::trace::trace_running;
@@ -240,7 +240,7 @@ pub(crate) fn run_traced<V: VectorUnit, P: SoundUnit, C: CellUnit, D: DividerUni
             enough = told.enough;
         } else {
             let trace = trace_running(&mut cpu, bus, tape);
-            let reached = trace.reached();
+            let reached = Reached::of(&trace);
             enough = tracer.turn(&TurnNote::of(&trace, &reached), cpu.state().pc);
         }
     }

@@ -6,7 +6,7 @@ use crate::turn::{Turn, turn_by};
 use crate::write::write_table;
 use arrayvec::ArrayVec;
 use board_base::OutOfMemory;
-use catchup_engine::{Trace, TurnNote};
+use catchup_engine::{Reached, Trace, TurnNote};
 use outside_io::{Sink, SinkFault};
 use std::alloc::Global;
 use std::marker::Model;
@@ -68,7 +68,7 @@ impl Profile {
     pub fn take(&mut self, trace: &Trace, pc: u16)
         ensures { self.new ≡ after self.old trace.now pc }
     {
-        let reached = trace.reached();
+        let reached = Reached::of(trace);
         self.take_note(&TurnNote::of(trace, &reached), pc);
     }
 

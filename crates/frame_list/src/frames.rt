@@ -1,6 +1,7 @@
 //! The frame under way, and the lines of those that end.
 ghost use Rattle.std.specs.Prelude.{◌≡◌, ◌+◌, ◌<◌, ◌≤◌, ◌^◌, [], ◌∷◌, ◌++◌, length, OnOk, map};
 ghost use Rattle.std.specs.Fmt.{signed_decimal};
+ghost use Rattle.std.specs.List.{list_any};
 ghost use Rattle.outside_io.specs.Causes.{HasCause};
 ghost use Rattle.outside_io.specs.Sink.{Takes};
 ghost use Rattle.frame_list.specs.Events.{by_clock, marks_in, marks_of, stroke_of, starts_generator, through};
@@ -39,6 +40,14 @@ fn starts(access: &Access) -> bool
     ensures { result ≡ starts_generator access.now }
 {
     access.write && matches!(region(access.addr), Region::Go)
+}
+
+/// Whether one of these accesses is such a write.
+#[inline(always)]
+pub fn has_starts(accesses: &[Access]) -> bool
+    ensures { result ≡ list_any starts_generator accesses.now }
+{
+    accesses.iter().any(|access| starts(access))
 }
 
 /// The clocks of the writes that start the generator, among seven accesses at most.

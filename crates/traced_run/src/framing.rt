@@ -16,7 +16,7 @@ use board_base::{BoardState, CLOCK_LIMIT, Trails};
 use board_watch::{Follow, Rested};
 use catchup_engine::{Engine, Tracer, TurnNote};
 use earom_cells::CellUnit;
-use frame_list::{Frames, start_clocks};
+use frame_list::{Frames, has_starts, start_clocks};
 use irq_watchdog::DividerUnit;
 use outside_io::{Sink, SinkFault};
 use pokey_chip::SoundUnit;
@@ -48,11 +48,8 @@ impl Tracer for Framer {
     ghost has_enough = { keeps_marks };
 
     fn turn(&mut self, note: &TurnNote<'_>, _pc: u16) -> bool {
-        if !note.reached.is_empty() {
-            let marks = start_clocks(note.reached);
-            if !marks.is_empty() {
-                self.marks = marks;
-            }
+        if has_starts(note.reached) {
+            self.marks = start_clocks(note.reached);
         }
         !self.marks.is_empty()
     }
