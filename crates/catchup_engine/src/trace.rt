@@ -32,7 +32,7 @@ impl Access {
     ghost use Rattle.catchup_engine.specs.Trace.{no_access};
 
     /// No access: zeros, and no write.
-    const fn none() -> Access
+    pub(crate) const fn none() -> Access
         ensures { result ≡ no_access }
     {
         Access {
