@@ -92,19 +92,19 @@ module _ (tape : TapeValue) (limit : ℕ) (addresses : List ℕ) where
 
   -- it goes on where the clocks and the flags tell so
   tells-on : (calm : Calm) (f : CpuValue) (u : BusValue) (n : ℕ) (more : Bool) → f.mid ≡ None → IsCounted tape n u → AreCalm limit calm u
-      → u.wires.divider.phase + (u.event_at - u.wires.clock) < DIVIDER_PERIOD
-      → more ≡ ((nat_lt (u.wires.clock + n) calm.until && (is_none f.jam && (calm.silent || is_masked f.p))) && not (is_at_any addresses (over_bus f (passed n u))))
+      → (more ≡ true → u.wires.divider.phase + (u.event_at - u.wires.clock) < DIVIDER_PERIOD)
+      → (more ≡ true → ((nat_lt (u.wires.clock + n) calm.until && (is_none f.jam && (calm.silent || is_masked f.p))) && not (is_at_any addresses (over_bus f (passed n u)))) ≡ true)
       → more ≡ true → GoesOn limit addresses f (passed n u)
   unfolding passed later
   tells-on calm f u n more boundary counted are wrap is on_yet =
       let lasts = nat_lt (u.wires.clock + n) calm.until && (is_none f.jam && (calm.silent || is_masked f.p)) in
-      let both = and_parts lasts (not (is_at_any addresses (over_bus f (passed n u)))) (sym is ∙ on_yet) in
+      let both = and_parts lasts (not (is_at_any addresses (over_bus f (passed n u)))) (is on_yet) in
       let tells = lasts-tells (u.wires.clock + n) calm.until (is_none f.jam) calm.silent (is_masked f.p) both.0 in
       let early = tells.0 in
       let quiet = are.quiet in
-      let lines = passed-lines n u counted.quiet wrap in
+      let lines = passed-lines n u counted.quiet (wrap on_yet) in
       calm-goes_on limit addresses calm f (passed n u) boundary early (are-kept limit calm u (passed n u) lines are)
-      (passed-leaves n u (omega arith) wrap) tells.1 tells.2 (not-true (is_at_any addresses (over_bus f (passed n u))) both.1)
+      (passed-leaves n u (omega arith) (wrap on_yet)) tells.1 tells.2 (not-true (is_at_any addresses (over_bus f (passed n u))) both.1)
     where
       not-true : (b : Bool) → not b ≡ true → b ≡ false
       not-true false e = refl
@@ -112,8 +112,8 @@ module _ (tape : TapeValue) (limit : ℕ) (addresses : List ℕ) where
 
   pub calm-goes : (calm : Calm) (c e f : CpuValue) (s t u : BusValue) (made n : ℕ) (more then : Bool) → more ≡ true → limit ≤ CLOCK_LIMIT → AtCalm tape limit addresses calm c s made t e more
       → Runs (BusStep tape.entries) (registers_of e) Opcode (passed made t) (passed n u) f → f.mid ≡ None → IsCounted tape n u → KeepsLines t u
-      → u.wires.divider.phase + (u.event_at - u.wires.clock) < DIVIDER_PERIOD
-      → then ≡ ((nat_lt (u.wires.clock + n) calm.until && (is_none f.jam && (calm.silent || is_masked f.p))) && not (is_at_any addresses (over_bus f (passed n u))))
+      → (then ≡ true → u.wires.divider.phase + (u.event_at - u.wires.clock) < DIVIDER_PERIOD)
+      → (then ≡ true → ((nat_lt (u.wires.clock + n) calm.until && (is_none f.jam && (calm.silent || is_masked f.p))) && not (is_at_any addresses (over_bus f (passed n u)))) ≡ true)
       → AtCalm tape limit addresses calm c s n u f then
   calm-goes calm c e f s t u made n more then on_yet last at runs boundary counted lines wrap is =
       let goes = at.goes on_yet in
@@ -160,9 +160,13 @@ module _ (tape : TapeValue) (limit : ℕ) (addresses : List ℕ) where
       omega arith
 
 -- the boundary lasts, so that the breaks tell whether it goes on
-pub and-then : (lasts at has : Bool) → lasts ≡ true → at ≡ has → not has ≡ (lasts && not at)
-and-then lasts at has e f = rw (e, f) refl
+pub and-then : (lasts at has : Bool) → lasts ≡ true → at ≡ has → not has ≡ true → (lasts && not at) ≡ true
+and-then lasts at has e f on_yet = rw (e, f) on_yet
 
 -- it doesn't
-pub and-else : (lasts told at : Bool) → told ≡ lasts → told ≡ false → told ≡ (lasts && not at)
-and-else lasts told at e f = rw (← e, f) refl
+pub and-else : (lasts told at : Bool) → told ≡ false → told ≡ true → (lasts && not at) ≡ true
+and-else lasts told at f on_yet = absurd (never told f on_yet)
+  where
+    never : (b : Bool) → b ≡ false → b ≡ true → ⊥
+    never true e g = cc
+    never false e g = cc

@@ -6,6 +6,9 @@ pub mod DividerLaws
 pub mod EventLaws
 pub mod MapLaws
 pub mod MemoryLaws
+pub mod Notes
+pub mod NotedSteps
+pub mod NotedRuns
 pub mod OpcodeLaws
 pub mod QueueLaws
 pub mod Seen

@@ -27,7 +27,7 @@ use Rattle.lockstep_board.proofs.Runs.{steps_until-is, through-reached}
 use Rattle.catchup_engine.proofs.RunsOn.{boundary-ends, boundary-starts, open-before, turn-runs}
 use Rattle.catchup_engine.proofs.Seen.{advances-seen, moves-seen, runs-seen}
 use Rattle.catchup_engine.proofs.Steps.{board_after, in_clock-between, moves-length, moves-went, paused-is, stays-of, step-access}
-use Rattle.catchup_engine.proofs.Turns.{Begins, First, HasEffects, ResetBegun, clock-some, due-clock, effects-by, fetch-first, given-some, in_clock-begun, next-first, reset-begun, reset-first, reset-turn, resets-more, resume-first, resume-turn, standing-paused, turned-clock}
+use Rattle.catchup_engine.proofs.Turns.{Begins, First, HasEffects, ResetBegun, clock-some, due-clock, effects-by, fetch-first, given-some, in_clock-begun, next-first, opcode-first, reset-begun, reset-first, reset-turn, resets-more, resume-first, resume-turn, standing-paused, turned-clock}
 
 -- the access that was made is the one that the board makes
 made_by-is : (entries : List TapeEntry) (next : Next) (v : ℕ) (x : course.Access) (s t : BusValue) → IsAccess next v x → BusStep entries x s t
@@ -73,7 +73,7 @@ seven-push (x0 ∷ (x1 ∷ (x2 ∷ (x3 ∷ (x4 ∷ (x5 ∷ (x6 ∷ more))))))) a
 abbrev pub of_accesses : List Access → TraceValue
 of_accesses made = record { sequence = Opcode; opcode = 0; count = length made; accesses = seven_of made }
 
-pushed-is : (made : List Access) (a : Access) → length made ≤ 6 → pushed (of_accesses made) a ≡ of_accesses (made ++ a ∷ [])
+pub pushed-is : (made : List Access) (a : Access) → length made ≤ 6 → pushed (of_accesses made) a ≡ of_accesses (made ++ a ∷ [])
 pushed-is made a few =
     ap (λ (l : List Access). let t : TraceValue = record { sequence = Opcode; opcode = 0; count = length made + 1; accesses = l } in t) (seven-push made a few)
     ∙ ap (λ n. let t : TraceValue = record { sequence = Opcode; opcode = 0; count = n; accesses = seven_of (made ++ a ∷ []) } in t) (sym (length-append made (a ∷ [])))
@@ -216,6 +216,34 @@ whole-told entries c q s b t e boundary begins due other runs = by_bytes runs.by
         let few = moves-length entries r q (v ∷ []) more m.bus t.bus (bus-moves entries r q (v ∷ []) more m t rest) (omega arith) in
         turn-told entries (over_bus c s) r q (v ∷ []) more s m t x (fetch-first entries c q s b m.bus v x boundary begins due other is did.0)
         (access-fetched entries c q v x s b m.bus boundary begins due is did.0)
+        (did.1 ∙ pushed-is [] (access_at (m.bus.wires.clock - 1) x) (omega arith)) rest (omega arith)
+
+-- an instruction in whose first clock nothing comes of itself
+access-opcode : (entries : List TapeEntry) (c : CpuValue) (v : ℕ) (x : course.Access) (s t : BusValue) → c.mid ≡ None → s.begun ≡ false
+    → Opcode ≡ sequence_due c (ticked entries s.wires) → IsAccess (next_of (start_of Opcode c) Opcode []) v x → BusStep entries x s t
+    → access_in entries (over_bus c s) ≡ Some x
+unfolding access_in
+access-opcode entries c v x s t boundary between due is did =
+    let w = ticked entries s.wires in
+    ap (λ (mid : Option MidValue). due_access mid c w) boundary
+    ∙ ap (λ (p : Sequence). made_by (next_of (start_of p c) p []) w) (sym due)
+    ∙ ap (made_by (next_of (start_of Opcode c) Opcode [])) (sym (in_clock-between entries s between))
+    ∙ made_by-is entries (next_of (start_of Opcode c) Opcode []) v x s t is did
+
+pub opcode-told : (entries : List TapeEntry) (c : CpuValue) (s : BusValue) (t : TracedValue) (e : CpuValue) → c.mid ≡ None → s.begun ≡ false
+    → Opcode ≡ sequence_due c (ticked entries s.wires) → Runs (TracedStep entries) (registers_of c) Opcode (traced s no_trace) t e
+    → IsTraced entries (over_bus c s) t
+opcode-told entries c s t e boundary between due runs = by_bytes runs.bytes runs.moves runs.ends
+  where
+    r : RegistersValue
+    r = registers_of c
+
+    by_bytes : (bytes : List ℕ) → Moves (TracedStep entries) r Opcode [] bytes (traced s no_trace) t → next_of r Opcode bytes ≡ End e → IsTraced entries (over_bus c s) t
+    by_bytes [] moves ends = absurd (next-first r Opcode (rw ends tt))
+    by_bytes (v ∷ more) (x, m, is, did, rest) ends =
+        let few = moves-length entries r Opcode (v ∷ []) more m.bus t.bus (bus-moves entries r Opcode (v ∷ []) more m t rest) (omega arith) in
+        turn-told entries (over_bus c s) r Opcode (v ∷ []) more s m t x (opcode-first entries c s m.bus v x boundary between due is did.0)
+        (access-opcode entries c v x s m.bus boundary between due is did.0)
         (did.1 ∙ pushed-is [] (access_at (m.bus.wires.clock - 1) x) (omega arith)) rest (omega arith)
 
 -- what is left of a sequence

@@ -10,3 +10,4 @@ pub mod Quiet
 pub mod Calm
 pub mod BreakMarks
 pub mod NewBoard
+pub mod Notes

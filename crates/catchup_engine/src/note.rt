@@ -17,11 +17,7 @@ impl Access {
         ensures { result ≡ reaches_device (made_of self.now) }
     {
         let uses = uses_of(region(self.addr));
-        let reached = if self.write {
-            uses.writes
-        } else {
-            uses.reads
-        };
+        let reached = if self.write { uses.writes } else { uses.reads };
         !reached.is_empty()
     }
 }
@@ -35,6 +31,7 @@ pub struct Reached {
 
 impl Model for Reached {
     ghost use Rattle.std.specs.Prelude.{◌≡◌, ◌≤◌, List, length, take};
+    ghost use Rattle.catchup_engine.specs.declared.trace.Access.{Access};
 
     ghost Value = { List Access };
 

@@ -1,7 +1,6 @@
 //! Instructions in whose clocks nothing comes of itself, of each of which a tracer is told.
-ghost use Rattle.std.specs.Prelude.{◌≡◌, ◌+◌, ◌-◌, ◌<◌, ◌≤◌, [], false};
+ghost use Rattle.std.specs.Prelude.{◌≡◌, ◌+◌, ◌<◌, ◌≤◌, ◌==◌, [], false, if◌then◌else◌};
 ghost use Rattle.catchup_engine.specs.Bus.{Fits};
-ghost use Rattle.catchup_engine.specs.Notes.{no_note};
 ghost use Rattle.catchup_engine.specs.Runs.{over_bus, GoesOn, HasRoomTo, IsInRange, TurnsOn};
 ghost use Rattle.catchup_engine.specs.Traced.{ToldTurns};
 
@@ -40,7 +39,11 @@ impl<'a, V: VectorUnit, P: SoundUnit, C: CellUnit, D: DividerUnit, T: Tracer> No
 > {
     /// Begins the note of a turn.
     #[inline(always)]
-    fn begin(&mut self) {
+    fn begin(&mut self)
+        ensures same_reference { self.new.reached.ghost_name ≡ self.old.reached.ghost_name }
+        ensures same { self.new ≡ record self.old { opcode = 0; clocks = 0; reached = self.new.reached } }
+        ensures none { self.new.reached.now ≡ [] }
+    {
         self.opcode = 0;
         self.clocks = 0;
         self.reached.clear();
@@ -48,7 +51,10 @@ impl<'a, V: VectorUnit, P: SoundUnit, C: CellUnit, D: DividerUnit, T: Tracer> No
 
     /// Notes the byte of an access: that of the first is the opcode.
     #[inline(always)]
-    fn count(&mut self, value: u8) {
+    fn count(&mut self, value: u8)
+        requires { self.old.clocks < 7 }
+        ensures { self.new ≡ record self.old { opcode = if self.old.clocks == 0 then value else self.old.opcode; clocks = self.old.clocks + 1 } }
+    {
         if self.clocks == 0 {
             self.opcode = value;
         }
@@ -58,7 +64,7 @@ impl<'a, V: VectorUnit, P: SoundUnit, C: CellUnit, D: DividerUnit, T: Tracer> No
 
 impl<'a, V: VectorUnit, P: SoundUnit, C: CellUnit, D: DividerUnit, T: Tracer> Bus
     for NotedBus<'a, V, P, C, D, T> {
-    ghost use Rattle.std.specs.Prelude.{◌≡◌, ◌-◌, min};
+    ghost use Rattle.std.specs.Prelude.{◌≡◌, ◌-◌, ◌≤◌, length, min};
     ghost use Rattle.catchup_engine.specs.Calm.{KeepsLines};
     ghost use Rattle.catchup_engine.specs.Notes.{NotedStep, noting};
     ghost use Rattle.catchup_engine.specs.Quiet.{passed, IsCounted, quiet_room};
@@ -67,7 +73,7 @@ impl<'a, V: VectorUnit, P: SoundUnit, C: CellUnit, D: DividerUnit, T: Tracer> Bu
 
     ghost step = { λ tape x s t. (t.quiet.bus.ghost_name ≡ s.quiet.bus.ghost_name) × (t.reached.ghost_name ≡ s.reached.ghost_name) × KeepsLines s.quiet.bus.now t.quiet.bus.now × NotedStep tape.entries x (noting (passed s.quiet.made s.quiet.bus.now) s.opcode s.clocks s.reached.now) (noting (passed t.quiet.made t.quiet.bus.now) t.opcode t.clocks t.reached.now) };
 
-    ghost fits = { λ tape s. IsCounted tape s.quiet.made s.quiet.bus.now };
+    ghost fits = { λ tape s. IsCounted tape s.quiet.made s.quiet.bus.now × (length s.reached.now ≤ s.clocks) × (s.clocks ≤ 7) };
 
     ghost room = { λ s. min (quiet_room s.quiet.made s.quiet.bus.now) (7 - s.clocks) };
 
@@ -77,7 +83,12 @@ impl<'a, V: VectorUnit, P: SoundUnit, C: CellUnit, D: DividerUnit, T: Tracer> Bu
         self.count(value);
         if addr >= RAM_LEN as u16 && addr < PROGRAM_START {
             let clock = self.quiet.clock() - 1;
-            self.reached.add(Access { clock, addr, value, write: false });
+            self.reached.add(Access {
+                clock,
+                addr,
+                value,
+                write: false,
+            });
         }
         value
     }
@@ -88,7 +99,12 @@ impl<'a, V: VectorUnit, P: SoundUnit, C: CellUnit, D: DividerUnit, T: Tracer> Bu
         self.count(value);
         if addr >= RAM_LEN as u16 {
             let clock = self.quiet.clock() - 1;
-            self.reached.add(Access { clock, addr, value, write: true });
+            self.reached.add(Access {
+                clock,
+                addr,
+                value,
+                write: true,
+            });
         }
     }
 }

@@ -31,14 +31,7 @@ pub(crate) struct QuietBus<'a, V: VectorUnit, P: SoundUnit, C: CellUnit, D: Divi
     pub(crate) user: PhantomData<U>,
 }
 
-impl<'a, V: VectorUnit, P: SoundUnit, C: CellUnit, D: DividerUnit, U> QuietBus<
-    'a,
-    V,
-    P,
-    C,
-    D,
-    U,
-> {
+impl<'a, V: VectorUnit, P: SoundUnit, C: CellUnit, D: DividerUnit, U> QuietBus<'a, V, P, C, D, U> {
     /// A bus with no clock counted yet.
     #[inline(always)]
     pub(crate) fn new(bus: &'a mut BoardBus<V, P, C, D>) -> QuietBus<'a, V, P, C, D, U>

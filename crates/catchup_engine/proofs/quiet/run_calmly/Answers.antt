@@ -60,7 +60,7 @@ loop-goes_on-preserved-then-lasts g c =
       at =
           calm-goes c.args.tape.now c.args.limit addresses calm c.args.cpu c.loop-goes_on.cpu f c.args.bus.now c.loop-goes_on.quiet.bus.now t c.loop-goes_on.quiet.made n
           c.loop-goes_on.goes_on _ c.loop-goes_on-test.true c.requires.limit c.loop-goes_on.invariant.at seen.1 c.instruction-fetched.ensures.boundary
-          c.instruction-fetched.ensures.fits lines c.lasts.ensures.wrap
+          c.instruction-fetched.ensures.fits lines (λ _. c.lasts.ensures.wrap)
           (and-then (nat_lt (t.wires.clock + n) calm.until && (is_none f.jam && (calm.silent || is_masked f.p))) (is_at_any addresses (over_bus f (passed n t))) c.has.result
           (sym c.lasts.ensures.value ∙ c.if-lasts.true)
           (ap (λ (k : CpuValue). is_at_any addresses (over_bus k (passed n t))) (sym (c.behind-cpu.view_is ∙ c.state.ensures.value)) ∙ sym c.has.ensures));
@@ -93,8 +93,8 @@ loop-goes_on-preserved g c =
       at =
           calm-goes c.args.tape.now c.args.limit addresses calm c.args.cpu c.loop-goes_on.cpu f c.args.bus.now c.loop-goes_on.quiet.bus.now t c.loop-goes_on.quiet.made n
           c.loop-goes_on.goes_on _ c.loop-goes_on-test.true c.requires.limit c.loop-goes_on.invariant.at seen.1 c.instruction-fetched.ensures.boundary
-          c.instruction-fetched.ensures.fits lines c.lasts.ensures.wrap
+          c.instruction-fetched.ensures.fits lines (λ _. c.lasts.ensures.wrap)
           (and-else (nat_lt (t.wires.clock + n) calm.until && (is_none f.jam && (calm.silent || is_masked f.p))) c.lasts.result (is_at_any addresses (over_bus f (passed n t)))
-          c.lasts.ensures.value c.if-lasts.false);
+          c.if-lasts.false);
       same = seen.0 ∙ c.loop-goes_on.invariant.same;
     }

@@ -1,6 +1,7 @@
-use Rattle.std.proofs.Common.{ap, sym, ◌∙◌, subst}
+use Rattle.std.proofs.Common.{ap, sym, ◌∙◌, subst, refl}
 use Rattle.board_base.specs.Cpu.{CpuValue}
-use Rattle.catchup_engine.proofs.TracedRuns.{AtTold, told-goes_on, told-starts}
+use Rattle.catchup_engine.proofs.CalmRuns.{goes-on-tells}
+use Rattle.catchup_engine.proofs.TracedRuns.{AtTold, told-goes_calmly, told-goes_on, told-starts}
 use Rattle.catchup_engine.proofs.run.run_traced.Goals as goal
 
 pub loop-enough-init : goal.loop-enough-init
@@ -9,17 +10,28 @@ loop-enough-init g c = record {
   fits = c.requires.fits;
 }
 
+pub loop-enough-preserved-then-goes_on : goal.loop-enough-preserved-then-goes_on
+loop-enough-preserved-then-goes_on g c = record {
+  at =
+      told-goes_calmly g.T.Tracer.next g.T.Tracer.has_enough c.args.tape.now.entries c.args.limit c.args.cpu c.args.bus.now c.loop-enough.bus c.trace_calmly-told.new.bus
+      c.loop-enough.cpu c.trace_calmly-told.result.cpu c.args.tracer.now c.loop-enough.tracer c.trace_calmly-told.new.tracer c.trace_calmly-told.result.enough
+      (subst (λ f. AtTold g.T.Tracer.next g.T.Tracer.has_enough c.args.tape.now.entries c.args.limit c.args.cpu c.args.bus.now c.loop-enough.bus c.loop-enough.cpu
+      c.args.tracer.now c.loop-enough.tracer f) c.loop-enough-test.true c.loop-enough.invariant.at)
+      c.trace_calmly-told.ensures.on c.trace_calmly-told.ensures.told c.trace_calmly-told.ensures.later;
+  fits = c.trace_calmly-told.ensures.fits;
+}
+
 pub loop-enough-preserved : goal.loop-enough-preserved
 loop-enough-preserved g c = record {
   at =
       told-goes_on g.T.Tracer.next g.T.Tracer.has_enough c.args.tape.now.entries c.args.limit c.args.cpu c.args.bus.now c.loop-enough.bus c.trace_running-trace.new.bus
-      c.loop-enough.cpu c.trace_running-trace.new.cpu c.args.tracer.now c.loop-enough.tracer c.trace-enough.new.self c.trace_running-trace.result c.trace-enough.result
+      c.loop-enough.cpu c.trace_running-trace.new.cpu c.args.tracer.now c.loop-enough.tracer c.turn-enough.new.self c.trace_running-trace.result c.turn-enough.result
       c.requires.limit
       (subst (λ f. AtTold g.T.Tracer.next g.T.Tracer.has_enough c.args.tape.now.entries c.args.limit c.args.cpu c.args.bus.now c.loop-enough.bus c.loop-enough.cpu
       c.args.tracer.now c.loop-enough.tracer f) c.loop-enough-test.true c.loop-enough.invariant.at)
       (sym c.is_done.ensures ∙ c.if-not-is_done.true) c.trace_running-trace.ensures.turned c.trace_running-trace.ensures.trace
-      (c.trace-enough.ensures.next
+      (c.turn-enough.ensures.next c.trace_running-trace.result c.of.ensures
       ∙ ap (λ (k : CpuValue). g.T.Tracer.next c.loop-enough.tracer c.trace_running-trace.result k.pc) (c.behind-cpu.view_is ∙ c.state.ensures.value))
-      c.trace-enough.ensures.enough;
+      c.turn-enough.ensures.enough;
   fits = c.trace_running-trace.ensures.fits;
 }

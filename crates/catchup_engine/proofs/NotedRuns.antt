@@ -1,0 +1,114 @@
+-- A run over calm boundaries of which somebody is told turn by turn.
+use Rattle.std.proofs.Common.{◌≡◌, ℕ, ◌+◌, ◌-◌, ◌≤◌, ◌<◌, ◌^◌, Bool, true, false, not, ◌&&◌, ◌||◌, is_none, nat_lt, min, List, [], None, refl, subst, arith}
+use Rattle.std.proofs.lemmas.Bool.{or_parts}
+use Rattle.board_base.specs.declared.board.TheConstants.{CLOCK_LIMIT}
+use Rattle.board_base.specs.declared.divider.TheConstants.{DIVIDER_PERIOD}
+use Rattle.board_base.specs.declared.cpu.Sequence.TheVariants.{Opcode}
+use Rattle.board_base.specs.Cpu.{CpuValue}
+use Rattle.cpu_alu.specs.Flags.{is_masked}
+use Rattle.cpu_core.specs.Course as course
+use Rattle.cpu_core.specs.Registers.{registers_of}
+use Rattle.cpu_core.specs.Sequences.{Runs}
+use Rattle.tape_ports.specs.declared.entry.TapeEntry.{TapeEntry}
+use Rattle.tape_ports.specs.Tape.{TapeValue}
+use Rattle.lockstep_board.specs.Breaks.{is_at_any}
+use Rattle.lockstep_board.specs.Run.{is_over}
+use Rattle.catchup_engine.specs.declared.trace.Access.{Access}
+use Rattle.catchup_engine.specs.declared.bus.TheConstants.{WHOLE}
+use Rattle.catchup_engine.specs.declared.calm.Calm.{Calm}
+use Rattle.catchup_engine.specs.Bus.{BusStep, BusValue, Fits}
+use Rattle.catchup_engine.specs.Calm.{AreCalm, IsCalm, KeepsLines}
+use Rattle.catchup_engine.specs.Notes.{NoteValue, NotedStep, NotedValue, note_of, noting}
+use Rattle.catchup_engine.specs.Quiet.{IsCounted, passed, quiet_room}
+use Rattle.catchup_engine.specs.Runs.{GoesOn, HasRoomTo, IsInRange, TurnsOn, over_bus}
+use Rattle.catchup_engine.specs.Trace.{TraceValue}
+use Rattle.catchup_engine.specs.Traced.{ToldTurns}
+use Rattle.catchup_engine.proofs.CalmLaws.{runs-keep}
+use Rattle.catchup_engine.proofs.CalmRuns.{AtCalm, calm-goes, calm-room, calm-smaller, calm-starts, goes-before}
+use Rattle.catchup_engine.proofs.Notes.{IsNotedTurn, noted-turn, opcode_note}
+use Rattle.catchup_engine.proofs.QuietLaws.{passed-zero}
+use Rattle.catchup_engine.proofs.OpcodeLaws.{reads-opcode}
+use Rattle.catchup_engine.proofs.Seen.{runs-seen}
+use Rattle.catchup_engine.proofs.TracedRuns.{turns-more, turns-none}
+
+module _ {T : Type 0} (next : T → TraceValue → ℕ → T) (enough : T → Bool) (tape : TapeValue) (limit : ℕ) where
+  -- From c, s and w such a run led to e, t and v, with so many clocks that t has yet to be told of. The flags say whether he has
+  -- enough, and whether it goes on.
+  pub record AtNoted (calm : Calm) (c : CpuValue) (s : BusValue) (made : ℕ) (t : BusValue) (e : CpuValue) (w v : T) (full more : Bool) : Type 0 where
+    pub at : AtCalm tape limit [] calm c s made t e more
+    pub turns : ToldTurns next enough tape.entries limit (over_bus c s) (over_bus e (passed made t)) w v full
+    pub open_yet : more ≡ true → full ≡ false
+
+  pub noted-starts : (calm : Calm) (c : CpuValue) (s : BusValue) (w : T) → limit ≤ CLOCK_LIMIT → IsInRange c s → s.begun ≡ false → HasRoomTo limit s → Fits tape s
+      → GoesOn limit [] c s → IsCalm limit calm s → calm.until ≡ min limit (s.event_at - 6) → AtNoted calm c s 0 s c w w false true
+  noted-starts calm c s w last range between room fits goes known until = record {
+    at = calm-starts tape limit [] calm c s last range between room fits goes known until;
+    turns = rw (passed-zero s) (turns-none next enough tape.entries limit (over_bus c s) w).0;
+    open_yet = λ _. refl;
+  }
+
+  bus-runs : (e f : CpuValue) (s : BusValue) (t : NotedValue) → Runs (NotedStep tape.entries) (registers_of e) Opcode (noting s 0 0 []) t f
+      → Runs (BusStep tape.entries) (registers_of e) Opcode s t.bus f
+  bus-runs e f s t runs =
+      (runs-seen (BusStep tape.entries) (λ (k : NotedValue). k.bus) (λ k. 0) (λ x a b h. (refl, h.step)) (registers_of e) Opcode (noting s 0 0 []) t f runs).1
+
+  -- an instruction is a turn, of which he is told
+  pub noted-goes : (calm : Calm) (c e f : CpuValue) (s t u : BusValue) (made n o k : ℕ) (l : List Access) (w v new : T) (full more then has : Bool) → more ≡ true → limit ≤ CLOCK_LIMIT
+      → AtNoted calm c s made t e w v full more
+      → Runs (NotedStep tape.entries) (registers_of e) Opcode (noting (passed made t) 0 0 []) (noting (passed n u) o k l) f → f.mid ≡ None → IsCounted tape n u → KeepsLines t u
+      → (then ≡ true → u.wires.divider.phase + (u.event_at - u.wires.clock) < DIVIDER_PERIOD)
+      → ((trace : TraceValue) → opcode_note (noting (passed n u) o k l) ≡ note_of trace → new ≡ next v trace f.pc) → has ≡ enough new
+      → (then ≡ true → (nat_lt (u.wires.clock + n) calm.until && (is_none f.jam && (calm.silent || is_masked f.p))) ≡ true) → (then ≡ true → has ≡ false)
+      → AtNoted calm c s n u f w new has then
+  noted-goes calm c e f s t u made n o k l w v new full more then has on_yet last at runs boundary counted lines wrap told asked lasts open_yet =
+      let goes = at.at.goes on_yet in
+      let reads = (reads-opcode e (passed made t) goes.reads).reads in
+      let turn = noted-turn tape e (passed made t) (noting (passed n u) o k l) f reads at.at.on.run.goes.between at.at.counted.fits runs boundary in
+      let before = goes-before tape limit [] e (passed made t) goes in
+      record {
+        at = calm-goes tape limit [] calm c e f s t u made n more then on_yet last at.at (bus-runs e f (passed made t) (noting (passed n u) o k l) runs) boundary counted lines wrap
+          (λ on. and-none _ (lasts on));
+        turns =
+            (turns-more next enough tape.entries limit (over_bus c s) (passed made t) (passed n u) e f w v new turn.trace has last
+            (subst (λ flag. ToldTurns next enough tape.entries limit (over_bus c s) (over_bus e (passed made t)) w v flag) (at.open_yet on_yet) at.turns)
+            (or_parts (is_over limit (over_bus e (passed made t))) (is_at_any [] (over_bus e (passed made t))) goes.open_yet).0 at.at.on.range turn.turned turn.is (told turn.trace turn.note) asked).0;
+        open_yet = open_yet;
+      }
+    where
+      and-none : (b : Bool) → b ≡ true → (b && not false) ≡ true
+      and-none true is = refl
+      and-none false is = cc
+
+  -- and the run has less to go
+  pub noted-smaller : (calm : Calm) (c e f : CpuValue) (s t u : BusValue) (made n o k : ℕ) (l : List Access) (w v : T) (full more : Bool) → more ≡ true
+      → AtNoted calm c s made t e w v full more
+      → Runs (NotedStep tape.entries) (registers_of e) Opcode (noting (passed made t) 0 0 []) (noting (passed n u) o k l) f → f.mid ≡ None
+      → limit - (passed n u).wires.clock < limit - (passed made t).wires.clock
+  noted-smaller calm c e f s t u made n o k l w v full more on_yet at runs boundary =
+      calm-smaller tape limit [] calm c e f s t u made n more on_yet at.at (bus-runs e f (passed made t) (noting (passed n u) o k l) runs) boundary
+
+-- an instruction over a bus that notes it, from one of which nothing is noted
+pub record IsNotedBy {S : Type 0} (entries : List TapeEntry) (seen : S → NotedValue) (bus : S → BusValue) (name name_then : S → ℕ) (e f : CpuValue) (m : ℕ) (b : BusValue) (s t : S) : Type 0 where
+  pub runs : Runs (NotedStep entries) (registers_of e) Opcode (noting (passed m b) 0 0 []) (seen t) f
+  pub lines : KeepsLines b (bus t)
+  pub same : name t ≡ name s
+  pub same_then : name_then t ≡ name_then s
+
+pub noted-by : {S : Type 0} {R : course.Access → S → S → Type 0} (entries : List TapeEntry) (seen : S → NotedValue) (bus : S → BusValue) (name name_then : S → ℕ)
+    → ((x : course.Access) (a b : S) → R x a b → (name b ≡ name a) × (name_then b ≡ name_then a) × KeepsLines (bus a) (bus b) × NotedStep entries x (seen a) (seen b))
+    → (e f : CpuValue) (m : ℕ) (b : BusValue) (s t : S) → seen s ≡ noting (passed m b) 0 0 [] → bus s ≡ b → Runs R (registers_of e) Opcode s t f
+    → IsNotedBy entries seen bus name name_then e f m b s t
+noted-by entries seen bus name name_then lift e f m b s t start from runs =
+    let one = runs-seen (NotedStep entries) seen name (λ x a c h. ((lift x a c h).0, (lift x a c h).3)) (registers_of e) Opcode s t f runs in
+    let two = runs-seen (NotedStep entries) seen name_then (λ x a c h. ((lift x a c h).1, (lift x a c h).3)) (registers_of e) Opcode s t f runs in
+    record {
+      runs = subst (λ (k : NotedValue). Runs (NotedStep entries) (registers_of e) Opcode k (seen t) f) start one.1;
+      lines = subst (λ (k : BusValue). KeepsLines k (bus t)) from (runs-keep bus (λ x a c h. (lift x a c h).2) (registers_of e) Opcode s t f runs);
+      same = one.0;
+      same_then = two.0;
+    }
+
+-- what a flag says
+pub never : {A : Type 0} (b : Bool) → b ≡ false → b ≡ true → A
+never true off on = cc
+never false off on = cc

@@ -1,0 +1,130 @@
+use Rattle.std.proofs.Common.{not, [], ap, sym, ◌∙◌, refl, arith}
+use Rattle.board_base.specs.Cpu.{CpuValue}
+use Rattle.catchup_engine.specs.Notes.{noting}
+use Rattle.catchup_engine.specs.Quiet.{passed, quiet_room}
+use Rattle.lockstep_board.specs.Wires.{devices_ticked}
+use Rattle.catchup_engine.proofs.CalmLaws.{none-pending}
+use Rattle.catchup_engine.proofs.CalmRuns.{calm-room}
+use Rattle.catchup_engine.proofs.NotedRuns.{never, noted-by, noted-goes, noted-smaller, noted-starts}
+use Rattle.catchup_engine.proofs.Notes.{opcode_note}
+use Rattle.catchup_engine.proofs.OpcodeLaws.{reads-opcode}
+use Rattle.catchup_engine.proofs.noted.trace_calmly.Goals as goal
+
+pub calm_since-calm-requires-clause-quiet : goal.calm_since-calm-requires-clause-quiet
+calm_since-calm-requires-clause-quiet g c = (reads-opcode c.args.cpu c.args.bus.now c.requires.goes_on.reads).reads.quiet
+
+pub calm_since-calm-requires-clause-pending : goal.calm_since-calm-requires-clause-pending
+calm_since-calm-requires-clause-pending g c =
+    none-pending c.args.cpu (devices_ticked c.args.bus.now.wires) (reads-opcode c.args.cpu c.args.bus.now c.requires.goes_on.reads).reads.due
+
+pub loop-goes_on-init : goal.loop-goes_on-init
+loop-goes_on-init g c = record {
+  at =
+      rw (c.new.ensures.none, c.new.ensures.bus) (noted-starts g.T.Tracer.next g.T.Tracer.has_enough c.args.tape.now c.args.limit c.calm_since-calm.result c.args.cpu
+      c.args.bus.now c.args.tracer.now c.requires.limit c.requires.range c.requires.between c.requires.room c.requires.fits c.requires.goes_on c.calm_since-calm.ensures.calm
+      c.calm_since-calm.ensures.until);
+  bus = refl;
+  reached = refl;
+}
+
+pub instruction-fetched-requires-clause-room : goal.instruction-fetched-requires-clause-room
+instruction-fetched-requires-clause-room g c =
+    let room = calm-room c.args.tape.now c.args.limit [] c.calm_since-calm.result c.args.cpu c.loop-goes_on.cpu c.args.bus.now c.loop-goes_on.noted.quiet.bus.now
+    c.loop-goes_on.noted.quiet.made c.loop-goes_on.goes_on c.loop-goes_on-test.true c.requires.limit c.requires.room c.loop-goes_on.invariant.at.at in
+    let none = ap (λ k. k.clocks) c.begin.ensures.same in
+    let same = ap (λ k. quiet_room k.quiet.made k.quiet.bus.now) c.begin.ensures.same in
+    omega (arith, room, none, same)
+
+pub invariant_of-note : goal.invariant_of-note
+invariant_of-note g c = record {
+  clocks = c.instruction-fetched.ensures.fits.2;
+  reached = rw c.as_slice.ensures c.instruction-fetched.ensures.fits.1;
+}
+
+pub loop-goes_on-smaller-then-not-enough : goal.loop-goes_on-smaller-then-not-enough
+loop-goes_on-smaller-then-not-enough g c =
+    let t = c.loop-goes_on.noted.quiet.bus.now in
+    let made = c.loop-goes_on.noted.quiet.made in
+    let start =
+    ap (λ l. noting (passed c.begin.new.self.quiet.made c.begin.new.self.quiet.bus.now) c.begin.new.self.opcode c.begin.new.self.clocks l) c.begin.ensures.none
+    ∙ ap (λ k. noting (passed k.quiet.made k.quiet.bus.now) k.opcode k.clocks []) c.begin.ensures.same in
+    let did =
+    noted-by c.args.tape.now.entries (λ k. noting (passed k.quiet.made k.quiet.bus.now) k.opcode k.clocks k.reached.now) (λ k. k.quiet.bus.now) (λ k. k.quiet.bus.ghost_name)
+    (λ k. k.reached.ghost_name) (λ x a b h. h) c.loop-goes_on.cpu c.instruction-fetched.new.self made t c.begin.new.self c.instruction-fetched.new.bus start
+    (ap (λ k. k.quiet.bus.now) c.begin.ensures.same) c.instruction-fetched.ensures.runs in
+    noted-smaller g.T.Tracer.next g.T.Tracer.has_enough c.args.tape.now c.args.limit c.calm_since-calm.result c.args.cpu c.loop-goes_on.cpu c.instruction-fetched.new.self
+    c.args.bus.now t c.instruction-fetched.new.bus.quiet.bus.now made c.instruction-fetched.new.bus.quiet.made c.instruction-fetched.new.bus.opcode
+    c.instruction-fetched.new.bus.clocks c.instruction-fetched.new.bus.reached.now c.args.tracer.now c.loop-goes_on.tracer c.loop-goes_on.enough c.loop-goes_on.goes_on
+    c.loop-goes_on-test.true c.loop-goes_on.invariant.at did.runs c.instruction-fetched.ensures.boundary
+
+pub loop-goes_on-preserved-then-not-enough : goal.loop-goes_on-preserved-then-not-enough
+loop-goes_on-preserved-then-not-enough g c =
+    let t = c.loop-goes_on.noted.quiet.bus.now in
+    let made = c.loop-goes_on.noted.quiet.made in
+    let start =
+    ap (λ l. noting (passed c.begin.new.self.quiet.made c.begin.new.self.quiet.bus.now) c.begin.new.self.opcode c.begin.new.self.clocks l) c.begin.ensures.none
+    ∙ ap (λ k. noting (passed k.quiet.made k.quiet.bus.now) k.opcode k.clocks []) c.begin.ensures.same in
+    let did =
+    noted-by c.args.tape.now.entries (λ k. noting (passed k.quiet.made k.quiet.bus.now) k.opcode k.clocks k.reached.now) (λ k. k.quiet.bus.now) (λ k. k.quiet.bus.ghost_name)
+    (λ k. k.reached.ghost_name) (λ x a b h. h) c.loop-goes_on.cpu c.instruction-fetched.new.self made t c.begin.new.self c.instruction-fetched.new.bus start
+    (ap (λ k. k.quiet.bus.now) c.begin.ensures.same) c.instruction-fetched.ensures.runs in
+    let u = c.instruction-fetched.new.bus.quiet.bus.now in
+    let n = c.instruction-fetched.new.bus.quiet.made in
+    let f = c.instruction-fetched.new.self in
+    let calm = c.calm_since-calm.result in
+    record {
+      at =
+          noted-goes g.T.Tracer.next g.T.Tracer.has_enough c.args.tape.now c.args.limit calm c.args.cpu c.loop-goes_on.cpu f c.args.bus.now t u made n
+          c.instruction-fetched.new.bus.opcode c.instruction-fetched.new.bus.clocks c.instruction-fetched.new.bus.reached.now c.args.tracer.now c.loop-goes_on.tracer
+          c.turn-enough.new.self c.loop-goes_on.enough c.loop-goes_on.goes_on c.lasts-goes_on.result c.turn-enough.result c.loop-goes_on-test.true c.requires.limit
+          c.loop-goes_on.invariant.at did.runs c.instruction-fetched.ensures.boundary c.instruction-fetched.ensures.fits.0 did.lines (λ _. c.lasts-goes_on.ensures.wrap)
+          (λ trace is. c.turn-enough.ensures.next trace
+          (ap (λ l. opcode_note (noting (passed n u) c.instruction-fetched.new.bus.opcode c.instruction-fetched.new.bus.clocks l)) c.as_slice.ensures ∙ is)
+          ∙ ap (λ (k : CpuValue). g.T.Tracer.next c.loop-goes_on.tracer trace k.pc) (c.behind-cpu.view_is ∙ c.state.ensures.value)) c.turn-enough.ensures.enough (λ on. sym c.lasts-goes_on.ensures.value ∙ on) (λ _. c.if-not-enough.true);
+      bus = did.same ∙ ap (λ k. k.quiet.bus.ghost_name) c.begin.ensures.same ∙ c.loop-goes_on.invariant.bus;
+      reached = did.same_then ∙ c.begin.ensures.same_reference ∙ c.loop-goes_on.invariant.reached;
+    }
+
+pub loop-goes_on-smaller : goal.loop-goes_on-smaller
+loop-goes_on-smaller g c =
+    let t = c.loop-goes_on.noted.quiet.bus.now in
+    let made = c.loop-goes_on.noted.quiet.made in
+    let start =
+    ap (λ l. noting (passed c.begin.new.self.quiet.made c.begin.new.self.quiet.bus.now) c.begin.new.self.opcode c.begin.new.self.clocks l) c.begin.ensures.none
+    ∙ ap (λ k. noting (passed k.quiet.made k.quiet.bus.now) k.opcode k.clocks []) c.begin.ensures.same in
+    let did =
+    noted-by c.args.tape.now.entries (λ k. noting (passed k.quiet.made k.quiet.bus.now) k.opcode k.clocks k.reached.now) (λ k. k.quiet.bus.now) (λ k. k.quiet.bus.ghost_name)
+    (λ k. k.reached.ghost_name) (λ x a b h. h) c.loop-goes_on.cpu c.instruction-fetched.new.self made t c.begin.new.self c.instruction-fetched.new.bus start
+    (ap (λ k. k.quiet.bus.now) c.begin.ensures.same) c.instruction-fetched.ensures.runs in
+    noted-smaller g.T.Tracer.next g.T.Tracer.has_enough c.args.tape.now c.args.limit c.calm_since-calm.result c.args.cpu c.loop-goes_on.cpu c.instruction-fetched.new.self
+    c.args.bus.now t c.instruction-fetched.new.bus.quiet.bus.now made c.instruction-fetched.new.bus.quiet.made c.instruction-fetched.new.bus.opcode
+    c.instruction-fetched.new.bus.clocks c.instruction-fetched.new.bus.reached.now c.args.tracer.now c.loop-goes_on.tracer c.loop-goes_on.enough c.loop-goes_on.goes_on
+    c.loop-goes_on-test.true c.loop-goes_on.invariant.at did.runs c.instruction-fetched.ensures.boundary
+
+pub loop-goes_on-preserved : goal.loop-goes_on-preserved
+loop-goes_on-preserved g c =
+    let t = c.loop-goes_on.noted.quiet.bus.now in
+    let made = c.loop-goes_on.noted.quiet.made in
+    let start =
+    ap (λ l. noting (passed c.begin.new.self.quiet.made c.begin.new.self.quiet.bus.now) c.begin.new.self.opcode c.begin.new.self.clocks l) c.begin.ensures.none
+    ∙ ap (λ k. noting (passed k.quiet.made k.quiet.bus.now) k.opcode k.clocks []) c.begin.ensures.same in
+    let did =
+    noted-by c.args.tape.now.entries (λ k. noting (passed k.quiet.made k.quiet.bus.now) k.opcode k.clocks k.reached.now) (λ k. k.quiet.bus.now) (λ k. k.quiet.bus.ghost_name)
+    (λ k. k.reached.ghost_name) (λ x a b h. h) c.loop-goes_on.cpu c.instruction-fetched.new.self made t c.begin.new.self c.instruction-fetched.new.bus start
+    (ap (λ k. k.quiet.bus.now) c.begin.ensures.same) c.instruction-fetched.ensures.runs in
+    let u = c.instruction-fetched.new.bus.quiet.bus.now in
+    let n = c.instruction-fetched.new.bus.quiet.made in
+    let f = c.instruction-fetched.new.self in
+    let calm = c.calm_since-calm.result in
+    record {
+      at =
+          noted-goes g.T.Tracer.next g.T.Tracer.has_enough c.args.tape.now c.args.limit calm c.args.cpu c.loop-goes_on.cpu f c.args.bus.now t u made n
+          c.instruction-fetched.new.bus.opcode c.instruction-fetched.new.bus.clocks c.instruction-fetched.new.bus.reached.now c.args.tracer.now c.loop-goes_on.tracer
+          c.turn-enough.new.self c.loop-goes_on.enough c.loop-goes_on.goes_on _ c.turn-enough.result c.loop-goes_on-test.true c.requires.limit
+          c.loop-goes_on.invariant.at did.runs c.instruction-fetched.ensures.boundary c.instruction-fetched.ensures.fits.0 did.lines (λ on. never _ (ap not c.if-not-enough.false) on)
+          (λ trace is. c.turn-enough.ensures.next trace
+          (ap (λ l. opcode_note (noting (passed n u) c.instruction-fetched.new.bus.opcode c.instruction-fetched.new.bus.clocks l)) c.as_slice.ensures ∙ is)
+          ∙ ap (λ (k : CpuValue). g.T.Tracer.next c.loop-goes_on.tracer trace k.pc) (c.behind-cpu.view_is ∙ c.state.ensures.value)) c.turn-enough.ensures.enough (λ on. never _ (ap not c.if-not-enough.false) on) (λ on. never _ (ap not c.if-not-enough.false) on);
+      bus = did.same ∙ ap (λ k. k.quiet.bus.ghost_name) c.begin.ensures.same ∙ c.loop-goes_on.invariant.bus;
+      reached = did.same_then ∙ c.begin.ensures.same_reference ∙ c.loop-goes_on.invariant.reached;
+    }
