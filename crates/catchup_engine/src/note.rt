@@ -6,8 +6,8 @@ ghost use Rattle.catchup_engine.specs.Notes.{reaching};
 
 use crate::trace::{Access, Trace};
 use board_base::Sequence;
-use board_map::region;
-use lockstep_board::uses_of;
+use board_map::row;
+use lockstep_board::{devices_read, devices_written};
 use std::marker::Model;
 
 impl Access {
