@@ -9,3 +9,4 @@ pub mod Images
 pub mod Laws
 pub mod NameMaps
 pub mod Rows
+pub mod LongLists

@@ -77,6 +77,7 @@ fn read_terms<'a>(
         };
         terms.push(Term { negative, operand })?;
         let Some((sign, behind)) = after.split_first() else {
+            terms.shrink();
             return Ok(Some(terms));
         };
         let Some(next) = minus(&sign) else {

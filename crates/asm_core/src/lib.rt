@@ -4,6 +4,7 @@
 
 mod assembly;
 mod cell;
+mod cells;
 mod dialect;
 mod expression;
 mod first_round;
@@ -11,6 +12,7 @@ pub mod laws;
 mod line;
 mod line_words;
 pub mod listing;
+mod long_list;
 mod name;
 mod name_maps;
 mod names;
@@ -21,6 +23,7 @@ mod word;
 
 pub use assembly::assemble;
 pub use cell::{BYTE, Cell, Field, Place, WORD};
+pub use cells::Cells;
 pub use dialect::{Dialect, Form, Rom};
 pub use expression::{Expression, Operand, Part, Term, read_expression, value};
 pub use line::{Body, Line, read_list, value_cell};

@@ -5,8 +5,9 @@ ghost use Rattle.asm_core.specs.Forms.{AreCells, IsBody};
 ghost use Rattle.asm_core.specs.Lines.{body_of, body_of_form, cells_of, equals_of, label_of, line_of_words, named_body_of, value_cell};
 ghost use Rattle.asm_core.specs.Words.{items_of};
 
+use crate::long_list::{is_long, read_long_list};
 use crate::{
-    Cell, Dialect, Expression, Field, Form, Name, Names, Place, Row, WORD, Word, Words,
+    Cell, Cells, Dialect, Expression, Field, Form, Name, Names, Place, Row, WORD, Word, Words,
     behind_mark, is_plain, read_expression, split_item,
 };
 use board_base::OutOfMemory;
@@ -22,7 +23,7 @@ pub enum Body<'a> {
     /// Gives the next line its address.
     Origin(Expression<'a>),
     /// Gives bytes.
-    Gives(Row<Cell<'a>>),
+    Gives(Cells<'a>),
 }
 
 /// A line, whose label may be missing.
@@ -58,8 +59,8 @@ pub fn value_cell<'a>(
     })
 }
 
-/// A cell of so many bytes for each expression of a list that commas part.
-pub fn read_list<'a>(
+/// A cell of so many bytes for each expression of a list that commas part, each in memory.
+fn read_each<'a>(
     alloc: Global,
     words: &Words<'a>,
     place: Place,
@@ -83,6 +84,27 @@ pub fn read_list<'a>(
         list = after;
     }
     Ok(Some(cells))
+}
+
+/// A cell of so many bytes for each expression of a list that commas part.
+pub fn read_list<'a>(
+    alloc: Global,
+    words: &Words<'a>,
+    place: Place,
+    size: u8,
+) -> Result<Option<Cells<'a>>, OutOfMemory>
+    requires some { 1 ≤ size }
+    requires few { size ≤ 4 }
+    requires place { IsFieldPlace place }
+    ensures list { IfOk result (λ read. read ≡ cells_of place size (items_of words.now)) }
+    ensures cells { IfOk result (λ read. IfSome read AreCells) }
+{
+    if is_long(words, size) {
+        let list = read_long_list(alloc, words, place, size)?;
+        return Ok(list.map(Cells::long));
+    }
+    let cells = read_each(alloc, words, place, size)?;
+    Ok(cells.map(Cells::each))
 }
 
 /// The label that begins with a line's first word, and what stands behind it.

@@ -57,6 +57,16 @@ impl<T: Drop> Row<T> {
         }
     }
 
+    /// A list of one item, which takes no memory.
+    pub fn one(alloc: Global, item: T) -> Row<T>
+        ensures { result ≡ item ∷ [] }
+    {
+        Row {
+            alloc,
+            items: Items::One([item]),
+        }
+    }
+
     /// Appends an item. After a refusal the list is as before.
     pub fn push(&mut self, item: T) -> Result<(), OutOfMemory>
         ensures ok { OnOk result (self.new ≡ self.old ++ item ∷ []) }
@@ -91,6 +101,15 @@ impl<T: Drop> Row<T> {
                 self.items = Items::One(one);
                 Err(OutOfMemory)
             }
+        }
+    }
+
+    /// Gives back the memory that no item stands in.
+    pub fn shrink(&mut self)
+        ensures { self.new ≡ self.old }
+    {
+        if let Items::Many(items) = &mut self.items {
+            items.shrink_to_fit();
         }
     }
 
