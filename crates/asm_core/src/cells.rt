@@ -1,5 +1,5 @@
 ghost use Rattle.std.specs.Prelude.{◌≡◌};
-ghost use Rattle.asm_core.specs.LongLists.{stored_cells};
+ghost use Rattle.asm_core.specs.StoredCells.{stored_cells};
 
 use crate::long_list::LongList;
 use crate::{Cell, Row};
@@ -24,7 +24,7 @@ pub(crate) enum Stored<'a> {
 impl<'a> Model for Cells<'a> {
     ghost use Rattle.std.specs.Prelude.{List};
     ghost use Rattle.asm_core.specs.declared.cell.Cell.{Cell};
-    ghost use Rattle.asm_core.specs.LongLists.{stored_cells};
+    ghost use Rattle.asm_core.specs.StoredCells.{stored_cells};
 
     ghost Value = { List Cell };
 
@@ -33,7 +33,7 @@ impl<'a> Model for Cells<'a> {
 
 impl<'a> Cells<'a> {
     ghost use Rattle.std.specs.Prelude.{◌≡◌, [], ◌∷◌};
-    ghost use Rattle.asm_core.specs.LongLists.{stored_cells};
+    ghost use Rattle.asm_core.specs.StoredCells.{stored_cells};
 
     /// One cell.
     pub fn one(alloc: Global, cell: Cell<'a>) -> Cells<'a>

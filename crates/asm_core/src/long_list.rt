@@ -1,17 +1,12 @@
-ghost use Rattle.std.specs.Prelude.{◌≡◌, ◌*◌, ◌≤◌, ◌<◌, length, IfOk, IfSome, nat_lt, true};
+ghost use Rattle.std.specs.Prelude.{◌≡◌, IfOk, true};
 ghost use Rattle.std.specs.Option.{option_map_or};
-ghost use Rattle.rom_image.specs.declared.image.TheConstants.{PROGRAM_ROM_LEN};
-ghost use Rattle.asm_core.specs.Cells.{IsFieldPlace, all_fine, is_fine, size_of};
+ghost use Rattle.asm_core.specs.Cells.{all_fine, is_fine};
 ghost use Rattle.asm_core.specs.Expressions.{expression_of};
-ghost use Rattle.asm_core.specs.Forms.{AreCells};
-ghost use Rattle.asm_core.specs.Lines.{cells_of};
-ghost use Rattle.asm_core.specs.LongLists.{value_field};
-ghost use Rattle.asm_core.specs.Words.{items_of};
+ghost use Rattle.asm_core.specs.Lists.{value_field};
 
 use crate::cell::is_fine;
 use crate::{Field, Names, Place, Words, read_expression, split_item};
 use board_base::OutOfMemory;
-use rom_image::PROGRAM_ROM_LEN;
 use std::alloc::Global;
 use std::marker::Model;
 
@@ -28,7 +23,7 @@ pub struct LongList<'a> {
 impl<'a> Model for LongList<'a> {
     ghost use Rattle.std.specs.Prelude.{List};
     ghost use Rattle.asm_core.specs.declared.cell.Cell.{Cell};
-    ghost use Rattle.asm_core.specs.LongLists.{IsLong, list_cells};
+    ghost use Rattle.asm_core.specs.Lists.{IsLong, list_cells};
     ghost use Rattle.asm_core.specs.Words.{items_of};
 
     ghost Value = { List Cell };
@@ -38,30 +33,8 @@ impl<'a> Model for LongList<'a> {
     ghost invariant = { λ list. IsLong list.place list.size (items_of list.words) };
 }
 
-/// Whether a list gives more bytes than the largest ROM has, where each item gives so many.
-pub(crate) fn is_long(words: &Words, size: u8) -> bool
-    ensures { result ≡ nat_lt PROGRAM_ROM_LEN (length (items_of words.now) * size) }
-{
-    let mut bytes = 0;
-    let mut list = Some(words.copied());
-    'items: while let Some(rest) = list {
-        bytes += usize::from(size);
-        if bytes > PROGRAM_ROM_LEN {
-            return true;
-        }
-        let (_, after) = split_item(&rest);
-        list = after;
-    }
-    false
-}
-
 /// Whether an item's value is in the range of its place, or isn't known.
-fn item_fine(
-    alloc: Global,
-    names: &Names,
-    place: Place,
-    item: &Words,
-) -> Result<bool, OutOfMemory>
+fn item_fine(alloc: Global, names: &Names, place: Place, item: &Words) -> Result<bool, OutOfMemory>
     ensures { IfOk result (λ fine. fine ≡ option_map_or (λ e. is_fine names.now (value_field place e)) (expression_of item.now) true) }
 {
     let Some(expression) = read_expression(alloc, item)? else {
@@ -75,40 +48,25 @@ fn item_fine(
     Ok(is_fine(names, &field))
 }
 
-/// A long list, where each of its items is an expression.
-pub(crate) fn read_long_list<'a>(
-    alloc: Global,
-    words: &Words<'a>,
-    place: Place,
-    size: u8,
-) -> Result<Option<LongList<'a>>, OutOfMemory>
-    requires some { 1 ≤ size }
-    requires few { size ≤ 4 }
-    requires place { IsFieldPlace place }
-    requires long { PROGRAM_ROM_LEN < length (items_of words.now) * size }
-    ensures list { IfOk result (λ read. read ≡ cells_of place size (items_of words.now)) }
-    ensures cells { IfOk result (λ read. IfSome read AreCells) }
-{
-    let mut list = Some(words.copied());
-    'items: while let Some(rest) = list {
-        let (item, after) = split_item(&rest);
-        if read_expression(alloc, &item)?.is_none() {
-            return Ok(None);
-        }
-        list = after;
-    }
-    Ok(Some(LongList {
-        alloc,
-        words: words.copied(),
-        place,
-        size,
-    }))
-}
-
 impl<'a> LongList<'a> {
     ghost use Rattle.std.specs.Prelude.{◌≡◌, ◌<◌, IfOk};
     ghost use Rattle.rom_image.specs.declared.image.TheConstants.{PROGRAM_ROM_LEN};
     ghost use Rattle.asm_core.specs.Cells.{all_fine, size_of};
+    ghost use Rattle.asm_core.specs.Lists.{IsLong, list_cells};
+    ghost use Rattle.asm_core.specs.Words.{items_of};
+
+    /// The list of these words, where an item gives so many bytes.
+    pub(crate) fn new(alloc: Global, words: &Words<'a>, place: Place, size: u8) -> LongList<'a>
+        requires { IsLong place size (items_of words.now) }
+        ensures { result ≡ list_cells place size (items_of words.now) }
+    {
+        LongList {
+            alloc,
+            words: words.copied(),
+            place,
+            size,
+        }
+    }
 
     /// Whether all items' values are in the range of their place, or aren't known.
     pub(crate) fn all_fine(&self, names: &Names) -> Result<bool, OutOfMemory>

@@ -5,6 +5,9 @@ use std::alloc::Global;
 use std::marker::Model;
 use std::mem::replace;
 
+/// So many items a list may have and keep its spare memory.
+const SHORT: usize = 4;
+
 /// A list that grows at its end. One item stands in the list itself, and takes no memory of its own.
 #[derive(Drop)]
 pub struct Row<T> {
@@ -104,12 +107,14 @@ impl<T: Drop> Row<T> {
         }
     }
 
-    /// Gives back the memory that no item stands in.
+    /// Gives back the memory of a long list in which no item stands.
     pub fn shrink(&mut self)
         ensures { self.new ≡ self.old }
     {
         if let Items::Many(items) = &mut self.items {
-            items.shrink_to_fit();
+            if items.len() > SHORT {
+                items.shrink_to_fit();
+            }
         }
     }
 
