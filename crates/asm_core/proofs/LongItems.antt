@@ -182,3 +182,5 @@ pub faults-on : {X Y : Type 0} (next : X → Result Y AsmFault) (given : Result 
 faults-on next given OutOfMemory told = tt
 faults-on next given TooLong told = rw told refl
 faults-on next given (Line line cause) told = rw told refl
+
+pub ruleset rooms = (room-long, room-unfit)

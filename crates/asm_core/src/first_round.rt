@@ -156,7 +156,8 @@ fn look_at_cells<'a>(
     Ok(())
 }
 
-/// What is wrong with a line that is a long list, where memory doesn't run out.
+/// What is wrong with a line that is a long list.
+#[tactic(auto, using(crate::proofs::LongItems::rooms))]
 fn long_list_fault(round: &FirstRound, rom: Rom, line: u32, list: &LongList) -> AsmFault
     requires { IsRom rom }
     ensures { Faults result (room_for rom line (known_of round.now) list.now) }

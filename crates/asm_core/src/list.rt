@@ -71,11 +71,11 @@ fn is_long(words: &Words, size: u8) -> bool
     let mut bytes = 0;
     let mut list = Some(words.copied());
     'items: while let Some(rest) = list {
+        let (_, after) = split_item(&rest);
         bytes += usize::from(size);
         if bytes > PROGRAM_ROM_LEN {
             return true;
         }
-        let (_, after) = split_item(&rest);
         list = after;
     }
     false

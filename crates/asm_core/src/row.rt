@@ -48,7 +48,7 @@ impl<T> Model for Row<T> {
 }
 
 impl<T: Drop> Row<T> {
-    ghost use Rattle.std.specs.Prelude.{◌≡◌, [], ◌∷◌, ◌++◌, OnErr, OnOk};
+    ghost use Rattle.std.specs.Prelude.{◌≡◌, [], ◌∷◌, ◌++◌, IfOk, OnErr, OnOk};
 
     /// A list without an item, which takes no memory yet.
     pub fn new(alloc: Global) -> Row<T>
@@ -58,6 +58,20 @@ impl<T: Drop> Row<T> {
             alloc,
             items: Items::None,
         }
+    }
+
+    /// A list without an item. It takes memory for so many at once, and none for one.
+    pub fn with_capacity(alloc: Global, capacity: usize) -> Result<Row<T>, OutOfMemory>
+        ensures { IfOk result (λ row. row ≡ []) }
+    {
+        if capacity <= 1 {
+            return Ok(Row::new(alloc));
+        }
+        let items = Vec::with_capacity(alloc, capacity)?;
+        Ok(Row {
+            alloc,
+            items: Items::Many(items),
+        })
     }
 
     /// A list of one item, which takes no memory.
@@ -103,17 +117,6 @@ impl<T: Drop> Row<T> {
             Err(one) => {
                 self.items = Items::One(one);
                 Err(OutOfMemory)
-            }
-        }
-    }
-
-    /// Gives back the memory of a long list in which no item stands.
-    pub fn shrink(&mut self)
-        ensures { self.new ≡ self.old }
-    {
-        if let Items::Many(items) = &mut self.items {
-            if items.len() > SHORT {
-                items.shrink_to_fit();
             }
         }
     }
