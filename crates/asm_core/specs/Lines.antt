@@ -14,7 +14,7 @@ use Rattle.asm_core.specs.declared.line.Body.{Body}
 use Rattle.asm_core.specs.declared.line.Body.TheVariants as body
 use Rattle.asm_core.specs.declared.line.Line.{Line}
 use Rattle.asm_core.specs.Expressions.{NameValues, expression_of}
-pub use Rattle.asm_core.specs.Lists.{cells_of, value_cell}
+use Rattle.asm_core.specs.Lists.{cells_of}
 use Rattle.asm_core.specs.Words.{begins_with, is_mark, is_plain, items_of, plain_name}
 
 -- what a language makes of a statement, under the names of earlier lines and at its address: of its first word, and of the words behind that

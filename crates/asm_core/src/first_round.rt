@@ -162,6 +162,7 @@ fn long_list_fault(round: &FirstRound, rom: Rom, line: u32, list: &LongList) -> 
     requires { IsRom rom }
     ensures { Faults result (room_for rom line (known_of round.now) list.now) }
 {
+    list.lemma_long();
     match list.all_fine(&round.names) {
         Ok(true) => at_line(line, AsmCause::OutsideRom),
         Ok(false) => at_line(line, AsmCause::OutOfRange),

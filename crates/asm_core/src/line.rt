@@ -1,7 +1,7 @@
 ghost use Rattle.std.specs.Prelude.{◌≡◌, ◌≤◌, ◌∷◌, IfOk, IfSome, OnOk, drop, ok_or};
 ghost use Rattle.std.specs.Option.{option_map};
 ghost use Rattle.asm_core.specs.Forms.{IsBody};
-ghost use Rattle.asm_core.specs.Lines.{body_of, body_of_form, cells_of, equals_of, label_of, line_of_words, named_body_of};
+ghost use Rattle.asm_core.specs.Lines.{body_of, body_of_form, equals_of, label_of, line_of_words, named_body_of};
 ghost use Rattle.asm_core.specs.Words.{items_of};
 
 use crate::list::read_list;

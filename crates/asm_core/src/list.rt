@@ -98,9 +98,9 @@ fn read_long<'a>(
     let mut list = Some(words.copied());
     'items: while let Some(rest) = list {
         let (item, after) = split_item(&rest);
-        if read_expression(alloc, &item)?.is_none() {
+        let Some(_expression) = read_expression(alloc, &item)? else {
             return Ok(None);
-        }
+        };
         list = after;
     }
     Ok(Some(LongList::new(alloc, words, place, size)))

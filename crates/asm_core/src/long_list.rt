@@ -68,15 +68,22 @@ impl<'a> LongList<'a> {
         }
     }
 
+    /// A long list gives more bytes than the largest ROM has. It tells a law, and does nothing.
+    pub(crate) fn lemma_long(&self)
+        ensures { PROGRAM_ROM_LEN < size_of self.now }
+    {
+        let _size = self.size;
+    }
+
     /// Whether all items' values are in the range of their place, or aren't known.
     pub(crate) fn all_fine(&self, names: &Names) -> Result<bool, OutOfMemory>
-        ensures fine { IfOk result (λ fine. fine ≡ all_fine names.now self.now) }
-        ensures long { PROGRAM_ROM_LEN < size_of self.now }
+        ensures { IfOk result (λ fine. fine ≡ all_fine names.now self.now) }
     {
         let mut list = Some(self.words.copied());
         'items: while let Some(rest) = list {
             let (item, after) = split_item(&rest);
-            if !item_fine(self.alloc, names, self.place, &item)? {
+            let fine = item_fine(self.alloc, names, self.place, &item)?;
+            if !fine {
                 return Ok(false);
             }
             list = after;

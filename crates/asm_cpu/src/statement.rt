@@ -1,7 +1,7 @@
 ghost use Rattle.std.specs.Prelude.{◌≡◌, ◌≤◌, [], ◌∷◌, IfOk};
 ghost use Rattle.asm_core.specs.Cells.{IsCell};
 ghost use Rattle.asm_core.specs.Forms.{IsForm};
-ghost use Rattle.asm_core.specs.Lines.{cells_of};
+ghost use Rattle.asm_core.specs.Lists.{cells_of};
 ghost use Rattle.asm_core.specs.Words.{items_of};
 ghost use Rattle.asm_cpu.specs.Operands.{shape_of};
 ghost use Rattle.asm_cpu.specs.Statements.{bare_form, instruction_of, list_form, mode_form, opcode_cell, operand_cell, operand_form};

@@ -4,7 +4,7 @@ use Rattle.std.proofs.lemmas.List.Elements.{All-push}
 use Rattle.std.proofs.lemmas.Grind.{common_steps}
 use Rattle.asm_core.specs.Cells.{IsCell}
 use Rattle.asm_core.specs.Expressions.{expression_of}
-use Rattle.asm_core.specs.Lines.{cells_of, value_cell}
+use Rattle.asm_core.specs.Lists.{cells_of, value_cell}
 use Rattle.asm_core.specs.Words.{items_of}
 use Rattle.asm_core.proofs.Lists.{cells-bad, cells-end, cells-next, if_none-any, onto-over}
 use Rattle.asm_core.proofs.list.read_each.Goals as goal

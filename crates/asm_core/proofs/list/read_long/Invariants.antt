@@ -1,6 +1,6 @@
 use Rattle.std.proofs.Common.{◌≡◌, ◌+◌, is_some, length}
 use Rattle.std.specs.Option.{option_map_or}
-use Rattle.asm_core.specs.Lines.{cells_of}
+use Rattle.asm_core.specs.Lists.{cells_of}
 use Rattle.asm_core.specs.Words.{items_of}
 use Rattle.asm_core.proofs.LongItems.{items_left}
 use Rattle.asm_core.proofs.list.read_long.Given as goal

@@ -1,0 +1,8 @@
+use Rattle.std.proofs.Common.{◌<◌}
+use Rattle.rom_image.specs.declared.image.TheConstants.{PROGRAM_ROM_LEN}
+use Rattle.asm_core.specs.Cells.{size_of}
+use Rattle.asm_core.proofs.LongItems.{long-size}
+use Rattle.asm_core.proofs.long_list.LongList.lemma_long.Goals as goal
+
+pub returns : goal.returns
+returns c = rw (← c.self.view_is) (long-size c.self.inside.place c.self.inside.size _ c.self.invariant)
