@@ -12,6 +12,12 @@ returns-in_default-2-clause-list c =
     read-bad c.args.place c.args.size c.split_item-item.result.0 (items_left c.items.list) (items_left c.split_item-item.result.1) (items_of c.args.words.now)
     (splits _ _ _ _ c.in-Some.is c.split_item-item.ensures.items) bad c.items.invariant
 
+pub items-preserved : goal.items-preserved
+items-preserved c =
+    let good : Some c.in-Some-2._expression ≡ expression_of c.split_item-item.result.0 = sym c.in-Some-2.is ∙ c.in_ok-_expression.ensures in
+    read-next c.args.place c.args.size c.split_item-item.result.0 (items_left c.items.list) (items_left c.split_item-item.result.1) (items_of c.args.words.now) c.in-Some-2._expression
+    (splits _ _ _ _ c.in-Some.is c.split_item-item.ensures.items) good c.items.invariant
+
 pub items-preserved-in-Some-2 : goal.items-preserved-in-Some-2
 items-preserved-in-Some-2 c =
     let good : Some c.in-Some-2._expression ≡ expression_of c.split_item-item.result.0 = sym c.in-Some-2.is ∙ c.in_ok-_expression.ensures in
