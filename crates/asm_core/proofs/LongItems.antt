@@ -232,10 +232,4 @@ room-long rom number known cells is fine long = rw (fine, outside) refl
 pub room-unfit : (rom : Rom) (number : ℕ) (known : Known) (cells : List Cell) → all_fine known.names cells ≡ false → room_for rom number known cells ≡ Err (Line number OutOfRange)
 room-unfit rom number known cells unfit = rw unfit refl
 
--- a fault stays one before what comes after an answer
-pub faults-on : {X Y : Type 0} (next : X → Result Y AsmFault) (given : Result X AsmFault) (fault : AsmFault) → Faults fault given → Faults fault (then_on next given)
-faults-on next given OutOfMemory told = tt
-faults-on next given TooLong told = rw told refl
-faults-on next given (Line line cause) told = rw told refl
-
 pub ruleset rooms = (room-long, room-unfit)
