@@ -1,5 +1,5 @@
 -- Lists of expressions that are too long for any ROM.
-use Rattle.std.proofs.Common.{◌≡◌, ℕ, ◌+◌, ◌*◌, ◌<◌, ◌≤◌, ◌⊎◌, inl, inr, zero, Bool, true, false, not, ◌&&◌, List, [], ◌∷◌, Option, Some, None, Result, Ok, Err, is_some, length, refl, sym, ap, ◌∙◌, arith, leb, ltb}
+use Rattle.std.proofs.Common.{◌≡◌, ℕ, ◌+◌, ◌*◌, ◌<◌, ◌≤◌, ◌⊎◌, inl, inr, Bool, true, false, ◌&&◌, List, [], ◌∷◌, Option, Some, None, Err, is_some, length, refl, sym, ap, ◌∙◌, arith, ltb}
 use Rattle.std.specs.List.{All}
 use Rattle.std.specs.Option.{IsSome, option_and_then, option_map, option_map_or, unwrap_or}
 use Rattle.std.proofs.Math.Bool.{and-false}
@@ -8,10 +8,8 @@ use Rattle.std.proofs.lemmas.List.Elements.{All-cons, All-nil}
 use Rattle.std.proofs.lemmas.List.Sums.{sum_by-cons}
 use Rattle.rom_image.specs.Addresses.{offset_of}
 use Rattle.rom_image.specs.declared.image.TheConstants.{PROGRAM_ROM_LEN}
-use Rattle.asm_text.specs.Answers.{Faults}
 use Rattle.asm_text.specs.declared.fault.AsmCause.TheVariants.{OutOfRange, OutsideRom}
-use Rattle.asm_text.specs.declared.fault.AsmFault.{AsmFault}
-use Rattle.asm_text.specs.declared.fault.AsmFault.TheVariants.{Line, OutOfMemory, TooLong}
+use Rattle.asm_text.specs.declared.fault.AsmFault.TheVariants.{Line}
 use Rattle.asm_core.specs.declared.cell.Cell.{Cell}
 use Rattle.asm_core.specs.declared.cell.Field.{Field}
 use Rattle.asm_core.specs.declared.cell.Place.{Place}
@@ -23,7 +21,7 @@ use Rattle.asm_core.specs.Expressions.{NameValues, expression_of}
 use Rattle.asm_core.specs.FirstRound.{IsRom}
 use Rattle.asm_core.specs.Forms.{AreCells}
 use Rattle.asm_core.specs.Lists.{IsLong, cells_of, list_cells, value_cell, value_field}
-use Rattle.asm_core.specs.Rounds.{Known, is_in_rom, room_for, then_on}
+use Rattle.asm_core.specs.Rounds.{Known, is_in_rom, room_for}
 use Rattle.asm_core.specs.Words.{items_of}
 
 -- the items that are left of a list, where there is one

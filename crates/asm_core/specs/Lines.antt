@@ -1,15 +1,12 @@
 -- The forms of a line that both languages have. This project's own profile.
 use Rattle.std.specs.Prelude.{ℕ, ◌&&◌, List, [], ◌∷◌, Option, Some, None, is_some, drop, codes, if◌then◌else◌}
 use Rattle.std.specs.Str.{str_eq_ignore_ascii_case}
-use Rattle.std.specs.Option.{option_and_then, option_map}
+use Rattle.std.specs.Option.{option_map}
 use Rattle.asm_core.specs.declared.word.Word.{Word}
 use Rattle.asm_core.specs.declared.word.Word.TheVariants as word
-use Rattle.asm_core.specs.declared.cell.Place.{Place}
-use Rattle.asm_core.specs.declared.cell.Cell.{Cell}
 use Rattle.asm_core.specs.declared.cell.TheConstants.{WORD}
 use Rattle.asm_core.specs.declared.dialect.Form.{Form}
 use Rattle.asm_core.specs.declared.dialect.Form.TheVariants as form
-use Rattle.asm_core.specs.declared.expression.Expression.{Expression}
 use Rattle.asm_core.specs.declared.line.Body.{Body}
 use Rattle.asm_core.specs.declared.line.Body.TheVariants as body
 use Rattle.asm_core.specs.declared.line.Line.{Line}

@@ -1,4 +1,4 @@
-use Rattle.std.proofs.Common.{◌≡◌, ◌∙◌, true, false, ap, sym}
+use Rattle.std.proofs.Common.{◌∙◌, ap, sym}
 use Rattle.asm_core.specs.Cells.{all_fine}
 use Rattle.asm_core.specs.Lists.{list_cells}
 use Rattle.asm_core.specs.Words.{items_of}

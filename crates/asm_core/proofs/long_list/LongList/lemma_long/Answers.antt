@@ -1,6 +1,3 @@
-use Rattle.std.proofs.Common.{◌<◌}
-use Rattle.rom_image.specs.declared.image.TheConstants.{PROGRAM_ROM_LEN}
-use Rattle.asm_core.specs.Cells.{size_of}
 use Rattle.asm_core.proofs.LongItems.{long-size}
 use Rattle.asm_core.proofs.long_list.LongList.lemma_long.Goals as goal
 
