@@ -5,9 +5,6 @@ use std::alloc::Global;
 use std::marker::Model;
 use std::mem::replace;
 
-/// So many items a list may have and keep its spare memory.
-const SHORT: usize = 4;
-
 /// A list that grows at its end. One item stands in the list itself, and takes no memory of its own.
 #[derive(Drop)]
 pub struct Row<T> {
