@@ -10,7 +10,8 @@ use crate::mnemonics::read_op;
 use crate::mode::{choose_mode, origin, place};
 use crate::operand::{Shape, is_register, read_shape};
 use asm_core::{
-    BYTE, Cell, Cells, Dialect, Expression, Field, Form, Names, Row, Words, read_expression, read_list,
+    BYTE, Cell, Cells, Dialect, Expression, Field, Form, Names, Row, Words, read_expression,
+    read_list,
 };
 use board_base::OutOfMemory;
 use cpu_table::{Mode, Op, encode, length};
