@@ -4,7 +4,7 @@ ghost use Rattle.asm_avg.specs.Language.{language, statement_of};
 
 use crate::Mnemonic;
 use crate::operands::read_fields;
-use asm_core::{Cell, Dialect, Form, Names, Row, Words};
+use asm_core::{Cell, Cells, Dialect, Form, Names, Words};
 use board_base::OutOfMemory;
 use std::alloc::Global;
 
@@ -24,13 +24,12 @@ fn read_form<'a>(
     let Some(fields) = read_fields(alloc, mnemonic.origin(), mnemonic.places(), rest)? else {
         return Ok(Form::NoSuchForm);
     };
-    let mut cells = Row::new(alloc);
-    cells.push(Cell {
+    let cell = Cell {
         size: mnemonic.size(),
         base: mnemonic.base(),
         fields,
-    })?;
-    Ok(Form::Gives(cells))
+    };
+    Ok(Form::Gives(Cells::one(alloc, cell)))
 }
 
 impl Dialect for Avg {

@@ -5,6 +5,7 @@ pub mod Covering
 pub mod FindingNames
 pub mod Items
 pub mod Lists
+pub mod LongItems
 pub mod Looking
 pub mod Putting
 pub mod SourceLaws

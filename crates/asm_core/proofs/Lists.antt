@@ -7,7 +7,7 @@ use Rattle.asm_core.specs.declared.cell.Cell.{Cell}
 use Rattle.asm_core.specs.declared.cell.Place.{Place}
 use Rattle.asm_core.specs.declared.expression.Expression.{Expression}
 use Rattle.asm_core.specs.Expressions.{expression_of}
-use Rattle.asm_core.specs.Lines.{cells_of, value_cell}
+use Rattle.asm_core.specs.Lists.{cells_of, value_cell}
 
 -- the item at a place, and what stands behind it
 pub item-drop : {X : Type 0} (xs : List X) (i : ℕ) (x : X) → i < length xs → x ≡ get_or xs i x → drop i xs ≡ x ∷ drop (i + 1) xs

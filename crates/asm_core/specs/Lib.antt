@@ -1,6 +1,7 @@
 pub mod Words
 pub mod Expressions
 pub mod Cells
+pub mod Lists
 pub mod FirstRound
 pub mod Forms
 pub mod Lines
@@ -9,3 +10,4 @@ pub mod Images
 pub mod Laws
 pub mod NameMaps
 pub mod Rows
+pub mod StoredCells

@@ -1,34 +1,22 @@
 -- The forms of a line that both languages have. This project's own profile.
 use Rattle.std.specs.Prelude.{ℕ, ◌&&◌, List, [], ◌∷◌, Option, Some, None, is_some, drop, codes, if◌then◌else◌}
 use Rattle.std.specs.Str.{str_eq_ignore_ascii_case}
-use Rattle.std.specs.Option.{option_and_then, option_map}
+use Rattle.std.specs.Option.{option_map}
 use Rattle.asm_core.specs.declared.word.Word.{Word}
 use Rattle.asm_core.specs.declared.word.Word.TheVariants as word
-use Rattle.asm_core.specs.declared.cell.Place.{Place}
-use Rattle.asm_core.specs.declared.cell.Cell.{Cell}
 use Rattle.asm_core.specs.declared.cell.TheConstants.{WORD}
 use Rattle.asm_core.specs.declared.dialect.Form.{Form}
 use Rattle.asm_core.specs.declared.dialect.Form.TheVariants as form
-use Rattle.asm_core.specs.declared.expression.Expression.{Expression}
 use Rattle.asm_core.specs.declared.line.Body.{Body}
 use Rattle.asm_core.specs.declared.line.Body.TheVariants as body
 use Rattle.asm_core.specs.declared.line.Line.{Line}
 use Rattle.asm_core.specs.Expressions.{NameValues, expression_of}
+use Rattle.asm_core.specs.Lists.{cells_of}
 use Rattle.asm_core.specs.Words.{begins_with, is_mark, is_plain, items_of, plain_name}
 
 -- what a language makes of a statement, under the names of earlier lines and at its address: of its first word, and of the words behind that
 abbrev pub Language : Type 0
 Language = NameValues → ℕ → List ℕ → List Word → Form
-
--- a cell that holds one expression's value
-abbrev pub value_cell : Place → ℕ → Expression → Cell
-value_cell place size e = record { size = size; base = 0; fields = record { expression = e; origin = 0; place = place } ∷ [] }
-
--- a cell for each item of a list
-unfoldable pub cells_of : Place → ℕ → List (List Word) → Option (List Cell)
-cells_of place size [] = Some []
-cells_of place size (item ∷ items) =
-    option_and_then (λ e. option_map (λ cells. value_cell place size e ∷ cells) (cells_of place size items)) (expression_of item)
 
 -- the label of a line: a plain name with a colon behind it
 abbrev pub label_of : List Word → Option (List ℕ)

@@ -83,7 +83,7 @@ impl Place {
 }
 
 /// Whether a field takes its expression's value, or that isn't known.
-fn is_fine(names: &Names, field: &Field) -> bool
+pub(crate) fn is_fine(names: &Names, field: &Field) -> bool
     ensures { result ≡ is_fine names.now field.now }
 {
     match value(names, &field.expression) {

@@ -1,4 +1,4 @@
-use crate::{Cell, Names, Row, Words};
+use crate::{Cells, Names, Words};
 use board_base::OutOfMemory;
 use std::alloc::Global;
 
@@ -19,7 +19,7 @@ pub enum Form<'a> {
     /// The first word is the language's own, and what stands behind it is wrong.
     NoSuchForm,
     /// The statement gives the bytes of these cells.
-    Gives(Row<Cell<'a>>),
+    Gives(Cells<'a>),
 }
 
 /// A language of statements.

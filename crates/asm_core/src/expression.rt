@@ -68,7 +68,7 @@ fn read_terms<'a>(
 ) -> Result<Option<Row<Term<'a>>>, OutOfMemory>
     ensures { IfOk result (λ read. read ≡ terms_of first words.now) }
 {
-    let mut terms = Row::new(alloc);
+    let mut terms = Row::with_capacity(alloc, words.term_count())?;
     let mut negative = first;
     let mut rest = words.copied();
     'terms: while let Some((word, after)) = rest.split_first() {

@@ -1,14 +1,16 @@
 ghost use Rattle.std.specs.Prelude.{◌≡◌, ◌+◌, ◌≤◌, ◌++◌, true, false, IfOk, IfSome, OnOk, OnSome, Ok, Some, None, drop, length, replicate, take, if◌then◌else◌};
 ghost use Rattle.std.specs.List.{list_any};
 ghost use Rattle.std.specs.Option.{option_map_or};
-ghost use Rattle.asm_text.specs.Answers.{Answers};
+ghost use Rattle.asm_text.specs.Answers.{Answers, Faults};
 ghost use Rattle.asm_core.specs.Forms.{AreCells, IsBody};
 ghost use Rattle.asm_core.specs.FirstRound.{IsPlaced, IsRom, IsRound, known_of};
 ghost use Rattle.asm_core.specs.Cells.{size_of};
 ghost use Rattle.asm_core.specs.Rounds.{body_looked_at, bytes_looked_at, equals_looked_at, found_before, is_in_rom, is_named, looked_at, ranged, room_for, with_label};
 
 use crate::cell::{all_fine, is_in_range, size_of};
-use crate::{Body, Cell, Line, Name, Names, Placed, Rom, Row, value};
+use crate::cells::Stored;
+use crate::long_list::LongList;
+use crate::{Body, Cell, Cells, Line, Name, Names, Placed, Rom, Row, value};
 use asm_text::{AsmCause, AsmFault};
 use std::alloc::Global;
 
@@ -131,8 +133,8 @@ fn room_for(round: &FirstRound, rom: Rom, line: u32, cells: &[Cell]) -> Result<u
     Ok(size)
 }
 
-/// Looks at a line that gives bytes.
-fn look_at_bytes<'a>(
+/// Looks at a line that gives the bytes of these cells.
+fn look_at_cells<'a>(
     round: &mut FirstRound<'a>,
     rom: Rom,
     line: u32,
@@ -152,6 +154,39 @@ fn look_at_bytes<'a>(
         return Err(AsmFault::OutOfMemory);
     };
     Ok(())
+}
+
+/// What is wrong with a line that is a long list.
+#[tactic(auto, using(crate::proofs::LongItems::rooms))]
+fn long_list_fault(round: &FirstRound, rom: Rom, line: u32, list: &LongList) -> AsmFault
+    requires { IsRom rom }
+    ensures { Faults result (room_for rom line (known_of round.now) list.now) }
+{
+    list.lemma_long();
+    match list.all_fine(&round.names) {
+        Ok(true) => at_line(line, AsmCause::OutsideRom),
+        Ok(false) => at_line(line, AsmCause::OutOfRange),
+        Err(_) => AsmFault::OutOfMemory,
+    }
+}
+
+/// Looks at a line that gives bytes.
+fn look_at_bytes<'a>(
+    round: &mut FirstRound<'a>,
+    rom: Rom,
+    line: u32,
+    cells: Cells<'a>,
+) -> Result<(), AsmFault>
+    requires rom { IsRom rom }
+    requires round { IsRound rom round.old }
+    requires cells { AreCells cells }
+    ensures exact { Answers (λ _. known_of round.new) result (bytes_looked_at rom line (known_of round.old) cells.entry) }
+    ensures round { OnOk result (IsRound rom round.new) }
+{
+    match cells.stored() {
+        Stored::Each(cells) => look_at_cells(round, rom, line, cells),
+        Stored::Long(list) => Err(long_list_fault(round, rom, line, &list)),
+    }
 }
 
 /// Looks at a name that is given a value.

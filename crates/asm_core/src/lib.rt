@@ -4,13 +4,16 @@
 
 mod assembly;
 mod cell;
+mod cells;
 mod dialect;
 mod expression;
 mod first_round;
 pub mod laws;
 mod line;
 mod line_words;
+mod list;
 pub mod listing;
+mod long_list;
 mod name;
 mod name_maps;
 mod names;
@@ -21,10 +24,12 @@ mod word;
 
 pub use assembly::assemble;
 pub use cell::{BYTE, Cell, Field, Place, WORD};
+pub use cells::Cells;
 pub use dialect::{Dialect, Form, Rom};
 pub use expression::{Expression, Operand, Part, Term, read_expression, value};
-pub use line::{Body, Line, read_list, value_cell};
+pub use line::{Body, Line};
 pub use line_words::{Words, before_close, begins_with, behind_mark, split_item};
+pub use list::{read_list, value_cell};
 pub use listing::{Listing, ListingLine};
 pub use name::Name;
 pub use names::Names;

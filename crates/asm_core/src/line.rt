@@ -1,13 +1,13 @@
 ghost use Rattle.std.specs.Prelude.{◌≡◌, ◌≤◌, ◌∷◌, IfOk, IfSome, OnOk, drop, ok_or};
 ghost use Rattle.std.specs.Option.{option_map};
-ghost use Rattle.asm_core.specs.Cells.{IsCell, IsFieldPlace};
-ghost use Rattle.asm_core.specs.Forms.{AreCells, IsBody};
-ghost use Rattle.asm_core.specs.Lines.{body_of, body_of_form, cells_of, equals_of, label_of, line_of_words, named_body_of, value_cell};
+ghost use Rattle.asm_core.specs.Forms.{IsBody};
+ghost use Rattle.asm_core.specs.Lines.{body_of, body_of_form, equals_of, label_of, line_of_words, named_body_of};
 ghost use Rattle.asm_core.specs.Words.{items_of};
 
+use crate::list::read_list;
 use crate::{
-    Cell, Dialect, Expression, Field, Form, Name, Names, Place, Row, WORD, Word, Words,
-    behind_mark, is_plain, read_expression, split_item,
+    Cells, Dialect, Expression, Form, Name, Names, WORD, Word, Words, behind_mark, is_plain,
+    read_expression,
 };
 use board_base::OutOfMemory;
 use std::alloc::Global;
@@ -22,7 +22,7 @@ pub enum Body<'a> {
     /// Gives the next line its address.
     Origin(Expression<'a>),
     /// Gives bytes.
-    Gives(Row<Cell<'a>>),
+    Gives(Cells<'a>),
 }
 
 /// A line, whose label may be missing.
@@ -30,59 +30,6 @@ pub enum Body<'a> {
 pub struct Line<'a> {
     pub label: Option<Name<'a>>,
     pub body: Body<'a>,
-}
-
-/// A cell of so many bytes that holds one expression's value.
-pub fn value_cell<'a>(
-    alloc: Global,
-    place: Place,
-    size: u8,
-    expression: Expression<'a>,
-) -> Result<Cell<'a>, OutOfMemory>
-    requires some { 1 ≤ size }
-    requires few { size ≤ 4 }
-    requires place { IsFieldPlace place }
-    ensures value { IfOk result (λ cell. cell ≡ value_cell place size expression.entry) }
-    ensures cell { IfOk result IsCell }
-{
-    let mut fields = Row::new(alloc);
-    fields.push(Field {
-        expression,
-        origin: 0,
-        place,
-    })?;
-    Ok(Cell {
-        size,
-        base: 0,
-        fields,
-    })
-}
-
-/// A cell of so many bytes for each expression of a list that commas part.
-pub fn read_list<'a>(
-    alloc: Global,
-    words: &Words<'a>,
-    place: Place,
-    size: u8,
-) -> Result<Option<Row<Cell<'a>>>, OutOfMemory>
-    requires some { 1 ≤ size }
-    requires few { size ≤ 4 }
-    requires place { IsFieldPlace place }
-    ensures list { IfOk result (λ read. read ≡ cells_of place size (items_of words.now)) }
-    ensures cells { IfOk result (λ read. IfSome read AreCells) }
-{
-    let mut cells = Row::new(alloc);
-    let mut list = Some(words.copied());
-    'items: while let Some(rest) = list {
-        let (item, after) = split_item(&rest);
-        let Some(expression) = read_expression(alloc, &item)? else {
-            return Ok(None);
-        };
-        let cell = value_cell(alloc, place, size, expression)?;
-        cells.push(cell)?;
-        list = after;
-    }
-    Ok(Some(cells))
 }
 
 /// The label that begins with a line's first word, and what stands behind it.

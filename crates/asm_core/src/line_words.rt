@@ -77,6 +77,16 @@ impl<'a> Words<'a> {
         Some((read_word(first, piece), Words::new(after)))
     }
 
+    /// How many terms a sum of these words has: one more than there are signs. It says only how
+    /// much memory to take at once, so no clause speaks of it.
+    pub(crate) fn term_count(&self) -> usize {
+        let signs = self
+            .code
+            .iter()
+            .filter(|byte| matches!(**byte, b'+' | b'-'));
+        signs.count().min(self.code.len() / 2) + 1
+    }
+
     /// Whether there is no word.
     pub fn is_empty(&self) -> bool
         ensures { (result ≡ true) ↔ (self.now ≡ []) }

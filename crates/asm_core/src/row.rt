@@ -45,7 +45,7 @@ impl<T> Model for Row<T> {
 }
 
 impl<T: Drop> Row<T> {
-    ghost use Rattle.std.specs.Prelude.{◌≡◌, [], ◌∷◌, ◌++◌, OnErr, OnOk};
+    ghost use Rattle.std.specs.Prelude.{◌≡◌, [], ◌∷◌, ◌++◌, IfOk, OnErr, OnOk};
 
     /// A list without an item, which takes no memory yet.
     pub fn new(alloc: Global) -> Row<T>
@@ -54,6 +54,30 @@ impl<T: Drop> Row<T> {
         Row {
             alloc,
             items: Items::None,
+        }
+    }
+
+    /// A list without an item. It takes memory for so many at once, and none for one.
+    pub fn with_capacity(alloc: Global, capacity: usize) -> Result<Row<T>, OutOfMemory>
+        ensures { IfOk result (λ row. row ≡ []) }
+    {
+        if capacity <= 1 {
+            return Ok(Row::new(alloc));
+        }
+        let items = Vec::with_capacity(alloc, capacity)?;
+        Ok(Row {
+            alloc,
+            items: Items::Many(items),
+        })
+    }
+
+    /// A list of one item, which takes no memory.
+    pub fn one(alloc: Global, item: T) -> Row<T>
+        ensures { result ≡ item ∷ [] }
+    {
+        Row {
+            alloc,
+            items: Items::One([item]),
         }
     }
 

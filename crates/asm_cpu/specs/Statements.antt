@@ -9,7 +9,8 @@ use Rattle.asm_core.specs.declared.dialect.Form.TheVariants as form
 use Rattle.asm_core.specs.declared.expression.Expression.{Expression}
 use Rattle.asm_core.specs.declared.word.Word.{Word}
 use Rattle.asm_core.specs.Expressions.{NameValues, expression_of}
-use Rattle.asm_core.specs.Lines.{Language, cells_of}
+use Rattle.asm_core.specs.Lines.{Language}
+use Rattle.asm_core.specs.Lists.{cells_of}
 use Rattle.asm_core.specs.Words.{items_of}
 use Rattle.cpu_table.specs.declared.instruction.Op.{Op}
 use Rattle.cpu_table.specs.declared.instruction.Mode.{Mode}

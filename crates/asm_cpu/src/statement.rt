@@ -1,7 +1,7 @@
 ghost use Rattle.std.specs.Prelude.{◌≡◌, ◌≤◌, [], ◌∷◌, IfOk};
 ghost use Rattle.asm_core.specs.Cells.{IsCell};
 ghost use Rattle.asm_core.specs.Forms.{IsForm};
-ghost use Rattle.asm_core.specs.Lines.{cells_of};
+ghost use Rattle.asm_core.specs.Lists.{cells_of};
 ghost use Rattle.asm_core.specs.Words.{items_of};
 ghost use Rattle.asm_cpu.specs.Operands.{shape_of};
 ghost use Rattle.asm_cpu.specs.Statements.{bare_form, instruction_of, list_form, mode_form, opcode_cell, operand_cell, operand_form};
@@ -10,7 +10,8 @@ use crate::mnemonics::read_op;
 use crate::mode::{choose_mode, origin, place};
 use crate::operand::{Shape, is_register, read_shape};
 use asm_core::{
-    BYTE, Cell, Dialect, Expression, Field, Form, Names, Row, Words, read_expression, read_list,
+    BYTE, Cell, Cells, Dialect, Expression, Field, Form, Names, Row, Words, read_expression,
+    read_list,
 };
 use board_base::OutOfMemory;
 use cpu_table::{Mode, Op, encode, length};
@@ -22,9 +23,7 @@ fn one_cell<'a>(alloc: Global, cell: Cell<'a>) -> Result<Form<'a>, OutOfMemory>
     ensures value { IfOk result (λ form. form ≡ Form.Gives (cell.entry ∷ [])) }
     ensures cells { IfOk result IsForm }
 {
-    let mut cells = Row::new(alloc);
-    cells.push(cell)?;
-    Ok(Form::Gives(cells))
+    Ok(Form::Gives(Cells::one(alloc, cell)))
 }
 
 /// An opcode alone.

@@ -1,4 +1,5 @@
 use asm_core::{Dialect, Form, Names, Rom, Words, assemble};
+use asm_text::{AsmCause, AsmFault};
 use board_base::{OutOfMemory, VECTOR_ROM_LEN};
 use rom_image::Image;
 use std::alloc::Global;
@@ -39,5 +40,26 @@ fn words_stand_at_their_addresses(rt: HostRuntime) -> Result<(), Fail> {
     assert_eq!(rt; listing.lines().len(), 2);
     let bytes = [0x00, 0x90, 0xFE, 0x00, 0xFF, 0x00, 0x01, 0x01, 0x00];
     assert!(rt; image.bytes()[VECTOR_ROM_LEN..].starts_with(&bytes));
+    Ok(())
+}
+
+#[test]
+fn a_list_fills_the_rom_and_a_longer_one_is_outside(rt: HostRuntime) -> Result<(), Fail> {
+    let mut image = Image::blank(rt.alloc())?;
+    let mut source = Vec::new(rt.alloc());
+    source.extend_from_slice(b" .org $9000\n .word 0")?;
+    for _ in 1..14_336 {
+        source.extend_from_slice(b",0")?;
+    }
+    let listing = assemble(rt.alloc(), &NoWords, &source, ROM, &mut image)?;
+    let first = listing.lines().first();
+    assert!(rt; matches!(first, Some(line) if line.count == 28_672));
+    source.extend_from_slice(b",0")?;
+    let longer = assemble(rt.alloc(), &NoWords, &source, ROM, &mut image);
+    let outside = AsmFault::Line {
+        line: 2,
+        cause: AsmCause::OutsideRom,
+    };
+    assert!(rt; matches!(longer, Err(fault) if fault == outside));
     Ok(())
 }

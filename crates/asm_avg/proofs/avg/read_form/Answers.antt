@@ -7,4 +7,4 @@ pub returns-clause-cells : goal.returns-clause-cells
 returns-clause-cells c =
     let same : map (λ field. field.place) c.in-Some.fields ≡ places_of c.args.mnemonic =
     (rw c.in-Some.is at c.in_ok-fields.ensures.places) ∙ c.places.ensures in
-    rw (c.in_ok-push.ensures.ok, c.new-cells.ensures, c.size.ensures, c.base.ensures) (are_cells c.args.mnemonic c.in-Some.fields same)
+    rw (c.one.ensures, c.size.ensures, c.base.ensures) (are_cells c.args.mnemonic c.in-Some.fields same)

@@ -2,9 +2,9 @@ use Rattle.std.proofs.Common.{◌≡◌, ◌+◌, ◌≤◌, [], ◌++◌, lengt
 use Rattle.std.specs.List.{All}
 use Rattle.std.specs.Option.{option_map, option_map_or}
 use Rattle.asm_core.specs.Cells.{IsCell}
-use Rattle.asm_core.specs.Lines.{cells_of}
+use Rattle.asm_core.specs.Lists.{cells_of}
 use Rattle.asm_core.specs.Words.{items_of}
-use Rattle.asm_core.proofs.line.read_list.Given as goal
+use Rattle.asm_core.proofs.list.read_each.Given as goal
 
 abbrev pub invariant-items : goal.invariant-items
 invariant-items l = record {

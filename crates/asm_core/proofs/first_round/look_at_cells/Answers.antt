@@ -1,7 +1,7 @@
 use Rattle.std.proofs.Common.{◌≡◌, ◌∙◌, ap}
 use Rattle.asm_core.specs.Cells.{size_of}
 use Rattle.asm_core.proofs.Covering.{round-next}
-use Rattle.asm_core.proofs.first_round.look_at_bytes.Goals as goal
+use Rattle.asm_core.proofs.first_round.look_at_cells.Goals as goal
 
 pub returns-clause-round : goal.returns-clause-round
 returns-clause-round c =

@@ -4,10 +4,10 @@ use Rattle.std.proofs.lemmas.List.Elements.{All-push}
 use Rattle.std.proofs.lemmas.Grind.{common_steps}
 use Rattle.asm_core.specs.Cells.{IsCell}
 use Rattle.asm_core.specs.Expressions.{expression_of}
-use Rattle.asm_core.specs.Lines.{cells_of, value_cell}
+use Rattle.asm_core.specs.Lists.{cells_of, value_cell}
 use Rattle.asm_core.specs.Words.{items_of}
 use Rattle.asm_core.proofs.Lists.{cells-bad, cells-end, cells-next, if_none-any, onto-over}
-use Rattle.asm_core.proofs.line.read_list.Goals as goal
+use Rattle.asm_core.proofs.list.read_each.Goals as goal
 
 pub returns-in_default-2-clause-list : goal.returns-in_default-2-clause-list
 returns-in_default-2-clause-list c =
