@@ -42,21 +42,20 @@ pub enum Region {
 }
 
 /// What a read of an address gives.
-///
-/// `Ram`, `VectorMemory` and `ProgramRom` have the offset in the memory. The vector RAM stands before
-/// the vector ROM in the vector memory. `Sound1` and `Sound2` have the POKEY's register 0 to 15.
 #[derive(Clone, Copy, PartialEq, Eq)]
 pub enum Reads {
     /// A byte of the RAM.
-    Ram(u16),
-    /// A byte of the vector memory.
-    VectorMemory(u16),
+    Ram,
+    /// A byte of the vector RAM.
+    VectorRam,
+    /// A byte of the vector ROM.
+    VectorRom,
     /// A byte of the program ROM.
-    ProgramRom(u16),
+    ProgramRom,
     /// A register of POKEY 1.
-    Sound1(u8),
+    Sound1,
     /// A register of POKEY 2.
-    Sound2(u8),
+    Sound2,
     /// The EAROM's output latch.
     EaromOut,
     /// Input port 0, the halted bit and the 3 kHz bit.
@@ -65,24 +64,21 @@ pub enum Reads {
     In3,
     /// Input port 4.
     In4,
-    /// The open bus: FF.
+    /// FF, the open bus.
     Open,
 }
 
 /// What a write to an address does.
-///
-/// `Ram` and `VectorRam` have the offset in the memory, `Sound1` and `Sound2` the POKEY's register
-/// 0 to 15, and `EaromLatch` the cell 0 to 63.
 #[derive(Clone, Copy, PartialEq, Eq)]
 pub enum Writes {
     /// Sets a byte of the RAM.
-    Ram(u16),
+    Ram,
     /// Sets a byte of the vector RAM.
-    VectorRam(u16),
+    VectorRam,
     /// Writes a register of POKEY 1.
-    Sound1(u8),
+    Sound1,
     /// Writes a register of POKEY 2.
-    Sound2(u8),
+    Sound2,
     /// Sets the output latch.
     OutputLatch,
     /// Starts the generator.
@@ -94,18 +90,19 @@ pub enum Writes {
     /// Sets the EAROM's control bits.
     EaromControl,
     /// Sets the EAROM's address and data latches.
-    EaromLatch(u8),
+    EaromLatch,
     /// Clears the watchdog.
     WatchdogClear,
     /// Nothing.
     Ignored,
 }
 
-/// A row of the map: the region, what a read of it gives, and what a write to it does.
+/// What a read and a write of an address do.
 #[derive(Clone, Copy, PartialEq, Eq)]
 pub struct Row {
-    /// The region.
-    pub region: Region,
+    /// The offset in a memory, the register 0 to 15 of a POKEY, the cell 0 to 63 of the EAROM, and
+    /// else 0.
+    pub offset: u16,
     /// What a read gives.
     pub reads: Reads,
     /// What a write does.
