@@ -4,20 +4,20 @@ ghost use Rattle.lockstep_board.specs.Budget.{reaches_device};
 ghost use Rattle.catchup_engine.specs.Trace.{made_of};
 ghost use Rattle.cycle_profile.specs.Charge.{device_accesses};
 
-use board_map::region;
+use board_map::row;
 use catchup_engine::{Access, Trace};
-use lockstep_board::uses_of;
+use lockstep_board::{devices_read, devices_written};
 
 /// Does the access reach a device?
 #[tactic(auto, unfolding(lockstep_board::specs::Budget::reaches_device))]
 fn reaches(access: &Access) -> bool
     ensures { result ≡ reaches_device (made_of access.now) }
 {
-    let uses = uses_of(region(access.addr));
+    let row = row(access.addr);
     let reached = if access.write {
-        uses.writes
+        devices_written(row.writes)
     } else {
-        uses.reads
+        devices_read(row.reads)
     };
     !reached.is_empty()
 }
