@@ -5,7 +5,7 @@ ghost use Rattle.board_map.specs.Map.{region_of};
 use crate::map::Region;
 
 /// The first and the last address of each region, and those of the gaps between them.
-#[tactic(auto, unfolding(crate::specs::Map::region_of))]
+#[tactic(auto, unfolding(crate::specs::Map::row_of))]
 pub fn region_edges()
     ensures ram { (region_of 0x0000 ≡ Region.Ram 0) × (region_of 0x07FF ≡ Region.Ram 2047) }
     ensures vector_ram { (region_of 0x2000 ≡ Region.VectorRam 0) × (region_of 0x27FF ≡ Region.VectorRam 2047) }

@@ -5,6 +5,6 @@ pub mod address;
 pub mod laws;
 pub mod map;
 
-pub use address::region;
+pub use address::{region, row};
 pub use laws::region_edges;
-pub use map::Region;
+pub use map::{Reads, Region, Row, Writes};

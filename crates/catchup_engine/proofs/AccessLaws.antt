@@ -1,7 +1,7 @@
 -- One access of the bus, as a step of its relation.
 use Rattle.std.proofs.Common.{◌≡◌, ℕ, ◌+◌, ◌-◌, ◌≤◌, ◌<◌, Bool, true, false, List, length, refl, sym, ap, ◌∙◌, arith}
 use Rattle.board_base.specs.declared.record.Record.{Record}
-use Rattle.board_map.specs.Map.{region_of}
+use Rattle.board_map.specs.Map.{row_of}
 use Rattle.cpu_core.specs.Course.{write_of}
 use Rattle.tape_ports.specs.declared.entry.TapeEntry.{TapeEntry}
 use Rattle.lockstep_board.specs.Wires.{Wires, byte_put}
@@ -49,7 +49,7 @@ room-written s m room written rooms =
 
 byte_put-clock : (a v : ℕ) (w : Wires) → (byte_put a v w).clock ≡ w.clock
 unfolding byte_put
-byte_put-clock a v w = put_in-clock (region_of a) v w
+byte_put-clock a v w = put_in-clock (row_of a).writes (row_of a).offset v w
 
 -- a byte written in the clock that counts as done is one written in that clock
 put-done : (a v : ℕ) (w : Wires) → at_clock (w.clock + 1) (byte_put a v (at_clock (w.clock + 1 - 1) w)) ≡ done_clock (byte_put a v w)

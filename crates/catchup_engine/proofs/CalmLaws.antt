@@ -8,9 +8,9 @@ use Rattle.board_base.specs.declared.divider.Pending.TheVariants.{Nothing, Power
 use Rattle.board_base.specs.declared.cpu.Sequence.{Sequence}
 use Rattle.board_base.specs.declared.cpu.Sequence.TheVariants.{Opcode, Interrupt, Reset}
 use Rattle.board_base.specs.Cpu.{CpuValue}
-use Rattle.board_map.specs.declared.map.Region.{Region}
-use Rattle.board_map.specs.declared.map.Region.TheVariants as region
-use Rattle.board_map.specs.Map.{region_of}
+use Rattle.board_map.specs.declared.map.Writes.{Writes}
+use Rattle.board_map.specs.declared.map.Writes.TheVariants as writes
+use Rattle.board_map.specs.Map.{row_of}
 use Rattle.cpu_alu.specs.Flags.{is_masked}
 use Rattle.cpu_core.specs.Course.{Access}
 use Rattle.cpu_core.specs.Registers.{RegistersValue}
@@ -87,28 +87,28 @@ ram-keeps s t a v is = record {
   irq = λ e. ap (λ (b : BusValue). b.wires.divider.irq) is ∙ e;
 }
 
-put_in-wired : (r : Region) (value : ℕ) (w : Wires) → (put_in r value w).wired ≡ w.wired
-put_in-wired (region.Ram k) value w = refl
-put_in-wired _ value w = refl
+put_in-wired : (put : Writes) (k value : ℕ) (w : Wires) → (put_in put k value w).wired ≡ w.wired
+put_in-wired writes.Ram k value w = refl
+put_in-wired _ k value w = refl
 
-put_in-pending : (r : Region) (value : ℕ) (w : Wires) → (put_in r value w).divider.pending ≡ w.divider.pending
-put_in-pending (region.Ram k) value w = refl
-put_in-pending _ value w = refl
+put_in-pending : (put : Writes) (k value : ℕ) (w : Wires) → (put_in put k value w).divider.pending ≡ w.divider.pending
+put_in-pending writes.Ram k value w = refl
+put_in-pending _ k value w = refl
 
-put_in-irq : (r : Region) (value : ℕ) (w : Wires) → w.divider.irq ≡ false → (put_in r value w).divider.irq ≡ false
-put_in-irq region.Acknowledge value w e = refl
-put_in-irq _ value w e = e
+put_in-irq : (put : Writes) (k value : ℕ) (w : Wires) → w.divider.irq ≡ false → (put_in put k value w).divider.irq ≡ false
+put_in-irq writes.Acknowledge k value w e = refl
+put_in-irq _ k value w e = e
 
--- a region is written
+-- a byte is written
 pub put-keeps : (a v : ℕ) (m t : BusValue) (most : ℕ) → Does m t (at_clock m.wires.clock (byte_put a v (at_clock (m.wires.clock - 1) m.wires))) most → KeepsLines m t
 unfolding byte_put
 put-keeps a v m t most does =
     let w = at_clock (m.wires.clock - 1) m.wires in
     record {
       event = ap (λ (b : BusValue). b.event_at) does.value;
-      wired = ap (λ (b : BusValue). b.wires.wired) does.value ∙ put_in-wired (region_of a) v w;
-      pending = ap (λ (b : BusValue). b.wires.divider.pending) does.value ∙ put_in-pending (region_of a) v w;
-      irq = λ e. ap (λ (b : BusValue). b.wires.divider.irq) does.value ∙ put_in-irq (region_of a) v w e;
+      wired = ap (λ (b : BusValue). b.wires.wired) does.value ∙ put_in-wired (row_of a).writes (row_of a).offset v w;
+      pending = ap (λ (b : BusValue). b.wires.divider.pending) does.value ∙ put_in-pending (row_of a).writes (row_of a).offset v w;
+      irq = λ e. ap (λ (b : BusValue). b.wires.divider.irq) does.value ∙ put_in-irq (row_of a).writes (row_of a).offset v w e;
     }
 
 -- so does a whole sequence

@@ -17,7 +17,7 @@ use Rattle.cpu_core.specs.Registers.{RegistersValue}
 use Rattle.cpu_core.specs.Sequences.{Runs}
 use Rattle.tape_ports.specs.declared.entry.TapeEntry.{TapeEntry}
 use Rattle.tape_ports.specs.Tape.{TapeValue}
-use Rattle.board_map.specs.Map.{region_of}
+use Rattle.board_map.specs.Map.{row_of}
 use Rattle.catchup_engine.specs.declared.bus.TheConstants.{PROGRAM_START, WHOLE}
 use Rattle.lockstep_board.specs.Budget.{reaches_device}
 use Rattle.catchup_engine.specs.Lags.{DeviceLags, all_lag, lagging_at}
@@ -27,7 +27,7 @@ use Rattle.catchup_engine.specs.Quiet.{IsCounted, later, passed, quiet_room}
 use Rattle.lockstep_board.specs.Wires.{Wires, byte_put, byte_read, devices_ticked}
 use Rattle.catchup_engine.proofs.AccessLaws.{write-step}
 use Rattle.catchup_engine.proofs.ClockLaws.{clock-back}
-use Rattle.catchup_engine.proofs.MapLaws.{region-program, region-ram}
+use Rattle.catchup_engine.proofs.MapLaws.{row-program, row-ram}
 use Rattle.catchup_engine.proofs.Seen.{runs-seen}
 use Rattle.catchup_engine.proofs.TapeLaws.{fits-quiet, ticked-quiet}
 
@@ -153,20 +153,20 @@ ram-read : (tape : TapeValue) (n a v : ℕ) (s : BusValue) → IsCounted tape n 
     → v ≡ slice_index s.wires.ram a → BusStep tape.entries (read_of a v) (passed n s) (passed (n + 1) s)
 unfolding byte_read later devices_ticked
 ram-read tape n a v s c h near is = (
-  is ∙ sym (ap (byte_read a) (in-quiet tape n s c h) ∙ rw (region-ram a near) refl),
+  is ∙ sym (ap (byte_read a) (in-quiet tape n s c h) ∙ rw (row-ram a near) refl),
   quiet-entered tape n s c h,
   stays-quiet tape.entries (read_of a v) n s s c.between refl refl refl refl,
-  rw (region-ram a near) refl,
+  rw (row-ram a near) refl,
 )
 
 program-read : (tape : TapeValue) (n a v : ℕ) (s : BusValue) → IsCounted tape n s → s.wires.clock + n < s.event_at → PROGRAM_START ≤ a → a < 65536
     → v ≡ slice_index s.wires.program (a - PROGRAM_START) → BusStep tape.entries (read_of a v) (passed n s) (passed (n + 1) s)
 unfolding byte_read later devices_ticked
 program-read tape n a v s c h near last is = (
-  is ∙ sym (ap (byte_read a) (in-quiet tape n s c h) ∙ rw (region-program a near last) refl),
+  is ∙ sym (ap (byte_read a) (in-quiet tape n s c h) ∙ rw (row-program a near last) refl),
   quiet-entered tape n s c h,
   stays-quiet tape.entries (read_of a v) n s s c.between refl refl refl refl,
-  rw (region-program a near last) refl,
+  rw (row-program a near last) refl,
 )
 
 -- a write to the RAM, which no device sees
@@ -178,7 +178,7 @@ later-ram n ram w = refl
 put-ram : (n a v : ℕ) (w : Wires) → a < 2048
     → (let r : Wires = record (done_clock (devices_ticked (later n w))) { ram = slice_set w.ram a v } in r) ≡ done_clock (byte_put a v (devices_ticked (later n w)))
 unfolding later devices_ticked byte_put
-put-ram n a v w near = rw (region-ram a near) refl
+put-ram n a v w near = rw (row-ram a near) refl
 
 ram-written : (tape : TapeValue) (n a v : ℕ) (s t : BusValue) → IsCounted tape n s → s.wires.clock + n < s.event_at → a < 2048
     → t ≡ record s { wires = record s.wires { ram = slice_set s.wires.ram a v } }
@@ -357,7 +357,7 @@ told-begun n s m told = let clock : m.wires.clock ≡ s.wires.clock + (n + 1) = 
 
 pub device-reads : (tape : TapeValue) (n k a v : ℕ) (s m t : BusValue) → IsCounted tape n s → 1 ≤ quiet_room n s → m ≡ passed (n + 1) s → k ≡ 0
     → Does m t m.wires (2 * from_bool (reaches_device (read_of a v))) → v ≡ byte_read a (at_clock (m.wires.clock - 1) m.wires)
-    → lagging_at (region_of a) t.lagging ≡ 0 → IsStep tape (read_of a v) n s k t
+    → lagging_at (row_of a).reads t.lagging ≡ 0 → IsStep tape (read_of a v) n s k t
 device-reads tape n k a v s m t c room told none does is current =
     let more = counted-more tape n s c room in
     let quiet = more.quiet in

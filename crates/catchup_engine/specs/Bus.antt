@@ -2,7 +2,7 @@
 use Rattle.std.specs.Prelude.{◌≡◌, ℕ, ◌+◌, ◌-◌, ◌*◌, ◌<◌, ◌≤◌, List, [], All, take, drop, Option, Some, None, Bool, false, min, length, if◌then◌else◌}
 use Rattle.std.specs.Int.{from_bool}
 use Rattle.board_base.specs.declared.board.TheConstants.{CLOCK_END}
-use Rattle.board_map.specs.Map.{region_of}
+use Rattle.board_map.specs.Map.{row_of}
 use Rattle.cpu_core.specs.Course.{Access, read_of, write_of}
 use Rattle.tape_ports.specs.declared.entry.TapeEntry.{TapeEntry}
 use Rattle.tape_ports.specs.Tape.{TapeValue, IsTape}
@@ -62,7 +62,7 @@ abbrev pub BusStep : List TapeEntry → Access → BusValue → BusValue → Typ
 BusStep entries (read_of address value) s t =
     (value ≡ byte_read address (in_clock entries s.begun s.wires))
     × (t.wires ≡ done_clock (in_clock entries s.begun s.wires)) × Stays entries (read_of address value) s t
-    × (lagging_at (region_of address) t.lagging ≡ 0)
+    × (lagging_at (row_of address).reads t.lagging ≡ 0)
 BusStep entries (write_of address value) s t =
     (t.wires ≡ done_clock (byte_put address value (in_clock entries s.begun s.wires))) × Stays entries (write_of address value) s t
 

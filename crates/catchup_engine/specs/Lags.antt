@@ -1,8 +1,8 @@
 -- Devices that lag behind the board's clock.
 use Rattle.std.specs.Prelude.{ℕ, ◌+◌, Bool, if◌then◌else◌}
-use Rattle.board_map.specs.declared.map.Region.{Region}
+use Rattle.board_map.specs.declared.map.Reads.{Reads}
 use Rattle.lockstep_board.specs.declared.uses.DeviceSet.{DeviceSet}
-use Rattle.lockstep_board.specs.Uses.{uses_of}
+use Rattle.lockstep_board.specs.Uses.{devices_read}
 
 -- for each device 1 where it lags, and else 0
 pub record DeviceLags : Type 0 where
@@ -48,6 +48,6 @@ with_brought devices l = record {
   divider = lag_left devices.divider l.divider;
 }
 
--- how many of the devices lag whose byte a read of a region gives
-abbrev pub lagging_at : Region → DeviceLags → ℕ
-lagging_at r l = lagging_among (uses_of r).reads l
+-- how many of the devices lag that give the byte of a read
+abbrev pub lagging_at : Reads → DeviceLags → ℕ
+lagging_at reads l = lagging_among (devices_read reads) l

@@ -14,8 +14,8 @@ use Rattle.board_base.specs.declared.part.Part.TheVariants.{Generator}
 use Rattle.board_base.specs.declared.record.Record.{Record}
 use Rattle.board_base.specs.declared.record.Record.TheVariants.{Stroke, Levels, Latch, WatchdogReset}
 use Rattle.board_base.specs.Records.{clock_of, Makes}
-use Rattle.board_map.specs.declared.map.Region.{Region}
-use Rattle.board_map.specs.Map.{Range, address_map, region_in, region_of}
+use Rattle.board_map.specs.Map.{address_map, region_at, region_of, row_of}
+use Rattle.board_map.proofs.Rows.{passing}
 use Rattle.frame_list.specs.Events.{Event, stroke_of, mark_at, is_go, through, by_clock}
 use Rattle.frame_list.specs.Frames.{FrameValue, begun, counted, under_way, ended, frame_text, frames_text, frames_of, EachStrokeInOneFrame, IsBefore, PartsMakeTheWhole}
 use Rattle.frame_list.proofs.FrameLaws.{under_way-append, ended-append, ended-strokes}
@@ -122,59 +122,10 @@ parts_make_the_whole frame strokes1 marks1 strokes2 marks2 before =
       text = rw (whole, ended-append frame first rest) (flat_map-append frame_text (ended frame first) (ended (under_way frame first) rest));
     }
 
--- a range in which no address starts the generator, or in which the address isn't
-abbrev pub Passes : ℕ → Range → Type 0
-Passes addr range = (is_go (range.at (addr - range.first)) ≡ false) ⊎ (nat_le range.first addr && nat_le addr range.last ≡ false)
-
-abbrev pub AllPass : ℕ → List Range → Type 0
-AllPass addr [] = Unit {0}
-AllPass addr (range ∷ ranges) = Passes addr range × AllPass addr ranges
-
-pub passed : (b : Bool) (x rest : Region) → (is_go x ≡ false) ⊎ (b ≡ false) → is_go rest ≡ false → is_go (if b then x else rest) ≡ false
-passed true x rest (inl here) there = here
-passed true x rest (inr other) there = cc
-passed false x rest either there = there
-
-pub starts_nowhere : (addr : ℕ) (ranges : List Range) → AllPass addr ranges → is_go (region_in ranges addr) ≡ false
-starts_nowhere addr [] pass = refl
-starts_nowhere addr (range ∷ ranges) (here, there) =
-    passed (nat_le range.first addr && nat_le addr range.last) (range.at (addr - range.first)) (region_in ranges addr) here (starts_nowhere addr ranges there)
-
 pub not_there : (addr : ℕ) → addr ≢ 0x8840 → nat_le 0x8840 addr && nat_le addr 0x8840 ≡ false
 not_there addr other = grind (arith, leb_tells)
 
 -- no other address starts the generator
 pub starts_elsewhere : (addr : ℕ) → addr ≢ 0x8840 → is_go (region_of addr) ≡ false
-unfolding region_of
-starts_elsewhere addr other =
-    starts_nowhere addr address_map (
-      inl refl,
-      (
-        inl refl,
-        (
-          inl refl,
-          (
-            inl refl,
-            (
-              inl refl,
-              (
-                inl refl,
-                (
-                  inl refl,
-                  (
-                    inl refl,
-                    (
-                      inl refl,
-                      (
-                        inr (not_there addr other),
-                        (inl refl, (inl refl, (inl refl, (inl refl, (inl refl, (inl refl, tt)))))),
-                      ),
-                    ),
-                  ),
-                ),
-              ),
-            ),
-          ),
-        ),
-      ),
-    )
+unfolding row_of
+starts_elsewhere addr other = passing (λ row. is_go (region_at row)) refl address_map 0 addr refl ∙ rw (not_there addr other) refl

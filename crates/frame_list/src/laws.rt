@@ -22,7 +22,7 @@ pub fn parts_make_the_whole()
 {}
 
 /// The writes that start the generator are those of address 8840; no read does.
-#[tactic(auto, using(crate::proofs::WholeLaws::starts_elsewhere), unfolding(board_map::specs::Map::region_of))]
+#[tactic(auto, using(crate::proofs::WholeLaws::starts_elsewhere), unfolding(board_map::specs::Map::row_of))]
 pub fn marks_are_writes_of_8840()
     ensures write { is_go (region_of 0x8840) ≡ true }
     ensures others { (addr : ℕ) → addr ≢ 0x8840 → is_go (region_of addr) ≡ false }

@@ -8,9 +8,10 @@ use Rattle.board_base.specs.declared.divider.Pending.{Pending}
 use Rattle.board_base.specs.declared.divider.Pending.TheVariants.{Nothing, Power, Watchdog}
 use Rattle.board_base.specs.declared.vector_memory.TheConstants.{VECTOR_RAM_LEN}
 use Rattle.board_base.specs.Cpu.{CpuValue, MidValue}
-use Rattle.board_map.specs.declared.map.Region.{Region}
-use Rattle.board_map.specs.declared.map.Region.TheVariants as region
-use Rattle.board_map.specs.Map.{Range, address_map, region_in, region_of, IsInside}
+use Rattle.board_map.specs.declared.map.Writes.{Writes}
+use Rattle.board_map.specs.declared.map.Writes.TheVariants as writes
+use Rattle.board_map.specs.Map.{row_of, IsWritable}
+use Rattle.board_map.proofs.Within.{writable}
 use Rattle.cpu_core.specs.declared.replay.Next.{Next}
 use Rattle.cpu_core.specs.declared.replay.Next.TheVariants.{Read, Write, End}
 use Rattle.cpu_core.specs.Registers.{RegistersValue, registers_of}
@@ -33,32 +34,6 @@ pub record Image : Type 0 where
 abbrev pub image_of : Wires → Image
 image_of w = record { wired = w.wired; program = w.program; rom = drop VECTOR_RAM_LEN w.memory }
 
--- each range of a map gives regions whose offsets are inside them
-abbrev AreInside : List Range → Type 0
-AreInside [] = Unit {0}
-AreInside (range ∷ ranges) = ((offset : ℕ) → offset ≤ range.last - range.first → IsInside (range.at offset)) × AreInside ranges
-
-region_inside : (ranges : List Range) (address : ℕ) → AreInside ranges → IsInside (region_in ranges address)
-region_inside [] address h = tt
-region_inside (range ∷ ranges) address h = by_test (nat_le range.first address) (nat_le address range.last) refl refl (region_inside ranges address h.1)
-  where
-    by_test : (low high : Bool) → nat_le range.first address ≡ low → nat_le address range.last ≡ high
-        → IsInside (region_in ranges address) → IsInside (if low && high then range.at (address - range.first) else region_in ranges address)
-    by_test true true e f rest =
-        let first : range.first ≤ address = grind (arith, nat_tests) in
-        let last : address ≤ range.last = grind (arith, nat_tests) in
-        h.0 (address - range.first) (omega arith)
-    by_test true false e f rest = rest
-    by_test false high e f rest = rest
-
-map_inside : AreInside address_map
-map_inside =
-    (λ offset few. omega arith, (λ offset few. omega arith, (λ offset few. omega arith, (λ offset few. omega arith, (λ offset few. omega arith, (λ offset few. tt, (λ offset few. tt, (λ offset few. tt, (λ offset few. tt, (λ offset few. tt, (λ offset few. tt, (λ offset few. tt, (λ offset few. tt, (λ offset few. omega arith, (λ offset few. tt, (λ offset few. omega arith, tt))))))))))))))))
-
-inside : (address : ℕ) → IsInside (region_of address)
-unfolding region_of
-inside address = region_inside address_map address map_inside
-
 port_set-image : (p : Port) (value : ℕ) (w : Wires) → image_of (port_set p value w) ≡ image_of w
 port_set-image port.In0 value w = refl
 port_set-image port.In3 value w = refl
@@ -76,17 +51,16 @@ unfolding ticked devices_ticked
 ticked-image entries w = applied-image (due_at w.clock entries) w
 
 -- a write reaches the vector RAM and not the vector ROM behind it
-put_in-image : (r : Region) (value : ℕ) (w : Wires) → IsInside r → image_of (put_in r value w) ≡ image_of w
-put_in-image (region.Ram k) value w at = refl
-put_in-image (region.VectorRam k) value w at =
+put_in-image : (put : Writes) (k value : ℕ) (w : Wires) → IsWritable put k → image_of (put_in put k value w) ≡ image_of w
+put_in-image writes.VectorRam k value w at =
     ap (λ (rom : List ℕ). let image : Image = record { wired = w.wired; program = w.program; rom = rom } in image) (drop-set-lt VECTOR_RAM_LEN w.memory k value at)
-put_in-image _ value w at = refl
+put_in-image _ k value w at = refl
 
 accessed_by-image : (next : Next) (r : RegistersValue) (q : Sequence) (bytes : List ℕ) (w : Wires)
     → image_of (accessed_by next r q bytes w).wires ≡ image_of w
 unfolding byte_put
 accessed_by-image (Read a) r q bytes w = refl
-accessed_by-image (Write a v) r q bytes w = put_in-image (region_of a) v w (inside a)
+accessed_by-image (Write a v) r q bytes w = put_in-image (row_of a).writes (row_of a).offset v w (writable a)
 accessed_by-image (End e) r q bytes w = refl
 
 accessed-image : (r : RegistersValue) (q : Sequence) (bytes : List ℕ) (w : Wires) → image_of (accessed r q bytes w).wires ≡ image_of w

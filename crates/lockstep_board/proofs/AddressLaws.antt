@@ -1,76 +1,13 @@
 -- Which addresses reach a device, range by range of the map.
-use Rattle.std.proofs.Common.{◌≡◌, ℕ, ◌-◌, ◌<◌, ◌≤◌, List, [], ◌∷◌, Bool, true, false, nat_le, if◌then◌else◌, suc, inl, inr, refl, sym, ap, ◌∙◌, arith, le-leb}
+use Rattle.std.proofs.Common.{◌≡◌, ℕ, Bool, nat_le, inl, inr, refl, ap, ◌∙◌, arith, le-leb}
 use Rattle.std.specs.Prelude.{◌&&◌, ◌||◌}
-use Rattle.std.specs.List.{list_any}
 use Rattle.std.proofs.lemmas.Bool.{lt-leb}
 use Rattle.std.proofs.lemmas.Bool.Decides.{leb_tells}
-use Rattle.board_map.specs.declared.map.Region.{Region}
-use Rattle.board_map.specs.declared.map.Region.TheVariants.{Nothing}
-use Rattle.board_map.specs.Map.{Range, address_map, region_in, region_of}
+use Rattle.board_map.specs.Map.{address_map, row_of}
+use Rattle.board_map.proofs.Rows.{passing}
 use Rattle.cpu_core.specs.Course.{read_of, write_of}
 use Rattle.lockstep_board.specs.Addresses.{device_reads, device_writes, is_among}
 use Rattle.lockstep_board.specs.Budget.{reads_device, writes_device, reaches_device}
-
--- an address is in a range of the map
-abbrev is_in : ℕ → Range → Bool
-is_in address range = nat_le range.first address && nat_le address range.last
-
--- ranges from an address on, each of them behind the one before
-abbrev are_rising : ℕ → List Range → Bool
-are_rising from [] = true
-are_rising from (range ∷ ranges) = nat_le from range.first && (nat_le range.first range.last && are_rising (suc range.last) ranges)
-
--- an address is in a range whose region passes a test
-abbrev is_in_passing : (Region → Bool) → List Range → ℕ → Bool
-is_in_passing p ranges address = list_any (λ range. p (range.at (address - range.first)) && is_in address range) ranges
-
-and-first : (a b : Bool) → a && b ≡ true → a ≡ true
-and-first true b both = refl
-and-first false b both = cc
-
-and-second : (a b : Bool) → a && b ≡ true → b ≡ true
-and-second true b both = both
-and-second false b both = cc
-
-and-none : (a : Bool) → a && false ≡ false
-and-none true = refl
-and-none false = refl
-
-le-of : (a b : ℕ) → nat_le a b ≡ true → a ≤ b
-le-of a b test = elim (leb_tells a b) [ inl (pass, le) ↦ le | inr (fail, above) ↦ let other : true ≡ false = sym test ∙ fail in cc ]
-
--- an address below ranges is in none of them
-none-below : (p : Region → Bool) (ranges : List Range) (from address : ℕ) → are_rising from ranges ≡ true → address < from
-    → is_in_passing p ranges address ≡ false
-none-below p [] from address rising below = refl
-none-below p (range ∷ ranges) from address rising below =
-    let start = le-of from range.first (and-first _ _ rising) in
-    let later = and-second (nat_le from range.first) _ rising in
-    let order = le-of range.first range.last (and-first _ _ later) in
-    let out : nat_le range.first address ≡ false = lt-leb range.first address (omega (arith, start, below)) in
-    rw (out, and-none (p (range.at (address - range.first))))
-    (none-below p ranges (suc range.last) address (and-second (nat_le range.first range.last) _ later) (omega (arith, start, order, below)))
-
--- the first range with an address is the only one
-one-range : (p : Region → Bool) (test rest : Bool) (x y : Region) → (test ≡ true → rest ≡ false) → p y ≡ rest
-    → p (if test then x else y) ≡ (p x && test) || rest
-one-range p true rest x y alone other = rw (alone refl) (kept (p x))
-  where
-    kept : (b : Bool) → b ≡ (b && true) || false
-    kept true = refl
-    kept false = refl
-one-range p false rest x y alone other = rw (and-none (p x)) other
-
-passing : (p : Region → Bool) → p Nothing ≡ false → (ranges : List Range) (from address : ℕ) → are_rising from ranges ≡ true
-    → p (region_in ranges address) ≡ is_in_passing p ranges address
-passing p none [] from address rising = none
-passing p none (range ∷ ranges) from address rising =
-    let later = and-second (nat_le from range.first) _ rising in
-    let rest = and-second (nat_le range.first range.last) _ later in
-    one-range p (is_in address range) (is_in_passing p ranges address) (range.at (address - range.first)) (region_in ranges address)
-    (λ inside. none-below p ranges (suc range.last) address rest
-    (let most = le-of address range.last (and-second (nat_le range.first address) _ inside) in omega (arith, most)))
-    (passing p none ranges (suc range.last) address rest)
 
 -- the ranges of both POKEYs are one
 pokeys : (address : ℕ) (rest : Bool)
@@ -82,12 +19,12 @@ pokeys address rest = elim (leb_tells address 0x67FF) [
 ]
 
 pub device-reads : (address value : ℕ) → reaches_device (read_of address value) ≡ is_among device_reads address
-unfolding reaches_device region_of
-device-reads address value = passing reads_device refl address_map 0 address refl ∙ pokeys address _
+unfolding reaches_device row_of
+device-reads address value = passing (λ row. reads_device row.reads) refl address_map 0 address refl ∙ pokeys address _
 
 pub device-writes : (address value : ℕ) → reaches_device (write_of address value) ≡ is_among device_writes address
-unfolding reaches_device region_of
+unfolding reaches_device row_of
 device-writes address value =
-    passing writes_device refl address_map 0 address refl ∙ ap (λ b. (nat_le 0x2000 address && nat_le address 0x27FF) || b) (pokeys address _)
+    passing (λ row. writes_device row.writes) refl address_map 0 address refl ∙ ap (λ b. (nat_le 0x2000 address && nat_le address 0x27FF) || b) (pokeys address _)
 
 pub ruleset addresses = (device-reads, device-writes)

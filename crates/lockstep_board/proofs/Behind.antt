@@ -5,9 +5,11 @@ use Rattle.board_base.specs.declared.cpu.Sequence.TheVariants.{Opcode, Interrupt
 use Rattle.board_base.specs.declared.divider.Pending.{Pending}
 use Rattle.board_base.specs.declared.divider.Pending.TheVariants.{Nothing, Power, Watchdog}
 use Rattle.board_base.specs.Cpu.{CpuValue, MidValue}
-use Rattle.board_map.specs.declared.map.Region.{Region}
-use Rattle.board_map.specs.declared.map.Region.TheVariants as region
-use Rattle.board_map.specs.Map.{region_of}
+use Rattle.board_map.specs.declared.map.Reads.{Reads}
+use Rattle.board_map.specs.declared.map.Reads.TheVariants as reads
+use Rattle.board_map.specs.declared.map.Writes.{Writes}
+use Rattle.board_map.specs.declared.map.Writes.TheVariants as writes
+use Rattle.board_map.specs.Map.{row_of}
 use Rattle.cpu_core.specs.declared.replay.Next.{Next}
 use Rattle.cpu_core.specs.declared.replay.Next.TheVariants.{Read, Write, End}
 use Rattle.cpu_core.specs.Registers.{RegistersValue, registers_of}
@@ -61,28 +63,23 @@ unfolding ticked
 ticked-front entries l w =
     ap devices_ticked (applied-front (due_at w.clock entries) l w) ∙ devices_ticked-front l (applied (due_at w.clock entries) w)
 
-byte_in-front : (r : Region) (l : Recorded) (w : Wires) → byte_in r (front l w) ≡ byte_in r w
-byte_in-front (region.Ram k) l w = refl
-byte_in-front (region.VectorRam k) l w = refl
-byte_in-front (region.VectorRom k) l w = refl
-byte_in-front (region.ProgramRom k) l w = refl
-byte_in-front _ l w = refl
+byte_in-front : (got : Reads) (k : ℕ) (l : Recorded) (w : Wires) → byte_in got k (front l w) ≡ byte_in got k w
+byte_in-front reads.Ram k l w = refl
+byte_in-front _ k l w = refl
 
 byte_read-front : (address : ℕ) (l : Recorded) (w : Wires) → byte_read address (front l w) ≡ byte_read address w
 unfolding byte_read
-byte_read-front address l w = byte_in-front (region_of address) l w
+byte_read-front address l w = byte_in-front (row_of address).reads (row_of address).offset l w
 
-put_in-front : (r : Region) (value : ℕ) (l : Recorded) (w : Wires) → put_in r value (front l w) ≡ front l (put_in r value w)
-put_in-front (region.Ram k) value l w = refl
-put_in-front (region.VectorRam k) value l w = refl
-put_in-front region.In4 value l w = rw append_assoc refl
-put_in-front _ value l w = refl
+put_in-front : (put : Writes) (k value : ℕ) (l : Recorded) (w : Wires) → put_in put k value (front l w) ≡ front l (put_in put k value w)
+put_in-front writes.OutputLatch k value l w = rw append_assoc refl
+put_in-front _ k value l w = refl
 
 accessed_by-front : (next : Next) (r : RegistersValue) (q : Sequence) (bytes : List ℕ) (l : Recorded) (w : Wires)
     → accessed_by next r q bytes (front l w) ≡ behind l (accessed_by next r q bytes w)
 unfolding byte_put
 accessed_by-front (Read a) r q bytes l w = rw (byte_read-front a l w) refl
-accessed_by-front (Write a v) r q bytes l w = rw (put_in-front (region_of a) v l w) refl
+accessed_by-front (Write a v) r q bytes l w = rw (put_in-front (row_of a).writes (row_of a).offset v l w) refl
 accessed_by-front (End e) r q bytes l w = refl
 
 accessed-front : (r : RegistersValue) (q : Sequence) (bytes : List ℕ) (l : Recorded) (w : Wires)

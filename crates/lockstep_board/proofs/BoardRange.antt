@@ -1,6 +1,5 @@
 -- A step keeps a board in its range.
-use Rattle.std.proofs.Common.{◌≡◌, ◌≤◌, ℕ, ◌+◌, ◌-◌, ◌%◌, ◌^◌, ◌<◌, ◌==◌, ◌&&◌, ◌++◌, nat_le, nat_lt, Bool, true, false, if◌then◌else◌, List, [], ◌∷◌, length, slice_set, Option, Some, None, All, IfSome, IsSomeAnd, zero, suc, refl, subst, ◌∙◌, arith, length-append}
-use Rattle.std.proofs.lemmas.Bool.Decides.{nat_tests}
+use Rattle.std.proofs.Common.{◌≡◌, ◌≤◌, ℕ, ◌+◌, ◌%◌, ◌^◌, ◌<◌, ◌==◌, ◌++◌, nat_lt, Bool, true, false, if◌then◌else◌, List, [], ◌∷◌, length, slice_set, Option, Some, None, All, IfSome, IsSomeAnd, zero, suc, refl, subst, ◌∙◌, arith, length-append}
 use Rattle.std.proofs.lemmas.List.{length-set}
 use Rattle.std.proofs.lemmas.List.Elements.{All-filter, All-head, All-push, All-set, All-tail, All-take}
 use Rattle.board_base.specs.declared.cpu.Sequence.{Sequence}
@@ -11,9 +10,12 @@ use Rattle.board_base.specs.declared.vector_memory.TheConstants.{VECTOR_RAM_LEN}
 use Rattle.board_base.specs.Cpu.{CpuValue, MidValue}
 use Rattle.board_base.specs.Divider.{IsDivider}
 use Rattle.board_base.specs.Pokey.{PokeyValue}
-use Rattle.board_map.specs.declared.map.Region.{Region}
-use Rattle.board_map.specs.declared.map.Region.TheVariants as region
-use Rattle.board_map.specs.Map.{Range, address_map, region_in, region_of, IsInside}
+use Rattle.board_map.specs.declared.map.Reads.{Reads}
+use Rattle.board_map.specs.declared.map.Reads.TheVariants as reads
+use Rattle.board_map.specs.declared.map.Writes.{Writes}
+use Rattle.board_map.specs.declared.map.Writes.TheVariants as writes
+use Rattle.board_map.specs.Map.{row_of, IsWritable}
+use Rattle.board_map.proofs.Within.{writable}
 use Rattle.cpu_alu.specs.Flags.{is_masked}
 use Rattle.cpu_core.specs.declared.replay.Next.{Next}
 use Rattle.cpu_core.specs.declared.replay.Next.TheVariants.{Read, Write, End}
@@ -37,32 +39,6 @@ use Rattle.lockstep_board.proofs.DividerRange.{divider_tick-in_range}
 use Rattle.lockstep_board.proofs.EaromRange.{byte_at, controlled-in_range, earom_tick-in_range, latched-in_range}
 use Rattle.lockstep_board.proofs.GeneratorRange.{vg_go-in_range, vg_reset-in_range, vg_tick-in_range}
 use Rattle.lockstep_board.proofs.PokeyRange.{pokey_tick-in_range, pot_set-in_range, register_written-in_range}
-
--- each range of a map gives regions whose offsets are inside them
-abbrev AreInside : List Range → Type 0
-AreInside [] = Unit {0}
-AreInside (range ∷ ranges) = ((offset : ℕ) → offset ≤ range.last - range.first → IsInside (range.at offset)) × AreInside ranges
-
-region_inside : (ranges : List Range) (address : ℕ) → AreInside ranges → IsInside (region_in ranges address)
-region_inside [] address h = tt
-region_inside (range ∷ ranges) address h = by_test (nat_le range.first address) (nat_le address range.last) refl refl (region_inside ranges address h.1)
-  where
-    by_test : (low high : Bool) → nat_le range.first address ≡ low → nat_le address range.last ≡ high
-        → IsInside (region_in ranges address) → IsInside (if low && high then range.at (address - range.first) else region_in ranges address)
-    by_test true true e f rest =
-        let first : range.first ≤ address = grind (arith, nat_tests) in
-        let last : address ≤ range.last = grind (arith, nat_tests) in
-        h.0 (address - range.first) (omega arith)
-    by_test true false e f rest = rest
-    by_test false high e f rest = rest
-
-map_inside : AreInside address_map
-map_inside =
-    (λ offset few. omega arith, (λ offset few. omega arith, (λ offset few. omega arith, (λ offset few. omega arith, (λ offset few. omega arith, (λ offset few. tt, (λ offset few. tt, (λ offset few. tt, (λ offset few. tt, (λ offset few. tt, (λ offset few. tt, (λ offset few. tt, (λ offset few. tt, (λ offset few. omega arith, (λ offset few. tt, (λ offset few. omega arith, tt))))))))))))))))
-
-inside : (address : ℕ) → IsInside (region_of address)
-unfolding region_of
-inside address = region_inside address_map address map_inside
 
 set_bytes : (len : ℕ) (bytes : List ℕ) (k value : ℕ) → IsByte value → AreBytes len bytes → AreBytes len (slice_set bytes k value)
 set_bytes len bytes k value byte h = record {
@@ -212,25 +188,25 @@ in0_byte_in w h = bits w.in0 _ _ h.in0
     bits n false true h = omega arith
     bits n false false h = omega arith
 
-byte_in_in : (r : Region) (w : Wires) → AreWiresInRange w → IsByte (byte_in r w)
-byte_in_in (region.Ram k) w h = byte_at w.ram k h.ram.each
-byte_in_in (region.VectorRam k) w h = byte_at w.memory k h.memory.each
-byte_in_in (region.VectorRom k) w h = byte_at w.memory (VECTOR_RAM_LEN + k) h.memory.each
-byte_in_in (region.Sound1 reg) w h = register_read_in reg w.sound1 h.sound1
-byte_in_in (region.Sound2 reg) w h = register_read_in reg w.sound2 h.sound2
-byte_in_in region.EaromOut w h = h.earom.out
-byte_in_in region.In0 w h = in0_byte_in w h
-byte_in_in region.In3 w h = h.in3
-byte_in_in region.In4 w h = h.in4
-byte_in_in (region.ProgramRom k) w h = byte_at w.program k h.program.each
-byte_in_in _ w h = omega arith
+byte_in_in : (got : Reads) (k : ℕ) (w : Wires) → AreWiresInRange w → IsByte (byte_in got k w)
+byte_in_in reads.Ram k w h = byte_at w.ram k h.ram.each
+byte_in_in reads.VectorRam k w h = byte_at w.memory k h.memory.each
+byte_in_in reads.VectorRom k w h = byte_at w.memory (VECTOR_RAM_LEN + k) h.memory.each
+byte_in_in reads.Sound1 reg w h = register_read_in reg w.sound1 h.sound1
+byte_in_in reads.Sound2 reg w h = register_read_in reg w.sound2 h.sound2
+byte_in_in reads.EaromOut k w h = h.earom.out
+byte_in_in reads.In0 k w h = in0_byte_in w h
+byte_in_in reads.In3 k w h = h.in3
+byte_in_in reads.In4 k w h = h.in4
+byte_in_in reads.ProgramRom k w h = byte_at w.program k h.program.each
+byte_in_in _ k w h = omega arith
 
 byte_read_in : (address : ℕ) (w : Wires) → AreWiresInRange w → IsByte (byte_read address w)
 unfolding byte_read
-byte_read_in address w h = byte_in_in (region_of address) w h
+byte_read_in address w h = byte_in_in (row_of address).reads (row_of address).offset w h
 
-put_in_in : (r : Region) (value : ℕ) (w : Wires) → IsInside r → IsByte value → AreWiresInRange w → AreWiresInRange (put_in r value w)
-put_in_in (region.Ram k) value w at byte h =
+put_in_in : (put : Writes) (k value : ℕ) (w : Wires) → IsWritable put k → IsByte value → AreWiresInRange w → AreWiresInRange (put_in put k value w)
+put_in_in writes.Ram k value w at byte h =
     record {
       out = h.out;
       in0 = h.in0;
@@ -245,7 +221,7 @@ put_in_in (region.Ram k) value w at byte h =
       memory = h.memory;
       program = h.program;
     }
-put_in_in (region.VectorRam k) value w at byte h =
+put_in_in writes.VectorRam k value w at byte h =
     record {
       out = h.out;
       in0 = h.in0;
@@ -260,7 +236,7 @@ put_in_in (region.VectorRam k) value w at byte h =
       memory = set_bytes _ w.memory k value byte h.memory;
       program = h.program;
     }
-put_in_in (region.Sound1 reg) value w at byte h =
+put_in_in writes.Sound1 reg value w at byte h =
     record {
       out = h.out;
       in0 = h.in0;
@@ -275,7 +251,7 @@ put_in_in (region.Sound1 reg) value w at byte h =
       memory = h.memory;
       program = h.program;
     }
-put_in_in (region.Sound2 reg) value w at byte h =
+put_in_in writes.Sound2 reg value w at byte h =
     record {
       out = h.out;
       in0 = h.in0;
@@ -290,7 +266,7 @@ put_in_in (region.Sound2 reg) value w at byte h =
       memory = h.memory;
       program = h.program;
     }
-put_in_in region.In4 value w at byte h =
+put_in_in writes.OutputLatch k value w at byte h =
     record {
       out = byte;
       in0 = h.in0;
@@ -305,7 +281,7 @@ put_in_in region.In4 value w at byte h =
       memory = h.memory;
       program = h.program;
     }
-put_in_in region.Go value w at byte h =
+put_in_in writes.Go k value w at byte h =
     record {
       out = h.out;
       in0 = h.in0;
@@ -320,7 +296,7 @@ put_in_in region.Go value w at byte h =
       memory = h.memory;
       program = h.program;
     }
-put_in_in region.VgReset value w at byte h =
+put_in_in writes.VgReset k value w at byte h =
     record {
       out = h.out;
       in0 = h.in0;
@@ -335,7 +311,7 @@ put_in_in region.VgReset value w at byte h =
       memory = h.memory;
       program = h.program;
     }
-put_in_in region.Acknowledge value w at byte h =
+put_in_in writes.Acknowledge k value w at byte h =
     let d : IsDivider w.divider = h.divider in
     record {
       out = h.out;
@@ -351,7 +327,7 @@ put_in_in region.Acknowledge value w at byte h =
       memory = h.memory;
       program = h.program;
     }
-put_in_in region.EaromControl value w at byte h =
+put_in_in writes.EaromControl k value w at byte h =
     record {
       out = h.out;
       in0 = h.in0;
@@ -366,7 +342,7 @@ put_in_in region.EaromControl value w at byte h =
       memory = h.memory;
       program = h.program;
     }
-put_in_in (region.EaromLatch cell) value w at byte h =
+put_in_in writes.EaromLatch cell value w at byte h =
     record {
       out = h.out;
       in0 = h.in0;
@@ -381,7 +357,7 @@ put_in_in (region.EaromLatch cell) value w at byte h =
       memory = h.memory;
       program = h.program;
     }
-put_in_in region.Watchdog value w at byte h =
+put_in_in writes.WatchdogClear k value w at byte h =
     let d : IsDivider w.divider = h.divider in
     record {
       out = h.out;
@@ -397,11 +373,11 @@ put_in_in region.Watchdog value w at byte h =
       memory = h.memory;
       program = h.program;
     }
-put_in_in _ value w at byte h = h
+put_in_in _ k value w at byte h = h
 
 byte_put_in : (address value : ℕ) (w : Wires) → IsByte value → AreWiresInRange w → AreWiresInRange (byte_put address value w)
 unfolding byte_put
-byte_put_in address value w byte h = put_in_in (region_of address) value w (inside address) byte h
+byte_put_in address value w byte h = put_in_in (row_of address).writes (row_of address).offset value w (writable address) byte h
 
 reset_by_in : (p : Pending) (w : Wires) → AreWiresInRange w → AreWiresInRange (reset_by p w)
 reset_by_in Watchdog w h =

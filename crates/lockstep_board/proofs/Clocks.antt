@@ -7,9 +7,9 @@ use Rattle.board_base.specs.declared.divider.Pending.TheVariants.{Nothing, Power
 use Rattle.board_base.specs.declared.record.Record.{Record}
 use Rattle.board_base.specs.declared.record.Record.TheVariants.{Latch, WatchdogReset}
 use Rattle.board_base.specs.Cpu.{CpuValue, MidValue}
-use Rattle.board_map.specs.declared.map.Region.{Region}
-use Rattle.board_map.specs.declared.map.Region.TheVariants as region
-use Rattle.board_map.specs.Map.{region_of}
+use Rattle.board_map.specs.declared.map.Writes.{Writes}
+use Rattle.board_map.specs.declared.map.Writes.TheVariants as writes
+use Rattle.board_map.specs.Map.{row_of}
 use Rattle.cpu_core.specs.declared.replay.Next.{Next}
 use Rattle.cpu_core.specs.declared.replay.Next.TheVariants.{Read, Write, End}
 use Rattle.cpu_core.specs.Registers.{RegistersValue, registers_of}
@@ -63,16 +63,15 @@ pub ticked-written : (entries : List TapeEntry) (w : Wires) → (ticked entries 
 unfolding ticked devices_ticked
 ticked-written entries w = (applied-keeps (due_at w.clock entries) w).written
 
-pub put_in-clock : (r : Region) (value : ℕ) (w : Wires) → (put_in r value w).clock ≡ w.clock
-put_in-clock (region.Ram k) value w = refl
-put_in-clock (region.VectorRam k) value w = refl
-put_in-clock _ value w = refl
+pub put_in-clock : (put : Writes) (k value : ℕ) (w : Wires) → (put_in put k value w).clock ≡ w.clock
+put_in-clock writes.Ram k value w = refl
+put_in-clock _ k value w = refl
 
 accessed_by-clock : (next : Next) (r : RegistersValue) (q : Sequence) (bytes : List ℕ) (w : Wires)
     → (accessed_by next r q bytes w).wires.clock ≡ w.clock
 unfolding byte_put
 accessed_by-clock (Read a) r q bytes w = refl
-accessed_by-clock (Write a v) r q bytes w = put_in-clock (region_of a) v w
+accessed_by-clock (Write a v) r q bytes w = put_in-clock (row_of a).writes (row_of a).offset v w
 accessed_by-clock (End e) r q bytes w = refl
 
 accessed-clock : (r : RegistersValue) (q : Sequence) (bytes : List ℕ) (w : Wires) → (accessed r q bytes w).wires.clock ≡ w.clock
@@ -120,17 +119,15 @@ through-clock entries (suc n) b last t =
     let one = step-clock entries b in
     omega arith
 
-put_in-written : (r : Region) (value : ℕ) (w : Wires) → length (put_in r value w).written ≤ length w.written + 1
-put_in-written (region.Ram k) value w = omega arith
-put_in-written (region.VectorRam k) value w = omega arith
-put_in-written region.In4 value w = let longer = length-append w.written (Latch w.clock value ∷ []) in omega arith
-put_in-written _ value w = omega arith
+put_in-written : (put : Writes) (k value : ℕ) (w : Wires) → length (put_in put k value w).written ≤ length w.written + 1
+put_in-written writes.OutputLatch k value w = let longer = length-append w.written (Latch w.clock value ∷ []) in omega arith
+put_in-written _ k value w = omega arith
 
 accessed_by-written : (next : Next) (r : RegistersValue) (q : Sequence) (bytes : List ℕ) (w : Wires)
     → length (accessed_by next r q bytes w).wires.written ≤ length w.written + 1
 unfolding byte_put
 accessed_by-written (Read a) r q bytes w = omega arith
-accessed_by-written (Write a v) r q bytes w = put_in-written (region_of a) v w
+accessed_by-written (Write a v) r q bytes w = put_in-written (row_of a).writes (row_of a).offset v w
 accessed_by-written (End e) r q bytes w = omega arith
 
 accessed-written : (r : RegistersValue) (q : Sequence) (bytes : List ℕ) (w : Wires)

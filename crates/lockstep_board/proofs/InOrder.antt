@@ -10,9 +10,9 @@ use Rattle.board_base.specs.declared.record.Record.TheVariants.{Latch, WatchdogR
 use Rattle.board_base.specs.Cpu.{CpuValue, MidValue}
 use Rattle.board_base.specs.Records.{MadeBetween}
 use Rattle.board_base.proofs.RecordLaws.{made-append}
-use Rattle.board_map.specs.declared.map.Region.{Region}
-use Rattle.board_map.specs.declared.map.Region.TheVariants as region
-use Rattle.board_map.specs.Map.{region_of}
+use Rattle.board_map.specs.declared.map.Writes.{Writes}
+use Rattle.board_map.specs.declared.map.Writes.TheVariants as writes
+use Rattle.board_map.specs.Map.{row_of}
 use Rattle.avg_device.specs.Tick.{vg_gives}
 use Rattle.avg_device.proofs.ManyTicks.{vg_gives-few, vg_gives-made}
 use Rattle.pokey_chip.specs.Tick.{pokey_gives}
@@ -54,10 +54,8 @@ adds-none w v clock strokes levels1 levels2 written = record {
   few = omega arith;
 }
 
-put_in-adds : (r : Region) (value : ℕ) (w : Wires) → AddsOne w (put_in r value w)
-put_in-adds (region.Ram k) value w = adds-none w (put_in (region.Ram k) value w) refl refl refl refl refl
-put_in-adds (region.VectorRam k) value w = adds-none w (put_in (region.VectorRam k) value w) refl refl refl refl refl
-put_in-adds region.In4 value w = record {
+put_in-adds : (put : Writes) (k value : ℕ) (w : Wires) → AddsOne w (put_in put k value w)
+put_in-adds writes.OutputLatch k value w = record {
   added = Latch w.clock value ∷ [];
   clock = refl;
   strokes = refl;
@@ -67,12 +65,12 @@ put_in-adds region.In4 value w = record {
   made = (tt, omega arith, omega arith, omega arith);
   few = omega arith;
 }
-put_in-adds _ value w = adds-none w _ refl refl refl refl refl
+put_in-adds _ k value w = adds-none w _ refl refl refl refl refl
 
 accessed_by-adds : (next : Next) (r : RegistersValue) (q : Sequence) (bytes : List ℕ) (w : Wires) → AddsOne w (accessed_by next r q bytes w).wires
 unfolding byte_put
 accessed_by-adds (Read a) r q bytes w = adds-none w w refl refl refl refl refl
-accessed_by-adds (Write a v) r q bytes w = put_in-adds (region_of a) v w
+accessed_by-adds (Write a v) r q bytes w = put_in-adds (row_of a).writes (row_of a).offset v w
 accessed_by-adds (End e) r q bytes w = adds-none w w refl refl refl refl refl
 
 accessed-adds : (r : RegistersValue) (q : Sequence) (bytes : List ℕ) (w : Wires) → AddsOne w (accessed r q bytes w).wires

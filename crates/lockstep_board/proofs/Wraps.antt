@@ -9,9 +9,9 @@ use Rattle.board_base.specs.declared.divider.Pending.TheVariants.{Nothing, Power
 use Rattle.board_base.specs.declared.divider.TheConstants.{DIVIDER_PERIOD, WATCHDOG_WRAPS}
 use Rattle.board_base.specs.Cpu.{CpuValue, MidValue}
 use Rattle.board_base.specs.Divider.{DividerValue}
-use Rattle.board_map.specs.declared.map.Region.{Region}
-use Rattle.board_map.specs.declared.map.Region.TheVariants as region
-use Rattle.board_map.specs.Map.{region_of}
+use Rattle.board_map.specs.declared.map.Writes.{Writes}
+use Rattle.board_map.specs.declared.map.Writes.TheVariants as writes
+use Rattle.board_map.specs.Map.{row_of}
 use Rattle.cpu_core.specs.declared.replay.Next.{Next}
 use Rattle.cpu_core.specs.declared.replay.Next.TheVariants.{Read, Write, End}
 use Rattle.cpu_core.specs.Registers.{RegistersValue, registers_of}
@@ -39,16 +39,16 @@ unfolding applied
 applied-divider [] w = refl
 applied-divider (e ∷ es) w = applied-divider es (port_set e.port e.value w) ∙ port_set-divider e.port e.value w
 
-put_in-phase : (r : Region) (value : ℕ) (w : Wires) → (put_in r value w).divider.phase ≡ w.divider.phase
-put_in-phase region.Acknowledge value w = refl
-put_in-phase region.Watchdog value w = refl
-put_in-phase _ value w = refl
+put_in-phase : (put : Writes) (k value : ℕ) (w : Wires) → (put_in put k value w).divider.phase ≡ w.divider.phase
+put_in-phase writes.Acknowledge k value w = refl
+put_in-phase writes.WatchdogClear k value w = refl
+put_in-phase _ k value w = refl
 
 accessed_by-phase : (next : Next) (r : RegistersValue) (q : Sequence) (bytes : List ℕ) (w : Wires)
     → (accessed_by next r q bytes w).wires.divider.phase ≡ w.divider.phase
 unfolding byte_put
 accessed_by-phase (Read a) r q bytes w = refl
-accessed_by-phase (Write a v) r q bytes w = put_in-phase (region_of a) v w
+accessed_by-phase (Write a v) r q bytes w = put_in-phase (row_of a).writes (row_of a).offset v w
 accessed_by-phase (End e) r q bytes w = refl
 
 accessed-phase : (r : RegistersValue) (q : Sequence) (bytes : List ℕ) (w : Wires)

@@ -6,28 +6,29 @@ use Rattle.board_base.specs.declared.cpu.Sequence.{Sequence}
 use Rattle.board_base.specs.declared.cpu.Sequence.TheVariants.{Opcode, Interrupt, Reset}
 use Rattle.board_base.specs.Cpu.{CpuValue, MidValue}
 use Rattle.board_base.specs.Pokey.{PokeyValue}
-use Rattle.board_map.specs.declared.map.Region.{Region}
-use Rattle.board_map.specs.Map.{region_of}
+use Rattle.board_map.specs.declared.map.Reads.{Reads}
+use Rattle.board_map.specs.declared.map.Writes.{Writes}
+use Rattle.board_map.specs.Map.{row_of}
 use Rattle.cpu_core.specs.Course.{Access, read_of, write_of}
 use Rattle.pokey_chip.specs.Tick.{pokey_tick}
 use Rattle.tape_ports.specs.declared.entry.TapeEntry.{TapeEntry}
 use Rattle.tape_ports.specs.Due.{due_at}
-use Rattle.lockstep_board.specs.Uses.{uses_of, is_some_device}
+use Rattle.lockstep_board.specs.Uses.{devices_read, devices_written, is_some_device}
 use Rattle.lockstep_board.specs.Wires.{Wires, applied, has_request, ticked}
 use Rattle.lockstep_board.specs.Lockstep.{Board, sequence_due, access_in, step}
 
 -- a read that reaches a device
-abbrev pub reads_device : Region → Bool
-reads_device r = is_some_device (uses_of r).reads
+abbrev pub reads_device : Reads → Bool
+reads_device reads = is_some_device (devices_read reads)
 
 -- a write that reaches a device
-abbrev pub writes_device : Region → Bool
-writes_device r = is_some_device (uses_of r).writes
+abbrev pub writes_device : Writes → Bool
+writes_device writes = is_some_device (devices_written writes)
 
 -- an access that reaches a device
 unfoldable pub reaches_device : Access → Bool
-reaches_device (read_of address value) = reads_device (region_of address)
-reaches_device (write_of address value) = writes_device (region_of address)
+reaches_device (read_of address value) = reads_device (row_of address).reads
+reaches_device (write_of address value) = writes_device (row_of address).writes
 
 -- one for an access that reaches a device
 abbrev pub device_access : Option Access → ℕ

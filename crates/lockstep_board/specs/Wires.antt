@@ -12,9 +12,11 @@ use Rattle.board_base.specs.Divider.{DividerValue}
 use Rattle.board_base.specs.Earom.{EaromValue}
 use Rattle.board_base.specs.Pokey.{PokeyValue}
 use Rattle.board_base.specs.Vg.{VgValue}
-use Rattle.board_map.specs.declared.map.Region.{Region}
-use Rattle.board_map.specs.declared.map.Region.TheVariants as region
-use Rattle.board_map.specs.Map.{region_of}
+use Rattle.board_map.specs.declared.map.Reads.{Reads}
+use Rattle.board_map.specs.declared.map.Reads.TheVariants as reads
+use Rattle.board_map.specs.declared.map.Writes.{Writes}
+use Rattle.board_map.specs.declared.map.Writes.TheVariants as writes
+use Rattle.board_map.specs.Map.{row_of}
 use Rattle.avg_device.specs.Tick.{vg_tick, vg_gives, vg_go, vg_reset}
 use Rattle.pokey_chip.specs.Tick.{pokey_tick, pokey_gives}
 use Rattle.pokey_chip.specs.Registers.{register_read, register_written, pot_set}
@@ -89,53 +91,42 @@ line_of w = w.divider.irq || w.wired && (has_request w.sound1 || has_request w.s
 abbrev pub in0_byte : Wires → ℕ
 in0_byte w = w.in0 + (if w.vg.halted then 64 else 0) + (if line_3k w.divider then 128 else 0)
 
--- the byte that a region gives
-abbrev pub byte_in : Region → Wires → ℕ
-byte_in (region.Ram k) w = slice_index w.ram k
-byte_in (region.VectorRam k) w = slice_index w.memory k
-byte_in (region.VectorRom k) w = slice_index w.memory (VECTOR_RAM_LEN + k)
-byte_in (region.Sound1 reg) w = register_read reg w.sound1
-byte_in (region.Sound2 reg) w = register_read reg w.sound2
-byte_in region.EaromOut w = w.earom.out
-byte_in region.In0 w = in0_byte w
-byte_in region.In3 w = w.in3
-byte_in region.In4 w = w.in4
-byte_in region.Go w = 255
-byte_in region.VgReset w = 255
-byte_in region.Acknowledge w = 255
-byte_in region.EaromControl w = 255
-byte_in (region.EaromLatch cell) w = 255
-byte_in region.Watchdog w = 255
-byte_in (region.ProgramRom k) w = slice_index w.program k
-byte_in region.Nothing w = 255
+-- the byte that a read gives, by an offset in a memory or a register's number; the open bus gives FF
+abbrev pub byte_in : Reads → ℕ → Wires → ℕ
+byte_in reads.Ram k w = slice_index w.ram k
+byte_in reads.VectorRam k w = slice_index w.memory k
+byte_in reads.VectorRom k w = slice_index w.memory (VECTOR_RAM_LEN + k)
+byte_in reads.ProgramRom k w = slice_index w.program k
+byte_in reads.Sound1 reg w = register_read reg w.sound1
+byte_in reads.Sound2 reg w = register_read reg w.sound2
+byte_in reads.EaromOut k w = w.earom.out
+byte_in reads.In0 k w = in0_byte w
+byte_in reads.In3 k w = w.in3
+byte_in reads.In4 k w = w.in4
+byte_in reads.Open k w = 255
 
 -- the byte that a read of an address gives
 unfoldable pub byte_read : ℕ → Wires → ℕ
-byte_read address w = byte_in (region_of address) w
+byte_read address w = byte_in (row_of address).reads (row_of address).offset w
 
--- what a write does to a region
-abbrev pub put_in : Region → ℕ → Wires → Wires
-put_in (region.Ram k) value w = record w { ram = slice_set w.ram k value }
-put_in (region.VectorRam k) value w = record w { memory = slice_set w.memory k value }
-put_in (region.VectorRom k) value w = w
-put_in (region.Sound1 reg) value w = record w { sound1 = register_written reg value w.sound1 }
-put_in (region.Sound2 reg) value w = record w { sound2 = register_written reg value w.sound2 }
-put_in region.EaromOut value w = w
-put_in region.In0 value w = w
-put_in region.In3 value w = w
-put_in region.In4 value w = record w { out = value; written = w.written ++ Latch w.clock value ∷ [] }
-put_in region.Go value w = record w { vg = vg_go w.vg }
-put_in region.VgReset value w = record w { vg = vg_reset w.vg }
-put_in region.Acknowledge value w = record w { divider = acknowledged w.divider }
-put_in region.EaromControl value w = record w { earom = controlled value w.earom }
-put_in (region.EaromLatch cell) value w = record w { earom = latched cell value w.earom }
-put_in region.Watchdog value w = record w { divider = watchdog_cleared w.divider }
-put_in (region.ProgramRom k) value w = w
-put_in region.Nothing value w = w
+-- what a write does, by an offset, a register's number or a cell's
+abbrev pub put_in : Writes → ℕ → ℕ → Wires → Wires
+put_in writes.Ram k value w = record w { ram = slice_set w.ram k value }
+put_in writes.VectorRam k value w = record w { memory = slice_set w.memory k value }
+put_in writes.Sound1 reg value w = record w { sound1 = register_written reg value w.sound1 }
+put_in writes.Sound2 reg value w = record w { sound2 = register_written reg value w.sound2 }
+put_in writes.OutputLatch k value w = record w { out = value; written = w.written ++ Latch w.clock value ∷ [] }
+put_in writes.Go k value w = record w { vg = vg_go w.vg }
+put_in writes.VgReset k value w = record w { vg = vg_reset w.vg }
+put_in writes.Acknowledge k value w = record w { divider = acknowledged w.divider }
+put_in writes.EaromControl k value w = record w { earom = controlled value w.earom }
+put_in writes.EaromLatch cell value w = record w { earom = latched cell value w.earom }
+put_in writes.WatchdogClear k value w = record w { divider = watchdog_cleared w.divider }
+put_in writes.Ignored k value w = w
 
 -- what a write to an address does
 unfoldable pub byte_put : ℕ → ℕ → Wires → Wires
-byte_put address value w = put_in (region_of address) value w
+byte_put address value w = put_in (row_of address).writes (row_of address).offset value w
 
 -- what the first clock of a reset does besides its read: one by the watchdog halts the generator, clears the output latch
 -- without a record of a write to it, and is recorded itself

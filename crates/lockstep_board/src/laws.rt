@@ -1,5 +1,5 @@
 //! Laws of the lockstep board, over all boards and tapes. Each function tells one, and does nothing.
-ghost use Rattle.std.specs.Prelude.{◌≡◌, ℕ, ◌+◌, ◌*◌, ◌-◌, ◌≤◌, ◌<◌, List, All, true, false, None};
+ghost use Rattle.std.specs.Prelude.{◌≡◌, ℕ, ◌+◌, ◌*◌, ◌-◌, ◌≤◌, ◌<◌, List, [], ◌∷◌, All, true, false, None};
 ghost use Rattle.board_base.specs.declared.divider.TheConstants.{DIVIDER_PERIOD};
 ghost use Rattle.tape_ports.specs.declared.entry.TapeEntry.{TapeEntry};
 ghost use Rattle.cpu_core.specs.Course.{read_of, write_of};
@@ -11,12 +11,12 @@ ghost use Rattle.lockstep_board.specs.Run.{stepped, boundary_steps, clock_steps,
 ghost use Rattle.lockstep_board.specs.Breaks.{turn, turned, TurnsTo};
 ghost use Rattle.lockstep_board.specs.Budget.{budget, counted, device_accesses, reaches_device, wraps, entries_applied, requests, resets_begun};
 ghost use Rattle.lockstep_board.specs.Order.{cleared, AddsOneClock, AreMadeBetween, Recorded, behind, records_of};
-ghost use Rattle.lockstep_board.specs.Uses.{devices, row, uses_of};
+ghost use Rattle.lockstep_board.specs.Uses.{devices, devices_read, devices_written};
 
 use crate::uses::{
     ALL_DEVICES, CELLS, DIVIDER, NO_DEVICE, SOUND1, SOUND2, VECTOR, VECTOR_AND_DIVIDER,
 };
-use board_map::Region;
+use board_map::{Reads, Writes};
 
 /// A run of the lockstep board may be cut at any clock or boundary on its way and go on from there,
 /// and each of the three runs comes to its end. It tells a law, and does nothing.
@@ -155,24 +155,23 @@ pub fn device_sets()
     ensures vector_and_divider { VECTOR_AND_DIVIDER ≡ devices true false false false true }
 {}
 
-/// What each region uses of the devices, for a read and for a write, each set by its five truth values.
+/// The devices that give the byte of each read and see each write, each set by its five truth values.
 /// It states a law, and does nothing.
-pub fn uses_of_regions()
-    ensures ram { (k : ℕ) → uses_of (Region.Ram k) ≡ row (devices false false false false false) (devices false false false false false) }
-    ensures vector_ram { (k : ℕ) → uses_of (Region.VectorRam k) ≡ row (devices false false false false false) (devices true false false false false) }
-    ensures vector_rom { (k : ℕ) → uses_of (Region.VectorRom k) ≡ row (devices false false false false false) (devices false false false false false) }
-    ensures sound1 { (k : ℕ) → uses_of (Region.Sound1 k) ≡ row (devices false true false false false) (devices false true false false false) }
-    ensures sound2 { (k : ℕ) → uses_of (Region.Sound2 k) ≡ row (devices false false true false false) (devices false false true false false) }
-    ensures earom_out { uses_of Region.EaromOut ≡ row (devices false false false true false) (devices false false false false false) }
-    ensures in0 { uses_of Region.In0 ≡ row (devices true false false false true) (devices false false false false false) }
-    ensures in3 { uses_of Region.In3 ≡ row (devices false false false false false) (devices false false false false false) }
-    ensures in4 { uses_of Region.In4 ≡ row (devices false false false false false) (devices false false false false false) }
-    ensures go { uses_of Region.Go ≡ row (devices false false false false false) (devices true false false false false) }
-    ensures vg_reset { uses_of Region.VgReset ≡ row (devices false false false false false) (devices true false false false false) }
-    ensures acknowledge { uses_of Region.Acknowledge ≡ row (devices false false false false false) (devices false false false false true) }
-    ensures earom_control { uses_of Region.EaromControl ≡ row (devices false false false false false) (devices false false false true false) }
-    ensures earom_latch { (k : ℕ) → uses_of (Region.EaromLatch k) ≡ row (devices false false false false false) (devices false false false true false) }
-    ensures watchdog { uses_of Region.Watchdog ≡ row (devices false false false false false) (devices false false false false true) }
-    ensures program_rom { (k : ℕ) → uses_of (Region.ProgramRom k) ≡ row (devices false false false false false) (devices false false false false false) }
-    ensures nothing { uses_of Region.Nothing ≡ row (devices false false false false false) (devices false false false false false) }
+pub fn devices_of_accesses()
+    ensures read_sound1 { devices_read Reads.Sound1 ≡ devices false true false false false }
+    ensures read_sound2 { devices_read Reads.Sound2 ≡ devices false false true false false }
+    ensures read_earom_out { devices_read Reads.EaromOut ≡ devices false false false true false }
+    ensures read_in0 { devices_read Reads.In0 ≡ devices true false false false true }
+    ensures read_memories { All (λ reads. devices_read reads ≡ NO_DEVICE) (Reads.Ram ∷ Reads.VectorRam ∷ Reads.VectorRom ∷ Reads.ProgramRom ∷ []) }
+    ensures read_others { All (λ reads. devices_read reads ≡ NO_DEVICE) (Reads.In3 ∷ Reads.In4 ∷ Reads.Open ∷ []) }
+    ensures vector_ram { devices_written Writes.VectorRam ≡ devices true false false false false }
+    ensures sound1 { devices_written Writes.Sound1 ≡ devices false true false false false }
+    ensures sound2 { devices_written Writes.Sound2 ≡ devices false false true false false }
+    ensures go { devices_written Writes.Go ≡ devices true false false false false }
+    ensures vg_reset { devices_written Writes.VgReset ≡ devices true false false false false }
+    ensures acknowledge { devices_written Writes.Acknowledge ≡ devices false false false false true }
+    ensures earom_control { devices_written Writes.EaromControl ≡ devices false false false true false }
+    ensures earom_latch { devices_written Writes.EaromLatch ≡ devices false false false true false }
+    ensures watchdog_clear { devices_written Writes.WatchdogClear ≡ devices false false false false true }
+    ensures others { All (λ writes. devices_written writes ≡ NO_DEVICE) (Writes.Ram ∷ Writes.OutputLatch ∷ Writes.Ignored ∷ []) }
 {}

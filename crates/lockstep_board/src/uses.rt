@@ -1,8 +1,8 @@
-//! What each region of the map uses of the devices: a line for each. This project's own profile.
+//! The devices that reads and writes use. This project's own profile.
 ghost use Rattle.std.specs.Prelude.{◌≡◌, not};
-ghost use Rattle.lockstep_board.specs.Uses.{is_some_device, uses_of};
+ghost use Rattle.lockstep_board.specs.Uses.{devices_read, devices_written, is_some_device};
 
-use board_map::Region;
+use board_map::{Reads, Writes};
 
 /// Some of the devices.
 #[derive(Clone, Copy, Debug, PartialEq, Eq)]
@@ -83,45 +83,35 @@ pub const VECTOR_AND_DIVIDER: DeviceSet = DeviceSet {
     ..NO_DEVICE
 };
 
-/// The devices that a region uses.
-#[derive(Clone, Copy, Debug, PartialEq, Eq)]
-pub struct Uses {
-    /// Those that give the byte of a read.
-    pub reads: DeviceSet,
-    /// Those that see a write.
-    pub writes: DeviceSet,
+/// The devices that give the byte of a read.
+#[inline(always)]
+pub fn devices_read(reads: Reads) -> DeviceSet
+    ensures { result ≡ devices_read reads }
+{
+    match reads {
+        Reads::Sound1 => SOUND1,
+        Reads::Sound2 => SOUND2,
+        Reads::EaromOut => CELLS,
+        Reads::In0 => VECTOR_AND_DIVIDER,
+        _ => NO_DEVICE,
+    }
 }
 
-/// A row of the table.
+/// The devices that see a write. The generator sees the vector RAM.
 #[inline(always)]
-fn row(reads: DeviceSet, writes: DeviceSet) -> Uses
-    ensures { result ≡ record { reads = reads; writes = writes } }
+pub fn devices_written(writes: Writes) -> DeviceSet
+    ensures { result ≡ devices_written writes }
 {
-    Uses { reads, writes }
-}
-
-/// What a region uses of the devices. The generator sees the vector RAM, so that a write to it counts.
-#[inline(always)]
-pub fn uses_of(region: Region) -> Uses
-    ensures { result ≡ uses_of region }
-{
-    match region {
-        Region::Ram(_) => row(NO_DEVICE, NO_DEVICE),
-        Region::VectorRam(_) => row(NO_DEVICE, VECTOR),
-        Region::VectorRom(_) => row(NO_DEVICE, NO_DEVICE),
-        Region::Sound1(_) => row(SOUND1, SOUND1),
-        Region::Sound2(_) => row(SOUND2, SOUND2),
-        Region::EaromOut => row(CELLS, NO_DEVICE),
-        Region::In0 => row(VECTOR_AND_DIVIDER, NO_DEVICE),
-        Region::In3 => row(NO_DEVICE, NO_DEVICE),
-        Region::In4 => row(NO_DEVICE, NO_DEVICE),
-        Region::Go => row(NO_DEVICE, VECTOR),
-        Region::VgReset => row(NO_DEVICE, VECTOR),
-        Region::Acknowledge => row(NO_DEVICE, DIVIDER),
-        Region::EaromControl => row(NO_DEVICE, CELLS),
-        Region::EaromLatch(_) => row(NO_DEVICE, CELLS),
-        Region::Watchdog => row(NO_DEVICE, DIVIDER),
-        Region::ProgramRom(_) => row(NO_DEVICE, NO_DEVICE),
-        Region::Nothing => row(NO_DEVICE, NO_DEVICE),
+    match writes {
+        Writes::VectorRam => VECTOR,
+        Writes::Sound1 => SOUND1,
+        Writes::Sound2 => SOUND2,
+        Writes::Go => VECTOR,
+        Writes::VgReset => VECTOR,
+        Writes::Acknowledge => DIVIDER,
+        Writes::EaromControl => CELLS,
+        Writes::EaromLatch => CELLS,
+        Writes::WatchdogClear => DIVIDER,
+        _ => NO_DEVICE,
     }
 }

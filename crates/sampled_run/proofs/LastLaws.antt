@@ -9,9 +9,9 @@ use Rattle.board_base.specs.declared.record.Record.{Record}
 use Rattle.board_base.specs.declared.record.Record.TheVariants.{Levels}
 use Rattle.board_base.specs.Cpu.{CpuValue, MidValue}
 use Rattle.board_base.specs.Pokey.{PokeyValue}
-use Rattle.board_map.specs.declared.map.Region.{Region}
-use Rattle.board_map.specs.declared.map.Region.TheVariants as region
-use Rattle.board_map.specs.Map.{region_of}
+use Rattle.board_map.specs.declared.map.Writes.{Writes}
+use Rattle.board_map.specs.declared.map.Writes.TheVariants as writes
+use Rattle.board_map.specs.Map.{row_of}
 use Rattle.pokey_chip.specs.Tick.{change, level, levels_of, channels_ticked, base_pulses, pot_counted, pots_rise, clocked, pokey_gives, pokey_tick}
 use Rattle.pokey_chip.specs.declared.channel.Channel.TheVariants.{First, Second, Third, Fourth}
 use Rattle.pokey_chip.proofs.LastLevels.{written-last}
@@ -63,15 +63,15 @@ applied-keeps (entry ∷ entries) w =
     let next = port_set entry.port entry.value w in
     keeps-then w next (applied entries next) (port_set-keeps entry.port entry.value w) (applied-keeps entries next)
 
-put_in-keeps : (r : Region) (value : ℕ) (w : Wires) → KeepsLast w (put_in r value w)
-put_in-keeps (region.Sound1 reg) value w = record { last1 = written-last reg value w.sound1; last2 = refl; levels1 = refl; levels2 = refl }
-put_in-keeps (region.Sound2 reg) value w = record { last1 = refl; last2 = written-last reg value w.sound2; levels1 = refl; levels2 = refl }
-put_in-keeps _ value w = record { last1 = refl; last2 = refl; levels1 = refl; levels2 = refl }
+put_in-keeps : (put : Writes) (k value : ℕ) (w : Wires) → KeepsLast w (put_in put k value w)
+put_in-keeps writes.Sound1 reg value w = record { last1 = written-last reg value w.sound1; last2 = refl; levels1 = refl; levels2 = refl }
+put_in-keeps writes.Sound2 reg value w = record { last1 = refl; last2 = written-last reg value w.sound2; levels1 = refl; levels2 = refl }
+put_in-keeps _ k value w = record { last1 = refl; last2 = refl; levels1 = refl; levels2 = refl }
 
 accessed_by-keeps : (next : Next) (r : RegistersValue) (q : Sequence) (bytes : List ℕ) (w : Wires) → KeepsLast w (accessed_by next r q bytes w).wires
 unfolding byte_put
 accessed_by-keeps (Read a) r q bytes w = keeps w
-accessed_by-keeps (Write a v) r q bytes w = put_in-keeps (region_of a) v w
+accessed_by-keeps (Write a v) r q bytes w = put_in-keeps (row_of a).writes (row_of a).offset v w
 accessed_by-keeps (End e) r q bytes w = keeps w
 
 accessed-keeps : (r : RegistersValue) (q : Sequence) (bytes : List ℕ) (w : Wires) → KeepsLast w (accessed r q bytes w).wires

@@ -1,9 +1,9 @@
-//! What the regions of the address map give and take.
+//! What reads and writes of the address map do.
 ghost use Rattle.std.specs.Prelude.{◌≡◌, ◌+◌, ◌-◌, ◌*◌, ◌≤◌, ◌<◌, length, slice_index, slice_set, ◌++◌, ◌∷◌, []};
 ghost use Rattle.std.specs.Int.{from_bool};
 ghost use Rattle.cpu_core.specs.Course.{read_of, write_of};
 ghost use Rattle.lockstep_board.specs.Budget.{reaches_device};
-ghost use Rattle.board_map.specs.Map.{region_of};
+ghost use Rattle.board_map.specs.Map.{row_of};
 ghost use Rattle.catchup_engine.specs.Lags.{lagging_at};
 ghost use Rattle.catchup_engine.specs.Bus.{Does, at_clock};
 ghost use Rattle.lockstep_board.specs.Memory.{memory_byte};
@@ -13,10 +13,10 @@ ghost use Rattle.lockstep_board.specs.Wires.{byte_put, byte_read, in0_byte};
 use crate::bus::{BoardBus, PROGRAM_START};
 use avg_device::VectorUnit;
 use board_base::{RAM_LEN, Record, VECTOR_RAM_LEN};
-use board_map::{Region, region};
+use board_map::{Reads, Writes, row};
 use earom_cells::CellUnit;
 use irq_watchdog::DividerUnit;
-use lockstep_board::{DeviceSet, uses_of};
+use lockstep_board::{DeviceSet, devices_read, devices_written};
 use pokey_chip::SoundUnit;
 use rom_image::PROGRAM_ROM_LEN;
 
@@ -101,28 +101,22 @@ impl<V: VectorUnit, P: SoundUnit, C: CellUnit, D: DividerUnit> BoardBus<V, P, C,
     pub fn byte(&mut self, addr: u16) -> u8
         ensures byte { result ≡ byte_read addr (at_clock (self.old.wires.clock - 1) self.old.wires) }
         ensures does { Does self.old self.new self.old.wires (2 * from_bool (reaches_device (read_of addr result))) }
-        ensures current { lagging_at (region_of addr) self.new.lagging ≡ 0 }
+        ensures current { lagging_at (row_of addr).reads self.new.lagging ≡ 0 }
     {
-        let region = region(addr);
-        self.bring(uses_of(region).reads);
-        match region {
-            Region::Ram(k) => self.ram_byte(k),
-            Region::VectorRam(k) => self.memory.byte(k),
-            Region::VectorRom(k) => self.memory.byte(VECTOR_RAM_LEN as u16 + k),
-            Region::Sound1(reg) => self.sound1.unit.read(reg),
-            Region::Sound2(reg) => self.sound2.unit.read(reg),
-            Region::EaromOut => self.cells.unit.output(),
-            Region::In0 => self.read_in0(),
-            Region::In3 => self.in3,
-            Region::In4 => self.in4,
-            Region::ProgramRom(k) => self.program_byte(k),
-            Region::Go
-            | Region::VgReset
-            | Region::Acknowledge
-            | Region::EaromControl
-            | Region::EaromLatch(_)
-            | Region::Watchdog
-            | Region::Nothing => 0xFF,
+        let row = row(addr);
+        self.bring(devices_read(row.reads));
+        match row.reads {
+            Reads::Ram => self.ram_byte(row.offset),
+            Reads::VectorRam => self.memory.byte(row.offset),
+            Reads::VectorRom => self.memory.byte(VECTOR_RAM_LEN as u16 + row.offset),
+            Reads::ProgramRom => self.program_byte(row.offset),
+            Reads::Sound1 => self.sound1.read_register(row.offset as u8),
+            Reads::Sound2 => self.sound2.read_register(row.offset as u8),
+            Reads::EaromOut => self.cells.unit.output(),
+            Reads::In0 => self.read_in0(),
+            Reads::In3 => self.in3,
+            Reads::In4 => self.in4,
+            Reads::Open => 0xFF,
         }
     }
 
@@ -135,30 +129,25 @@ impl<V: VectorUnit, P: SoundUnit, C: CellUnit, D: DividerUnit> BoardBus<V, P, C,
         ensures does { Does self.old self.new (at_clock self.old.wires.clock (byte_put addr value (at_clock (self.old.wires.clock - 1) self.old.wires))) (2 * from_bool (reaches_device (write_of addr value))) }
         ensures few { length self.new.wires.written ≤ length self.old.wires.written + 1 }
     {
-        let region = region(addr);
+        let row = row(addr);
         // the divider's interrupt and watchdog are the same before its ticks and after them
         self.bring(DeviceSet {
             divider: false,
-            ..uses_of(region).writes
+            ..devices_written(row.writes)
         });
-        match region {
-            Region::Ram(k) => self.put_ram(k, value),
-            Region::VectorRam(k) => self.memory.put(k, value),
-            Region::Sound1(reg) => self.sound1.write_register(reg, value),
-            Region::Sound2(reg) => self.sound2.write_register(reg, value),
-            Region::In4 => self.latch(value),
-            Region::Go => self.vector.unit.go(),
-            Region::VgReset => self.reset_vector(),
-            Region::Acknowledge => self.divider.unit.acknowledge(),
-            Region::EaromControl => self.cells.unit.control(value),
-            Region::EaromLatch(cell) => self.cells.unit.latch(cell, value),
-            Region::Watchdog => self.divider.unit.clear(),
-            Region::VectorRom(_)
-            | Region::EaromOut
-            | Region::In0
-            | Region::In3
-            | Region::ProgramRom(_)
-            | Region::Nothing => {}
+        match row.writes {
+            Writes::Ram => self.put_ram(row.offset, value),
+            Writes::VectorRam => self.memory.put(row.offset, value),
+            Writes::Sound1 => self.sound1.write_register(row.offset as u8, value),
+            Writes::Sound2 => self.sound2.write_register(row.offset as u8, value),
+            Writes::OutputLatch => self.latch(value),
+            Writes::Go => self.vector.unit.go(),
+            Writes::VgReset => self.reset_vector(),
+            Writes::Acknowledge => self.divider.unit.acknowledge(),
+            Writes::EaromControl => self.cells.unit.control(value),
+            Writes::EaromLatch => self.cells.unit.latch(row.offset as u8, value),
+            Writes::WatchdogClear => self.divider.unit.clear(),
+            Writes::Ignored => {}
         }
     }
 
@@ -167,24 +156,13 @@ impl<V: VectorUnit, P: SoundUnit, C: CellUnit, D: DividerUnit> BoardBus<V, P, C,
     pub fn byte_at(&self, addr: u16) -> Option<u8>
         ensures { result ≡ memory_byte addr self.now.wires }
     {
-        match region(addr) {
-            Region::Ram(k) => Some(self.ram_byte(k)),
-            Region::VectorRam(k) => Some(self.memory.byte(k)),
-            Region::VectorRom(k) => Some(self.memory.byte(VECTOR_RAM_LEN as u16 + k)),
-            Region::ProgramRom(k) => Some(self.program_byte(k)),
-            Region::Sound1(_)
-            | Region::Sound2(_)
-            | Region::EaromOut
-            | Region::In0
-            | Region::In3
-            | Region::In4
-            | Region::Go
-            | Region::VgReset
-            | Region::Acknowledge
-            | Region::EaromControl
-            | Region::EaromLatch(_)
-            | Region::Watchdog
-            | Region::Nothing => None,
+        let row = row(addr);
+        match row.reads {
+            Reads::Ram => Some(self.ram_byte(row.offset)),
+            Reads::VectorRam => Some(self.memory.byte(row.offset)),
+            Reads::VectorRom => Some(self.memory.byte(VECTOR_RAM_LEN as u16 + row.offset)),
+            Reads::ProgramRom => Some(self.program_byte(row.offset)),
+            _ => None,
         }
     }
 }
