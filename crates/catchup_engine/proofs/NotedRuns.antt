@@ -1,5 +1,5 @@
 -- A run over calm boundaries of which somebody is told turn by turn.
-use Rattle.std.proofs.Common.{◌≡◌, ℕ, ◌+◌, ◌-◌, ◌≤◌, ◌<◌, ◌^◌, Bool, true, false, not, ◌&&◌, ◌||◌, is_none, nat_lt, min, List, [], None, refl, subst, arith}
+use Rattle.std.proofs.Common.{◌≡◌, ℕ, ◌+◌, ◌-◌, ◌≤◌, ◌<◌, Bool, true, false, not, ◌&&◌, ◌||◌, is_none, nat_lt, min, List, [], None, refl, subst}
 use Rattle.std.proofs.lemmas.Bool.{or_parts}
 use Rattle.board_base.specs.declared.board.TheConstants.{CLOCK_LIMIT}
 use Rattle.board_base.specs.declared.divider.TheConstants.{DIVIDER_PERIOD}
@@ -14,18 +14,17 @@ use Rattle.tape_ports.specs.Tape.{TapeValue}
 use Rattle.lockstep_board.specs.Breaks.{is_at_any}
 use Rattle.lockstep_board.specs.Run.{is_over}
 use Rattle.catchup_engine.specs.declared.trace.Access.{Access}
-use Rattle.catchup_engine.specs.declared.bus.TheConstants.{WHOLE}
 use Rattle.catchup_engine.specs.declared.calm.Calm.{Calm}
 use Rattle.catchup_engine.specs.Bus.{BusStep, BusValue, Fits}
-use Rattle.catchup_engine.specs.Calm.{AreCalm, IsCalm, KeepsLines}
-use Rattle.catchup_engine.specs.Notes.{NoteValue, NotedStep, NotedValue, note_of, noting}
-use Rattle.catchup_engine.specs.Quiet.{IsCounted, passed, quiet_room}
-use Rattle.catchup_engine.specs.Runs.{GoesOn, HasRoomTo, IsInRange, TurnsOn, over_bus}
+use Rattle.catchup_engine.specs.Calm.{IsCalm, KeepsLines}
+use Rattle.catchup_engine.specs.Notes.{NotedStep, NotedValue, note_of, noting}
+use Rattle.catchup_engine.specs.Quiet.{IsCounted, passed}
+use Rattle.catchup_engine.specs.Runs.{GoesOn, HasRoomTo, IsInRange, over_bus}
 use Rattle.catchup_engine.specs.Trace.{TraceValue}
 use Rattle.catchup_engine.specs.Traced.{ToldTurns}
 use Rattle.catchup_engine.proofs.CalmLaws.{runs-keep}
-use Rattle.catchup_engine.proofs.CalmRuns.{AtCalm, calm-goes, calm-room, calm-smaller, calm-starts, goes-before}
-use Rattle.catchup_engine.proofs.Notes.{IsNotedTurn, noted-turn, opcode_note}
+use Rattle.catchup_engine.proofs.CalmRuns.{AtCalm, calm-goes, calm-smaller, calm-starts, goes-before}
+use Rattle.catchup_engine.proofs.Notes.{noted-turn, opcode_note}
 use Rattle.catchup_engine.proofs.QuietLaws.{passed-zero}
 use Rattle.catchup_engine.proofs.OpcodeLaws.{reads-opcode}
 use Rattle.catchup_engine.proofs.Seen.{runs-seen}

@@ -1,5 +1,5 @@
 -- One access of a quiet bus that notes it.
-use Rattle.std.proofs.Common.{◌≡◌, ℕ, ◌+◌, ◌-◌, ◌≤◌, ◌<◌, Bool, true, false, List, [], ◌∷◌, ◌++◌, length, length-append, refl, sym, ap, ◌∙◌, arith, if◌then◌else◌}
+use Rattle.std.proofs.Common.{◌≡◌, ℕ, ◌+◌, ◌≤◌, ◌<◌, Bool, true, false, List, [], ◌∷◌, ◌++◌, length, length-append, refl, arith, if◌then◌else◌}
 use Rattle.cpu_core.specs.Course as course
 use Rattle.cpu_core.specs.Course.{read_of, write_of}
 use Rattle.tape_ports.specs.declared.entry.TapeEntry.{TapeEntry}
@@ -9,21 +9,21 @@ use Rattle.catchup_engine.specs.Bus.{BusStep, BusValue}
 use Rattle.catchup_engine.specs.Notes.{with_reached}
 use Rattle.catchup_engine.specs.Quiet.{later, passed}
 use Rattle.catchup_engine.specs.Trace.{access_at, made_of}
-use Rattle.catchup_engine.proofs.MapLaws.{region-program, region-ram}
+use Rattle.catchup_engine.proofs.MapLaws.{row-program, row-ram}
 use Rattle.catchup_engine.proofs.Turns.{clock-some}
 
 -- an access to the RAM and a read of the program ROM reach no device
 pub ram-plain : (a v : ℕ) → a < 2048 → reaches_device (read_of a v) ≡ false
 unfolding reaches_device
-ram-plain a v near = rw (region-ram a near) refl
+ram-plain a v near = rw (row-ram a near) refl
 
 pub ram-put-plain : (a v : ℕ) → a < 2048 → reaches_device (write_of a v) ≡ false
 unfolding reaches_device
-ram-put-plain a v near = rw (region-ram a near) refl
+ram-put-plain a v near = rw (row-ram a near) refl
 
 pub program-plain : (a v : ℕ) → 36864 ≤ a → a < 65536 → reaches_device (read_of a v) ≡ false
 unfolding reaches_device
-program-plain a v from last = rw (region-program a from last) refl
+program-plain a v from last = rw (row-program a from last) refl
 
 made-at : (clock : ℕ) (x : course.Access) → made_of (access_at clock x) ≡ x
 made-at clock (read_of a v) = refl

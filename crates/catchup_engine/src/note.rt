@@ -16,8 +16,12 @@ impl Access {
     pub fn reaches_device(&self) -> bool
         ensures { result ≡ reaches_device (made_of self.now) }
     {
-        let uses = uses_of(region(self.addr));
-        let reached = if self.write { uses.writes } else { uses.reads };
+        let row = row(self.addr);
+        let reached = if self.write {
+            devices_written(row.writes)
+        } else {
+            devices_read(row.reads)
+        };
         !reached.is_empty()
     }
 }

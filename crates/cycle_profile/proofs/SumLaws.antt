@@ -52,10 +52,10 @@ keeps_the_sum p trace pc is last fits adds room =
     let address = last_of p.routines in
     let whole : address < length p.counts = rw is.counts last in
     let all : clocks_in p.counts + trace.count < 2 ^ 64 = rw adds room in
-    let same : length (charged p trace).counts ≡ ADDRESSES = length-set _ _ _ ∙ is.counts in
-    let within : pc < length (charged p trace).counts = rw same fits in
-    let turned : clocks_in (entered turn pc (charged p trace).counts) ≡ clocks_in (charged p trace).counts = turn-keeps turn pc (charged p trace) within in
-    let charge : clocks_in (charged p trace).counts ≡ clocks_in p.counts + trace.count
+    let same : length (charged p trace.count (device_accesses trace)).counts ≡ ADDRESSES = length-set _ _ _ ∙ is.counts in
+    let within : pc < length (charged p trace.count (device_accesses trace)).counts = rw same fits in
+    let turned : clocks_in (entered turn pc (charged p trace.count (device_accesses trace)).counts) ≡ clocks_in (charged p trace.count (device_accesses trace)).counts = turn-keeps turn pc (charged p trace.count (device_accesses trace)) within in
+    let charge : clocks_in (charged p trace.count (device_accesses trace)).counts ≡ clocks_in p.counts + trace.count
     = charge-adds p.counts address trace.count (device_accesses trace) whole all in
     let sum : clocks_in p.counts + trace.count ≡ raised p.clocks trace.count = omega (arith, adds, room) in
-    either-adds (trace.count == 0) p (after_turn turn pc (charged p trace)) adds (turned ∙ charge ∙ sum)
+    either-adds (trace.count == 0) p (after_turn turn pc (charged p trace.count (device_accesses trace))) adds (turned ∙ charge ∙ sum)

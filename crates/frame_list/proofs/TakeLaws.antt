@@ -15,21 +15,9 @@ use Rattle.frame_list.specs.Events.{Event, stroke_of, mark_at, marks_in, marks_o
 use Rattle.frame_list.specs.Frames.{FrameValue, begun, under_way, ended, frame_text, frames_text}
 use Rattle.frame_list.proofs.FrameLaws.{under_way-append, ended-append, ended-strokes}
 
--- of the marks of some accesses those from one access on: its own first, where it is one
-pub marks-first : (accesses : List Access) (k : ℕ) (d : Access) → k < length accesses → starts_generator (get_or accesses k d) ≡ true
-    → marks_of (drop k accesses) ≡ (get_or accesses k d).clock ∷ marks_of (drop (k + 1) accesses)
-unfolding marks_of
-marks-first accesses k d below starts = rw (add-one, drop-cons accesses k d below, starts) refl
-
-pub marks-none : (accesses : List Access) (k : ℕ) (d : Access) → k < length accesses → starts_generator (get_or accesses k d) ≡ false
-    → marks_of (drop k accesses) ≡ marks_of (drop (k + 1) accesses)
-unfolding marks_of
-marks-none accesses k d below starts = rw (add-one, drop-cons accesses k d below, starts) refl
-
--- no access is left, and no mark
-pub marks-nothing : (accesses : List Access) (k : ℕ) → length accesses ≤ k → marks_of (drop k accesses) ≡ []
-unfolding marks_of
-marks-nothing accesses k above = rw (drop_of_length-le accesses above) refl
+-- of some marks those from one on
+pub marks-left : (marks : List ℕ) (k d : ℕ) → k < length marks → drop k marks ≡ get_or marks k d ∷ drop (k + 1) marks
+marks-left marks k d below = rw add-one (drop-cons marks k d below)
 
 -- a fault came in a first part of a text
 pub takes-cut : {T E : Type 0} (out0 out1 : Option (List ℕ)) (text : List ℕ) (result : Result T E) → IsErr result
@@ -102,13 +90,6 @@ went-cut out0 out1 out2 from now counted all strokes first n mark these marks re
     takes-cut out0 out2 _ result fault (went-cut-here out0 out1 out2 from now counted all strokes mark marks (rw (← split) before)
     (is ∙ ap (λ some. under_way now (map stroke_of some)) (is_first ∙ ap (λ k. take k strokes) is_n)) cut)
 
--- the access is no mark
-pub went-on : (out0 out1 out2 : Option (List ℕ)) (from now after : FrameValue) (all : List Event) (strokes later : List Record)
-    (these marks : List ℕ) → these ≡ marks → later ≡ strokes → Went out0 out1 from all now (by_clock strokes these)
-    → out2 ≡ out1 → after ≡ now → Went out0 out2 from all after (by_clock later marks)
-went-on out0 out1 out2 from now after all strokes later these marks same is_later before is_out is_frame =
-    rw (is_later, is_out, is_frame, ← same) before
-
 -- no mark is left: the strokes that are left are counted
 pub went-all : (out0 out1 : Option (List ℕ)) (from now : FrameValue) (all : List Event) (strokes : List Record) (these : List ℕ) → these ≡ []
     → Went out0 out1 from all now (by_clock strokes these) → out1 ≡ grown out0 (frames_text (ended from all))
@@ -125,8 +106,3 @@ pub went-under_way : (out0 out1 : Option (List ℕ)) (from now last : FrameValue
 unfolding by_clock
 went-under_way out0 out1 from now last all strokes these none before is =
     is ∙ ap (λ marks. under_way now (by_clock strokes marks)) (sym none) ∙ sym before.frame
-
--- the events of a trace and a trail that are read again
-pub events-same : (strokes given_strokes : List Record) (n : ℕ) (trace given_trace : TraceValue) → strokes ≡ given_strokes → n ≡ trace.count
-    → trace ≡ given_trace → by_clock strokes (marks_of (take n trace.accesses)) ≡ by_clock given_strokes (marks_in given_trace)
-events-same strokes given_strokes n trace given_trace same is view = rw (← view, ← same, is) refl

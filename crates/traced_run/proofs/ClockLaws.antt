@@ -25,6 +25,7 @@ use Rattle.lockstep_board.proofs.Ends.{boundary_steps-few, to_boundary-clock, to
 use Rattle.catchup_engine.proofs.Traces.{over-running}
 use Rattle.lockstep_board.proofs.TurnLaws.{turn-placed, turns-to}
 use Rattle.cycle_profile.specs.declared.profile.TheConstants.{ADDRESSES, LONGEST_LIST}
+use Rattle.cycle_profile.specs.Charge.{device_accesses}
 use Rattle.cycle_profile.specs.Counts.{more_entered}
 use Rattle.cycle_profile.specs.Profile.{AddsUp, IsProfile, ProfileValue, after, after_turn, changed, charged, last_of, newest, returned}
 use Rattle.cycle_profile.specs.Turns.{turn_of, turn_of_op, turn_of_row}
@@ -35,7 +36,7 @@ use Rattle.traced_run.specs.ProfilingLaws.{run_turns-open, run_turns-over}
 
 -- a sequence adds its clocks, as long as the count stands below its end
 after-test : (t : Bool) (p : ProfileValue) (trace : TraceValue) (pc : ℕ) → (trace.count == 0) ≡ t → p.clocks + trace.count < 2 ^ 64
-    → (if t then p else after_turn (turn_of trace.sequence trace.opcode) pc (charged p trace)).clocks ≡ p.clocks + trace.count
+    → (if t then p else after_turn (turn_of trace.sequence trace.opcode) pc (charged p trace.count (device_accesses trace))).clocks ≡ p.clocks + trace.count
 after-test true p trace pc is room = let none : trace.count ≡ 0 = eqb-true trace.count 0 is in omega arith
 after-test false p trace pc is room = omega arith
 
@@ -195,7 +196,7 @@ sequence-fits sequence.Opcode opcode p pc fits before = row-fits (row_of opcode)
 sequence-fits sequence.Interrupt opcode p pc fits before = call-fits p pc fits before
 sequence-fits sequence.Reset opcode p pc fits before = fits-entered p (pc ∷ []) pc (alone pc fits) before
 
-charged-fits : (p : ProfileValue) (trace : TraceValue) → Fits p → Fits (charged p trace)
+charged-fits : (p : ProfileValue) (trace : TraceValue) → Fits p → Fits (charged p trace.count (device_accesses trace))
 charged-fits p trace before = record {
   is = record { some = before.is.some; few = before.is.few; counts = length-set _ _ _ ∙ before.is.counts };
   each = before.each;
@@ -208,8 +209,8 @@ either-fits false p q first second = second
 after-fits : (p : ProfileValue) (trace : TraceValue) (pc : ℕ) → pc < ADDRESSES → Fits p → Fits (after p trace pc)
 unfolding after
 after-fits p trace pc fits before =
-    either-fits (trace.count == 0) p (after_turn (turn_of trace.sequence trace.opcode) pc (charged p trace)) before
-    (sequence-fits trace.sequence trace.opcode (charged p trace) pc fits (charged-fits p trace before))
+    either-fits (trace.count == 0) p (after_turn (turn_of trace.sequence trace.opcode) pc (charged p trace.count (device_accesses trace))) before
+    (sequence-fits trace.sequence trace.opcode (charged p trace.count (device_accesses trace)) pc fits (charged-fits p trace before))
 
 last-fits : (p : ProfileValue) → Fits p → last_of p.routines < ADDRESSES
 last-fits p fits = let some = fits.is.some in fits.each (length p.routines - 1) 0 (omega arith)

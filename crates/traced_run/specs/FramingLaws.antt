@@ -1,5 +1,5 @@
 -- Frames of a run, part by part.
-use Rattle.std.proofs.Common.{◌≡◌, ℕ, ◌+◌, ◌-◌, ◌≤◌, ◌<◌, Bool, true, false, List, [], ◌∷◌, ◌++◌, length, map, take, drop, zero, suc, refl, sym, ap, subst, ◌∙◌, arith, add-zero, length-drop}
+use Rattle.std.proofs.Common.{◌≡◌, ℕ, ◌+◌, ◌-◌, ◌≤◌, ◌<◌, Bool, true, false, not, ◌==◌, List, [], ◌∷◌, ◌++◌, length, map, take, drop, zero, suc, refl, sym, ap, subst, ◌∙◌, arith, add-zero, length-drop}
 use Rattle.std.specs.Prelude.{All, if◌then◌else◌}
 use Rattle.std.proofs.lemmas.List.Elements.{All-weaker}
 use Rattle.board_base.specs.declared.record.Record.{Record}
@@ -22,45 +22,52 @@ use Rattle.frame_list.specs.Events.{by_clock, mark_at, marks_in, marks_of, strok
 use Rattle.frame_list.specs.Frames.{FrameValue, IsBefore, begun, ended, frames_text, under_way}
 use Rattle.frame_list.proofs.FrameLaws.{strokes-most, strokes-number, under_way-append}
 use Rattle.frame_list.proofs.WholeLaws.{parts_make_the_whole}
-use Rattle.traced_run.specs.declared.framing.Framer.{Framer}
 use Rattle.traced_run.specs.BoardFrames.{run_events, run_marks}
-use Rattle.traced_run.specs.Framing.{behind_part, behind_run, framer_told, has_marks, keeps_marks, part_framed, run_framed_text, CanFrame, HasNumbers}
+use Rattle.traced_run.specs.Framing.{FramerValue, behind_part, behind_run, framer_told, has_marks, keeps_marks, part_framed, run_framed_text, CanFrame, HasNumbers}
 use Rattle.traced_run.specs.MarkLaws.{marks-append, marks-few, marks-within, run_marks-cleared, turn-marks, unmarked}
 use Rattle.traced_run.specs.PartLaws.{accesses-add, cleared-none, end-behind, made-none, open-later, strokes-before, strokes-few, strokes-from, turned-low, turned-steps, turns-go, turns_steps}
 
 -- what a framer is when it was told of n turns: its frames stayed, and it kept the marks of all of them
-record Kept (entries : List TapeEntry) (n : ℕ) (w v : Framer) (b : Board) : Type 0 where
+record Kept (entries : List TapeEntry) (n : ℕ) (w v : FramerValue) (b : Board) : Type 0 where
   frames : v.frames ≡ w.frames
-  marks : marks_of (accesses_of entries (turns_steps entries n b) b) ≡ marks_in v.trace
+  marks : marks_of (accesses_of entries (turns_steps entries n b) b) ≡ v.marks
 
 -- one turn
-record KeptOne (entries : List TapeEntry) (w v : Framer) (b : Board) : Type 0 where
+record KeptOne (entries : List TapeEntry) (w v : FramerValue) (b : Board) : Type 0 where
   frames : v.frames ≡ w.frames
-  marks : marks_in (step_trace entries b) ≡ marks_in v.trace
+  marks : marks_in (step_trace entries b) ≡ v.marks
 
-kept-one : (entries : List TapeEntry) (w : Framer) (b : Board) → has_marks w.trace ≡ false → KeptOne entries w (told_once framer_told entries w b) b
+kept-one : (entries : List TapeEntry) (w : FramerValue) (b : Board) → w.marks ≡ [] → KeptOne entries w (told_once framer_told entries w b) b
 kept-one entries w b none = by_trace (has_marks (step_trace entries b)) refl
   where
     by_trace : (t : Bool) → has_marks (step_trace entries b) ≡ t → KeptOne entries w (told_once framer_told entries w b) b
     by_trace true is =
-        let kept : told_once framer_told entries w b ≡ (let f : Framer = record w { trace = step_trace entries b } in f) =
-        ap (λ t. let f : Framer = if t then record w { trace = step_trace entries b } else w in f) is in
-        record { frames = ap (λ (f : Framer). f.frames) kept; marks = ap (λ (f : Framer). marks_in f.trace) (sym kept) }
+        let kept : told_once framer_told entries w b ≡ (let f : FramerValue = record w { marks = marks_in (step_trace entries b) } in f) =
+        ap (λ t. let f : FramerValue = if t then record w { marks = marks_in (step_trace entries b) } else w in f) is in
+        record { frames = ap (λ (f : FramerValue). f.frames) kept; marks = ap (λ (f : FramerValue). f.marks) (sym kept) }
     by_trace false is =
         let same : told_once framer_told entries w b ≡ w =
-        ap (λ t. let f : Framer = if t then record w { trace = step_trace entries b } else w in f) is in
+        ap (λ t. let f : FramerValue = if t then record w { marks = marks_in (step_trace entries b) } else w in f) is in
         record {
-          frames = ap (λ (f : Framer). f.frames) same;
-          marks = unmarked (step_trace entries b) is ∙ sym (unmarked w.trace none) ∙ ap (λ (f : Framer). marks_in f.trace) (sym same);
+          frames = ap (λ (f : FramerValue). f.frames) same;
+          marks = unmarked (step_trace entries b) is ∙ sym none ∙ ap (λ (f : FramerValue). f.marks) (sym same);
         }
 
+-- a list that isn't said to have an element has none
+empty-marks : (marks : List ℕ) → not (length marks == 0) ≡ false → marks ≡ []
+empty-marks [] is = refl
+empty-marks (mark ∷ marks) is = absurd (some-mark (length marks) is)
+  where
+    some-mark : (n : ℕ) → not (suc n == 0) ≡ false → ⊥
+    some-mark n is = cc
+
 -- no turn but the last gave it a mark
-kept-turns : (entries : List TapeEntry) (limit n : ℕ) (w : Framer) (b : Board) → has_marks w.trace ≡ false
+kept-turns : (entries : List TapeEntry) (limit n : ℕ) (w : FramerValue) (b : Board) → w.marks ≡ []
     → ((k : ℕ) → k < n → is_over limit (turned entries k b) ≡ false)
     → ((k : ℕ) → 1 ≤ k → k < n → keeps_marks (told framer_told entries k w b) ≡ false)
     → Kept entries n w (told framer_told entries n w b) b
 unfolding told turned accesses_of turns_steps marks_of stepped to_boundary
-kept-turns entries limit zero w b none open_yet goes = record { frames = refl; marks = sym (unmarked w.trace none) }
+kept-turns entries limit zero w b none open_yet goes = record { frames = refl; marks = sym none }
 kept-turns entries limit (suc zero) w b none open_yet goes =
     let one = kept-one entries w b none in
     let n = boundary_steps entries (b.wires.clock + 1) b in
@@ -76,12 +83,12 @@ kept-turns entries limit (suc (suc m)) w b none open_yet goes =
     let v = told_once framer_told entries w b in
     let n = boundary_steps entries (b.wires.clock + 1) b in
     let next = turn entries b in
-    let still : has_marks v.trace ≡ false = goes 1 (omega arith) (omega arith) in
+    let still : v.marks ≡ [] = empty-marks v.marks (goes 1 (omega arith) (omega arith)) in
     let rest : Kept entries (suc m) v (told framer_told entries (suc m) v next) next =
     kept-turns entries limit (suc m) v next still (λ k few. open_yet (suc k) (omega (arith, few)))
     (λ k some few. goes (suc k) (omega (arith, some)) (omega (arith, few))) in
     let first : marks_of (accesses_of entries n b) ≡ [] =
-    turn-marks entries limit b (open_yet 0 (omega arith)) ∙ one.marks ∙ unmarked v.trace still in
+    turn-marks entries limit b (open_yet 0 (omega arith)) ∙ one.marks ∙ still in
     record {
       frames = rest.frames ∙ one.frames;
       marks =
@@ -210,12 +217,12 @@ module _ (entries : List TapeEntry) (limit n : ℕ) (b : Board) (placed : IsPlac
       omega arith
 
 -- a frame in numbers that the clocks bound
-numbers-small : (w : Framer) (limit : ℕ) (b : Board) → CanFrame w limit b → HasNumbers w
+numbers-small : (w : FramerValue) (limit : ℕ) (b : Board) → CanFrame w limit b → HasNumbers w
 numbers-small w limit b may =
     let clock = may.clock in let number = may.number in let strokes = may.strokes in record { number = omega arith; strokes = omega arith }
 
 -- to frame a first part of a run, and then the rest, is to frame the whole
-part-framed-so : (w : Framer) (entries : List TapeEntry) (limit part n : ℕ) (b : Board) → part ≤ limit → IsPlaced b → HasNoRecords b
+part-framed-so : (w : FramerValue) (entries : List TapeEntry) (limit part n : ℕ) (b : Board) → part ≤ limit → IsPlaced b → HasNoRecords b
     → CanFrame w limit b → ((k : ℕ) → k < n → is_over part (turned entries k b) ≡ false)
     → ((k : ℕ) → 1 ≤ k → k < n → keeps_marks (told framer_told entries k w b) ≡ false)
     → IsFollowedInParts framer_told keeps_marks (λ f _ limit b. CanFrame f limit b) run_framed_text behind_run (λ f _. HasNumbers f) part_framed behind_part
@@ -226,9 +233,8 @@ part-framed-so w entries limit part n b low placed none may open_part goes =
     let c = turned entries n b in
     let last = to_boundary entries limit (cleared c) in
     let made = marks_of (accesses_of entries (turns_steps entries n b) b) in
-    let fresh : has_marks w.trace ≡ false = ap has_marks may.trace in
     let open_yet : (k : ℕ) → k < n → is_over limit (turned entries k b) ≡ false = λ k few. open-later part limit (turned entries k b) low (open_part k few) in
-    let kept = kept-turns entries part n w b fresh open_part goes in
+    let kept = kept-turns entries part n w b may.marks open_part goes in
     let clock = there-clock entries limit n b placed none open_yet in
     let stands = turned-low entries limit n b may.low placed open_yet (record { clock = may.clock; inside = may.inside }) in
     let few = events-few w.frames c.wires.strokes made in
@@ -239,11 +245,11 @@ part-framed-so w entries limit part n b low placed none may open_part goes =
     let counted = may.strokes in
     let more = few.number in
     let drawn = few.strokes in
-    let events : by_clock c.wires.strokes (marks_in v.trace) ≡ by_clock c.wires.strokes made = ap (by_clock c.wires.strokes) (sym kept.marks) in
-    let behind : under_way v.frames (by_clock c.wires.strokes (marks_in v.trace)) ≡ under_way w.frames (by_clock c.wires.strokes made) =
-    ap (λ (f : FrameValue). under_way f (by_clock c.wires.strokes (marks_in v.trace))) kept.frames ∙ ap (under_way w.frames) events in
-    let lines : ended v.frames (by_clock c.wires.strokes (marks_in v.trace)) ≡ ended w.frames (by_clock c.wires.strokes made) =
-    ap (λ (f : FrameValue). ended f (by_clock c.wires.strokes (marks_in v.trace))) kept.frames ∙ ap (ended w.frames) events in
+    let events : by_clock c.wires.strokes v.marks ≡ by_clock c.wires.strokes made = ap (by_clock c.wires.strokes) (sym kept.marks) in
+    let behind : under_way v.frames (by_clock c.wires.strokes v.marks) ≡ under_way w.frames (by_clock c.wires.strokes made) =
+    ap (λ (f : FrameValue). under_way f (by_clock c.wires.strokes v.marks)) kept.frames ∙ ap (under_way w.frames) events in
+    let lines : ended v.frames (by_clock c.wires.strokes v.marks) ≡ ended w.frames (by_clock c.wires.strokes made) =
+    ap (λ (f : FrameValue). ended f (by_clock c.wires.strokes v.marks)) kept.frames ∙ ap (ended w.frames) events in
     let all : run_events entries limit (cleared b)
     ≡ by_clock (c.wires.strokes ++ last.wires.strokes) (made ++ run_marks entries limit (cleared c)) =
     ap (run_events entries limit) (cleared-empty b none) ∙ whole-events entries limit n b placed none open_yet in
@@ -255,7 +261,7 @@ part-framed-so w entries limit part n b low placed none may open_part goes =
         strokes = (let same : v.frames.strokes ≡ w.frames.strokes = ap (λ (f : FrameValue). f.strokes) kept.frames in let small = numbers.strokes in omega arith);
       };
       rest = record {
-        trace = refl;
+        marks = refl;
         low = may.low;
         clock = stands.clock;
         inside = stands.inside;
@@ -266,20 +272,20 @@ part-framed-so w entries limit part n b low placed none may open_part goes =
           ap (λ l. frames_text (ended w.frames l)) all
           ∙ parts.text
           ∙ ap (λ l. frames_text l ++ frames_text (ended (under_way w.frames (by_clock c.wires.strokes made)) (run_events entries limit (cleared c)))) (sym lines)
-          ∙ ap (λ (f : FrameValue). frames_text (ended v.frames (by_clock c.wires.strokes (marks_in v.trace))) ++ frames_text (ended f (run_events entries limit (cleared c)))) (sym behind);
+          ∙ ap (λ (f : FrameValue). frames_text (ended v.frames (by_clock c.wires.strokes v.marks)) ++ frames_text (ended f (run_events entries limit (cleared c)))) (sym behind);
       state =
-          ap (λ l. let f : Framer = record w { frames = under_way w.frames l } in f) all
-          ∙ ap (λ (g : FrameValue). let f : Framer = record w { frames = g } in f) parts.frame
-          ∙ ap (λ (g : FrameValue). let f : Framer = record w { frames = under_way g (run_events entries limit (cleared c)) } in f) (sym behind)
-          ∙ ap (λ (t : TraceValue). let f : Framer = record {
-            frames = under_way (under_way v.frames (by_clock c.wires.strokes (marks_in v.trace))) (run_events entries limit (cleared c));
-            trace = t;
-          } in f) may.trace;
+          ap (λ l. let f : FramerValue = record w { frames = under_way w.frames l } in f) all
+          ∙ ap (λ (g : FrameValue). let f : FramerValue = record w { frames = g } in f) parts.frame
+          ∙ ap (λ (g : FrameValue). let f : FramerValue = record w { frames = under_way g (run_events entries limit (cleared c)) } in f) (sym behind)
+          ∙ ap (λ (l : List ℕ). let f : FramerValue = record {
+            frames = under_way (under_way v.frames (by_clock c.wires.strokes v.marks)) (run_events entries limit (cleared c));
+            marks = l;
+          } in f) may.marks;
     }
 
 pub framed_in_parts : FollowsInParts framer_told keeps_marks (λ f _ limit b. CanFrame f limit b) run_framed_text behind_run (λ f _. HasNumbers f) part_framed behind_part
 framed_in_parts w v entries limit part b c low placed none may run =
-    subst (λ (f : Framer). IsFollowedInParts framer_told keeps_marks (λ f _ limit b. CanFrame f limit b) run_framed_text behind_run (λ f _. HasNumbers f) part_framed behind_part
+    subst (λ (f : FramerValue). IsFollowedInParts framer_told keeps_marks (λ f _ limit b. CanFrame f limit b) run_framed_text behind_run (λ f _. HasNumbers f) part_framed behind_part
     w f entries limit b c) (sym run.tracer)
     (subst (λ (d : Board). IsFollowedInParts framer_told keeps_marks (λ f _ limit b. CanFrame f limit b) run_framed_text behind_run (λ f _. HasNumbers f) part_framed behind_part
     w (told framer_told entries run.count w b) entries limit b d) (sym run.board)
@@ -300,5 +306,5 @@ framed_still w entries limit b over =
     let none = over-events entries limit b over in
     record {
       text = ap (λ l. frames_text (ended w.frames l)) none;
-      state = ap (λ l. let f : Framer = record w { frames = under_way w.frames l } in f) none;
+      state = ap (λ l. let f : FramerValue = record w { frames = under_way w.frames l } in f) none;
     }

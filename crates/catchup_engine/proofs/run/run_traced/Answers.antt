@@ -1,6 +1,5 @@
-use Rattle.std.proofs.Common.{ap, sym, ◌∙◌, subst, refl}
+use Rattle.std.proofs.Common.{ap, sym, ◌∙◌, subst}
 use Rattle.board_base.specs.Cpu.{CpuValue}
-use Rattle.catchup_engine.proofs.CalmRuns.{goes-on-tells}
 use Rattle.catchup_engine.proofs.TracedRuns.{AtTold, told-goes_calmly, told-goes_on, told-starts}
 use Rattle.catchup_engine.proofs.run.run_traced.Goals as goal
 

@@ -1,9 +1,9 @@
-use Rattle.std.proofs.Common.{◌≡◌, ◌+◌, ◌-◌, ◌≤◌, ◌<◌, ap, sym, ◌∙◌, refl, arith}
+use Rattle.std.proofs.Common.{◌-◌, ap, ◌∙◌, refl, arith}
 use Rattle.cpu_core.specs.Course.{read_of}
 use Rattle.catchup_engine.specs.Notes.{with_reached}
 use Rattle.catchup_engine.specs.Quiet.{passed}
 use Rattle.catchup_engine.specs.Trace.{access_at}
-use Rattle.catchup_engine.proofs.NotedSteps.{clock-after, clock-passed, plain-reached, program-plain, ram-plain, reached-most}
+use Rattle.catchup_engine.proofs.NotedSteps.{clock-after, clock-passed, plain-reached, program-plain, ram-plain}
 use Rattle.catchup_engine.proofs.noted.NotedBusBus.read.Goals as goal
 use Rattle.catchup_engine.proofs.noted.NotedBusBus.read.Goals.{else-addr-via-then-addr+else-addr-lt-PROGRAM_START, else-addr-via-else-addr}
 
