@@ -1,2 +1,3 @@
 pub mod SumLaws
 mod TextLaws
+pub mod NoteLaws

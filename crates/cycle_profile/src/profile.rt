@@ -43,7 +43,7 @@ impl Profile {
     ghost use Rattle.catchup_engine.specs.Notes.{note_of};
     ghost use Rattle.catchup_engine.specs.Trace.{TraceValue};
     ghost use Rattle.cycle_profile.specs.Counts.{more_entered, no_counts};
-    ghost use Rattle.cycle_profile.specs.Profile.{after, changed, charged, last_of, newest, returned};
+    ghost use Rattle.cycle_profile.specs.Profile.{after, after_turn, changed, charged, last_of, newest, returned};
     ghost use Rattle.cycle_profile.specs.Text.{profile_text};
 
     /// A profile of no sequence, which has the routine at this address alone. It takes the memory of
@@ -74,7 +74,6 @@ impl Profile {
 
     /// Does what `take` does, by the note of a trace.
     #[inline(always)]
-    #[tactic(auto, unfolding(crate::specs::Profile::after))]
     pub fn take_note(&mut self, note: &TurnNote<'_>, pc: u16)
         ensures { (trace : TraceValue) → note.now ≡ note_of trace → self.new ≡ after self.old trace pc }
     {
@@ -82,7 +81,15 @@ impl Profile {
             return;
         }
         self.charge(u64::from(note.clocks), note.reached.len() as u64);
-        match turn_by(note.sequence, note.opcode) {
+        self.turn(turn_by(note.sequence, note.opcode), pc);
+    }
+
+    /// Changes the list, and counts an entry where a routine is entered.
+    #[inline(always)]
+    fn turn(&mut self, turn: Turn, pc: u16)
+        ensures { self.new ≡ after_turn turn pc self.old }
+    {
+        match turn {
             Turn::Call => self.call(pc),
             Turn::Return => self.leave(),
             Turn::Restart => self.restart(pc),
