@@ -1,353 +1,192 @@
--- No two boards in range share a spelling.
-use Rattle.std.proofs.Common.{◌≡◌, ℕ, ℤ, ◌==◌, ◌<◌, ◌≤◌, ◌^◌, Bool, true, false, cond, List, [], ◌∷◌, ◌++◌, All, length, get_or, drop, Option, Some, None, Ok, Err, Result, refl, sym, ap, subst, ◌∙◌, inl, inr, arith}
-use Rattle.std.specs.Prelude.{IsTrue, ◌↔◌}
-use Rattle.std.specs.Bool.{Decides}
-use Rattle.std.specs.List.{slice_index}
-use Rattle.std.specs.Int.{w16, w32, w64, from_le_bytes, from_bool, cast_signed, cast_unsigned}
-use Rattle.std.proofs.lemmas.Int.{ints}
-use Rattle.std.proofs.lemmas.List.Elements.{All-get_or}
-use Rattle.std.proofs.lemmas.Nat.{from_le_bytes-to_le_bytes_2, from_le_bytes-to_le_bytes_4, from_le_bytes-to_le_bytes_8}
-use Rattle.board_base.specs.Ranges.{IsWithin}
-use Rattle.board_base.specs.Cpu.{CpuValue, MidValue}
+-- The bytes that spell a board in range have its fields, in both versions.
+use Rattle.std.proofs.Common.{◌≡◌, ℕ, ◌+◌, ◌==◌, ◌<◌, ◌≤◌, ◌^◌, true, false, List, [], ◌∷◌, ◌++◌, All, length, take, drop, Option, Some, None, refl, sym, ap, subst, ◌∙◌, map, inl, inr, ◌⊎◌, arith}
+use Rattle.std.specs.Prelude.{IfSome}
+use Rattle.std.specs.Int.{from_bool}
+use Rattle.std.specs.Option.{is_some}
+use Rattle.std.specs.List.{concat, slice_index}
+use Rattle.std.proofs.lemmas.List.{take_at}
+use Rattle.std.proofs.lemmas.Nat.{from_le_bytes-to_le_bytes_2}
+use Rattle.board_base.specs.Cpu.{CpuValue, MidValue, IsMid}
 use Rattle.board_base.specs.Board.{BoardValue}
-use Rattle.board_base.specs.Divider.{DividerValue, IsDivider, reset_number}
-use Rattle.board_base.specs.Earom.{EaromValue, IsEarom}
-use Rattle.board_base.specs.Pokey.{PokeyValue, IsPokey}
-use Rattle.board_base.specs.Vg.{VgValue, IsVg}
 use Rattle.board_base.specs.declared.cpu.Sequence.{Sequence}
 use Rattle.board_base.specs.declared.cpu.Sequence.TheVariants.{Opcode, Interrupt, Reset}
-use Rattle.board_base.specs.declared.divider.Pending.{Pending}
-use Rattle.board_base.specs.declared.divider.Pending.TheVariants.{Nothing, Power, Watchdog}
 use Rattle.cpu_core.specs.Places.{IsMiddle}
-use Rattle.save_state.specs.Fields.{i32_bytes, u16_bytes, u64_bytes}
-use Rattle.save_state.specs.StateBytes.{processor_of, sequence_number, sequence_of, table, board_pieces, state_bytes, first_state_bytes}
-use Rattle.save_state.specs.Sections.{head_pieces, register_pieces, port_pieces, zero_pieces, back_pieces, divider_pieces, stack_pieces, vg_pieces, pokey_pieces, pulse_pieces, earom_pieces, jam_pieces, middle_pieces, eight_pieces}
-use Rattle.save_state.specs.Walk.{board_at}
-use Rattle.save_state.specs.Reading.{IsWhole, Spells, HasFields}
-use Rattle.save_state.proofs.Laws.{read_stand}
-use Rattle.save_state.proofs.Whole.{fields, board_is, offsets}
-use Rattle.save_state.proofs.BoardsRead.{first_read, second_read}
-use Rattle.save_state.proofs.Signed.{signed_back}
-use Rattle.save_state.proofs.Decided.{of_middle}
+use Rattle.save_state.specs.Fields.{Facts, Row, rows_of, rows_at, pieces_of}
+use Rattle.save_state.specs.StateBytes.{head_rows, clock_rows, register_rows, jam_rows, port_rows, divider_rows, sequence_rows, place_rows, middle_rows, zero_rows, vg_rows, pokey_rows, earom_rows, memory_rows, front_rows, back_rows, table, last_clock, number_of, sequence_number, sequence_of, middle_at, facts_of, processor_of, state_bytes, first_state_bytes}
+use Rattle.save_state.specs.Reading.{IsWhole, HasFields, Spells}
+use Rattle.save_state.proofs.Rows.{no_row, byte_is}
+use Rattle.save_state.proofs.Spelled.{AreSpelled, head_spelled, clock_spelled, registers_spelled, jam_spelled, ports_spelled, divider_spelled, zeros_spelled, none_spelled, place_spelled, not_zero, vg_spelled, pokey_spelled, earom_spelled, last_by}
+use Rattle.save_state.proofs.Stands.{Has, stand, joined, offsets, pieces_are, held_from, has_fields, spelled_append}
+use Rattle.save_state.proofs.SameBoard.{same_first, same_second}
 
-abbrev piece : List (List ℕ) → ℕ → List ℕ
-piece ps k = get_or ps k []
+-- rows after others
+abbrev Rows : Type 0
+Rows = List (Row BoardValue)
 
-abbrev one : List (List ℕ) → ℕ → ℕ
-one ps k = slice_index (piece ps k) 0
+front_spelled : (version : ℕ) (cpu : CpuValue) (facts : Facts) (b : BoardValue) → IsWhole b → b.clock ≤ facts.last → facts.jammed ≡ is_some b.cpu.jam → AreSpelled cpu facts (front_rows version) b
+front_spelled version cpu facts b h clock jammed =
+    let head : Rows = rows_of (λ b. version) head_rows in
+    let time : Rows = rows_of (λ b. b.clock) clock_rows in
+    let registers : Rows = rows_of (λ b. b.cpu) register_rows in
+    let jam : Rows = rows_of (λ b. b.cpu.jam) jam_rows in
+    let ports : Rows = rows_of (λ b. record { out = b.out; in0 = b.in0; in3 = b.in3; in4 = b.in4 }) port_rows in
+    let divider : Rows = rows_of (λ b. b.divider) divider_rows in
+    spelled_append cpu facts b (head ++ time ++ registers ++ jam ++ ports) divider
+    (spelled_append cpu facts b (head ++ time ++ registers ++ jam) ports
+    (spelled_append cpu facts b (head ++ time ++ registers) jam
+    (spelled_append cpu facts b (head ++ time) registers
+    (spelled_append cpu facts b head time (head_spelled cpu facts version) (clock_spelled cpu facts b.clock h.board.clock clock))
+    (registers_spelled cpu facts b.cpu h.cpu.registers))
+    (jam_spelled cpu facts b.cpu.jam jammed h.cpu.stands.undocumented))
+    (ports_spelled cpu facts b h.board).0)
+    (divider_spelled cpu facts b.divider h.divider)
 
--- a value from its pieces
-abbrev flag_in : List (List ℕ) → ℕ → Bool
-flag_in ps k = one ps k == 1
+back_spelled : (cpu : CpuValue) (facts : Facts) (b : BoardValue) → IsWhole b → facts.drawing ≡ (b.vg.phase == 5) → AreSpelled cpu facts back_rows b
+back_spelled cpu facts b h drawing =
+    let zeros : Rows = rows_of (λ b. tt) zero_rows in
+    let vg : Rows = rows_of (λ b. b.vg) vg_rows in
+    let one : Rows = rows_at 84 (rows_of (λ b. b.sound1) pokey_rows) in
+    let two : Rows = rows_at 137 (rows_of (λ b. b.sound2) pokey_rows) in
+    let earom : Rows = rows_of (λ b. b.earom) earom_rows in
+    spelled_append cpu facts b (zeros ++ vg ++ one ++ two ++ earom) memory_rows
+    (spelled_append cpu facts b (zeros ++ vg ++ one ++ two) earom
+    (spelled_append cpu facts b (zeros ++ vg ++ one) two
+    (spelled_append cpu facts b (zeros ++ vg) one
+    (spelled_append cpu facts b zeros vg (zeros_spelled cpu facts).0 (vg_spelled cpu facts b.vg h.vg drawing))
+    (pokey_spelled cpu facts b.sound1 h.sound1))
+    (pokey_spelled cpu facts b.sound2 h.sound2))
+    (earom_spelled cpu facts b.earom h.earom))
+    (ports_spelled cpu facts b h.board).1
 
-flag_back : (b : Bool) → (from_bool b == 1) ≡ b
-flag_back true = refl
-flag_back false = refl
+whole_spelled : (version : ℕ) (cpu : CpuValue) (facts : Facts) (b : BoardValue) → IsWhole b → b.clock ≤ facts.last → facts.jammed ≡ is_some b.cpu.jam → facts.drawing ≡ (b.vg.phase == 5)
+    → AreSpelled cpu facts (middle_rows (version == 1)) b → AreSpelled cpu facts (table version) b
+whole_spelled version cpu facts b h clock jammed drawing middle =
+    spelled_append cpu facts b (front_rows version ++ middle_rows (version == 1)) back_rows
+    (spelled_append cpu facts b (front_rows version) (middle_rows (version == 1)) (front_spelled version cpu facts b h clock jammed) middle)
+    (back_spelled cpu facts b h drawing)
 
-abbrev signed_in : List (List ℕ) → ℕ → ℤ
-signed_in ps k = cast_signed w32 (from_le_bytes w32 (piece ps k))
+-- the place of a processor that stands inside no sequence, or inside one, where the file's processor does so too
+abbrev IsThere : CpuValue → Option ℕ → MidValue → Type 0
+IsThere cpu jam m = (length m.bytes ≡ 6) × (1 ≤ m.count) × (m.count ≤ 6) × (jam ≡ None) × IsMiddle cpu
 
-signed_again : (n : ℕ) (z : ℤ) → n ≤ 2 ^ 30 → IsWithin n z → cast_signed w32 (from_le_bytes w32 (i32_bytes z)) ≡ z
-signed_again n z small h =
-    let bits : cast_unsigned w32 z < 2 ^ 32 = omega (arith, ints) in
-    ap (λ (m : ℕ). cast_signed w32 m) (from_le_bytes-to_le_bytes_4 (cast_unsigned w32 z) bits) ∙ signed_back n z small h
+not_some : (jam : Option ℕ) → jam ≡ None → is_some jam ≡ false
+not_some None e = refl
+not_some (Some o) e = absurd cc
 
-four_back : (l : List ℕ) → length l ≡ 4 → slice_index l 0 ∷ slice_index l 1 ∷ slice_index l 2 ∷ slice_index l 3 ∷ [] ≡ l
-four_back (a ∷ b ∷ c ∷ d ∷ []) len = refl
-four_back [] len = absurd (omega (arith, len))
-four_back (a ∷ []) len = absurd (omega (arith, len))
-four_back (a ∷ b ∷ []) len = absurd (omega (arith, len))
-four_back (a ∷ b ∷ c ∷ []) len = absurd (omega (arith, len))
-four_back (a ∷ b ∷ c ∷ d ∷ e ∷ l) len = absurd (omega (arith, len))
+middle_by : (cpu : CpuValue) (facts : Facts) (jam : Option ℕ) (mid : Option MidValue) → facts.jammed ≡ is_some jam → facts.idle ≡ (number_of mid == 0) → IfSome mid (IsThere cpu jam)
+    → AreSpelled cpu facts (sequence_rows ++ place_rows) mid
+middle_by cpu facts jam None e f h = none_spelled cpu facts f
+middle_by cpu facts jam (Some m) e f h = place_spelled cpu facts m.sequence m.count m.bytes (e ∙ not_some jam h.3) (f ∙ not_zero m.sequence) h.0 h.1 h.2 h.4
 
-same_four : (a b c d w x y z : ℕ) → a ≡ w → b ≡ x → c ≡ y → d ≡ z → a ∷ b ∷ c ∷ d ∷ [] ≡ w ∷ x ∷ y ∷ z ∷ []
-same_four a b c d w x y z e f g h = cc
+there_by : (c cpu : CpuValue) (mid : Option MidValue) → c.mid ≡ mid → IfSome mid IsMid → IfSome mid (λ _. IsMiddle c) → IfSome mid (λ _. IsMiddle cpu) → IfSome mid (IsThere cpu c.jam)
+there_by c cpu None e range place told = tt
+there_by c cpu (Some m) e range place told =
+    let here : IsMiddle (record c { mid = Some m }) = subst (λ (x : Option MidValue). IsMiddle (record c { mid = x })) e place in
+    (range.bytes, here.1.begun, here.1.short, here.0, told)
 
-abbrev vg_of : List (List ℕ) → VgValue
-vg_of ps = record {
-  halted = flag_in ps 0;
-  phase = one ps 1;
-  pc = from_le_bytes w16 (piece ps 2);
-  sp = one ps 3;
-  colour = one ps 4;
-  intensity = one ps 5;
-  lin = one ps 6;
-  bin = one ps 7;
-  pen = one ps 8;
-  bytes = piece ps 9;
-  stack = from_le_bytes w16 (piece ps 10) ∷ from_le_bytes w16 (piece ps 11) ∷ from_le_bytes w16 (piece ps 12) ∷ from_le_bytes w16 (piece ps 13) ∷ [];
-  x = signed_in ps 14;
-  y = signed_in ps 15;
-  dx = signed_in ps 16;
-  dy = signed_in ps 17;
-  left = from_le_bytes w16 (piece ps 18);
-}
-
-same_vg : (v : VgValue) (halted : Bool) (pc : ℕ) (stack : List ℕ) (x y dx dy : ℤ) (left : ℕ)
-    → halted ≡ v.halted → pc ≡ v.pc → stack ≡ v.stack → x ≡ v.x → y ≡ v.y → dx ≡ v.dx → dy ≡ v.dy → left ≡ v.left
-    → record v { halted = halted; pc = pc; stack = stack; x = x; y = y; dx = dx; dy = dy; left = left } ≡ v
-same_vg v halted pc stack x y dx dy left a b c d e f g h = rw (a, b, c, d, e, f, g, h) refl
-
-word_at : (stack : List ℕ) (i : ℕ) → length stack ≡ 4 → All (λ to. to < 8192) stack → i < 4 → slice_index stack i < 2 ^ 16
-word_at stack i len h small =
-    let below : slice_index stack i < 8192 = All-get_or (λ to. to < 8192) stack i 0 (omega arith) h in
-    omega (arith, below)
-
-stack_back : (stack : List ℕ) → length stack ≡ 4 → All (λ to. to < 8192) stack
-    → from_le_bytes w16 (piece (stack_pieces stack) 0) ∷ from_le_bytes w16 (piece (stack_pieces stack) 1) ∷ from_le_bytes w16 (piece (stack_pieces stack) 2) ∷ from_le_bytes w16 (piece (stack_pieces stack) 3) ∷ [] ≡ stack
-stack_back stack len h =
-    same_four _ _ _ _ (slice_index stack 0) (slice_index stack 1) (slice_index stack 2) (slice_index stack 3)
-    (from_le_bytes-to_le_bytes_2 (slice_index stack 0) (word_at stack 0 len h (omega arith)))
-    (from_le_bytes-to_le_bytes_2 (slice_index stack 1) (word_at stack 1 len h (omega arith)))
-    (from_le_bytes-to_le_bytes_2 (slice_index stack 2) (word_at stack 2 len h (omega arith)))
-    (from_le_bytes-to_le_bytes_2 (slice_index stack 3) (word_at stack 3 len h (omega arith)))
-    ∙ four_back stack len
-
-vg_back : (v : VgValue) (more : List (List ℕ)) → IsVg v → vg_of (vg_pieces v ++ more) ≡ v
-vg_back v more h =
-    same_vg v _ _ _ _ _ _ _ _ (flag_back v.halted) (from_le_bytes-to_le_bytes_2 v.pc (omega (arith, h.pc))) (stack_back v.stack h.stack h.words)
-    (signed_again (2 ^ 30) v.x (omega arith) h.x) (signed_again (2 ^ 30) v.y (omega arith) h.y) (signed_again (2 ^ 27) v.dx (omega arith) h.dx) (signed_again (2 ^ 27) v.dy (omega arith) h.dy)
-    (from_le_bytes-to_le_bytes_2 v.left (omega (arith, h.longest)))
-
-abbrev pokey_of : List (List ℕ) → PokeyValue
-pokey_of ps = record {
-  audf = piece ps 0;
-  audc = piece ps 1;
-  audctl = one ps 2;
-  skctl = one ps 3;
-  irqen = one ps 4;
-  irqst = one ps 5;
-  poly4 = one ps 6;
-  poly5 = one ps 7;
-  poly9 = from_le_bytes w16 (piece ps 8);
-  poly17 = from_le_bytes w32 (piece ps 9);
-  pre28 = one ps 10;
-  pre114 = one ps 11;
-  left = from_le_bytes w32 (piece ps 12) ∷ from_le_bytes w32 (piece ps 13) ∷ from_le_bytes w32 (piece ps 14) ∷ from_le_bytes w32 (piece ps 15) ∷ [];
-  tone = one ps 16;
-  pass = one ps 17;
-  pot = one ps 18;
-  targets = piece ps 19;
-  last = one ps 20 ∷ one ps 21 ∷ one ps 22 ∷ one ps 23 ∷ [];
-}
-
-same_pokey : (p : PokeyValue) (poly9 poly17 : ℕ) (left last : List ℕ) → poly9 ≡ p.poly9 → poly17 ≡ p.poly17 → left ≡ p.left → last ≡ p.last
-    → record p { poly9 = poly9; poly17 = poly17; left = left; last = last } ≡ p
-same_pokey p poly9 poly17 left last a b c d = rw (a, b, c, d) refl
-
-quad_at : (left : List ℕ) (i : ℕ) → length left ≡ 4 → All (λ left. (1 ≤ left) × (left ≤ 65542)) left → i < 4 → slice_index left i < 2 ^ 32
-quad_at left i len h small =
-    let range : (1 ≤ slice_index left i) × (slice_index left i ≤ 65542) = All-get_or (λ left. (1 ≤ left) × (left ≤ 65542)) left i 0 (omega arith) h in
-    omega (arith, range.1)
-
-left_back : (left : List ℕ) → length left ≡ 4 → All (λ left. (1 ≤ left) × (left ≤ 65542)) left
-    → from_le_bytes w32 (piece (pulse_pieces left) 0) ∷ from_le_bytes w32 (piece (pulse_pieces left) 1) ∷ from_le_bytes w32 (piece (pulse_pieces left) 2) ∷ from_le_bytes w32 (piece (pulse_pieces left) 3) ∷ [] ≡ left
-left_back left len h =
-    same_four _ _ _ _ (slice_index left 0) (slice_index left 1) (slice_index left 2) (slice_index left 3)
-    (from_le_bytes-to_le_bytes_4 (slice_index left 0) (quad_at left 0 len h (omega arith)))
-    (from_le_bytes-to_le_bytes_4 (slice_index left 1) (quad_at left 1 len h (omega arith)))
-    (from_le_bytes-to_le_bytes_4 (slice_index left 2) (quad_at left 2 len h (omega arith)))
-    (from_le_bytes-to_le_bytes_4 (slice_index left 3) (quad_at left 3 len h (omega arith)))
-    ∙ four_back left len
-
-pokey_back : (p : PokeyValue) (more : List (List ℕ)) → IsPokey p → pokey_of (pokey_pieces p ++ more) ≡ p
-pokey_back p more h =
-    same_pokey p _ _ _ _ (from_le_bytes-to_le_bytes_2 p.poly9 (omega (arith, h.poly9))) (from_le_bytes-to_le_bytes_4 p.poly17 (omega (arith, h.poly17)))
-    (left_back p.left h.left h.pulses) (four_back p.last h.last)
-
-abbrev earom_of : List (List ℕ) → EaromValue
-earom_of ps = record { addr = one ps 0; value = one ps 1; control = one ps 2; hold = from_le_bytes w16 (piece ps 3); out = one ps 4; cells = piece ps 5 }
-
-same_earom : (e : EaromValue) (hold : ℕ) → hold ≡ e.hold → record e { hold = hold } ≡ e
-same_earom e hold a = rw a refl
-
-earom_back : (e : EaromValue) (more : List (List ℕ)) → IsEarom e → earom_of (earom_pieces e ++ more) ≡ e
-earom_back e more h = same_earom e _ (from_le_bytes-to_le_bytes_2 e.hold (omega (arith, h.hold)))
-
-abbrev pending_of : ℕ → Pending
-pending_of n = cond (n == 0) Nothing (cond (n == 1) Power Watchdog)
-
-pending_back : (p : Pending) → pending_of (reset_number p) ≡ p
-pending_back Nothing = refl
-pending_back Power = refl
-pending_back Watchdog = refl
-
-abbrev divider_of : List (List ℕ) → DividerValue
-divider_of ps = record { phase = from_le_bytes w16 (piece ps 0); irq = flag_in ps 1; dog = one ps 2; pending = pending_of (one ps 3) }
-
-same_divider : (d : DividerValue) (phase : ℕ) (irq : Bool) (pending : Pending) → phase ≡ d.phase → irq ≡ d.irq → pending ≡ d.pending → record d { phase = phase; irq = irq; pending = pending } ≡ d
-same_divider d phase irq pending a b c = rw (a, b, c) refl
-
-divider_back : (d : DividerValue) (more : List (List ℕ)) → IsDivider d → divider_of (divider_pieces d ++ more) ≡ d
-divider_back d more h = same_divider d _ _ _ (from_le_bytes-to_le_bytes_2 d.phase (omega (arith, h.phase))) (flag_back d.irq) (pending_back d.pending)
-
--- the jam, and the place
-abbrev jam_of : List (List ℕ) → Option ℕ
-jam_of ps = cond (one ps 0 == 1) (Some (one ps 1)) None
-
-abbrev mid_of : List (List ℕ) → Option MidValue
-mid_of ps = cond (one ps 0 == 0) None (Some (record { sequence = sequence_of (one ps 0); count = one ps 1; bytes = piece ps 2 }))
-
-some_back : (q : Sequence) (count : ℕ) (bytes : List ℕ) → mid_of ((sequence_number q ∷ []) ∷ (count ∷ []) ∷ bytes ∷ []) ≡ Some (record { sequence = q; count = count; bytes = bytes })
-some_back Opcode count bytes = refl
-some_back Interrupt count bytes = refl
-some_back Reset count bytes = refl
-
-pub mid_back : (mid : Option MidValue) (more : List (List ℕ)) → mid_of (middle_pieces mid ++ more) ≡ mid
-mid_back None more = refl
-mid_back (Some m) more = some_back m.sequence m.count m.bytes
-
--- a board from its pieces: so many of them tell the place, as mid reads it
-abbrev board_of : ℕ → (List (List ℕ) → Option MidValue) → List (List ℕ) → BoardValue
-board_of n mid ps =
-    let m : List (List ℕ) = drop 2 (drop 9 ps) in
-    let back : List (List ℕ) = drop 6 (drop n (drop 8 m)) in
-    record {
-      clock = from_le_bytes w64 (piece ps 2);
-      cpu = record {
-        pc = from_le_bytes w16 (piece ps 3);
-        a = one ps 4;
-        x = one ps 5;
-        y = one ps 6;
-        s = one ps 7;
-        p = one ps 8;
-        jam = jam_of (drop 9 ps);
-        mid = mid (drop 8 m);
-      };
-      out = one m 0;
-      in0 = one m 1;
-      in3 = one m 2;
-      in4 = one m 3;
-      divider = divider_of (drop 4 m);
-      vg = vg_of back;
-      sound1 = pokey_of (drop 19 back);
-      sound2 = pokey_of (drop 43 back);
-      earom = earom_of (drop 67 back);
-      ram = piece back 73;
-      vram = piece back 74;
-    }
-
-same_cpu : (c : CpuValue) (pc : ℕ) (jam : Option ℕ) (mid : Option MidValue) → pc ≡ c.pc → jam ≡ c.jam → mid ≡ c.mid → record c { pc = pc; jam = jam; mid = mid } ≡ c
-same_cpu c pc jam mid e f g = rw (e, f, g) refl
-
-same_board : (b : BoardValue) (clock : ℕ) (cpu : CpuValue) (divider : DividerValue) (vg : VgValue) (sound1 sound2 : PokeyValue) (earom : EaromValue)
-    → clock ≡ b.clock → cpu ≡ b.cpu → divider ≡ b.divider → vg ≡ b.vg → sound1 ≡ b.sound1 → sound2 ≡ b.sound2 → earom ≡ b.earom
-    → record b { clock = clock; cpu = cpu; divider = divider; vg = vg; sound1 = sound1; sound2 = sound2; earom = earom } ≡ b
-same_board b clock cpu divider vg sound1 sound2 earom a c d e f g h = rw (a, c, d, e, f, g, h) refl
-
--- with this jam and this place
+-- what the bytes of a processor inside a sequence tell of it
 abbrev with_cpu : BoardValue → Option ℕ → Option MidValue → BoardValue
 with_cpu b jam mid = record b { cpu = record b.cpu { jam = jam; mid = mid } }
 
-parts_back : (b : BoardValue) (jam : Option ℕ) (mid found : Option MidValue) (jam_found : Option ℕ) (more1 more2 more3 more4 more5 : List (List ℕ)) → IsWhole b → jam_found ≡ jam → found ≡ mid
-    → record (with_cpu b jam mid) {
-      clock = from_le_bytes w64 (u64_bytes b.clock);
-      cpu = record b.cpu { pc = from_le_bytes w16 (u16_bytes b.cpu.pc); jam = jam_found; mid = found };
-      divider = divider_of (divider_pieces b.divider ++ more1);
-      vg = vg_of (vg_pieces b.vg ++ more2);
-      sound1 = pokey_of (pokey_pieces b.sound1 ++ more3);
-      sound2 = pokey_of (pokey_pieces b.sound2 ++ more4);
-      earom = earom_of (earom_pieces b.earom ++ more5);
-    } ≡ with_cpu b jam mid
-parts_back b jam mid found jam_found more1 more2 more3 more4 more5 h e f =
-    same_board (with_cpu b jam mid) _ _ _ _ _ _ _ (from_le_bytes-to_le_bytes_8 b.clock (omega (arith, h.board.clock)))
-    (same_cpu (record b.cpu { jam = jam; mid = mid }) _ _ _ (from_le_bytes-to_le_bytes_2 b.cpu.pc h.cpu.pc) e f)
-    (divider_back b.divider more1 h.divider) (vg_back b.vg more2 h.vg) (pokey_back b.sound1 more3 h.sound1) (pokey_back b.sound2 more4 h.sound2) (earom_back b.earom more5 h.earom)
+same_board : (b : BoardValue) (jam : Option ℕ) (mid : Option MidValue) → jam ≡ b.cpu.jam → mid ≡ b.cpu.mid → with_cpu b jam mid ≡ b
+same_board b jam mid e f = rw (e, f) refl
 
-abbrev back_of : BoardValue → List (List ℕ)
-back_of b = back_pieces b.vg b.sound1 b.sound2 b.earom b.ram b.vram
+sequence_back : (q : Sequence) → sequence_of (sequence_number q) ≡ q
+sequence_back Opcode = refl
+sequence_back Interrupt = refl
+sequence_back Reset = refl
 
-abbrev pieces_with : ℕ → BoardValue → Option ℕ → List (List ℕ) → List (List ℕ)
-pieces_with version b jam ms =
-    (head_pieces version ++ register_pieces b.clock b.cpu ++ jam_pieces jam) ++ ((port_pieces b.out b.in0 b.in3 b.in4 ++ divider_pieces b.divider ++ ms ++ zero_pieces) ++ back_of b)
+same_mid : (m : MidValue) (q : Sequence) (bytes : List ℕ) → q ≡ m.sequence → bytes ≡ m.bytes → record { sequence = q; count = m.count; bytes = bytes } ≡ m
+same_mid m q bytes e f = rw (e, f) refl
 
-second_back : (b : BoardValue) (jam : Option ℕ) (mid : Option MidValue) → IsWhole b → board_of 3 mid_of (pieces_with 2 b jam (middle_pieces mid)) ≡ with_cpu b jam mid
-second_back b None None h = parts_back b None None None None [] [] [] [] [] h refl refl
-second_back b (Some o) None h = parts_back b (Some o) None None (Some o) [] [] [] [] [] h refl refl
-second_back b None (Some m) h = parts_back b None (Some m) _ None [] [] [] [] [] h refl (mid_back (Some m) [])
-second_back b (Some o) (Some m) h = parts_back b (Some o) (Some m) _ (Some o) [] [] [] [] [] h refl (mid_back (Some m) [])
+processor_told : (b : BoardValue) (m : MidValue) → b.cpu.pc < 2 ^ 16 → length m.bytes ≡ 6
+    → processor_of (state_bytes (with_cpu b None (Some m))) ≡ record b.cpu { jam = None; mid = Some m }
+processor_told b m small len =
+    let file : List ℕ = state_bytes (with_cpu b None (Some m)) in
+    let mid : middle_at (drop 30 file) ≡ m = same_mid m (sequence_of (sequence_number m.sequence)) (take 6 (drop 32 file)) (sequence_back m.sequence) (take_at m.bytes _ 6 len) in
+    ap (λ (pc : ℕ). record b.cpu { pc = pc; jam = None; mid = Some (middle_at (drop 30 file)) }) (from_le_bytes-to_le_bytes_2 b.cpu.pc small)
+    ∙ ap (λ (x : MidValue). record b.cpu { jam = None; mid = Some x }) mid
 
-first_back : (b : BoardValue) (jam : Option ℕ) → IsWhole b → board_of 8 (λ _. None) (pieces_with 1 b jam eight_pieces) ≡ with_cpu b jam None
-first_back b None h = parts_back b None None None None [] [] [] [] [] h refl refl
-first_back b (Some o) h = parts_back b (Some o) None None (Some o) [] [] [] [] [] h refl refl
+-- a byte that is a whole field
+byte_told : (file : List ℕ) (at n : ℕ) → take 1 (drop at file) ≡ n ∷ [] → slice_index file at ≡ n
+byte_told file at n e = sym (byte_is file at) ∙ ap (λ (x : List ℕ). slice_index x 0) e
 
-abbrev ok_of : List (List ℕ) × List ℕ → Result (List (List ℕ) × List ℕ) ℕ
-ok_of x = Ok x
+jammed_told : (jam : Option ℕ) → (from_bool (is_some jam) == 1) ≡ is_some jam
+jammed_told None = refl
+jammed_told (Some o) = refl
 
-abbrev done : List (List ℕ) → Result (List (List ℕ) × List ℕ) ℕ
-done ps = Ok (ps, [])
+middle_told : (b : BoardValue) (mid : Option MidValue) → b.cpu.mid ≡ mid → IsWhole b → IfSome mid (λ _. IsMiddle (processor_of (state_bytes b)))
+middle_told b None e h = tt
+middle_told b (Some m) e h =
+    let here : IsMiddle (record b.cpu { mid = Some m }) = subst (λ (x : Option MidValue). IfSome x (λ _. IsMiddle (record b.cpu { mid = x }))) e h.cpu.stands.place in
+    let range : IsMid m = subst (λ (x : Option MidValue). IfSome x IsMid) e h.cpu.mid in
+    let same : with_cpu b None (Some m) ≡ b = same_board b None (Some m) (sym here.0) (sym e) in
+    subst (λ (x : BoardValue). IsMiddle (processor_of (state_bytes x))) same
+    (subst (λ (c : CpuValue). IsMiddle c) (sym (processor_told b m h.cpu.pc range.bytes)) (subst (λ (jam : Option ℕ). IsMiddle (record b.cpu { jam = jam; mid = Some m })) here.0 here))
 
-same_ok : (x y : List (List ℕ) × List ℕ) → ok_of x ≡ ok_of y → x ≡ y
-same_ok x y e = cc
+-- version 2
+second_middle : (b : BoardValue) (cpu : CpuValue) (facts : Facts) → IsWhole b → facts.jammed ≡ is_some b.cpu.jam → facts.idle ≡ (number_of b.cpu.mid == 0) → IfSome b.cpu.mid (λ _. IsMiddle cpu)
+    → AreSpelled cpu facts (middle_rows false) b
+second_middle b cpu facts h e f told = middle_by cpu facts b.cpu.jam b.cpu.mid e f (there_by b.cpu cpu b.cpu.mid refl h.cpu.mid h.cpu.stands.place told)
 
-same_pieces : (ps qs : List (List ℕ)) → done ps ≡ done qs → ps ≡ qs
-same_pieces ps qs e = ap (λ (p : List (List ℕ) × List ℕ). p.0) (same_ok (ps, []) (qs, []) e)
+pub second_has : (b : BoardValue) → IsWhole b → HasFields 2 (state_bytes b) b
+second_has b h =
+    let file : List ℕ = state_bytes b in
+    let most : b.clock ≤ last_clock 2 (number_of b.cpu.mid) = last_by false b.cpu.mid b.clock h.board.clock h.board.middle in
+    let facts : Facts = record { last = last_clock 2 (number_of b.cpu.mid); jammed = is_some b.cpu.jam; idle = number_of b.cpu.mid == 0; drawing = b.vg.phase == 5 } in
+    let long : AreSpelled b.cpu facts (table 2) b = whole_spelled 2 b.cpu facts b h most refl refl (second_middle b b.cpu facts h refl refl h.cpu.stands.place) in
+    let has : All (Has file b) (table 2) = stand b.cpu facts b (table 2) [] 0 refl (offsets 2) long in
+    let phase : slice_index file 45 ≡ b.vg.phase = byte_told file 45 b.vg.phase (has 29 no_row (omega arith)) in
+    let drawing : (slice_index file 45 == 5) ≡ (b.vg.phase == 5) = ap (λ (n : ℕ). n == 5) phase in
+    let told : AreSpelled (processor_of file) (facts_of 2 file) (table 2) b =
+    whole_spelled 2 (processor_of file) (facts_of 2 file) b h most (jammed_told b.cpu.jam) drawing
+    (second_middle b (processor_of file) (facts_of 2 file) h (jammed_told b.cpu.jam) refl (middle_told b b.cpu.mid refl h)) in
+    has_fields 2 file b (held_from 2 file b (table 2) told has) has
 
--- the pieces of what was read are those of each board that is spelled so
-second_told : (file : List ℕ) (b : BoardValue) (inside : Bool) → IsWhole b → file ≡ state_bytes b → Decides inside (IsMiddle (processor_of file)) → board_at 2 inside file ≡ Ok (board_pieces 2 b, [])
-second_told file b inside h e decides =
-    subst (λ (x : List ℕ). board_at 2 inside x ≡ Ok (board_pieces 2 b, [])) (sym e) (second_read b inside h (subst (λ (x : List ℕ). Decides inside (IsMiddle (processor_of x))) e decides))
+-- version 1
+pub first_has : (b : BoardValue) → IsWhole b → HasFields 1 (first_state_bytes b) b
+first_has b h =
+    let file : List ℕ = first_state_bytes b in
+    let facts : Facts = record { last = 2 ^ 48 + 16; jammed = is_some b.cpu.jam; idle = true; drawing = b.vg.phase == 5 } in
+    let long : AreSpelled b.cpu facts (table 1) b = whole_spelled 1 b.cpu facts b h h.board.clock refl refl (zeros_spelled b.cpu facts).1 in
+    let has : All (Has file b) (table 1) = stand b.cpu facts b (table 1) [] 0 refl (offsets 1) long in
+    let phase : slice_index file 45 ≡ b.vg.phase = byte_told file 45 b.vg.phase (has 34 no_row (omega arith)) in
+    let drawing : (slice_index file 45 == 5) ≡ (b.vg.phase == 5) = ap (λ (n : ℕ). n == 5) phase in
+    let told : AreSpelled (processor_of file) (facts_of 1 file) (table 1) b =
+    whole_spelled 1 (processor_of file) (facts_of 1 file) b h h.board.clock (jammed_told b.cpu.jam) drawing (zeros_spelled (processor_of file) (facts_of 1 file)).1 in
+    has_fields 1 file b (held_from 1 file b (table 1) told has) has
 
-first_told : (file : List ℕ) (b : BoardValue) (inside : Bool) → IsWhole b → file ≡ first_state_bytes b → Decides inside (IsMiddle (processor_of file)) → board_at 1 inside file ≡ Ok (board_pieces 1 b, [])
-first_told file b inside h e decides =
-    subst (λ (x : List ℕ). board_at 1 inside x ≡ Ok (board_pieces 1 b, [])) (sym e) (first_read b inside (processor_of file) decides h)
-
-second_version : (file : List ℕ) (b : BoardValue) → file ≡ state_bytes b → slice_index file 0 ≡ 2
+pub second_version : (file : List ℕ) (b : BoardValue) → file ≡ state_bytes b → slice_index file 0 ≡ 2
 second_version file b e = ap (λ (x : List ℕ). slice_index x 0) e
 
-first_version : (file : List ℕ) (b : BoardValue) → file ≡ first_state_bytes b → slice_index file 0 ≡ 1
+pub first_version : (file : List ℕ) (b : BoardValue) → file ≡ first_state_bytes b → slice_index file 0 ≡ 1
 first_version file b e = ap (λ (x : List ℕ). slice_index x 0) e
 
-second_same : (file : List ℕ) (b c : BoardValue) → IsWhole b → IsWhole c → file ≡ state_bytes b → file ≡ state_bytes c → b ≡ c
-second_same file b c g h e f =
-    let m = of_middle (processor_of file) in
-    let same : board_pieces 2 b ≡ board_pieces 2 c = same_pieces _ _ (sym (second_told file b m.0 g e m.1) ∙ second_told file c m.0 h f m.1) in
-    sym (second_back b b.cpu.jam b.cpu.mid g) ∙ ap (board_of 3 mid_of) same ∙ second_back c c.cpu.jam c.cpu.mid h
+-- what spells a board in range has its fields
+pub spelled_has : (file : List ℕ) (b : BoardValue) → IsWhole b → Spells file b → HasFields (slice_index file 0) file b
+spelled_has file b h (inl e) = subst (λ (v : ℕ). HasFields v file b) (sym (second_version file b e)) (subst (λ (x : List ℕ). HasFields 2 x b) (sym e) (second_has b h))
+spelled_has file b h (inr e) = subst (λ (v : ℕ). HasFields v file b) (sym (first_version file b e.0)) (subst (λ (x : List ℕ). HasFields 1 x b) (sym e.0) (first_has b h))
 
-none_with : (b : BoardValue) → b.cpu.mid ≡ None → with_cpu b b.cpu.jam None ≡ b
-none_with b e = subst (λ (x : Option MidValue). with_cpu b b.cpu.jam x ≡ b) e refl
+-- and what has the fields of a board spells it
+has_pieces : (version : ℕ) (file : List ℕ) (b : BoardValue) → HasFields version file b → map (λ r. take r.width (drop r.at file)) (table version) ≡ pieces_of (table version) b
+unfolding HasFields
+has_pieces version file b has = pieces_are b file (table version) (λ k d lt. (has k d lt).1)
 
-first_same : (file : List ℕ) (b c : BoardValue) → IsWhole b → IsWhole c → file ≡ first_state_bytes b → file ≡ first_state_bytes c → b.cpu.mid ≡ None → c.cpu.mid ≡ None → b ≡ c
-first_same file b c g h e f i j =
-    let m = of_middle (processor_of file) in
-    let same : board_pieces 1 b ≡ board_pieces 1 c = same_pieces _ _ (sym (first_told file b m.0 g e m.1) ∙ first_told file c m.0 h f m.1) in
-    sym (none_with b i) ∙ sym (first_back b b.cpu.jam g) ∙ ap (board_of 8 (λ _. None)) same ∙ first_back c c.cpu.jam h ∙ none_with c j
+has_bytes : (version : ℕ) (file : List ℕ) (b : BoardValue) → length file ≡ 4356 → HasFields version file b → file ≡ concat (pieces_of (table version) b)
+unfolding HasFields
+has_bytes version file b len has = joined b file (table version) 0 len (offsets version) (λ k d lt. (has k d lt).1)
+
+pub has_spelled : (version : ℕ) (file : List ℕ) (b : BoardValue) → (version ≡ 1) ⊎ (version ≡ 2) → length file ≡ 4356 → (version ≡ 1 → b.cpu.mid ≡ None) → HasFields version file b → Spells file b
+has_spelled version file b (inl one) len none has = inr (subst (λ (v : ℕ). file ≡ concat (pieces_of (table v) b)) one (has_bytes version file b len has), none one)
+has_spelled version file b (inr two) len none has = inl (subst (λ (v : ℕ). file ≡ concat (pieces_of (table v) b)) two (has_bytes version file b len has))
 
 -- one board at most is spelled by these bytes
+same_table : (version : ℕ) (file : List ℕ) (b c : BoardValue) → HasFields version file b → HasFields version file c → pieces_of (table version) b ≡ pieces_of (table version) c
+same_table version file b c f g = sym (has_pieces version file b f) ∙ has_pieces version file c g
+
 pub one_board : (file : List ℕ) (b c : BoardValue) → IsWhole b → IsWhole c → Spells file b → Spells file c → b ≡ c
-one_board file b c g h (inl e) (inl f) = second_same file b c g h e f
-one_board file b c g h (inr e) (inr f) = first_same file b c g h e.0 f.0 e.1 f.1
+one_board file b c g h (inl e) (inl f) = same_second b c g h (same_table 2 file b c (subst (λ (x : List ℕ). HasFields 2 x b) (sym e) (second_has b g)) (subst (λ (x : List ℕ). HasFields 2 x c) (sym f) (second_has c h)))
+one_board file b c g h (inr e) (inr f) =
+    same_first b c g h e.1 f.1 (same_table 1 file b c (subst (λ (x : List ℕ). HasFields 1 x b) (sym e.0) (first_has b g)) (subst (λ (x : List ℕ). HasFields 1 x c) (sym f.0) (first_has c h)))
 one_board file b c g h (inl e) (inr f) = absurd (omega (arith, second_version file b e, first_version file c f.0))
 one_board file b c g h (inr e) (inl f) = absurd (omega (arith, first_version file b e.0, second_version file c f))
-
--- no field of what spells a board is broken
-not_err : (r : Result (List (List ℕ) × List ℕ) ℕ) (ps : List (List ℕ)) (at : ℕ) → r ≡ Ok (ps, []) → r ≡ Err at → ⊥
-not_err r ps at e f = cc
-
-pub its_fields : (file : List ℕ) (b : BoardValue) (at : ℕ) → IsWhole b → Spells file b
-    → ((inside : Bool) → (IsTrue inside ↔ IsMiddle (processor_of file)) → board_at (slice_index file 0) inside file ≡ Err at) → ⊥
-its_fields file b at h (inl e) broken =
-    let m = of_middle (processor_of file) in
-    not_err (board_at 2 m.0 file) (board_pieces 2 b) at (second_told file b m.0 h e m.1) (subst (λ (v : ℕ). board_at v m.0 file ≡ Err at) (second_version file b e) (broken m.0 m.1))
-its_fields file b at h (inr e) broken =
-    let m = of_middle (processor_of file) in
-    not_err (board_at 1 m.0 file) (board_pieces 1 b) at (first_told file b m.0 h e.0 m.1) (subst (λ (v : ℕ). board_at v m.0 file ≡ Err at) (first_version file b e.0) (broken m.0 m.1))
-
--- what spells a board has each field of it at its offset
-stand : (version : ℕ) (file : List ℕ) (b : BoardValue) (inside : Bool) → Decides inside (IsMiddle (processor_of file)) → board_at version inside file ≡ Ok (board_pieces version b, []) → HasFields version file b
-unfolding HasFields fields
-stand version file b inside d e = read_stand version inside file b d (table version) 0 [] (offsets version) (sym (board_is version inside file) ∙ e)
-
-pub has_fields : (file : List ℕ) (b : BoardValue) → IsWhole b → Spells file b → HasFields (slice_index file 0) file b
-has_fields file b h (inl e) =
-    let m = of_middle (processor_of file) in
-    subst (λ (v : ℕ). HasFields v file b) (sym (second_version file b e)) (stand 2 file b m.0 m.1 (second_told file b m.0 h e m.1))
-has_fields file b h (inr e) =
-    let m = of_middle (processor_of file) in
-    subst (λ (v : ℕ). HasFields v file b) (sym (first_version file b e.0)) (stand 1 file b m.0 m.1 (first_told file b m.0 h e.0 m.1))
-
--- the same of the bytes that are written
-pub written_fields : (file : List ℕ) (b : BoardValue) → IsWhole b → file ≡ state_bytes b → HasFields 2 file b
-written_fields file b h e =
-    let m = of_middle (processor_of file) in
-    stand 2 file b m.0 m.1 (second_told file b m.0 h e m.1)

@@ -5,9 +5,8 @@ use Rattle.board_base.specs.Board.{BoardValue}
 use Rattle.save_state.specs.declared.fault.StateFault.{StateFault}
 use Rattle.save_state.specs.declared.fault.StateFault.TheVariants.{Field as Broken, Length, Version}
 use Rattle.save_state.specs.Fields.{Row}
-use Rattle.save_state.specs.StateBytes.{first_state_bytes, state_bytes}
 use Rattle.save_state.specs.Reading.{BreaksFirst, HasFields, Holds, ReadsState, Spells}
-use Rattle.save_state.proofs.OneBoard.{one_board}
+use Rattle.save_state.proofs.OneBoard.{first_version, second_version, one_board}
 
 -- what holds of all holds of each
 all-middle : {X : Type 0} (P : X → Type 0) (xs : List X) (x : X) (ys : List X) → All P (xs ++ x ∷ ys) → P x
@@ -36,22 +35,16 @@ one-offset version file m n f g =
     (first-bad (Holds version file) f.before g.before f.broken g.broken f.after g.after (sym f.order ∙ g.order) f.good f.bad g.good g.bad)
     ∙ sym g.here
 
-not_broken : (version : ℕ) (file : List ℕ) (b : BoardValue) (n : ℕ) → HasFields version file b → BreaksFirst version file n → ⊥
+pub not_broken : (version : ℕ) (file : List ℕ) (b : BoardValue) (n : ℕ) → HasFields version file b → BreaksFirst version file n → ⊥
 unfolding BreaksFirst HasFields
 not_broken version file b n has f =
     f.bad (all-middle (λ r. Holds version file r × (take r.width (drop r.at file) ≡ r.spelled b)) f.before f.broken f.after
     (subst (λ rows. All (λ r. Holds version file r × (take r.width (drop r.at file) ≡ r.spelled b)) rows) f.order has)).0
 
-second-version : (file : List ℕ) (b : BoardValue) → file ≡ state_bytes b → slice_index file 0 ≡ 2
-second-version file b e = ap (λ f. slice_index f 0) e
-
-first-version : (file : List ℕ) (b : BoardValue) → file ≡ first_state_bytes b → slice_index file 0 ≡ 1
-first-version file b e = ap (λ f. slice_index f 0) e
-
 -- what spells a board is of version 1 or 2
-versioned : (file : List ℕ) (b : BoardValue) (v : ℕ) → Spells file b → v ≡ slice_index file 0 → v ≢ 1 → v ≢ 2 → ⊥
-versioned file b v (inl second) is not1 not2 = not2 (is ∙ second-version file b second)
-versioned file b v (inr first) is not1 not2 = not1 (is ∙ first-version file b first.0)
+pub versioned : (file : List ℕ) (b : BoardValue) (v : ℕ) → Spells file b → v ≡ slice_index file 0 → v ≢ 1 → v ≢ 2 → ⊥
+versioned file b v (inl second) is not1 not2 = not2 (is ∙ second_version file b second)
+versioned file b v (inr first) is not1 not2 = not1 (is ∙ first_version file b first.0)
 
 of_two : (v first : ℕ) → v ≡ first → v ≢ 1 → v ≢ 2 → (first ≡ 1) ⊎ (first ≡ 2) → ⊥
 of_two v first is not1 not2 (inl one) = not1 (is ∙ one)

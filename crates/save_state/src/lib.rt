@@ -1,17 +1,12 @@
 //! The bytes of a saved board.
 #![tactic(auto)]
 
-mod cursor;
+mod check;
+mod decode;
 mod fault;
-mod range;
-mod read_cpu;
-mod read_devices;
-mod read_middle;
-mod read_pokey;
-mod read_vg;
 mod reading;
 mod state_laws;
-mod writer;
+mod table;
 mod writing;
 
 pub use fault::StateFault;
