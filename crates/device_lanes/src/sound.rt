@@ -2,7 +2,7 @@
 ghost use Rattle.std.specs.Prelude.{◌≡◌, ◌+◌, ◌-◌, ◌^◌, ◌≤◌, ◌<◌, ◌&&◌, ◌++◌, true, length, min};
 ghost use Rattle.board_base.specs.Counts.{Counted};
 ghost use Rattle.board_base.specs.Ticks.{times};
-ghost use Rattle.pokey_chip.specs.Registers.{pot_set, register_written};
+ghost use Rattle.pokey_chip.specs.Registers.{pot_set, register_read, register_written};
 ghost use Rattle.pokey_chip.specs.Tick.{levels_made, pokey_tick};
 ghost use Rattle.device_lanes.specs.Lags.{lags, AsksAt};
 ghost use Rattle.lockstep_board.specs.Wires.{has_request};
@@ -88,6 +88,15 @@ impl<P: SoundUnit> SoundLane<P> {
             self.unit.advance(self.done, n, &mut self.trail);
             self.done = clock;
         }
+    }
+
+    /// Reads a register, where it stands.
+    #[inline(never)]
+    pub fn read_register(&self, reg: u8) -> u8
+        requires reg { reg < 16 }
+        ensures { result ≡ register_read reg (P.device self.now.unit) }
+    {
+        self.unit.read(reg)
     }
 
     /// Writes a register, where it stands.
