@@ -4,12 +4,12 @@ ghost use Rattle.asm_avg.specs.Sources.{source_assembled};
 use crate::Avg;
 use asm_core::{Listing, Rom};
 use asm_text::AsmFault;
-use rom_image::Image;
+use rom_image::{Image, VECTOR_ROM_START};
 use std::alloc::Global;
 
 /// The addresses whose bytes a source may give: those of the vector ROM.
 pub const VECTOR_ROM: Rom = Rom {
-    low: 0x2800,
+    low: VECTOR_ROM_START as u32,
     high: 0x6000,
     even: true,
 };

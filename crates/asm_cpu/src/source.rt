@@ -6,12 +6,12 @@ ghost use Rattle.asm_cpu.specs.Statements.{cpu_statement};
 use crate::statement::Cpu;
 use asm_core::{Listing, Rom};
 use asm_text::AsmFault;
-use rom_image::Image;
+use rom_image::{Image, PROGRAM_ROM_START};
 use std::alloc::Global;
 
 /// The addresses of the program ROM.
 pub const PROGRAM_ROM: Rom = Rom {
-    low: 0x9000,
+    low: PROGRAM_ROM_START as u32,
     high: 0x10000,
     even: false,
 };

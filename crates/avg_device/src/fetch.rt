@@ -8,7 +8,7 @@ use board_base::{VectorMemory, VgState};
 const WORDS: u16 = 8192;
 
 /// A high byte below this one is that of a long vector, which has a second word.
-const LONG_BELOW: u8 = 32;
+pub(crate) const LONG_HIGH_BELOW: u8 = 32;
 
 /// The address of the next word.
 pub(crate) fn following(pc: u16) -> u16
@@ -38,7 +38,7 @@ pub(crate) fn read_high(state: &mut VgState, memory: &VectorMemory)
     let high = memory.byte(2 * state.pc + 1);
     state.bytes[1] = high;
     state.pc = following(state.pc);
-    state.phase = if high < LONG_BELOW {
+    state.phase = if high < LONG_HIGH_BELOW {
         SECOND_LOW
     } else {
         EXECUTE

@@ -6,14 +6,14 @@ ghost use Rattle.avg_device.specs.Tick.{high_byte, next_word, vg_gives, vg_tick}
 
 use crate::draw::end;
 use crate::execute::obey;
-use crate::fetch::following;
+use crate::fetch::{LONG_HIGH_BELOW, following};
 use crate::tick::tick;
 use avg_decode::{second, word_kind};
 use board_base::phase::{DRAW, LOW_BYTE};
 use board_base::{CLOCK_END, Trail, VectorMemory, VgState};
 
 /// A word below this one is that of a long vector, which has a second word.
-const LONG_BELOW: u16 = 0x2000;
+const LONG_BELOW: u16 = LONG_HIGH_BELOW as u16 * 256;
 
 /// The clocks in which a word is read and done.
 const WORD_CLOCKS: u64 = 3;

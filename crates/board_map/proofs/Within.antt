@@ -27,8 +27,7 @@ row_writable (range ∷ ranges) address h = by_test (nat_le range.first address)
     by_test false high e f rest = rest
 
 map_writable : AreWritable address_map
-map_writable =
-    (λ offset few. omega arith, (λ offset few. omega arith, (λ offset few. tt, (λ offset few. omega arith, (λ offset few. omega arith, (λ offset few. tt, (λ offset few. tt, (λ offset few. tt, (λ offset few. tt, (λ offset few. tt, (λ offset few. tt, (λ offset few. tt, (λ offset few. tt, (λ offset few. omega arith, (λ offset few. tt, (λ offset few. tt, tt))))))))))))))))
+map_writable = grind (arith)
 
 pub writable : (address : ℕ) → RowIsWritable (row_of address)
 unfolding row_of

@@ -31,13 +31,9 @@ from_to first last reads writes = record { first = first; last = last; at = λ o
 abbrev pub registers : ℕ → ℕ → Reads → Writes → Range
 registers first last reads writes = record { first = first; last = last; at = λ offset. row (offset % 16) reads writes }
 
--- addresses that are all one
-abbrev pub alike : ℕ → ℕ → Reads → Writes → Range
-alike first last reads writes = record { first = first; last = last; at = λ _. row 0 reads writes }
-
 -- a single address
 abbrev pub only : ℕ → Reads → Writes → Range
-only address reads writes = alike address address reads writes
+only address reads writes = from_to address address reads writes
 
 -- the whole map: what a read gives, and what a write does
 abbrev pub address_map : List Range
@@ -56,7 +52,7 @@ address_map =
     only 0x88C0 Open writes.Acknowledge ∷
     only 0x8900 Open writes.EaromControl ∷
     from_to 0x8940 0x897F Open writes.EaromLatch ∷
-    alike 0x8980 0x89ED Open WatchdogClear ∷
+    from_to 0x8980 0x89ED Open WatchdogClear ∷
     from_to 0x9000 0xFFFF reads.ProgramRom Ignored ∷
     []
 

@@ -38,7 +38,7 @@ pub fn row(addr: u16) -> Row
         0x88C0 => entry(0, Reads::Open, Writes::Acknowledge),
         0x8900 => entry(0, Reads::Open, Writes::EaromControl),
         0x8940..=0x897F => entry(addr - 0x8940, Reads::Open, Writes::EaromLatch),
-        0x8980..=0x89ED => entry(0, Reads::Open, Writes::WatchdogClear),
+        0x8980..=0x89ED => entry(addr - 0x8980, Reads::Open, Writes::WatchdogClear),
         0x9000..=0xFFFF => entry(addr - 0x9000, Reads::ProgramRom, Writes::Ignored),
         _ => entry(0, Reads::Open, Writes::Ignored),
     }

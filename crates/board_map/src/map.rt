@@ -100,8 +100,7 @@ pub enum Writes {
 /// What a read and a write of an address do.
 #[derive(Clone, Copy, PartialEq, Eq)]
 pub struct Row {
-    /// The offset in a memory, the register 0 to 15 of a POKEY, the cell 0 to 63 of the EAROM, and
-    /// else 0.
+    /// The offset in the range, and for a POKEY the register 0 to 15.
     pub offset: u16,
     /// What a read gives.
     pub reads: Reads,

@@ -15,6 +15,7 @@ use device_lanes::{Lane, SoundLane, VectorLane};
 use earom_cells::CellUnit;
 use irq_watchdog::DividerUnit;
 use pokey_chip::SoundUnit;
+use rom_image::PROGRAM_ROM_START;
 use std::marker::Model;
 use tape_ports::Tape;
 
@@ -23,7 +24,7 @@ use tape_ports::Tape;
 pub const TRAIL_ROOM: usize = 6160;
 
 /// The first address of the program ROM.
-pub(crate) const PROGRAM_START: u16 = 0x9000;
+pub(crate) const PROGRAM_START: u16 = PROGRAM_ROM_START;
 
 /// The clocks that end each sequence: none has more.
 pub(crate) const WHOLE: u8 = 7;

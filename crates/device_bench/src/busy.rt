@@ -3,7 +3,7 @@ ghost use Rattle.std.specs.Prelude.{◌<◌, ◌≤◌};
 
 use crate::measure::Fault;
 use crate::programs::{Burner, Draws};
-use rom_image::Image;
+use rom_image::{Image, PROGRAM_ROM_START};
 use std::alloc::Global;
 use tape_ports::Tape;
 
@@ -91,7 +91,7 @@ pub fn busy_image(alloc: Global, draws: &mut Draws, span: u16) -> Result<Image, 
 {
     let mut burner = Burner::new(alloc)?;
     put_picture(&mut burner, draws);
-    burner.put_from(0x9000, &COPY);
+    burner.put_from(PROGRAM_ROM_START, &COPY);
     burner.put_from(0x9100, &HANDLER);
     burner.put_from(0xFFFC, &[0x00, 0x90, 0x00, 0x91]);
     burner.put_from(0x9200, &[]);

@@ -2,7 +2,7 @@
 use crate::measure::Fault;
 use crate::pairs::Course;
 use crate::programs::Burner;
-use rom_image::Image;
+use rom_image::{Image, PROGRAM_ROM_START};
 use std::alloc::Global;
 use tape_ports::Tape;
 
@@ -62,7 +62,7 @@ impl Play {
     /// Its image.
     pub fn image(&self, alloc: Global) -> Result<Image, Fault> {
         let mut burner = Burner::new(alloc)?;
-        burner.put_from(0x9000, self.program);
+        burner.put_from(PROGRAM_ROM_START, self.program);
         burner.put_from(0x9100, self.handler);
         burner.put_from(0xFFFC, &[0x00, 0x90, 0x00, 0x91]);
         Ok(burner.image())

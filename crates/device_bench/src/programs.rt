@@ -1,13 +1,8 @@
 ghost use Rattle.std.specs.Prelude.{◌<◌};
 
 use board_base::OutOfMemory;
-use rom_image::Image;
+use rom_image::{Image, PROGRAM_ROM_START, VECTOR_ROM_START};
 use std::alloc::Global;
-
-/// Where the vector ROM and the program ROM begin.
-const VECTOR_ROM: u16 = 0x2800;
-
-const PROGRAM_ROM: u16 = 0x9000;
 
 /// Where the three vectors of the processor stand.
 const VECTORS: u16 = 0xFFFA;
@@ -74,12 +69,12 @@ impl Program {
     pub fn image(self, alloc: Global) -> Result<Image, OutOfMemory> {
         let mut burner = Burner::new(alloc)?;
         match self {
-            Program::CountingLoop => burner.put_from(PROGRAM_ROM, &COUNTING),
+            Program::CountingLoop => burner.put_from(PROGRAM_ROM_START, &COUNTING),
             Program::Soak => {
                 burner.put_picture();
-                burner.put_from(PROGRAM_ROM, &SOAK);
+                burner.put_from(PROGRAM_ROM_START, &SOAK);
             }
-            Program::RamLoop => burner.put_from(PROGRAM_ROM, &RAM_COUNTING),
+            Program::RamLoop => burner.put_from(PROGRAM_ROM_START, &RAM_COUNTING),
         }
         burner.put_from(VECTORS, &VECTOR_BYTES);
         Ok(burner.image())
@@ -98,7 +93,7 @@ impl Burner {
     pub(crate) fn new(alloc: Global) -> Result<Burner, OutOfMemory> {
         Ok(Burner {
             image: Image::blank(alloc)?,
-            place: VECTOR_ROM,
+            place: VECTOR_ROM_START,
         })
     }
 
@@ -109,7 +104,7 @@ impl Burner {
 
     /// Puts a byte, where a ROM stands.
     pub(crate) fn put(&mut self, byte: u8) {
-        if let 0x2800..=0x5FFF | 0x9000..=0xFFFF = self.place {
+        if let VECTOR_ROM_START..=0x5FFF | PROGRAM_ROM_START..=0xFFFF = self.place {
             self.image.put(self.place, byte);
         }
         self.place = self.place.wrapping_add(1);
@@ -133,7 +128,7 @@ impl Burner {
     /// Puts the soak workload's picture, from the start of the vector ROM on.
     fn put_picture(&mut self) {
         let mut draws = Draws::from(1);
-        self.place = VECTOR_ROM;
+        self.place = VECTOR_ROM_START;
         self.put_word(CENTRE);
         self.put_word(SCALE + draws.below(128));
         for vector in 0..300u16 {

@@ -7,6 +7,12 @@ use board_base::{OutOfMemory, VECTOR_ROM_LEN};
 use std::alloc::Global;
 use std::marker::Model;
 
+/// The first address of the vector ROM.
+pub const VECTOR_ROM_START: u16 = 0x2800;
+
+/// The first address of the program ROM, which ends with the addresses.
+pub const PROGRAM_ROM_START: u16 = 0x9000;
+
 /// The bytes of the program ROM.
 pub const PROGRAM_ROM_LEN: usize = 28_672;
 
@@ -37,8 +43,8 @@ fn offset(addr: u16) -> Option<usize>
     ensures inside { IfSome result (λ k. k < IMAGE_LEN) }
 {
     match addr {
-        0x2800..=0x5FFF => Some((addr - 0x2800) as usize),
-        0x9000..=0xFFFF => Some(VECTOR_ROM_LEN + (addr - 0x9000) as usize),
+        VECTOR_ROM_START..=0x5FFF => Some((addr - VECTOR_ROM_START) as usize),
+        PROGRAM_ROM_START..=0xFFFF => Some(VECTOR_ROM_LEN + (addr - PROGRAM_ROM_START) as usize),
         _ => None,
     }
 }

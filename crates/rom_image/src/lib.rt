@@ -6,5 +6,5 @@ pub mod image;
 pub mod laws;
 
 pub use fault::ImageFault;
-pub use image::{IMAGE_LEN, Image, PROGRAM_ROM_LEN};
+pub use image::{IMAGE_LEN, Image, PROGRAM_ROM_LEN, PROGRAM_ROM_START, VECTOR_ROM_START};
 pub use laws::image_numbers;

@@ -5,14 +5,8 @@ ghost use Rattle.workload_gen.specs.Putting.{place_of, with_bytes};
 ghost use Rattle.workload_gen.specs.Roms.{bytes_of, image_with};
 
 use board_base::{OutOfMemory, VECTOR_ROM_LEN};
-use rom_image::Image;
+use rom_image::{Image, PROGRAM_ROM_START, VECTOR_ROM_START};
 use std::alloc::Global;
-
-/// Where the vector ROM begins.
-const VECTOR_ROM: u16 = 0x2800;
-
-/// Where the program ROM begins, and the program in it.
-const PROGRAM_ROM: u16 = 0x9000;
 
 /// Where the processor finds its interrupt vectors, at the program ROM's end.
 const INTERRUPT_VECTORS_AT: u16 = 0xFFFA;
@@ -61,8 +55,8 @@ pub fn workload_image(alloc: Global, words: &[u16]) -> Result<Image, OutOfMemory
 {
     let bytes = word_bytes(alloc, words)?;
     let mut image = Image::blank(alloc)?;
-    put_bytes(&mut image, VECTOR_ROM, &bytes);
-    put_bytes(&mut image, PROGRAM_ROM, &PROGRAM);
+    put_bytes(&mut image, VECTOR_ROM_START, &bytes);
+    put_bytes(&mut image, PROGRAM_ROM_START, &PROGRAM);
     put_bytes(&mut image, INTERRUPT_VECTORS_AT, &INTERRUPT_VECTORS);
     Ok(image)
 }
