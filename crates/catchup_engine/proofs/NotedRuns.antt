@@ -66,7 +66,7 @@ module _ {T : Type 0} (next : T → TraceValue → ℕ → T) (enough : T → Bo
       let before = goes-before tape limit [] e (passed made t) goes in
       record {
         at = calm-goes tape limit [] calm c e f s t u made n more then on_yet last at.at (bus-runs e f (passed made t) (noting (passed n u) o k l) runs) boundary counted lines wrap
-          (λ on. and-none _ (lasts on));
+            (λ on. and-none _ (lasts on));
         turns =
             (turns-more next enough tape.entries limit (over_bus c s) (passed made t) (passed n u) e f w v new turn.trace has last
             (subst (λ flag. ToldTurns next enough tape.entries limit (over_bus c s) (over_bus e (passed made t)) w v flag) (at.open_yet on_yet) at.turns)

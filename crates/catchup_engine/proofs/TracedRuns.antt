@@ -33,15 +33,18 @@ module _ {T : Type 0} (next : T → TraceValue → ℕ → T) where
   pub turns-none : (enough : T → Bool) (entries : List TapeEntry) (limit : ℕ) (b : Board) (w : T)
       → (turns : ToldTurns next enough entries limit b b w w false) × (turns.count ≡ 0)
   unfolding told turned
-  turns-none enough entries limit b w = (record {
-    count = 0;
-    board = refl;
-    tracer = refl;
-    over = λ k h. absurd (omega (arith, h));
-    goes_on = λ k some h. absurd (omega (arith, h));
-    first = λ _. refl;
-    later = λ h. absurd (omega (arith, h));
-  }, refl)
+  turns-none enough entries limit b w = (
+    record {
+      count = 0;
+      board = refl;
+      tracer = refl;
+      over = λ k h. absurd (omega (arith, h));
+      goes_on = λ k some h. absurd (omega (arith, h));
+      first = λ _. refl;
+      later = λ h. absurd (omega (arith, h));
+    },
+    refl,
+  )
 
   -- one turn more, of a board at which the run isn't over
   pub turns-more : (enough : T → Bool) (entries : List TapeEntry) (limit : ℕ) (b : Board) (t u : BusValue) (e f : CpuValue) (w v new : T) (trace : TraceValue) (flag : Bool)
@@ -60,24 +63,26 @@ module _ {T : Type 0} (next : T → TraceValue → ℕ → T) where
       ∙ ap (λ (k : T). next k trace f.pc) at.tracer
       ∙ ap (λ (k : TraceValue). next (told next entries n w b) k f.pc) (traced ∙ ap (step_trace entries) at.board)
       ∙ ap (λ k. next (told next entries n w b) (step_trace entries (turned entries n b)) k) pc
-      ∙ sym (told-next entries n w b) in
-      (record {
-        count = suc n;
-        board = board ∙ sym (turned-next entries n b);
-        tracer = there;
-        over = λ k h. elim (cases_lt k n) [
-          | inl less ↦ at.over k less
-          | inr not_less ↦ (let same : k ≡ n = omega (arith, h, not_less) in
-              ap (λ j. is_over limit (turned entries j b)) same ∙ ap (is_over limit) (sym at.board) ∙ open_yet)
-        ];
-        goes_on = λ k some h. elim (cases_lt k n) [
-          | inl less ↦ at.goes_on k some less
-          | inr not_less ↦ (let same : k ≡ n = omega (arith, h, not_less) in
-              ap (λ j. enough (told next entries j w b)) same ∙ ap enough (sym at.tracer) ∙ sym (at.later (omega (arith, some, same))))
-        ];
-        first = λ none. absurd (omega (arith, none));
-        later = λ _. asked;
-      }, omega arith)
+      ∙ sym (told-next entries n w b) in (
+        record {
+          count = suc n;
+          board = board ∙ sym (turned-next entries n b);
+          tracer = there;
+          over = λ k h. elim (cases_lt k n) [
+            | inl less ↦ at.over k less
+            | inr not_less ↦ (let same : k ≡ n = omega (arith, h, not_less) in
+                ap (λ j. is_over limit (turned entries j b)) same ∙ ap (is_over limit) (sym at.board) ∙ open_yet)
+          ];
+          goes_on = λ k some h. elim (cases_lt k n) [
+            | inl less ↦ at.goes_on k some less
+            | inr not_less ↦ (let same : k ≡ n = omega (arith, h, not_less) in
+                ap (λ j. enough (told next entries j w b)) same ∙ ap enough (sym at.tracer) ∙ sym (at.later (omega (arith, some, same))))
+          ];
+          first = λ none. absurd (omega (arith, none));
+          later = λ _. asked;
+        },
+        omega arith,
+      )
 
   -- where the clock is later, there is one at least
   pub turns-some : (enough : T → Bool) (entries : List TapeEntry) (limit : ℕ) (b c : Board) (w v : T) (flag : Bool)

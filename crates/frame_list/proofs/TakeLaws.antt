@@ -1,20 +1,18 @@
 -- The strokes and marks of a trace, as they are gone through.
-use Rattle.std.proofs.Common.{◌≡◌, ℕ, ◌+◌, ◌<◌, ◌≤◌, List, [], ◌∷◌, ◌++◌, true, false, Option, Result, length, map, take, drop, get_or, refl, ap, sym, ◌∙◌, add-one, append_assoc, append-nil, suc, arith, Bool}
+use Rattle.std.proofs.Common.{◌≡◌, ℕ, ◌+◌, ◌<◌, ◌≤◌, List, [], ◌∷◌, ◌++◌, true, false, Option, Result, length, map, take, drop, get_or, refl, ap, sym, ◌∙◌, add-one, append_assoc, append-nil, length-append, arith, Bool}
 use Rattle.std.specs.List.{filter_map}
 use Rattle.std.proofs.Math.Seq.{drop-cons}
 use Rattle.std.proofs.lemmas.List.{take_more}
 use Rattle.std.proofs.lemmas.List.Elements.{filter_map-append}
-use Rattle.std.proofs.Math.ListN.{drop_of_length-le}
 use Rattle.std.specs.Prelude.{IsErr, Ok, Err}
 use Rattle.std.proofs.lemmas.List.Concat.{flat_map-cons}
 use Rattle.board_base.specs.declared.record.Record.{Record}
 use Rattle.catchup_engine.specs.declared.trace.Access.{Access}
-use Rattle.catchup_engine.specs.Trace.{TraceValue}
 use Rattle.outside_io.specs.Known.{grown}
 use Rattle.outside_io.specs.Sink.{Takes}
 use Rattle.outside_io.proofs.KnownLaws.{grown-nothing, grown-twice}
 use Rattle.outside_io.proofs.TakesLaws.{took_first, took_then}
-use Rattle.frame_list.specs.Events.{Event, stroke_of, mark_at, mark_of, marks_in, marks_of, starts_generator, through, by_clock}
+use Rattle.frame_list.specs.Events.{Event, stroke_of, mark_at, mark_of, marks_of, starts_generator, through, by_clock}
 use Rattle.frame_list.specs.Frames.{FrameValue, begun, under_way, ended, frame_text, frames_text}
 use Rattle.frame_list.proofs.FrameLaws.{under_way-append, ended-append, ended-strokes}
 
@@ -53,15 +51,19 @@ marks-stay accesses marks k d below is starts =
     ∙ sym (marks-more accesses k d below)
 
 -- they are no more than the accesses
+marks-one : (access : Access) (t : Bool) → starts_generator access ≡ t → length (marks_of (access ∷ [])) ≤ 1
+marks-one access true is = rw (marks-some access is) (omega arith)
+marks-one access false is = rw (marks-others access is) (omega arith)
+
 pub marks-few : (accesses : List Access) → length (marks_of accesses) ≤ length accesses
 unfolding marks_of
 marks-few [] = omega arith
-marks-few (access ∷ rest) = let few = marks-few rest in by_test (starts_generator access) few
-  where
-    by_test : (t : Bool) → length (filter_map mark_of rest) ≤ length rest
-        → length (cond t (access.clock ∷ filter_map mark_of rest) (filter_map mark_of rest)) ≤ suc (length rest)
-    by_test true few = omega (arith, few)
-    by_test false few = omega (arith, few)
+marks-few (access ∷ rest) =
+    let one = marks-one access (starts_generator access) refl in
+    let few = marks-few rest in
+    let both = ap (λ (l : List ℕ). length l) (filter_map-append mark_of (access ∷ []) rest) in
+    let sum = length-append (filter_map mark_of (access ∷ [])) (filter_map mark_of rest) in
+    omega (arith, one, few, both, sum)
 
 -- a fault came in a first part of a text
 pub takes-cut : {T E : Type 0} (out0 out1 : Option (List ℕ)) (text : List ℕ) (result : Result T E) → IsErr result

@@ -1,6 +1,7 @@
 -- Frames of a run, part by part.
 use Rattle.std.proofs.Common.{◌≡◌, ℕ, ◌+◌, ◌-◌, ◌≤◌, ◌<◌, Bool, true, false, not, ◌==◌, List, [], ◌∷◌, ◌++◌, length, map, take, drop, zero, suc, refl, sym, ap, subst, ◌∙◌, arith, add-zero, length-drop}
 use Rattle.std.specs.Prelude.{All, if◌then◌else◌}
+use Rattle.std.proofs.lemmas.Bool.{ne_eqb}
 use Rattle.std.proofs.lemmas.List.Elements.{All-weaker}
 use Rattle.board_base.specs.declared.record.Record.{Record}
 use Rattle.board_base.specs.Records.{clock_of}
@@ -9,7 +10,7 @@ use Rattle.lockstep_board.specs.Breaks.{turn, turned}
 use Rattle.lockstep_board.specs.Order.{HasNoRecords, cleared}
 use Rattle.lockstep_board.specs.Lockstep.{Board}
 use Rattle.lockstep_board.specs.Run.{boundary_steps, is_over, stepped, to_boundary, IsPlaced}
-use Rattle.catchup_engine.specs.Trace.{TraceValue, accesses_of, step_trace}
+use Rattle.catchup_engine.specs.Trace.{accesses_of, step_trace}
 use Rattle.catchup_engine.specs.Traced.{told, told_once}
 use Rattle.lockstep_board.proofs.Clocks.{stepped-clock}
 use Rattle.lockstep_board.proofs.Ended.{cleared-empty}
@@ -59,7 +60,7 @@ empty-marks [] is = refl
 empty-marks (mark ∷ marks) is = absurd (some-mark (length marks) is)
   where
     some-mark : (n : ℕ) → not (suc n == 0) ≡ false → ⊥
-    some-mark n is = cc
+    some-mark n is = let off = ne_eqb (suc n) 0 (λ e. absurd (omega (arith, e))) in let on : true ≡ false = sym (ap not off) ∙ is in cc
 
 -- no turn but the last gave it a mark
 kept-turns : (entries : List TapeEntry) (limit n : ℕ) (w : FramerValue) (b : Board) → w.marks ≡ []

@@ -1,8 +1,16 @@
 -- The marks of some clocks: the writes that start the generator, among their accesses.
-use Rattle.std.proofs.Common.{◌≡◌, ℕ, ◌+◌, ◌-◌, ◌≤◌, ◌<◌, Bool, true, false, is_some, List, [], ◌∷◌, ◌++◌, length, take, drop, replicate, Option, Some, None, zero, suc, refl, sym, ap, subst, ◌∙◌, arith}
+use Rattle.std.proofs.Common.{◌≡◌, ℕ, ◌+◌, ◌≤◌, ◌<◌, Bool, true, false, ◌||◌, is_some, List, [], ◌∷◌, ◌++◌, length, take, drop, replicate, Option, Some, None, zero, suc, refl, sym, ap, subst, ◌∙◌, arith}
 use Rattle.std.specs.Prelude.{All, if◌then◌else◌}
 use Rattle.std.specs.List.{list_any}
 use Rattle.std.proofs.lemmas.List.Elements.{All-nil, All-cons, All-append, All-weaker, filter_map-append}
+use Rattle.std.proofs.lemmas.Bool.{and_parts}
+use Rattle.board_map.specs.declared.map.Reads.{Reads}
+use Rattle.board_map.specs.declared.map.Reads.TheVariants as reads
+use Rattle.board_map.specs.declared.map.Writes.{Writes}
+use Rattle.board_map.specs.declared.map.Writes.TheVariants as writes
+use Rattle.board_map.specs.Map.{region_by, region_of, row_of, written_region}
+use Rattle.lockstep_board.specs.Budget.{reaches_device, writes_device}
+use Rattle.catchup_engine.specs.Notes.{reaching}
 use Rattle.cpu_core.specs.Course as course
 use Rattle.cpu_core.specs.Course.{read_of, write_of}
 use Rattle.tape_ports.specs.declared.entry.TapeEntry.{TapeEntry}
@@ -10,13 +18,13 @@ use Rattle.catchup_engine.specs.declared.trace.Access.{Access}
 use Rattle.lockstep_board.specs.Order.{cleared, Recorded, behind, records_of}
 use Rattle.lockstep_board.specs.Lockstep.{Board, access_in, step}
 use Rattle.lockstep_board.specs.Run.{boundary_steps, is_over}
-use Rattle.catchup_engine.specs.Trace.{TraceValue, access_at, accesses_in, accesses_of, no_access, no_trace, seven_of, step_trace, trace_of}
+use Rattle.catchup_engine.specs.Trace.{TraceValue, made_of, access_at, accesses_in, accesses_of, no_access, no_trace, seven_of, step_trace, trace_of}
 use Rattle.lockstep_board.proofs.Behind.{behind-cleared, boundary_steps-behind}
 use Rattle.lockstep_board.proofs.Clocks.{step-clock}
 use Rattle.catchup_engine.proofs.Traces.{over-running}
-use Rattle.frame_list.specs.Events.{mark_of, marks_in, marks_of, starts_generator}
+use Rattle.frame_list.specs.Events.{is_go, mark_of, marks_in, marks_of, starts_generator}
 use Rattle.traced_run.specs.BoardFrames.{run_marks}
-use Rattle.traced_run.specs.Framing.{has_marks}
+use Rattle.traced_run.specs.Framing.{FramerValue, framer_told, has_marks}
 use Rattle.traced_run.specs.PartLaws.{accesses-behind, accesses-few}
 
 pub marks-append : (first rest : List Access) → marks_of (first ++ rest) ≡ marks_of first ++ marks_of rest
@@ -154,3 +162,72 @@ run_marks-behind entries limit l b =
 pub run_marks-cleared : (entries : List TapeEntry) (limit : ℕ) (b : Board) → run_marks entries limit (cleared b) ≡ run_marks entries limit b
 run_marks-cleared entries limit b =
     sym (run_marks-behind entries limit (records_of b) (cleared b)) ∙ ap (run_marks entries limit) (behind-cleared b)
+
+-- a write that starts the generator reaches a device
+go-written : (offset : ℕ) (write : Writes) → is_go (written_region offset write) ≡ true → writes_device write ≡ true
+go-written offset writes.Ram is = cc
+go-written offset writes.VectorRam is = refl
+go-written offset writes.Sound1 is = refl
+go-written offset writes.Sound2 is = refl
+go-written offset writes.OutputLatch is = cc
+go-written offset writes.Go is = refl
+go-written offset writes.VgReset is = refl
+go-written offset writes.Acknowledge is = refl
+go-written offset writes.EaromControl is = refl
+go-written offset writes.EaromLatch is = refl
+go-written offset writes.WatchdogClear is = refl
+go-written offset writes.Ignored is = cc
+
+go-reaches : (offset : ℕ) (read : Reads) (write : Writes) → is_go (region_by offset read write) ≡ true → writes_device write ≡ true
+go-reaches offset reads.Ram write is = cc
+go-reaches offset reads.VectorRam write is = cc
+go-reaches offset reads.VectorRom write is = cc
+go-reaches offset reads.ProgramRom write is = cc
+go-reaches offset reads.Sound1 write is = cc
+go-reaches offset reads.Sound2 write is = cc
+go-reaches offset reads.EaromOut write is = cc
+go-reaches offset reads.In0 write is = cc
+go-reaches offset reads.In3 write is = cc
+go-reaches offset reads.In4 write is = cc
+go-reaches offset reads.Open write is = go-written offset write is
+
+starts-reaches : (access : Access) → starts_generator access ≡ true → reaches_device (made_of access) ≡ true
+unfolding reaches_device
+starts-reaches access is =
+    let both = and_parts access.write (is_go (region_of access.addr)) is in
+    let row = row_of access.addr in
+    rw both.0 (go-reaches row.offset row.reads row.writes both.1)
+
+-- so that one which reaches none doesn't start it
+reaches-none : (access : Access) (t : Bool) → starts_generator access ≡ t → reaches_device (made_of access) ≡ false → starts_generator access ≡ false
+reaches-none access true is off = let on = starts-reaches access is in cc
+reaches-none access false is off = is
+
+-- and the accesses that reach a device have all marks
+reaching-any : (accesses : List Access) → list_any starts_generator (reaching accesses) ≡ list_any starts_generator accesses
+reaching-any [] = refl
+reaching-any (access ∷ rest) = by_test (reaches_device (made_of access)) refl (reaching-any rest)
+  where
+    by_test : (t : Bool) → reaches_device (made_of access) ≡ t → list_any starts_generator (reaching rest) ≡ list_any starts_generator rest
+        → list_any starts_generator (reaching (access ∷ rest)) ≡ list_any starts_generator (access ∷ rest)
+    by_test true is others = rw is (ap (λ b. starts_generator access || b) others)
+    by_test false is others = rw (is, reaches-none access (starts_generator access) refl is) others
+
+reaching-marks : (accesses : List Access) → marks_of (reaching accesses) ≡ marks_of accesses
+reaching-marks [] = refl
+reaching-marks (access ∷ rest) = by_test (reaches_device (made_of access)) refl (reaching-marks rest)
+  where
+    by_test : (t : Bool) → reaches_device (made_of access) ≡ t → marks_of (reaching rest) ≡ marks_of rest
+        → marks_of (reaching (access ∷ rest)) ≡ marks_of (access ∷ rest)
+    by_test true is others = rw is (marks-more access (reaching rest) rest (starts_generator access) refl others)
+    by_test false is others = rw is (others ∙ sym (mark-other access rest (reaches-none access (starts_generator access) refl is)))
+
+-- the marks that a framer keeps of the accesses that reach a device are those of the trace
+pub kept-by : (f : FramerValue) (trace : TraceValue) (pc : ℕ) (made : List Access) (t : Bool) → made ≡ reaching (take trace.count trace.accesses)
+    → list_any starts_generator made ≡ t → (let g : FramerValue = if t then record f { marks = marks_of made } else f in g) ≡ framer_told f trace pc
+kept-by f trace pc made t is any =
+    let all = take trace.count trace.accesses in
+    let tested : t ≡ has_marks trace = sym any ∙ ap (list_any starts_generator) is ∙ reaching-any all in
+    let same : marks_of made ≡ marks_in trace = ap marks_of is ∙ reaching-marks all in
+    ap (λ (l : List ℕ). let g : FramerValue = if t then record f { marks = l } else f in g) same
+    ∙ ap (λ (b : Bool). let g : FramerValue = if b then record f { marks = marks_in trace } else f in g) tested

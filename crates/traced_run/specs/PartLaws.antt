@@ -1,5 +1,5 @@
 -- Turns of a run: the steps that they make, the accesses and the strokes of their clocks, and the run that goes on behind them.
-use Rattle.std.proofs.Common.{◌≡◌, ℕ, ◌+◌, ◌-◌, ◌≤◌, ◌<◌, Bool, true, false, ◌&&◌, ◌||◌, nat_le, is_some, is_none, List, [], ◌∷◌, ◌++◌, length, Option, Some, None, IsSome, zero, suc, refl, sym, ap, subst, ◌∙◌, arith, rules, inl, inr, zero-add, append_assoc, length-append}
+use Rattle.std.proofs.Common.{◌≡◌, ℕ, ◌+◌, ◌≤◌, ◌<◌, Bool, true, false, ◌&&◌, ◌||◌, nat_le, is_some, is_none, List, [], ◌∷◌, ◌++◌, length, Option, Some, None, IsSome, zero, suc, refl, sym, ap, subst, ◌∙◌, arith, rules, inl, inr, zero-add, append_assoc, length-append}
 use Rattle.std.specs.Prelude.{All, if◌then◌else◌}
 use Rattle.std.proofs.lemmas.Bool.{cases_lt}
 use Rattle.std.proofs.lemmas.Bool.Decides.{nat_tests}
@@ -14,7 +14,6 @@ use Rattle.tape_ports.specs.declared.entry.Port.{Port}
 use Rattle.tape_ports.specs.declared.entry.Port.TheVariants as port
 use Rattle.tape_ports.specs.declared.entry.TapeEntry.{TapeEntry}
 use Rattle.tape_ports.specs.Due.{due_at}
-use Rattle.catchup_engine.specs.declared.trace.Access.{Access}
 use Rattle.lockstep_board.specs.Breaks.{turn, turned}
 use Rattle.lockstep_board.specs.Order.{HasNoRecords, cleared, Recorded, AreMadeBetween, behind, records_of}
 use Rattle.lockstep_board.specs.Lockstep.{Board, access_in, sequence_due, step}

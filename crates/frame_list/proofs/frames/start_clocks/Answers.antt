@@ -1,5 +1,4 @@
-use Rattle.std.proofs.Common.{◌≡◌, ◌++◌, List, ℕ, length, take, ap, sym, ◌∙◌, append-nil, arith, length-take}
-use Rattle.frame_list.specs.Events.{marks_of}
+use Rattle.std.proofs.Common.{List, ℕ, length, take, ap, sym, ◌∙◌, arith, length-take}
 use Rattle.frame_list.proofs.TakeLaws.{marks-empty, marks-few, marks-grow, marks-stay}
 use Rattle.frame_list.proofs.frames.start_clocks.Goals as goal
 use Rattle.frame_list.proofs.frames.start_clocks.Goals.{then-starts, else-starts}
