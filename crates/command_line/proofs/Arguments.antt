@@ -1,8 +1,9 @@
 -- The arguments of a command, as they stand in a list whose elements show as words.
-use Rattle.std.proofs.Common.{◌≡◌, ℕ, ◌+◌, ◌≤◌, ◌<◌, ◌⊎◌, inl, inr, None, Bool, true, false, not, cond, List, [], ◌∷◌, length, map, take, drop, refl, sym, ap, ◌∙◌, arith}
+use Rattle.std.proofs.Common.{◌≡◌, ℕ, ◌+◌, ◌≤◌, ◌<◌, ◌⊎◌, None, Bool, true, false, not, cond, List, [], ◌∷◌, length, map, take, drop, refl, sym, ap, ◌∙◌, arith}
 use Rattle.std.specs.List.{prefix_len, take_while}
 use Rattle.std.proofs.lemmas.List.{drop-map, length-map, length-take, take-map}
-use Rattle.command_line.specs.declared.verb.Verb.TheVariants.{Debug, Pcm, Seek}
+use Rattle.command_line.specs.declared.verb.Verb.{Verb}
+use Rattle.command_line.specs.declared.verb.Verb.TheVariants.{Run, Asm, Debug, Show, Soak, Pcm, Frames, Seek, Profile}
 use Rattle.command_line.specs.CommandLine.{arguments_of, built, options_after}
 use Rattle.command_line.specs.SettingsValue.{SettingsValue}
 use Rattle.command_line.specs.Words.{is_dashed}
@@ -36,29 +37,23 @@ options_shown f words n is =
     in
     sym (drop-map f n words) ∙ ap (λ m. drop m (map f words)) same
 
--- a debugger's session has three arguments
-pub not_three : (words : List (List ℕ)) (said : SettingsValue) → (length words < 3) ⊎ (4 ≤ length words) → None ≡ built Debug words said
-not_three [] said other = refl
-not_three (a ∷ []) said other = refl
-not_three (a ∷ b ∷ []) said other = refl
-not_three (a ∷ b ∷ c ∷ []) said (inl few) = absurd (omega arith)
-not_three (a ∷ b ∷ c ∷ []) said (inr many) = absurd (omega arith)
-not_three (a ∷ b ∷ c ∷ d ∷ more) said other = refl
+-- the number of a command's arguments
+abbrev pub argument_count : Verb → ℕ
+argument_count Run = 2
+argument_count Asm = 3
+argument_count Debug = 3
+argument_count Show = 1
+argument_count Soak = 1
+argument_count Pcm = 3
+argument_count Frames = 2
+argument_count Seek = 3
+argument_count Profile = 2
 
--- and so has a run whose samples are asked for
-pub not_three-pcm : (words : List (List ℕ)) (said : SettingsValue) → (length words < 3) ⊎ (4 ≤ length words) → None ≡ built Pcm words said
-not_three-pcm [] said other = refl
-not_three-pcm (a ∷ []) said other = refl
-not_three-pcm (a ∷ b ∷ []) said other = refl
-not_three-pcm (a ∷ b ∷ c ∷ []) said (inl few) = absurd (omega arith)
-not_three-pcm (a ∷ b ∷ c ∷ []) said (inr many) = absurd (omega arith)
-not_three-pcm (a ∷ b ∷ c ∷ d ∷ more) said other = refl
-
--- and a seek
-pub not_three-seek : (words : List (List ℕ)) (said : SettingsValue) → (length words < 3) ⊎ (4 ≤ length words) → None ≡ built Seek words said
-not_three-seek [] said other = refl
-not_three-seek (a ∷ []) said other = refl
-not_three-seek (a ∷ b ∷ []) said other = refl
-not_three-seek (a ∷ b ∷ c ∷ []) said (inl few) = absurd (omega arith)
-not_three-seek (a ∷ b ∷ c ∷ []) said (inr many) = absurd (omega arith)
-not_three-seek (a ∷ b ∷ c ∷ d ∷ more) said other = refl
+-- another number of them makes no command
+pub other_count : (verb : Verb) (words : List (List ℕ)) (said : SettingsValue)
+    → (length words < argument_count verb) ⊎ (argument_count verb < length words) → None ≡ built verb words said
+other_count verb [] said other = grind arith
+other_count verb (a ∷ []) said other = grind arith
+other_count verb (a ∷ b ∷ []) said other = grind arith
+other_count verb (a ∷ b ∷ c ∷ []) said other = grind arith
+other_count verb (a ∷ b ∷ c ∷ d ∷ more) said other = grind arith

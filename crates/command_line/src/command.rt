@@ -184,140 +184,40 @@ fn read_settings<'a>(verb: Verb, words: &'a [String]) -> Option<Settings<'a>>
     Some(settings)
 }
 
-/// A run with its arguments.
-fn read_run<'a>(arguments: &'a [String], settings: Settings<'a>) -> Option<Command<'a>>
-    requires { AreClocks settings }
-    ensures command { option_map command_value result ≡ built Verb.Run (map string_bytes arguments.now) settings.entry }
-    ensures clocks { IfSome result (λ command. HasClocks (command_value command)) }
-{
-    let [image, tape] = arguments else {
-        return None;
-    };
-    Some(Command::Run(RunWords::of(image.as_str(), tape.as_str(), settings)?))
-}
-
-/// Two sources to assemble and a name for their image, of the arguments.
-fn read_asm<'a>(arguments: &'a [String], settings: &Settings<'a>) -> Option<Command<'a>>
-    ensures command { option_map command_value result ≡ built Verb.Asm (map string_bytes arguments.now) settings.now }
-    ensures clocks { IfSome result (λ command. HasClocks (command_value command)) }
-{
-    let [processor, generator, image] = arguments else {
-        return None;
-    };
-    Some(Command::Asm(AsmWords {
-        processor: read_name(processor.as_str())?,
-        generator: read_name(generator.as_str())?,
-        image: read_name(image.as_str())?,
-    }))
-}
-
-/// A session with its arguments.
-fn read_debug<'a>(arguments: &'a [String], settings: Settings<'a>) -> Option<Command<'a>>
-    requires { AreClocks settings }
-    ensures command { option_map command_value result ≡ built Verb.Debug (map string_bytes arguments.now) settings.entry }
-    ensures clocks { IfSome result (λ command. HasClocks (command_value command)) }
-{
-    let [image, tape, script] = arguments else {
-        return None;
-    };
-    Some(Command::Debug(DebugWords {
-        run: RunWords::of(image.as_str(), tape.as_str(), settings)?,
-        script: read_name(script.as_str())?,
-    }))
-}
-
-/// A state to show, of the arguments.
-fn read_show<'a>(arguments: &'a [String], settings: &Settings<'a>) -> Option<Command<'a>>
-    ensures command { option_map command_value result ≡ built Verb.Show (map string_bytes arguments.now) settings.now }
-    ensures clocks { IfSome result (λ command. HasClocks (command_value command)) }
-{
-    let [state] = arguments else {
-        return None;
-    };
-    Some(Command::Show(read_name(state.as_str())?))
-}
-
-/// The number of a workload, of the arguments.
-fn read_soak<'a>(arguments: &'a [String], settings: &Settings<'a>) -> Option<Command<'a>>
-    ensures command { option_map command_value result ≡ built Verb.Soak (map string_bytes arguments.now) settings.now }
-    ensures clocks { IfSome result (λ command. HasClocks (command_value command)) }
-{
-    let [seed] = arguments else {
-        return None;
-    };
-    Some(Command::Soak(read_number(seed.as_bytes())?))
-}
-
-/// A run whose samples are asked for, with its arguments.
-fn read_pcm<'a>(arguments: &'a [String], settings: Settings<'a>) -> Option<Command<'a>>
-    requires { AreClocks settings }
-    ensures command { option_map command_value result ≡ built Verb.Pcm (map string_bytes arguments.now) settings.entry }
-    ensures clocks { IfSome result (λ command. HasClocks (command_value command)) }
-{
-    let [image, tape, per] = arguments else {
-        return None;
-    };
-    Some(Command::Pcm(PcmWords {
-        run: RunWords::of(image.as_str(), tape.as_str(), settings)?,
-        per: read_per(per.as_bytes())?,
-    }))
-}
-
-/// A run whose frames are asked for, with its arguments.
-fn read_frames<'a>(arguments: &'a [String], settings: Settings<'a>) -> Option<Command<'a>>
-    requires { AreClocks settings }
-    ensures command { option_map command_value result ≡ built Verb.Frames (map string_bytes arguments.now) settings.entry }
-    ensures clocks { IfSome result (λ command. HasClocks (command_value command)) }
-{
-    let [image, tape] = arguments else {
-        return None;
-    };
-    Some(Command::Frames(RunWords::of(image.as_str(), tape.as_str(), settings)?))
-}
-
-/// The clocks to seek in a run, with its arguments.
-fn read_seek<'a>(arguments: &'a [String], settings: Settings<'a>) -> Option<Command<'a>>
-    requires { AreClocks settings }
-    ensures command { option_map command_value result ≡ built Verb.Seek (map string_bytes arguments.now) settings.entry }
-    ensures clocks { IfSome result (λ command. HasClocks (command_value command)) }
-{
-    let [image, tape, clocks] = arguments else {
-        return None;
-    };
-    Some(Command::Seek(SeekWords {
-        run: RunWords::of(image.as_str(), tape.as_str(), settings)?,
-        clocks: read_clocks(clocks.as_str())?,
-    }))
-}
-
-/// A run whose profile is asked for, with its arguments.
-fn read_profile<'a>(arguments: &'a [String], settings: Settings<'a>) -> Option<Command<'a>>
-    requires { AreClocks settings }
-    ensures command { option_map command_value result ≡ built Verb.Profile (map string_bytes arguments.now) settings.entry }
-    ensures clocks { IfSome result (λ command. HasClocks (command_value command)) }
-{
-    let [image, tape] = arguments else {
-        return None;
-    };
-    Some(Command::Profile(RunWords::of(image.as_str(), tape.as_str(), settings)?))
-}
-
 /// A command with its arguments and what its options say.
 fn build<'a>(verb: Verb, arguments: &'a [String], settings: Settings<'a>) -> Option<Command<'a>>
     requires { AreClocks settings }
     ensures command { option_map command_value result ≡ built verb (map string_bytes arguments.now) settings.entry }
     ensures clocks { IfSome result (λ command. HasClocks (command_value command)) }
 {
-    match verb {
-        Verb::Run => read_run(arguments, settings),
-        Verb::Asm => read_asm(arguments, &settings),
-        Verb::Debug => read_debug(arguments, settings),
-        Verb::Show => read_show(arguments, &settings),
-        Verb::Soak => read_soak(arguments, &settings),
-        Verb::Pcm => read_pcm(arguments, settings),
-        Verb::Frames => read_frames(arguments, settings),
-        Verb::Seek => read_seek(arguments, settings),
-        Verb::Profile => read_profile(arguments, settings),
+    match (verb, arguments) {
+        (Verb::Run, [image, tape]) => Some(Command::Run(RunWords::of(image, tape, settings)?)),
+        (Verb::Asm, [processor, generator, image]) => Some(Command::Asm(AsmWords {
+            processor: read_name(processor)?,
+            generator: read_name(generator)?,
+            image: read_name(image)?,
+        })),
+        (Verb::Debug, [image, tape, script]) => Some(Command::Debug(DebugWords {
+            run: RunWords::of(image, tape, settings)?,
+            script: read_name(script)?,
+        })),
+        (Verb::Show, [state]) => Some(Command::Show(read_name(state)?)),
+        (Verb::Soak, [seed]) => Some(Command::Soak(read_number(seed.as_bytes())?)),
+        (Verb::Pcm, [image, tape, per]) => Some(Command::Pcm(PcmWords {
+            run: RunWords::of(image, tape, settings)?,
+            per: read_per(per.as_bytes())?,
+        })),
+        (Verb::Frames, [image, tape]) => Some(Command::Frames(RunWords::of(
+            image, tape, settings,
+        )?)),
+        (Verb::Seek, [image, tape, clocks]) => Some(Command::Seek(SeekWords {
+            run: RunWords::of(image, tape, settings)?,
+            clocks: read_clocks(clocks)?,
+        })),
+        (Verb::Profile, [image, tape]) => Some(Command::Profile(RunWords::of(
+            image, tape, settings,
+        )?)),
+        _ => None,
     }
 }
 
