@@ -1,6 +1,5 @@
-use Rattle.std.proofs.Common.{suc, ◌+◌, List, take, drop, get_or, subst, refl, arith}
+use Rattle.std.proofs.Common.{suc, ◌+◌, List, take, drop, get_or, subst, refl, arith, take_all}
 use Rattle.std.proofs.Math.Seq.{split_at}
-use Rattle.std.proofs.lemmas.List.{take_all}
 use Rattle.std.proofs.lemmas.List.Elements.{All-more}
 use Rattle.save_state.specs.declared.table.Field.{Field}
 use Rattle.save_state.specs.declared.table.Kind.TheVariants.{Any}

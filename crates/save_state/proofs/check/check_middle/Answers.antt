@@ -1,9 +1,7 @@
-use Rattle.std.proofs.Common.{◌==◌, refl, arith}
-use Rattle.std.specs.List.{slice_index}
+use Rattle.std.proofs.Common.{◌==◌, refl, arith, slice_index}
 use Rattle.save_state.specs.declared.table.Kind.TheVariants.{Any}
 use Rattle.save_state.specs.StateBytes.{processor_of}
-use Rattle.save_state.proofs.Rows.{not_equal, done_most}
-use Rattle.save_state.proofs.Tables.{early, first_told, middle_held, start_broken, place_broken}
+use Rattle.save_state.proofs.Tables.{not_equal, done_most, early, first_told, middle_held, start_broken, place_broken}
 use Rattle.save_state.proofs.check.check_middle.Goals as goal
 
 pub returns-then-version-eq1 : goal.returns-then-version-eq1

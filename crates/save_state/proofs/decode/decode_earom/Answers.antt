@@ -1,5 +1,5 @@
 use Rattle.std.proofs.Common.{rules, arith}
-use Rattle.save_state.proofs.Rows.{no_row}
+use Rattle.save_state.proofs.Tables.{no_row}
 use Rattle.save_state.proofs.decode.decode_earom.Goals as goal
 
 pub invariant_of-result : goal.invariant_of-result

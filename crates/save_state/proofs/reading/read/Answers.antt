@@ -1,11 +1,9 @@
-use Rattle.std.proofs.Common.{◌≡◌, ℕ, List, length, refl, Result, Ok, Err, ap, sym, subst, ◌∙◌}
-use Rattle.std.specs.List.{slice_index}
+use Rattle.std.proofs.Common.{◌≡◌, ℕ, List, length, refl, Result, Ok, Err, ap, sym, subst, ◌∙◌, slice_index}
 use Rattle.board_base.specs.Board.{BoardValue}
 use Rattle.save_state.specs.declared.fault.StateFault.{StateFault}
 use Rattle.save_state.specs.declared.fault.StateFault.TheVariants.{Field as Broken}
 use Rattle.save_state.specs.Reading.{ReadsState, Spells}
-use Rattle.save_state.proofs.OneBoard.{spelled_has, one_board}
-use Rattle.save_state.proofs.Decoded.{decoded_has, decoded_place, one_of_two}
+use Rattle.save_state.proofs.OneBoard.{spelled_has, one_board, decoded_has, decoded_place, one_of_two}
 use Rattle.save_state.proofs.OneReading.{not_broken, versioned}
 use Rattle.save_state.proofs.reading.read.Goals as goal
 
@@ -21,7 +19,7 @@ returns-then-version-ne2-clause-again c = λ b whole spelled.
 
 pub keep_ranges-requires-clause-place : goal.keep_ranges-requires-clause-place
 keep_ranges-requires-clause-place c =
-    decoded_place c.in-Ok.file.now c.decode-state.result (one_of_two _ c.else-version-ne1.either) c.in-Ok-first_fault.ensures c.decode-state.ensures.decoded
+    decoded_place c.in-Ok.file.now c.decode-state.result c.decode-state.result.cpu.mid refl (one_of_two _ c.else-version-ne1.either) c.in-Ok-first_fault.ensures c.decode-state.ensures.decoded
 
 pub returns-in-Ok-first_fault-clause-reads : goal.returns-in-Ok-first_fault-clause-reads
 returns-in-Ok-first_fault-clause-reads c =

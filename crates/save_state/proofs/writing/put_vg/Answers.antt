@@ -3,7 +3,7 @@ use Rattle.std.specs.List.{concat}
 use Rattle.board_base.specs.Vg.{VgValue}
 use Rattle.save_state.specs.Fields.{pieces_of}
 use Rattle.save_state.specs.StateBytes.{vg_rows}
-use Rattle.save_state.proofs.Signed.{signed_back}
+use Rattle.save_state.proofs.OneBoard.{signed_back}
 use Rattle.save_state.proofs.writing.put_vg.Goals as goal
 
 pub returns-clause-bytes : goal.returns-clause-bytes
