@@ -83,8 +83,7 @@ left_by cpu false n least most none = u16_most n 0 (omega arith) (omega (arith, 
 
 vg_spelled : (cpu : CpuValue) (facts : Facts) (v : VgValue) → IsVg v → facts.drawing ≡ (v.phase == 5) → AreSpelled cpu facts vg_rows v
 vg_spelled cpu facts v h e =
-    let left : Fits cpu (left_range facts.drawing) (u16_bytes v.left) =
-    rw e (left_by cpu (v.phase == 5) v.left (λ e. h.drawing (eqb-true _ _ e)) h.longest (λ e. h.resting (not_from_Decides (v.phase == 5) (Decides-eqb v.phase 5) e))) in
+    let left : Fits cpu (left_range facts.drawing) (u16_bytes v.left) = rw e (left_by cpu (v.phase == 5) v.left (λ e. h.drawing (eqb-true _ _ e)) h.longest (λ e. h.resting (not_from_Decides (v.phase == 5) (Decides-eqb v.phase 5) e))) in
     let x : IsWithin 1073741824 (cast_signed w32 (from_le_bytes w32 (i32_bytes v.x))) = signed_fits (2 ^ 30) v.x (omega arith) h.x in
     let y : IsWithin 1073741824 (cast_signed w32 (from_le_bytes w32 (i32_bytes v.y))) = signed_fits (2 ^ 30) v.y (omega arith) h.y in
     let dx : IsWithin 134217728 (cast_signed w32 (from_le_bytes w32 (i32_bytes v.dx))) = signed_fits (2 ^ 27) v.dx (omega arith) h.dx in
@@ -112,8 +111,7 @@ sequence_most : (q : Sequence) → sequence_number q ≤ 3
 sequence_most q = elim q as (λ (q : Sequence). sequence_number q ≤ 3) [ Opcode ↦ omega arith | Interrupt ↦ omega arith | Reset ↦ omega arith ]
 
 -- the place of a processor that stands inside no sequence, or inside one, where the file's processor does so too
-middle_by : (c cpu : CpuValue) (facts : Facts) (mid : Option MidValue) → c.mid ≡ mid → facts.jammed ≡ is_some c.jam → facts.idle ≡ (number_of mid == 0)
-    → IfSome mid IsMid → IfSome mid (λ _. IsMiddle c) → IfSome mid (λ _. IsMiddle cpu) → AreSpelled cpu facts (sequence_rows ++ place_rows) mid
+middle_by : (c cpu : CpuValue) (facts : Facts) (mid : Option MidValue) → c.mid ≡ mid → facts.jammed ≡ is_some c.jam → facts.idle ≡ (number_of mid == 0) → IfSome mid IsMid → IfSome mid (λ _. IsMiddle c) → IfSome mid (λ _. IsMiddle cpu) → AreSpelled cpu facts (sequence_rows ++ place_rows) mid
 middle_by c cpu facts None s e f range place told = rw f (search arith)
 middle_by c cpu facts (Some m) s e f range place told =
     let here : IsMiddle (record c { mid = Some m }) = subst (λ (x : Option MidValue). IsMiddle (record c { mid = x })) s place in
@@ -137,8 +135,7 @@ back_spelled cpu facts b h drawing =
     (spelled_append cpu facts b first_rows (second_rows ++ end_rows) (pokey_spelled cpu facts b.sound1 h.sound1)
     (spelled_append cpu facts b second_rows end_rows (pokey_spelled cpu facts b.sound2 h.sound2) ends))
 
-whole_spelled : (version : ℕ) (cpu : CpuValue) (facts : Facts) (b : BoardValue) → IsWhole b → b.clock ≤ facts.last → facts.jammed ≡ is_some b.cpu.jam → facts.drawing ≡ (b.vg.phase == 5)
-    → AreSpelled cpu facts (middle_rows (version == 1)) b → AreSpelled cpu facts (table version) b
+whole_spelled : (version : ℕ) (cpu : CpuValue) (facts : Facts) (b : BoardValue) → IsWhole b → b.clock ≤ facts.last → facts.jammed ≡ is_some b.cpu.jam → facts.drawing ≡ (b.vg.phase == 5) → AreSpelled cpu facts (middle_rows (version == 1)) b → AreSpelled cpu facts (table version) b
 whole_spelled version cpu facts b h clock jammed drawing middle =
     spelled_append cpu facts b (front_rows version ++ middle_rows (version == 1)) back_rows
     (spelled_append cpu facts b (front_rows version) (middle_rows (version == 1)) (front_spelled version cpu facts b h clock jammed) middle)
@@ -155,28 +152,22 @@ both true false e = absurd cc
 both false b e = absurd cc
 
 -- the offset of each row is the sum of the widths before it, and all have 4356 bytes
-order_by : (version : ℕ) (one : Bool) → are_in_order 0 4356 (front_rows version ++ middle_rows one ++ back_rows) ≡ true
-order_by version true = refl
-order_by version false = refl
-
 offsets : (version : ℕ) → are_in_order 0 4356 (table version) ≡ true
-offsets version = order_by version (version == 1)
+offsets version = elim (version == 1) as (λ (one : Bool). are_in_order 0 4356 (front_rows version ++ middle_rows one ++ back_rows) ≡ true) [ true ↦ refl | false ↦ refl ]
 
 -- a row's field has the bytes of a board's
 abbrev Has : List ℕ → BoardValue → Row BoardValue → Type 0
 Has file b r = take r.width (drop r.at file) ≡ r.spelled b
 
 -- the bytes of a board stand at the offsets of its rows
-stand : (cpu : CpuValue) (facts : Facts) (b : BoardValue) (rs : Rows) (front : List ℕ) (from : ℕ) → length front ≡ from → are_in_order from 4356 rs ≡ true
-    → AreSpelled cpu facts rs b → All (Has (front ++ concat (pieces_of rs b)) b) rs
+stand : (cpu : CpuValue) (facts : Facts) (b : BoardValue) (rs : Rows) (front : List ℕ) (from : ℕ) → length front ≡ from → are_in_order from 4356 rs ≡ true → AreSpelled cpu facts rs b → All (Has (front ++ concat (pieces_of rs b)) b) rs
 stand cpu facts b [] front from len h spelled = All-nil (Has (front ++ []) b)
 stand cpu facts b (r ∷ rs) front from len h spelled =
     let file : List ℕ = front ++ (r.spelled b ++ concat (pieces_of rs b)) in
     let two = both (r.at == from) (are_in_order (from + r.width) 4356 rs) h in
     let at : r.at ≡ from = eqb-true r.at from two.0 in
     let long : length (front ++ r.spelled b) ≡ from + r.width = omega (arith, length-append front (r.spelled b), len, spelled.0.0) in
-    let here : take r.width (drop r.at file) ≡ r.spelled b =
-    rw (at, drop_at front (r.spelled b ++ concat (pieces_of rs b)) from len) (take_at (r.spelled b) (concat (pieces_of rs b)) r.width spelled.0.0) in
+    let here : take r.width (drop r.at file) ≡ r.spelled b = rw (at, drop_at front (r.spelled b ++ concat (pieces_of rs b)) from len) (take_at (r.spelled b) (concat (pieces_of rs b)) r.width spelled.0.0) in
     All-cons (Has file b) r rs here
     (subst (λ (x : List ℕ). All (Has x b) rs) (append_assoc front (r.spelled b) (concat (pieces_of rs b))) (stand cpu facts b rs (front ++ r.spelled b) (from + r.width) long two.1 spelled.1))
 
@@ -208,8 +199,7 @@ has_fields version file b held has = λ k d lt. (held k d lt, has k d lt)
 
 held_from : (version : ℕ) (file : List ℕ) (b : BoardValue) (rs : Rows) → AreSpelled (processor_of file) (facts_of version file) rs b → All (Has file b) rs → All (Holds version file) rs
 held_from version file b [] spelled has = All-nil (Holds version file)
-held_from version file b (r ∷ rs) spelled has =
-    All-cons (Holds version file) r rs (rw (All-head (Has file b) r rs has) spelled.0.1) (held_from version file b rs spelled.1 (All-tail (Has file b) r rs has))
+held_from version file b (r ∷ rs) spelled has = All-cons (Holds version file) r rs (rw (All-head (Has file b) r rs has) spelled.0.1) (held_from version file b rs spelled.1 (All-tail (Has file b) r rs has))
 
 -- a value from its pieces
 abbrev piece : List (List ℕ) → ℕ → List ℕ
@@ -309,14 +299,11 @@ with_both d jam mid f g = rw (f, g) refl
 same_cpu : (c d : CpuValue) → record c { jam = None; mid = None } ≡ record d { jam = None; mid = None } → c.jam ≡ d.jam → c.mid ≡ d.mid → c ≡ d
 same_cpu c d e f g = ap (λ (x : CpuValue). record x { jam = c.jam; mid = c.mid }) e ∙ with_both d c.jam c.mid f g
 
-rebuilt : (b : BoardValue) (clock : ℕ) (cpu : CpuValue) (out in0 in3 in4 : ℕ) (divider : DividerValue) (vg : VgValue) (sound1 sound2 : PokeyValue) (earom : EaromValue) (ram vram : List ℕ)
-    → clock ≡ b.clock → cpu ≡ b.cpu → out ≡ b.out → in0 ≡ b.in0 → in3 ≡ b.in3 → in4 ≡ b.in4 → divider ≡ b.divider → vg ≡ b.vg → sound1 ≡ b.sound1 → sound2 ≡ b.sound2 → earom ≡ b.earom
-    → ram ≡ b.ram → vram ≡ b.vram
-    → record { clock = clock; cpu = cpu; out = out; in0 = in0; in3 = in3; in4 = in4; divider = divider; vg = vg; sound1 = sound1; sound2 = sound2; earom = earom; ram = ram; vram = vram } ≡ b
+rebuilt : (b : BoardValue) (clock : ℕ) (cpu : CpuValue) (out in0 in3 in4 : ℕ) (divider : DividerValue) (vg : VgValue) (sound1 sound2 : PokeyValue) (earom : EaromValue) (ram vram : List ℕ) → clock ≡ b.clock → cpu ≡ b.cpu → out ≡ b.out → in0 ≡ b.in0 → in3 ≡ b.in3 → in4 ≡ b.in4 → divider ≡ b.divider → vg ≡ b.vg → sound1 ≡ b.sound1 → sound2 ≡ b.sound2 → earom ≡ b.earom
+    → ram ≡ b.ram → vram ≡ b.vram → record { clock = clock; cpu = cpu; out = out; in0 = in0; in3 = in3; in4 = in4; divider = divider; vg = vg; sound1 = sound1; sound2 = sound2; earom = earom; ram = ram; vram = vram } ≡ b
 rebuilt b clock cpu out in0 in3 in4 divider vg sound1 sound2 earom ram vram e1 e2 e3 e4 e5 e6 e7 e8 e9 e10 e11 e12 e13 = rw (e1, e2, e3, e4, e5, e6, e7, e8, e9, e10, e11, e12, e13) refl
 
-same_pieces : (version : ℕ) (b c : BoardValue) → IsWhole b → IsWhole c → pieces_of (front_rows version) b ≡ pieces_of (front_rows version) c → b.cpu.mid ≡ c.cpu.mid
-    → pieces_of back_rows b ≡ pieces_of back_rows c → b ≡ c
+same_pieces : (version : ℕ) (b c : BoardValue) → IsWhole b → IsWhole c → pieces_of (front_rows version) b ≡ pieces_of (front_rows version) c → b.cpu.mid ≡ c.cpu.mid → pieces_of back_rows b ≡ pieces_of back_rows c → b ≡ c
 same_pieces version b c g h front mid back =
     rebuilt c b.clock b.cpu b.out b.in0 b.in3 b.in4 b.divider b.vg b.sound1 b.sound2 b.earom b.ram b.vram
     (same_of (λ ps. from_le_bytes w64 (piece ps 2)) _ _ b.clock c.clock (from_le_bytes-to_le_bytes_8 b.clock (omega (arith, g.board.clock))) (from_le_bytes-to_le_bytes_8 c.clock (omega (arith, h.board.clock))) front)
@@ -337,8 +324,7 @@ same_second b c g h same =
     (same_of (λ ps. mid_of (take 3 (drop 19 ps))) _ _ _ _ (mid_back b.cpu.mid) (mid_back c.cpu.mid) same) (ap (λ (ps : List (List ℕ)). drop 22 ps) same)
 
 same_first : (b c : BoardValue) → IsWhole b → IsWhole c → b.cpu.mid ≡ None → c.cpu.mid ≡ None → pieces_of (table 1) b ≡ pieces_of (table 1) c → b ≡ c
-same_first b c g h e f same =
-    same_pieces 1 b c g h (ap (λ (ps : List (List ℕ)). take 19 ps) same) (e ∙ sym f) (ap (λ (ps : List (List ℕ)). drop 27 ps) same)
+same_first b c g h e f same = same_pieces 1 b c g h (ap (λ (ps : List (List ℕ)). take 19 ps) same) (e ∙ sym f) (ap (λ (ps : List (List ℕ)). drop 27 ps) same)
 
 -- what the bytes of a processor inside a sequence tell of it
 abbrev with_mid : BoardValue → MidValue → BoardValue
@@ -379,8 +365,7 @@ second_has b h =
 first_has : (b : BoardValue) → IsWhole b → HasFields 1 (first_state_bytes b) b
 first_has b h =
     let file : List ℕ = first_state_bytes b in
-    let told : AreSpelled (processor_of file) (facts_of 1 file) (table 1) b =
-    whole_spelled 1 (processor_of file) (facts_of 1 file) b h h.board.clock (flag_back (is_some b.cpu.jam)) refl (zeros_spelled (processor_of file) (facts_of 1 file)).1 in
+    let told : AreSpelled (processor_of file) (facts_of 1 file) (table 1) b = whole_spelled 1 (processor_of file) (facts_of 1 file) b h h.board.clock (flag_back (is_some b.cpu.jam)) refl (zeros_spelled (processor_of file) (facts_of 1 file)).1 in
     let has : All (Has file b) (table 1) = stand (processor_of file) (facts_of 1 file) b (table 1) [] 0 refl (offsets 1) told in
     has_fields 1 file b (held_from 1 file b (table 1) told has) has
 
@@ -446,10 +431,8 @@ most_three : (jammed : Bool) (n : ℕ) → n ≤ cond jammed 0 3 → n ≤ 3
 most_three true n h = omega (arith, h)
 most_three false n h = h
 
-place_by : (file : List ℕ) (mid : Option MidValue) (jammed idle : Bool) → length file ≡ 4356 → (slice_index file 30 == 0) ≡ idle
-    → slice_index (take 1 (drop 30 file)) 0 ≤ cond jammed 0 3 → Fits (processor_of file) (count_range idle) (take 1 (drop 31 file)) → Fits (processor_of file) (bytes_range idle) (take 6 (drop 32 file))
-    → (slice_index file 30 ≡ 0 → mid ≡ None) → (slice_index file 30 ≢ 0 → mid ≡ Some (middle_at file))
-    → pieces_of (sequence_rows ++ place_rows) mid ≡ pieces_in 0 file (sequence_rows ++ place_rows)
+place_by : (file : List ℕ) (mid : Option MidValue) (jammed idle : Bool) → length file ≡ 4356 → (slice_index file 30 == 0) ≡ idle → slice_index (take 1 (drop 30 file)) 0 ≤ cond jammed 0 3 → Fits (processor_of file) (count_range idle) (take 1 (drop 31 file)) → Fits (processor_of file) (bytes_range idle) (take 6 (drop 32 file))
+    → (slice_index file 30 ≡ 0 → mid ≡ None) → (slice_index file 30 ≢ 0 → mid ≡ Some (middle_at file)) → pieces_of (sequence_rows ++ place_rows) mid ≡ pieces_in 0 file (sequence_rows ++ place_rows)
 place_by file mid jammed true len e number count six outside inside =
     let zero : slice_index file 30 ≡ 0 = eqb-true (slice_index file 30) 0 e in
     let bytes : take 6 (drop 32 file) ≡ 0 ∷ 0 ∷ 0 ∷ 0 ∷ 0 ∷ 0 ∷ [] = sym (items_all 6 [] (take 6 (drop 32 file)) (piece_length file 32 6 (omega (arith, len)))) ∙ rw (six.0, six.1, six.2, six.3, six.4, six.5) refl in
@@ -480,8 +463,7 @@ decoded_second : (file : List ℕ) (b : BoardValue) → length file ≡ 4356 →
 decoded_second file b len first held d =
     let zeros : pieces_of zero_rows tt ≡ pieces_in 0 file zero_rows =
     zero_cons file 38 _ _ (omega (arith, len)) (held 22 no_row (omega arith)) (zero_cons file 39 _ _ (omega (arith, len)) (held 23 no_row (omega arith)) (zero_cons file 40 _ _ (omega (arith, len)) (held 24 no_row (omega arith)) (zero_cons file 41 _ _ (omega (arith, len)) (held 25 no_row (omega arith)) (zero_cons file 42 _ _ (omega (arith, len)) (held 26 no_row (omega arith)) (zero_cons file 43 _ _ (omega (arith, len)) (held 27 no_row (omega arith)) refl))))) in
-    let place : pieces_of (sequence_rows ++ place_rows) b.cpu.mid ≡ pieces_in 0 file (sequence_rows ++ place_rows) =
-    place_by file b.cpu.mid (slice_index file 19 == 1) (slice_index file 30 == 0) len refl (held 19 no_row (omega arith)) (held 20 no_row (omega arith)) (held 21 no_row (omega arith)) d.outside (λ h. ap (λ (c : CpuValue). c.mid) (d.inside h)) in
+    let place : pieces_of (sequence_rows ++ place_rows) b.cpu.mid ≡ pieces_in 0 file (sequence_rows ++ place_rows) = place_by file b.cpu.mid (slice_index file 19 == 1) (slice_index file 30 == 0) len refl (held 19 no_row (omega arith)) (held 20 no_row (omega arith)) (held 21 no_row (omega arith)) d.outside (λ h. ap (λ (c : CpuValue). c.mid) (d.inside h)) in
     let same = appended _ _ _ _ (front_told 2 file b d (head_told 2 file len first (held 1 no_row (omega arith)))) (appended _ _ _ _ place (back_told file b d zeros)) in
     has_fields 2 file b held (has_from b file (table 2) same)
 
@@ -496,13 +478,10 @@ decoded_first file b len first held d =
     has_fields 1 file b held (has_from b file (table 1) same)
 
 decoded_mid : (file : List ℕ) (b : BoardValue) → All (Holds 1 file) (table 1) → IsDecoded file b → b.cpu.mid ≡ None
-decoded_mid file b held d =
-    let none : slice_index (take 1 (drop 30 file)) 0 ≤ 0 = held 19 no_row (omega arith) in
-    d.outside (omega (arith, byte_is file 30, none))
+decoded_mid file b held d = d.outside (omega (arith, byte_is file 30, held 19 no_row (omega arith)))
 
 -- and spells the file
-pub decoded_has : (file : List ℕ) (b : BoardValue) → length file ≡ 4356 → (slice_index file 0 ≡ 1) ⊎ (slice_index file 0 ≡ 2) → All (Holds (slice_index file 0) file) (table (slice_index file 0))
-    → IsDecoded file b → HasFields (slice_index file 0) file b × Spells file b
+pub decoded_has : (file : List ℕ) (b : BoardValue) → length file ≡ 4356 → (slice_index file 0 ≡ 1) ⊎ (slice_index file 0 ≡ 2) → All (Holds (slice_index file 0) file) (table (slice_index file 0)) → IsDecoded file b → HasFields (slice_index file 0) file b × Spells file b
 decoded_has file b len (inl one) held d =
     let first : All (Holds 1 file) (table 1) = subst (λ (v : ℕ). All (Holds v file) (table v)) one held in
     let has : HasFields 1 file b = decoded_first file b len one first d in
@@ -512,8 +491,7 @@ decoded_has file b len (inr two) held d =
     (subst (λ (v : ℕ). HasFields v file b) (sym two) has, inl (has_bytes 2 file b len has))
 
 -- its processor stands inside a sequence where the file's does
-pub decoded_place : (file : List ℕ) (b : BoardValue) (mid : Option MidValue) → b.cpu.mid ≡ mid → (slice_index file 0 ≡ 1) ⊎ (slice_index file 0 ≡ 2)
-    → All (Holds (slice_index file 0) file) (table (slice_index file 0)) → IsDecoded file b → IfSome mid (λ _. IsMiddle b.cpu)
+pub decoded_place : (file : List ℕ) (b : BoardValue) (mid : Option MidValue) → b.cpu.mid ≡ mid → (slice_index file 0 ≡ 1) ⊎ (slice_index file 0 ≡ 2) → All (Holds (slice_index file 0) file) (table (slice_index file 0)) → IsDecoded file b → IfSome mid (λ _. IsMiddle b.cpu)
 decoded_place file b None e two held d = tt
 decoded_place file b (Some m) e (inl one) held d =
     let none : b.cpu.mid ≡ None = decoded_mid file b (subst (λ (v : ℕ). All (Holds v file) (table v)) one held) d in
@@ -529,20 +507,17 @@ one_of_two version (inl h) = inr h.1
 one_of_two version (inr h) = inl h
 
 -- the pieces of a board that are written one after another
-all_parts : (p o d i z v k l e : List (List ℕ)) (r s : List ℕ)
-    → (((((((((concat p ++ concat o) ++ concat d) ++ concat i) ++ concat z) ++ concat v) ++ concat k) ++ concat l) ++ concat e) ++ r) ++ s
+all_parts : (p o d i z v k l e : List (List ℕ)) (r s : List ℕ) → (((((((((concat p ++ concat o) ++ concat d) ++ concat i) ++ concat z) ++ concat v) ++ concat k) ++ concat l) ++ concat e) ++ r) ++ s
     ≡ concat (p ++ ((((o ++ d) ++ i) ++ z) ++ ((((v ++ k) ++ l) ++ e) ++ (r ∷ s ∷ []))))
 all_parts p o d i z v k l e r s = simp (concat-append, append_assoc, append-nil)
 
-pub board_parts : (b : BoardValue)
-    → (((((((((concat (pieces_of head_rows 2 ++ (pieces_of clock_rows b.clock ++ pieces_of register_rows b.cpu) ++ pieces_of jam_rows b.cpu.jam) ++ (b.out ∷ b.in0 ∷ b.in3 ∷ b.in4 ∷ [])) ++ concat (pieces_of divider_rows b.divider)) ++ concat (pieces_of (sequence_rows ++ place_rows) b.cpu.mid)) ++ (0 ∷ 0 ∷ 0 ∷ 0 ∷ 0 ∷ 0 ∷ []))
+pub board_parts : (b : BoardValue) → (((((((((concat (pieces_of head_rows 2 ++ (pieces_of clock_rows b.clock ++ pieces_of register_rows b.cpu) ++ pieces_of jam_rows b.cpu.jam) ++ (b.out ∷ b.in0 ∷ b.in3 ∷ b.in4 ∷ [])) ++ concat (pieces_of divider_rows b.divider)) ++ concat (pieces_of (sequence_rows ++ place_rows) b.cpu.mid)) ++ (0 ∷ 0 ∷ 0 ∷ 0 ∷ 0 ∷ 0 ∷ []))
     ++ concat (pieces_of vg_rows b.vg)) ++ concat (pieces_of pokey_rows b.sound1)) ++ concat (pieces_of pokey_rows b.sound2)) ++ concat (pieces_of earom_rows b.earom)) ++ b.ram) ++ b.vram ≡ state_bytes b
 board_parts b =
     all_parts (pieces_of head_rows 2 ++ (pieces_of clock_rows b.clock ++ pieces_of register_rows b.cpu) ++ pieces_of jam_rows b.cpu.jam) (pieces_of port_rows (record { out = b.out; in0 = b.in0; in3 = b.in3; in4 = b.in4 })) (pieces_of divider_rows b.divider) (pieces_of (sequence_rows ++ place_rows) b.cpu.mid) (pieces_of zero_rows tt)
     (pieces_of vg_rows b.vg) (pieces_of pokey_rows b.sound1) (pieces_of pokey_rows b.sound2) (pieces_of earom_rows b.earom) b.ram b.vram
 
-pub pokey_parts : (t p1 p2 p3 p4 p5 p6 p7 p8 p9 p10 p11 p12 p13 p14 p15 : List ℕ)
-    → ((((((((((((((t ++ p1) ++ p2) ++ p3) ++ p4) ++ p5) ++ p6) ++ p7) ++ p8) ++ p9) ++ p10) ++ p11) ++ p12) ++ p13) ++ p14) ++ p15
+pub pokey_parts : (t p1 p2 p3 p4 p5 p6 p7 p8 p9 p10 p11 p12 p13 p14 p15 : List ℕ) → ((((((((((((((t ++ p1) ++ p2) ++ p3) ++ p4) ++ p5) ++ p6) ++ p7) ++ p8) ++ p9) ++ p10) ++ p11) ++ p12) ++ p13) ++ p14) ++ p15
     ≡ t ++ (p1 ++ (p2 ++ (p3 ++ (p4 ++ (p5 ++ (p6 ++ (p7 ++ (p8 ++ (p9 ++ (p10 ++ (p11 ++ (p12 ++ (p13 ++ (p14 ++ p15))))))))))))))
 pokey_parts t p1 p2 p3 p4 p5 p6 p7 p8 p9 p10 p11 p12 p13 p14 p15 = simp append_assoc
 

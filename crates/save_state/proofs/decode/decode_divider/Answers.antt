@@ -5,18 +5,15 @@ use Rattle.save_state.proofs.decode.decode_divider.Goals as goal
 use Rattle.save_state.proofs.decode.decode_divider.Goals.{in-0, in-1, in_default}
 
 pub invariant_of-result : goal.invariant_of-result
-invariant_of-result c = record {
-  phase = omega (arith, c.u16_at.ensures.number, c.requires.1 15 no_row (omega arith));
-  dog = omega (arith, c.byte_at-2.ensures.number, c.requires.1 17 no_row (omega arith));
-}
+invariant_of-result c = record { phase = omega (arith, c.u16_at.ensures.number, c.requires.1 15 no_row (omega arith)); dog = omega (arith, c.byte_at-2.ensures.number, c.requires.1 17 no_row (omega arith)) }
 
 pub returns : goal.returns
 returns c =
     let pending : reset_number c.match-byte_at.result ≡ c.byte_at-3.result =
     elim c.match-byte_at.branch [
-      in-0 w ↦ rw w.result-is (omega (arith, w.in-0)) |
-      in-1 w ↦ rw w.result-is (omega (arith, w.in-1)) |
-      in_default w ↦ rw w.result-is (omega (arith, w.in_default, c.byte_at-3.ensures.number, c.requires.1 18 no_row (omega arith)))
+      | in-0 w ↦ rw w.result-is (omega (arith, w.in-0))
+      | in-1 w ↦ rw w.result-is (omega (arith, w.in-1))
+      | in_default w ↦ rw w.result-is (omega (arith, w.in_default, c.byte_at-3.ensures.number, c.requires.1 18 no_row (omega arith)))
     ] in
     cons_same _ _ _ _ c.u16_at.ensures.bytes
     (cons_same _ _ _ _ (flag_told c.byte_at.result _ c.byte_at.ensures.bytes (c.requires.1 16 no_row (omega arith)))

@@ -32,22 +32,12 @@ invariant_of-result c =
 
 pub returns : goal.returns
 returns c =
-    cons_same _ _ _ _ (flag_told c.byte_at.result _ c.byte_at.ensures.bytes (c.requires.1 0 no_row (omega arith)))
-    (cons_same _ _ _ _ c.byte_at-2.ensures.bytes
-    (cons_same _ _ _ _ c.u16_at.ensures.bytes
-    (cons_same _ _ _ _ c.byte_at-3.ensures.bytes
-    (cons_same _ _ _ _ c.byte_at-4.ensures.bytes
-    (cons_same _ _ _ _ c.byte_at-5.ensures.bytes
-    (cons_same _ _ _ _ c.byte_at-6.ensures.bytes
-    (cons_same _ _ _ _ c.byte_at-7.ensures.bytes
-    (cons_same _ _ _ _ c.byte_at-8.ensures.bytes
-    (cons_same _ _ _ _ c.array_at.ensures
-    (cons_same _ _ _ _ c.u16_at-2.ensures.bytes
-    (cons_same _ _ _ _ c.u16_at-3.ensures.bytes
-    (cons_same _ _ _ _ c.u16_at-4.ensures.bytes
-    (cons_same _ _ _ _ c.u16_at-5.ensures.bytes
-    (cons_same _ _ _ _ (ap i32_bytes (signed_back (2 ^ 30) c.i32_at.result (omega arith) (subst (λ (z : ℤ). IsWithin (2 ^ 30) z) (sym c.i32_at.ensures.number) (c.requires.1 14 no_row (omega arith)))) ∙ c.i32_at.ensures.bytes)
-    (cons_same _ _ _ _ (ap i32_bytes (signed_back (2 ^ 30) c.i32_at-2.result (omega arith) (subst (λ (z : ℤ). IsWithin (2 ^ 30) z) (sym c.i32_at-2.ensures.number) (c.requires.1 15 no_row (omega arith)))) ∙ c.i32_at-2.ensures.bytes)
-    (cons_same _ _ _ _ (ap i32_bytes (signed_back (2 ^ 27) c.i32_at-3.result (omega arith) (subst (λ (z : ℤ). IsWithin (2 ^ 27) z) (sym c.i32_at-3.ensures.number) (c.requires.1 16 no_row (omega arith)))) ∙ c.i32_at-3.ensures.bytes)
-    (cons_same _ _ _ _ (ap i32_bytes (signed_back (2 ^ 27) c.i32_at-4.result (omega arith) (subst (λ (z : ℤ). IsWithin (2 ^ 27) z) (sym c.i32_at-4.ensures.number) (c.requires.1 17 no_row (omega arith)))) ∙ c.i32_at-4.ensures.bytes)
-    (cons_same _ _ _ _ c.u16_at-6.ensures.bytes refl))))))))))))))))))
+    let halted = flag_told c.byte_at.result _ c.byte_at.ensures.bytes (c.requires.1 0 no_row (omega arith)) in
+    let x = ap i32_bytes (signed_back (2 ^ 30) c.i32_at.result (omega arith) (subst (λ (z : ℤ). IsWithin (2 ^ 30) z) (sym c.i32_at.ensures.number) (c.requires.1 14 no_row (omega arith)))) ∙ c.i32_at.ensures.bytes in
+    let y = ap i32_bytes (signed_back (2 ^ 30) c.i32_at-2.result (omega arith) (subst (λ (z : ℤ). IsWithin (2 ^ 30) z) (sym c.i32_at-2.ensures.number) (c.requires.1 15 no_row (omega arith)))) ∙ c.i32_at-2.ensures.bytes in
+    let dx = ap i32_bytes (signed_back (2 ^ 27) c.i32_at-3.result (omega arith) (subst (λ (z : ℤ). IsWithin (2 ^ 27) z) (sym c.i32_at-3.ensures.number) (c.requires.1 16 no_row (omega arith)))) ∙ c.i32_at-3.ensures.bytes in
+    let dy = ap i32_bytes (signed_back (2 ^ 27) c.i32_at-4.result (omega arith) (subst (λ (z : ℤ). IsWithin (2 ^ 27) z) (sym c.i32_at-4.ensures.number) (c.requires.1 17 no_row (omega arith)))) ∙ c.i32_at-4.ensures.bytes in
+    cons_same _ _ _ _ halted (cons_same _ _ _ _ c.byte_at-2.ensures.bytes (cons_same _ _ _ _ c.u16_at.ensures.bytes (cons_same _ _ _ _ c.byte_at-3.ensures.bytes (cons_same _ _ _ _ c.byte_at-4.ensures.bytes
+    (cons_same _ _ _ _ c.byte_at-5.ensures.bytes (cons_same _ _ _ _ c.byte_at-6.ensures.bytes (cons_same _ _ _ _ c.byte_at-7.ensures.bytes (cons_same _ _ _ _ c.byte_at-8.ensures.bytes (cons_same _ _ _ _ c.array_at.ensures
+    (cons_same _ _ _ _ c.u16_at-2.ensures.bytes (cons_same _ _ _ _ c.u16_at-3.ensures.bytes (cons_same _ _ _ _ c.u16_at-4.ensures.bytes (cons_same _ _ _ _ c.u16_at-5.ensures.bytes
+    (cons_same _ _ _ _ x (cons_same _ _ _ _ y (cons_same _ _ _ _ dx (cons_same _ _ _ _ dy (cons_same _ _ _ _ c.u16_at-6.ensures.bytes refl))))))))))))))))))
