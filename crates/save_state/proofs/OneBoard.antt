@@ -7,8 +7,8 @@ use Rattle.std.specs.List.{concat}
 use Rattle.std.proofs.lemmas.List.Elements.{All-get_or, All-cons, All-nil, All-head, All-tail}
 use Rattle.std.proofs.lemmas.Bool.Decides.{Decides-eqb, not_from_Decides}
 use Rattle.std.proofs.lemmas.Nat.{from_le_bytes-to_le_bytes_2, from_le_bytes-to_le_bytes_4, from_le_bytes-to_le_bytes_8}
-use Rattle.board_base.specs.Cpu.{CpuValue, IsCpu, MidValue, IsMid}
-use Rattle.board_base.specs.Board.{BoardValue, IsBoard}
+use Rattle.board_base.specs.Cpu.{CpuValue, MidValue, IsMid}
+use Rattle.board_base.specs.Board.{BoardValue}
 use Rattle.board_base.specs.Divider.{DividerValue, IsDivider, reset_number}
 use Rattle.board_base.specs.Earom.{EaromValue, IsEarom}
 use Rattle.board_base.specs.Pokey.{PokeyValue, IsPokey}
@@ -19,8 +19,8 @@ use Rattle.board_base.specs.declared.divider.Pending.{Pending}
 use Rattle.board_base.specs.declared.divider.Pending.TheVariants.{Nothing, Power, Watchdog}
 use Rattle.cpu_table.specs.Opcodes.{row_of}
 use Rattle.cpu_core.specs.Places.{IsMiddle}
-use Rattle.save_state.specs.Fields.{Facts, Fits, Row, u16_bytes, u32_bytes, u64_bytes, i32_bytes, pieces_of, rows_of, rows_at, letters}
-use Rattle.save_state.specs.StateBytes.{opcode_of, head_rows, clock_rows, register_rows, jam_rows, port_rows, divider_rows, sequence_rows, place_rows, zero_rows, eight_rows, vg_rows, pokey_rows, earom_rows, memory_rows, left_range, number_of, sequence_number, table, front_rows, middle_rows, back_rows, processor_of, facts_of, sequence_of, stack_rows, pulse_rows, last_clock, middle_at, state_bytes, first_state_bytes, count_range, bytes_range}
+use Rattle.save_state.specs.Fields.{Facts, Fits, Row, u16_bytes, u32_bytes, u64_bytes, i32_bytes, pieces_of, rows_of, letters}
+use Rattle.save_state.specs.StateBytes.{opcode_of, head_rows, clock_rows, register_rows, jam_rows, port_rows, divider_rows, sequence_rows, place_rows, zero_rows, eight_rows, vg_rows, pokey_rows, earom_rows, left_range, number_of, sequence_number, table, front_rows, middle_rows, back_rows, processor_of, facts_of, sequence_of, last_clock, middle_at, state_bytes, first_state_bytes, count_range, bytes_range}
 use Rattle.std.proofs.lemmas.List.{drop_all}
 use Rattle.save_state.specs.Reading.{Holds, HasFields, IsWhole, Spells}
 use Rattle.save_state.specs.Check.{pieces_in, IsDecoded}

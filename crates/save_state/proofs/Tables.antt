@@ -3,15 +3,14 @@ use Rattle.std.proofs.Common.{zero, suc, ◌<◌, length, ◌≡◌, ◌≢◌, 
 use Rattle.std.specs.Bool.{then_some}
 use Rattle.std.specs.Int.{from_le_bytes}
 use Rattle.std.proofs.lemmas.List.Elements.{All-map, All-cons, All-nil, All-head, All-tail, All-append, All-from_recursion, recursion_from_All}
-use Rattle.std.proofs.lemmas.Bool.Decides.{Decides-eqb, not_from_Decides}
 use Rattle.board_base.specs.Board.{BoardValue}
 use Rattle.board_base.specs.Cpu.{CpuValue, MidValue}
 use Rattle.save_state.specs.Fields.{Row, Fits, flag, pieces_of, anything, Facts, Range, rows_of, rows_at}
 use Rattle.save_state.specs.StateBytes.{count_range, left_range, opcode_range, jam_rows, processor_of, facts_of, table, front_rows, middle_rows, zero_rows, vg_rows, pokey_rows, earom_rows, memory_rows, back_rows, last_clock}
-use Rattle.save_state.specs.Check.{pieces_in, width_of, range_of, IsInRange, AreInRange, BreaksIn}
+use Rattle.save_state.specs.Check.{width_of, range_of, IsInRange, AreInRange, BreaksIn}
 use Rattle.cpu_table.specs.Opcodes.{row_of}
 use Rattle.save_state.specs.declared.table.Field.{Field}
-use Rattle.save_state.specs.declared.table.TheConstants.{FRONT, PLACE, NO_PLACE, GENERATOR, POKEY, BACK}
+use Rattle.save_state.specs.declared.table.TheConstants.{PLACE, NO_PLACE, BACK}
 use Rattle.save_state.specs.Reading.{Holds, IsFirstBroken, BreaksFirst}
 
 -- a row of no table

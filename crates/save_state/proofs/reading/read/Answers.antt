@@ -1,6 +1,5 @@
-use Rattle.std.proofs.Common.{◌≡◌, ℕ, List, length, refl, Result, Ok, Err, ap, sym, subst, ◌∙◌, slice_index}
+use Rattle.std.proofs.Common.{◌≡◌, ℕ, List, length, refl, Ok, Err, ap, sym, subst, ◌∙◌, slice_index}
 use Rattle.board_base.specs.Board.{BoardValue}
-use Rattle.save_state.specs.declared.fault.StateFault.{StateFault}
 use Rattle.save_state.specs.declared.fault.StateFault.TheVariants.{Field as Broken}
 use Rattle.save_state.specs.Reading.{ReadsState, Spells}
 use Rattle.save_state.proofs.OneBoard.{spelled_has, one_board, decoded_has, decoded_place, one_of_two}
