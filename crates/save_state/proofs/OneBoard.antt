@@ -1,4 +1,4 @@
--- A board in range and the bytes that spell it: the bytes tell one board.
+-- A board in range and the bytes that spell it, which spell no other board.
 use Rattle.std.proofs.Common.{zero, suc, ◌≢◌, ◌≡◌, ℕ, ℤ, ◌≤◌, ◌^◌, sym, subst, arith, ◌+◌, ◌==◌, ◌<◌, Bool, true, false, cond, List, [], ◌∷◌, ◌++◌, All, length, Option, Some, None, refl, ◌&&◌, take, drop, map, ap, ◌∙◌, append_assoc, get_or, inl, inr, ◌⊎◌, w32, w16, w64, IfSome, IsSome, unwrap_or, is_some, slice_index, eqb-true, length-take-le, length-drop, take_at, drop_at, take-append-drop, drop-drop, length-append, append-nil}
 use Rattle.std.specs.Int.{cast_signed, cast_unsigned, from_le_bytes, from_bool}
 use Rattle.std.proofs.lemmas.Int.{to_z-of_z, ints}

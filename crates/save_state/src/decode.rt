@@ -1,10 +1,9 @@
 //! A board from the bytes of a file whose fields are in their ranges.
 ghost use Rattle.std.specs.Prelude.{◌≡◌, ◌≢◌, ◌≤◌, ◌<◌, ◌+◌, ◌==◌, ℕ, [], ◌∷◌, None, Some, IfSome, take, drop, slice_index, All};
-ghost use Rattle.board_base.specs.Divider.{reset_number};
 ghost use Rattle.std.specs.Int.{w16, w32, w64, from_le_bytes, cast_signed};
 ghost use Rattle.cpu_table.specs.Opcodes.{row_of};
-ghost use Rattle.save_state.specs.Fields.{Fits, flag, u16_bytes, u32_bytes, u64_bytes, i32_bytes, pieces_of, rows_of, rows_at};
-ghost use Rattle.save_state.specs.StateBytes.{opcode_range, jam_rows, register_rows, divider_rows, vg_rows, pokey_rows, earom_rows, middle_at, processor_of, front_rows, table};
+ghost use Rattle.save_state.specs.Fields.{u16_bytes, u32_bytes, u64_bytes, i32_bytes, pieces_of, rows_of, rows_at};
+ghost use Rattle.save_state.specs.StateBytes.{jam_rows, register_rows, divider_rows, vg_rows, pokey_rows, earom_rows, middle_at, processor_of, front_rows, table};
 ghost use Rattle.save_state.specs.Reading.{Holds};
 ghost use Rattle.save_state.specs.Check.{pieces_in, IsDecoded};
 
