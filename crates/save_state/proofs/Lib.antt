@@ -1,11 +1,3 @@
-pub mod Decoded
 pub mod OneBoard
 pub mod OneReading
-pub mod Parts
-pub mod Rows
-pub mod SameBoard
-pub mod Signed
-pub mod Spelled
-pub mod Stands
 pub mod Tables
-pub mod Written

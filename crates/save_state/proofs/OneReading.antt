@@ -14,8 +14,7 @@ all-middle P [] x ys all = All-head P x ys all
 all-middle P (z ∷ xs) x ys all = all-middle P xs x ys (All-tail P z (xs ++ x ∷ ys) all)
 
 -- of two that are the first for which something doesn't hold both are the same
-first-bad : {X : Type 0} (P : X → Type 0) (xs ys : List X) (x y : X) (after1 after2 : List X) → xs ++ x ∷ after1 ≡ ys ++ y ∷ after2
-    → All P xs → ¬ P x → All P ys → ¬ P y → x ≡ y
+first-bad : {X : Type 0} (P : X → Type 0) (xs ys : List X) (x y : X) (after1 after2 : List X) → xs ++ x ∷ after1 ≡ ys ++ y ∷ after2 → All P xs → ¬ P x → All P ys → ¬ P y → x ≡ y
 first-bad P [] [] x y after1 after2 e good1 bad1 good2 bad2 = cc
 first-bad P [] (z ∷ ys) x y after1 after2 e good1 bad1 good2 bad2 =
     let same : x ≡ z = cc in

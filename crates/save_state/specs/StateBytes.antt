@@ -289,10 +289,9 @@ facts_of version file = record {
 abbrev pub sequence_of : ℕ → Sequence
 sequence_of n = if n == 1 then Opcode else (if n == 2 then Interrupt else Reset)
 
--- the place that eight bytes tell
+-- the place that a file tells, in bytes 30 to 37
 abbrev pub middle_at : List ℕ → MidValue
-middle_at bytes =
-    record { sequence = sequence_of (slice_index bytes 0); count = slice_index (drop 1 bytes) 0; bytes = take 6 (drop 1 (drop 1 bytes)) }
+middle_at file = record { sequence = sequence_of (slice_index file 30); count = slice_index file 31; bytes = take 6 (drop 32 file) }
 
 -- the processor that a file tells
 abbrev pub processor_of : List ℕ → CpuValue
@@ -304,7 +303,7 @@ processor_of file = record {
   s = slice_index file 17;
   p = slice_index file 18;
   jam = if slice_index file 19 == 1 then Some (slice_index file 20) else None;
-  mid = Some (middle_at (drop 30 file));
+  mid = Some (middle_at file);
 }
 
 -- the bytes of each field of a board, in a version

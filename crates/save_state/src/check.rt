@@ -40,8 +40,7 @@ fn is_in_range(version: u8, file: &[u8; STATE_LEN], at: usize, kind: Kind) -> bo
     }
 }
 
-/// Checks the fields of a table that begins at the offset `base`, and tells the offset of the first
-/// that is out of its range.
+/// Checks the fields of a table at the offset `base`. The error is the offset of the first bad one.
 fn check(version: u8, file: &[u8; STATE_LEN], base: usize, fields: &[Field]) -> Result<(), usize>
     requires { All (λ f. base + f.0 + width_of f.1 ≤ STATE_LEN) fields.now }
     ensures { MatchResult result (λ _. AreInRange version file.now base fields.now) (λ at. BreaksIn version file.now base fields.now at) }
@@ -54,8 +53,8 @@ fn check(version: u8, file: &[u8; STATE_LEN], base: usize, fields: &[Field]) -> 
     Ok(())
 }
 
-/// Whether the bytes of a sequence's clocks are 0 outside every sequence, and such that the processor
-/// can stand there inside one.
+/// Whether the bytes of a sequence's clocks are 0 outside every sequence, and such that the
+/// processor can stand there inside one.
 fn is_place(file: &[u8; STATE_LEN]) -> bool
     requires front { (version : ℕ) × All (Holds version file.now) (front_rows version) }
     requires count { slice_index file.now 31 ≤ 6 }
@@ -83,7 +82,7 @@ fn check_middle(version: u8, file: &[u8; STATE_LEN]) -> Result<(), usize>
     Ok(())
 }
 
-/// Checks all fields of a file, and tells the offset of the first that is out of its range.
+/// Checks all fields of a file. The error is the offset of the first that is out of its range.
 pub fn first_fault(version: u8, file: &[u8; STATE_LEN]) -> Result<(), usize>
     ensures { MatchResult result (λ _. All (Holds version file.now) (table version)) (λ at. BreaksFirst version file.now at) }
 {

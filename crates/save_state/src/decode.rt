@@ -1,10 +1,9 @@
 //! A board from the bytes of a file whose fields are in their ranges.
 ghost use Rattle.std.specs.Prelude.{◌≡◌, ◌≢◌, ◌≤◌, ◌<◌, ◌+◌, ◌==◌, ℕ, [], ◌∷◌, None, Some, IfSome, take, drop, slice_index, All};
-ghost use Rattle.board_base.specs.Divider.{reset_number};
 ghost use Rattle.std.specs.Int.{w16, w32, w64, from_le_bytes, cast_signed};
 ghost use Rattle.cpu_table.specs.Opcodes.{row_of};
-ghost use Rattle.save_state.specs.Fields.{Fits, flag, u16_bytes, u32_bytes, u64_bytes, i32_bytes, pieces_of, rows_of, rows_at};
-ghost use Rattle.save_state.specs.StateBytes.{opcode_range, jam_rows, register_rows, divider_rows, vg_rows, pokey_rows, earom_rows, middle_at, processor_of, front_rows, table};
+ghost use Rattle.save_state.specs.Fields.{u16_bytes, u32_bytes, u64_bytes, i32_bytes, pieces_of, rows_of, rows_at};
+ghost use Rattle.save_state.specs.StateBytes.{jam_rows, register_rows, divider_rows, vg_rows, pokey_rows, earom_rows, middle_at, processor_of, front_rows, table};
 ghost use Rattle.save_state.specs.Reading.{Holds};
 ghost use Rattle.save_state.specs.Check.{pieces_in, IsDecoded};
 
@@ -68,31 +67,11 @@ pub fn i32_at(file: &[u8; STATE_LEN], at: usize) -> i32
     i32::from_le_bytes(array_at(file, at))
 }
 
-/// A flag.
-fn flag_at(file: &[u8; STATE_LEN], at: usize) -> bool
-    requires some { at + 1 ≤ STATE_LEN }
-    requires range { slice_index (take 1 (drop at file.now)) 0 ≤ 1 }
-    ensures { flag result ≡ take 1 (drop at file.now) }
-{
-    byte_at(file, at) == 1
-}
-
-/// The opcode that jams.
-fn decode_jam(file: &[u8; STATE_LEN]) -> Option<u8>
-    requires flag { slice_index file.now 19 ≤ 1 }
-    requires opcode { Fits (processor_of file.now) (opcode_range (slice_index file.now 19 == 1)) (take 1 (drop 20 file.now)) }
-    ensures pieces { pieces_of jam_rows result ≡ pieces_in 0 file.now jam_rows }
-    ensures jam { result ≡ (processor_of file.now).jam }
-    ensures undocumented { IfSome result (λ o. row_of o ≡ None) }
-{
-    if file[19] == 1 { Some(file[20]) } else { None }
-}
-
 /// The place inside a sequence.
 fn decode_mid(file: &[u8; STATE_LEN]) -> Option<Mid>
     requires { slice_index file.now 31 ≤ 6 }
     ensures outside { slice_index file.now 30 ≡ 0 → result ≡ None }
-    ensures inside { slice_index file.now 30 ≢ 0 → result ≡ Some (middle_at (drop 30 file.now)) }
+    ensures inside { slice_index file.now 30 ≢ 0 → result ≡ Some (middle_at file.now) }
 {
     let sequence = match file[30] {
         0 => return None,
@@ -124,20 +103,8 @@ pub fn decode_processor(file: &[u8; STATE_LEN]) -> CpuState
         y: file[16],
         s: file[17],
         p: file[18],
-        jam: decode_jam(file),
+        jam: (file[19] == 1).then_some(file[20]),
         mid: decode_mid(file),
-    }
-}
-
-/// The pending reset of a number.
-fn pending_of(number: u8) -> Pending
-    requires { number ≤ 2 }
-    ensures { reset_number result ≡ number }
-{
-    match number {
-        0 => Pending::Nothing,
-        1 => Pending::Power,
-        _ => Pending::Watchdog,
     }
 }
 
@@ -148,9 +115,13 @@ fn decode_divider(file: &[u8; STATE_LEN]) -> DividerState
 {
     DividerState {
         phase: u16_at(file, 25),
-        irq: flag_at(file, 27),
+        irq: byte_at(file, 27) == 1,
         dog: byte_at(file, 28),
-        pending: pending_of(byte_at(file, 29)),
+        pending: match byte_at(file, 29) {
+            0 => Pending::Nothing,
+            1 => Pending::Power,
+            _ => Pending::Watchdog,
+        },
     }
 }
 
@@ -160,7 +131,7 @@ fn decode_vg(file: &[u8; STATE_LEN]) -> VgState
     ensures { pieces_of vg_rows result ≡ pieces_in 0 file.now vg_rows }
 {
     VgState {
-        halted: flag_at(file, 44),
+        halted: byte_at(file, 44) == 1,
         phase: byte_at(file, 45),
         pc: u16_at(file, 46),
         sp: byte_at(file, 48),

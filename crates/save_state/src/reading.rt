@@ -26,7 +26,7 @@ pub fn read(bytes: &[u8]) -> Result<BoardState, StateFault>
     match first_fault(version, file) {
         Ok(()) => {
             let state = decode(file);
-            keep_ranges(&state); // tells the ranges
+            keep_ranges(&state); // each part is in range
             Ok(state)
         }
         Err(at) => Err(StateFault::Field(at)),

@@ -8,9 +8,7 @@ ghost use Rattle.save_state.specs.StateBytes.{head_rows, clock_rows, register_ro
 
 use crate::STATE_LEN;
 use crate::state_laws::keep_ranges;
-use board_base::{
-    BoardState, CpuState, DividerState, EaromState, Pending, PokeyState, Sequence, VgState,
-};
+use board_base::{BoardState, CpuState, DividerState, EaromState, PokeyState, VgState};
 
 /// Writes bytes from the offset `at` on, and returns the offset after them.
 fn put(out: &mut [u8; STATE_LEN], at: usize, bytes: &[u8]) -> usize
@@ -23,18 +21,6 @@ fn put(out: &mut [u8; STATE_LEN], at: usize, bytes: &[u8]) -> usize
     end
 }
 
-/// Writes whether the processor is jammed, and by which opcode.
-fn put_jam(out: &mut [u8; STATE_LEN], at: usize, jam: Option<u8>) -> usize
-    requires { at + 2 ≤ STATE_LEN }
-    ensures bytes { take result out.new ≡ take at out.old ++ concat (pieces_of jam_rows jam) }
-    ensures at { result ≡ at + 2 }
-{
-    match jam {
-        Some(opcode) => put(out, at, &[1, opcode]),
-        None => put(out, at, &[0, 0]),
-    }
-}
-
 /// Writes the version, the clock and the processor.
 fn put_processor(out: &mut [u8; STATE_LEN], at: usize, clock: u64, cpu: &CpuState) -> usize
     requires { at + 21 ≤ STATE_LEN }
@@ -45,7 +31,8 @@ fn put_processor(out: &mut [u8; STATE_LEN], at: usize, clock: u64, cpu: &CpuStat
     let at = put(out, at, &clock.to_le_bytes());
     let at = put(out, at, &cpu.pc.to_le_bytes());
     let at = put(out, at, &[cpu.a, cpu.x, cpu.y, cpu.s, cpu.p]);
-    put_jam(out, at, cpu.jam)
+    let jam = [u8::from(cpu.jam.is_some()), cpu.jam.unwrap_or(0)];
+    put(out, at, &jam)
 }
 
 /// Writes the divider and the watchdog.
@@ -54,12 +41,8 @@ fn put_divider(out: &mut [u8; STATE_LEN], at: usize, divider: &DividerState) -> 
     ensures bytes { take result out.new ≡ take at out.old ++ concat (pieces_of divider_rows divider.now) }
     ensures at { result ≡ at + 5 }
 {
-    let pending = match divider.pending {
-        Pending::Nothing => 0,
-        Pending::Power => 1,
-        Pending::Watchdog => 2,
-    };
     let at = put(out, at, &divider.phase.to_le_bytes());
+    let pending = divider.pending as u8;
     put(out, at, &[u8::from(divider.irq), divider.dog, pending])
 }
 
@@ -72,12 +55,7 @@ fn put_place(out: &mut [u8; STATE_LEN], at: usize, cpu: &CpuState) -> usize
     let Some(mid) = cpu.mid else {
         return put(out, at, &[0; 8]);
     };
-    let sequence = match mid.sequence {
-        Sequence::Opcode => 1,
-        Sequence::Interrupt => 2,
-        Sequence::Reset => 3,
-    };
-    let at = put(out, at, &[sequence, mid.count]);
+    let at = put(out, at, &[mid.sequence as u8 + 1, mid.count]);
     put(out, at, &mid.bytes)
 }
 
@@ -149,7 +127,7 @@ pub fn write(state: &BoardState, out: &mut [u8; STATE_LEN])
     ensures fields { HasFields 2 out.new state.now }
     ensures range { IsWhole state.now }
 {
-    keep_ranges(state); // tells the ranges
+    keep_ranges(state); // each part is in range
     let at = put_processor(out, 0, state.clock, &state.cpu);
     let at = put(out, at, &[state.out, state.in0, state.in3, state.in4]);
     let at = put_divider(out, at, &state.divider);

@@ -1,22 +1,21 @@
 use Rattle.std.proofs.Common.{rules, List, ℕ, ◌∷◌, [], refl, ap, arith}
-use Rattle.save_state.proofs.Rows.{no_row, cons_same}
-use Rattle.save_state.proofs.Parts.{front_of, count_of, vg_of, first_of, second_of, earom_of, clock_told}
+use Rattle.save_state.proofs.Tables.{no_row, cons_same, sections_of, count_of, vg_of, second_of, earom_of, clock_told}
 use Rattle.save_state.proofs.decode.decode.Goals as goal
 
 pub decode_processor-requires-clause-front : goal.decode_processor-requires-clause-front
-decode_processor-requires-clause-front c = (c.requires.0, front_of c.requires.0 c.args.file.now c.requires.1)
+decode_processor-requires-clause-front c = (c.requires.0, (sections_of c.requires.0 c.args.file.now c.requires.1).0)
 
 pub decode_processor-requires-clause-count : goal.decode_processor-requires-clause-count
 decode_processor-requires-clause-count c = count_of c.requires.0 c.args.file.now c.requires.1
 
 pub decode_divider-requires : goal.decode_divider-requires
-decode_divider-requires c = (c.requires.0, front_of c.requires.0 c.args.file.now c.requires.1)
+decode_divider-requires c = (c.requires.0, (sections_of c.requires.0 c.args.file.now c.requires.1).0)
 
 pub decode_vg-requires : goal.decode_vg-requires
 decode_vg-requires c = (c.requires.0, vg_of c.requires.0 c.args.file.now c.requires.1)
 
 pub decode_pokey-requires-clause-range : goal.decode_pokey-requires-clause-range
-decode_pokey-requires-clause-range c = (c.requires.0, first_of c.requires.0 c.args.file.now c.requires.1)
+decode_pokey-requires-clause-range c = (c.requires.0, (sections_of c.requires.0 c.args.file.now c.requires.1).1.1.1.0)
 
 pub decode_pokey-requires-2-clause-range : goal.decode_pokey-requires-2-clause-range
 decode_pokey-requires-2-clause-range c = (c.requires.0, second_of c.requires.0 c.args.file.now c.requires.1)
@@ -30,7 +29,7 @@ invariant_of-result c =
     record {
       clock = clock.0;
       middle = clock.1;
-      in0 = omega (arith, c.byte_at-2.ensures.number, front_of c.requires.0 c.args.file.now c.requires.1 12 no_row (omega arith));
+      in0 = omega (arith, c.byte_at-2.ensures.number, (sections_of c.requires.0 c.args.file.now c.requires.1).0 12 no_row (omega arith));
       ram = search rules;
       vram = search rules;
     }

@@ -1,15 +1,21 @@
-use Rattle.std.proofs.Common.{arith}
-use Rattle.save_state.proofs.Rows.{no_row}
+use Rattle.std.proofs.Common.{◌≡◌, ℕ, [], ◌∷◌, refl, ap, ◌∙◌, arith}
+use Rattle.board_base.specs.Divider.{reset_number}
+use Rattle.save_state.proofs.Tables.{no_row, flag_told, cons_same}
 use Rattle.save_state.proofs.decode.decode_divider.Goals as goal
-
-pub flag_at-requires-clause-range : goal.flag_at-requires-clause-range
-flag_at-requires-clause-range c = c.requires.1 16 no_row (omega arith)
-
-pub pending_of-requires : goal.pending_of-requires
-pending_of-requires c = omega (arith, c.byte_at-2.ensures.number, c.requires.1 18 no_row (omega arith))
+use Rattle.save_state.proofs.decode.decode_divider.Goals.{in-0, in-1, in_default}
 
 pub invariant_of-result : goal.invariant_of-result
-invariant_of-result c = record {
-  phase = omega (arith, c.u16_at.ensures.number, c.requires.1 15 no_row (omega arith));
-  dog = omega (arith, c.byte_at.ensures.number, c.requires.1 17 no_row (omega arith));
-}
+invariant_of-result c = record { phase = omega (arith, c.u16_at.ensures.number, c.requires.1 15 no_row (omega arith)); dog = omega (arith, c.byte_at-2.ensures.number, c.requires.1 17 no_row (omega arith)) }
+
+pub returns : goal.returns
+returns c =
+    let pending : reset_number c.match-byte_at.result ≡ c.byte_at-3.result =
+    elim c.match-byte_at.branch [
+      | in-0 w ↦ rw w.result-is (omega (arith, w.in-0))
+      | in-1 w ↦ rw w.result-is (omega (arith, w.in-1))
+      | in_default w ↦ rw w.result-is (omega (arith, w.in_default, c.byte_at-3.ensures.number, c.requires.1 18 no_row (omega arith)))
+    ] in
+    cons_same _ _ _ _ c.u16_at.ensures.bytes
+    (cons_same _ _ _ _ (flag_told c.byte_at.result _ c.byte_at.ensures.bytes (c.requires.1 16 no_row (omega arith)))
+    (cons_same _ _ _ _ c.byte_at-2.ensures.bytes
+    (cons_same _ _ _ _ (ap (λ (n : ℕ). n ∷ []) pending ∙ c.byte_at-3.ensures.bytes) refl)))

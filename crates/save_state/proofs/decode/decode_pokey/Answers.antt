@@ -1,5 +1,5 @@
 use Rattle.std.proofs.Common.{rules, ◌≤◌, ◌<◌, ℕ, arith}
-use Rattle.save_state.proofs.Rows.{no_row, all_four, count_told}
+use Rattle.save_state.proofs.Tables.{no_row, all_four, count_told}
 use Rattle.save_state.proofs.decode.decode_pokey.Goals as goal
 
 pub invariant_of-result : goal.invariant_of-result

@@ -1,16 +1,10 @@
-use Rattle.std.proofs.Common.{◌≡◌, ℕ, List, length, refl, Result, Ok, Err, ap, sym, subst, ◌∙◌}
-use Rattle.std.specs.List.{slice_index}
+use Rattle.std.proofs.Common.{◌≡◌, ℕ, List, length, refl, Ok, Err, ap, sym, subst, ◌∙◌, slice_index}
 use Rattle.board_base.specs.Board.{BoardValue}
-use Rattle.save_state.specs.declared.fault.StateFault.{StateFault}
 use Rattle.save_state.specs.declared.fault.StateFault.TheVariants.{Field as Broken}
 use Rattle.save_state.specs.Reading.{ReadsState, Spells}
-use Rattle.save_state.proofs.OneBoard.{spelled_has, one_board}
-use Rattle.save_state.proofs.Decoded.{decoded_has, decoded_place, one_of_two}
+use Rattle.save_state.proofs.OneBoard.{spelled_has, one_board, decoded_has, decoded_place, one_of_two}
 use Rattle.save_state.proofs.OneReading.{not_broken, versioned}
 use Rattle.save_state.proofs.reading.read.Goals as goal
-
-reads : (file bytes : List ℕ) (r : Result BoardValue StateFault) → file ≡ bytes → ReadsState file r → ReadsState bytes r
-reads file bytes r e h = subst (λ (x : List ℕ). ReadsState x r) e h
 
 spells : (file bytes : List ℕ) (b : BoardValue) → file ≡ bytes → Spells bytes b → Spells file b
 spells file bytes b e h = subst (λ (x : List ℕ). Spells x b) (sym e) h
@@ -20,13 +14,12 @@ returns-then-version-ne2-clause-again c = λ b whole spelled.
     absurd (versioned c.in-Ok.file.now b _ (spells _ _ b c.in-Ok.ensures.1.same spelled) refl c.if-version-ne1.true c.if-version-ne2.true)
 
 pub keep_ranges-requires-clause-place : goal.keep_ranges-requires-clause-place
-keep_ranges-requires-clause-place c =
-    decoded_place c.in-Ok.file.now c.decode-state.result (one_of_two _ c.else-version-ne1.either) c.in-Ok-first_fault.ensures c.decode-state.ensures.decoded
+keep_ranges-requires-clause-place c = decoded_place c.in-Ok.file.now c.decode-state.result c.decode-state.result.cpu.mid refl (one_of_two _ c.else-version-ne1.either) c.in-Ok-first_fault.ensures c.decode-state.ensures.decoded
 
 pub returns-in-Ok-first_fault-clause-reads : goal.returns-in-Ok-first_fault-clause-reads
 returns-in-Ok-first_fault-clause-reads c =
     let both = decoded_has c.in-Ok.file.now c.decode-state.result (ap length c.in-Ok.ensures.1.same ∙ c.in-Ok.ensures.1.long) (one_of_two _ c.else-version-ne1.either) c.in-Ok-first_fault.ensures c.decode-state.ensures.decoded in
-    reads c.in-Ok.file.now c.args.bytes.now (Ok c.decode-state.result) c.in-Ok.ensures.1.same (ap length c.in-Ok.ensures.1.same ∙ c.in-Ok.ensures.1.long, both.1, c.keep_ranges.ensures, both.0)
+    subst (λ (x : List ℕ). ReadsState x (Ok c.decode-state.result)) c.in-Ok.ensures.1.same (ap length c.in-Ok.ensures.1.same ∙ c.in-Ok.ensures.1.long, both.1, c.keep_ranges.ensures, both.0)
 
 pub returns-in-Ok-first_fault-clause-again : goal.returns-in-Ok-first_fault-clause-again
 returns-in-Ok-first_fault-clause-again c = λ b whole spelled.
@@ -34,8 +27,7 @@ returns-in-Ok-first_fault-clause-again c = λ b whole spelled.
     ap Ok (one_board c.in-Ok.file.now c.decode-state.result b c.keep_ranges.ensures whole both.1 (spells _ _ b c.in-Ok.ensures.1.same spelled))
 
 pub returns-in-Err-clause-reads : goal.returns-in-Err-clause-reads
-returns-in-Err-clause-reads c =
-    reads c.in-Ok.file.now c.args.bytes.now (Err (Broken c.in-Err.at)) c.in-Ok.ensures.1.same (ap length c.in-Ok.ensures.1.same ∙ c.in-Ok.ensures.1.long, one_of_two _ c.else-version-ne1.either, c.in-Err.ensures)
+returns-in-Err-clause-reads c = subst (λ (x : List ℕ). ReadsState x (Err (Broken c.in-Err.at))) c.in-Ok.ensures.1.same (ap length c.in-Ok.ensures.1.same ∙ c.in-Ok.ensures.1.long, one_of_two _ c.else-version-ne1.either, c.in-Err.ensures)
 
 pub returns-in-Err-clause-again : goal.returns-in-Err-clause-again
 returns-in-Err-clause-again c = λ b whole spelled.

@@ -1,9 +1,9 @@
-use Rattle.std.proofs.Common.{◌≡◌, ◌++◌, ◌∷◌, [], take, subst}
-use Rattle.std.specs.List.{concat, slice_index}
+use Rattle.std.proofs.Common.{◌≡◌, ◌++◌, ◌∷◌, [], take, subst, slice_index}
+use Rattle.std.specs.List.{concat}
 use Rattle.board_base.specs.Pokey.{PokeyValue}
 use Rattle.save_state.specs.Fields.{u16_bytes, u32_bytes, pieces_of}
 use Rattle.save_state.specs.StateBytes.{pokey_rows}
-use Rattle.save_state.proofs.Written.{pokey_parts}
+use Rattle.save_state.proofs.OneBoard.{pokey_parts}
 use Rattle.save_state.proofs.writing.put_pokey.Goals as goal
 
 pub returns-clause-bytes : goal.returns-clause-bytes

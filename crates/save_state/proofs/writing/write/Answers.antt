@@ -1,7 +1,5 @@
-use Rattle.std.proofs.Common.{◌≡◌, ℕ, List, length, take, ◌≤◌, sym, subst, ◌∙◌, arith}
-use Rattle.std.proofs.lemmas.List.{take_all}
-use Rattle.save_state.proofs.OneBoard.{second_has}
-use Rattle.save_state.proofs.Written.{board_parts}
+use Rattle.std.proofs.Common.{◌≡◌, ℕ, List, length, take, ◌≤◌, sym, subst, ◌∙◌, arith, take_all}
+use Rattle.save_state.proofs.OneBoard.{second_has, board_parts}
 use Rattle.board_base.specs.Board.{BoardValue}
 use Rattle.save_state.specs.StateBytes.{state_bytes}
 use Rattle.save_state.specs.Reading.{HasFields}
