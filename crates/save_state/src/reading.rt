@@ -9,9 +9,9 @@ use crate::fault::StateFault;
 use crate::state_laws::keep_ranges;
 use board_base::BoardState;
 
-/// Reads a saved board, of version 1 or 2. Its processor is jammed by an undocumented opcode, stands
-/// inside a sequence, or neither. The bytes are refused where they aren't `STATE_LEN`, else where they
-/// are of another version, else for the first field that is out of its range.
+/// Reads a saved board, of version 1 or 2. Its processor is jammed by an undocumented opcode,
+/// stands inside a sequence, or neither. The bytes are refused where they aren't `STATE_LEN`, else
+/// where they are of another version, else for the first field that is out of its range.
 pub fn read(bytes: &[u8]) -> Result<BoardState, StateFault>
     ensures reads { ReadsState bytes.now result }
     ensures again { (b : BoardValue) → IsWhole b → Spells bytes.now b → result ≡ Ok b }

@@ -1,5 +1,5 @@
-//! Laws on saved boards that no call needs when it runs. Each is the contract of a function that does
-//! nothing.
+//! Laws on saved boards that no call needs when it runs. Each is the contract of a function that
+//! does nothing.
 ghost use Rattle.std.specs.Prelude.{◌≡◌, ℕ, List, Result, None, IfSome};
 ghost use Rattle.std.specs.List.{sum_by};
 ghost use Rattle.board_base.specs.Board.{BoardValue};
