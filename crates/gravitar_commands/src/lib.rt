@@ -24,4 +24,5 @@ pub use program::{USAGE, gravitar};
 pub use seeking::{SEEK_FRAMES, SEEK_PAGES, seek_numbers};
 pub use sliced_run::{OutsideFault, run_slices};
 pub use steady::steady_status;
+pub use telling::sample_numbers;
 pub use words::Words;

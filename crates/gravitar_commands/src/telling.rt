@@ -14,13 +14,14 @@ use crate::load::load_run;
 use crate::parts::Parts;
 use avg_device::VectorUnit;
 use catchup_engine::{Devices, Engine};
-use command_line::RunWords;
+use command_line::{PER_LIMIT, RunWords};
 use cycle_profile::Profile;
 use earom_cells::CellUnit;
 use irq_watchdog::DividerUnit;
 use outside_io::{Shelf, Sink, SinkFault};
 use pokey_chip::SoundUnit;
 use sampled_run::run_sampled;
+use sound_pcm::MAX_PER;
 use std::alloc::Global;
 use tape_ports::Tape;
 use traced_run::{run_framed, run_profiled};
@@ -35,6 +36,11 @@ pub enum Telling {
     /// Its clocks, by routine.
     Profile,
 }
+
+/// The most clocks of a sample are the same on the command line and in a mixer.
+pub fn sample_numbers()
+    ensures longest { PER_LIMIT ≡ MAX_PER }
+{}
 
 /// What becomes of a command whose text went out, or didn't.
 pub(crate) fn written(took: Result<(), SinkFault>) -> Result<Ending, Failure>
