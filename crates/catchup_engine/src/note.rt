@@ -78,9 +78,6 @@ impl Reached {
     }
 
     /// Adds an access, where it reaches a device.
-    ///
-    /// It is a call of its own, so that LLVM puts the processor into the loop that calls it.
-    #[inline(never)]
     pub(crate) fn add(&mut self, access: Access)
         requires { length self.old < 7 }
         ensures { self.new ≡ with_reached self.old access }

@@ -20,8 +20,6 @@ use tape_ports::Tape;
 
 /// The quiet bus, with what a note of a turn tells: the byte of its first access, its clocks, and its
 /// accesses that reach a device.
-///
-/// LLVM keeps the first two in registers, since nothing but the loop sees them.
 struct NotedBus<'a, V: VectorUnit, P: SoundUnit, C: CellUnit, D: DividerUnit, T: Tracer> {
     quiet: QuietBus<'a, V, P, C, D, T>,
     opcode: u8,
