@@ -9,7 +9,7 @@ mod regions;
 mod state;
 
 use avg_device::VectorUnit;
-use board_base::{Trail, VectorMemory};
+use board_base::{RAM_LEN, Trail, VectorMemory};
 use cpu_core::Bus;
 use device_lanes::{Lane, SoundLane, VectorLane};
 use earom_cells::CellUnit;
@@ -25,6 +25,14 @@ pub const TRAIL_ROOM: usize = 6160;
 
 /// The first address of the program ROM.
 pub(crate) const PROGRAM_START: u16 = PROGRAM_ROM_START;
+
+/// Whether an address is one of the RAM or of the program ROM, which the processor alone reaches.
+#[inline(always)]
+pub(crate) fn is_private(addr: u16) -> bool
+    ensures { result ≡ is_private addr }
+{
+    addr < RAM_LEN as u16 || addr >= PROGRAM_START
+}
 
 /// The clocks that end each sequence: none has more.
 pub(crate) const WHOLE: u8 = 7;

@@ -18,13 +18,106 @@ use irq_watchdog::DividerUnit;
 use pokey_chip::SoundUnit;
 use tape_ports::Tape;
 
-/// The quiet bus, with what a note of a turn tells: the byte of its first access, its clocks, and its
-/// accesses that reach a device.
+/// The quiet bus, which notes the accesses that reach a device.
 struct NotedBus<'a, V: VectorUnit, P: SoundUnit, C: CellUnit, D: DividerUnit, T: Tracer> {
     quiet: QuietBus<'a, V, P, C, D, T>,
-    opcode: u8,
-    clocks: u8,
     reached: &'a mut Reached,
+}
+
+/// A byte that was read, and the clocks that the board has yet to be told of.
+#[derive(Drop)]
+struct DeviceByte {
+    value: u8,
+    made: u64,
+}
+
+/// Reads a byte past the RAM and before the program ROM, and notes the access.
+///
+/// It is never put into the processor, whose code with it would be too long for LLVM to put into the
+/// loop.
+#[inline(never)]
+fn read_noted<V: VectorUnit, P: SoundUnit, C: CellUnit, D: DividerUnit, T: Tracer>(
+    bus: &mut BoardBus<V, P, C, D>,
+    made: u64,
+    reached: &mut Reached,
+    tape: &Tape,
+    addr: u16,
+) -> DeviceByte
+    requires fits { IsCounted tape.now made bus.old }
+    requires room { 1 ≤ quiet_room made bus.old }
+    requires few { length reached.old < 7 }
+    ensures lines { KeepsLines bus.old bus.new }
+    ensures noted { NotedStep tape.now.entries (read_of addr result.value) (noting (passed made bus.old) reached.old) (noting (passed result.made bus.new) reached.new) }
+    ensures fits { IsCounted tape.now result.made bus.new }
+    ensures room { quiet_room made bus.old ≤ quiet_room result.made bus.new + 1 }
+{
+    let mut quiet = QuietBus::<V, P, C, D, T> {
+        bus,
+        made,
+        user: PhantomData,
+    };
+    let value = quiet.read(tape, addr);
+    let access = Access {
+        clock: quiet.clock() - 1,
+        addr,
+        value,
+        write: false,
+    };
+    reached.add(access);
+    let made = quiet.made;
+    let QuietBus {
+        bus: back,
+        made: _,
+        user: _,
+    } = quiet;
+    // opens the model
+    let _same = &*back;
+    DeviceByte { value, made }
+}
+
+/// Writes a byte past the RAM, notes the access, and returns the clocks that the board has yet to be
+/// told of.
+///
+/// It is never put into the processor, as `read_noted`.
+#[inline(never)]
+fn write_noted<V: VectorUnit, P: SoundUnit, C: CellUnit, D: DividerUnit, T: Tracer>(
+    bus: &mut BoardBus<V, P, C, D>,
+    made: u64,
+    reached: &mut Reached,
+    tape: &Tape,
+    addr: u16,
+    value: u8,
+) -> u64
+    requires fits { IsCounted tape.now made bus.old }
+    requires room { 1 ≤ quiet_room made bus.old }
+    requires few { length reached.old < 7 }
+    ensures lines { KeepsLines bus.old bus.new }
+    ensures noted { NotedStep tape.now.entries (write_of addr value) (noting (passed made bus.old) reached.old) (noting (passed result bus.new) reached.new) }
+    ensures fits { IsCounted tape.now result bus.new }
+    ensures room { quiet_room made bus.old ≤ quiet_room result bus.new + 1 }
+{
+    let mut quiet = QuietBus::<V, P, C, D, T> {
+        bus,
+        made,
+        user: PhantomData,
+    };
+    quiet.write(tape, addr, value);
+    let access = Access {
+        clock: quiet.clock() - 1,
+        addr,
+        value,
+        write: true,
+    };
+    reached.add(access);
+    let made = quiet.made;
+    let QuietBus {
+        bus: back,
+        made: _,
+        user: _,
+    } = quiet;
+    // opens the model
+    let _same = &*back;
+    made
 }
 
 impl<'a, V: VectorUnit, P: SoundUnit, C: CellUnit, D: DividerUnit, T: Tracer> NotedBus<
@@ -35,28 +128,15 @@ impl<'a, V: VectorUnit, P: SoundUnit, C: CellUnit, D: DividerUnit, T: Tracer> No
     D,
     T,
 > {
-    /// Begins the note of a turn.
+    /// Whether a tracer has not enough, and the fetch at this boundary surely reads an opcode, from the
+    /// RAM or the program ROM.
     #[inline(always)]
-    fn begin(&mut self)
-        ensures same_reference { self.new.reached.ghost_name ≡ self.old.reached.ghost_name }
-        ensures same { self.new ≡ record self.old { opcode = 0; clocks = 0; reached = self.new.reached } }
-        ensures none { self.new.reached.now ≡ [] }
+    fn goes_on(&self, enough: bool, calm: &Calm, cpu: &Cpu) -> bool
+        requires quiet { self.now.quiet.bus.now.wires.clock + self.now.quiet.made ≤ self.now.quiet.bus.now.event_at }
+        ensures value { result ≡ (not enough && ((nat_lt (self.now.quiet.bus.now.wires.clock + self.now.quiet.made) calm.now.until && (is_none cpu.now.jam && (calm.now.silent || is_masked cpu.now.p))) && is_private cpu.now.pc)) }
+        ensures wrap { result ≡ true → self.now.quiet.bus.now.wires.divider.phase + (self.now.quiet.bus.now.event_at - self.now.quiet.bus.now.wires.clock) < DIVIDER_PERIOD }
     {
-        self.opcode = 0;
-        self.clocks = 0;
-        self.reached.clear();
-    }
-
-    /// Notes the byte of an access: that of the first is the opcode.
-    #[inline(always)]
-    fn count(&mut self, value: u8)
-        requires { self.old.clocks < 7 }
-        ensures { self.new ≡ record self.old { opcode = if self.old.clocks == 0 then value else self.old.opcode; clocks = self.old.clocks + 1 } }
-    {
-        if self.clocks == 0 {
-            self.opcode = value;
-        }
-        self.clocks += 1;
+        !enough && self.quiet.lasts(calm, cpu) && is_private(cpu.state().pc)
     }
 }
 
@@ -69,41 +149,31 @@ impl<'a, V: VectorUnit, P: SoundUnit, C: CellUnit, D: DividerUnit, T: Tracer> Bu
 
     type Feed = Tape;
 
-    ghost step = { λ tape x s t. (t.quiet.bus.ghost_name ≡ s.quiet.bus.ghost_name) × (t.reached.ghost_name ≡ s.reached.ghost_name) × KeepsLines s.quiet.bus.now t.quiet.bus.now × NotedStep tape.entries x (noting (passed s.quiet.made s.quiet.bus.now) s.opcode s.clocks s.reached.now) (noting (passed t.quiet.made t.quiet.bus.now) t.opcode t.clocks t.reached.now) };
+    ghost step = { λ tape x s t. (t.quiet.bus.ghost_name ≡ s.quiet.bus.ghost_name) × (t.reached.ghost_name ≡ s.reached.ghost_name) × KeepsLines s.quiet.bus.now t.quiet.bus.now × NotedStep tape.entries x (noting (passed s.quiet.made s.quiet.bus.now) s.reached.now) (noting (passed t.quiet.made t.quiet.bus.now) t.reached.now) };
 
-    ghost fits = { λ tape s. IsCounted tape s.quiet.made s.quiet.bus.now × (length s.reached.now ≤ s.clocks) × (s.clocks ≤ 7) };
+    ghost fits = { λ tape s. IsCounted tape s.quiet.made s.quiet.bus.now × (length s.reached.now ≤ 7) };
 
-    ghost room = { λ s. min (quiet_room s.quiet.made s.quiet.bus.now) (7 - s.clocks) };
+    ghost room = { λ s. min (quiet_room s.quiet.made s.quiet.bus.now) (7 - length s.reached.now) };
 
     #[inline(always)]
     fn read(&mut self, tape: &Tape, addr: u16) -> u8 {
-        let value = self.quiet.read(tape, addr);
-        self.count(value);
-        if addr >= RAM_LEN as u16 && addr < PROGRAM_START {
-            let clock = self.quiet.clock() - 1;
-            self.reached.add(Access {
-                clock,
-                addr,
-                value,
-                write: false,
-            });
+        if is_private(addr) {
+            return self.quiet.read(tape, addr);
         }
-        value
+        let made = self.quiet.made;
+        let byte = read_noted::<V, P, C, D, T>(self.quiet.bus, made, self.reached, tape, addr);
+        self.quiet.made = byte.made;
+        byte.value
     }
 
     #[inline(always)]
     fn write(&mut self, tape: &Tape, addr: u16, value: u8) {
-        self.quiet.write(tape, addr, value);
-        self.count(value);
-        if addr >= RAM_LEN as u16 {
-            let clock = self.quiet.clock() - 1;
-            self.reached.add(Access {
-                clock,
-                addr,
-                value,
-                write: true,
-            });
+        if addr < RAM_LEN as u16 {
+            return self.quiet.write(tape, addr, value);
         }
+        let made = self.quiet.made;
+        self.quiet.made =
+            write_noted::<V, P, C, D, T>(self.quiet.bus, made, self.reached, tape, addr, value);
     }
 }
 
@@ -114,8 +184,8 @@ pub(crate) struct Told {
     pub enough: bool,
 }
 
-/// Does the instruction at a boundary, and those at the calm boundaries after it, up to one after
-/// which a tracer has enough.
+/// Does the instruction at a boundary, and those at the calm boundaries after it whose opcodes stand in
+/// the RAM or the program ROM, up to one after which a tracer has enough.
 pub(crate) fn trace_calmly<V: VectorUnit, P: SoundUnit, C: CellUnit, D: DividerUnit, T: Tracer>(
     mut cpu: Cpu,
     bus: &mut BoardBus<V, P, C, D>,
@@ -129,6 +199,7 @@ pub(crate) fn trace_calmly<V: VectorUnit, P: SoundUnit, C: CellUnit, D: DividerU
     requires room { HasRoomTo limit bus.old }
     requires fits { Fits tape.now bus.old }
     requires goes_on { GoesOn limit [] cpu bus.old }
+    requires opcode { is_private cpu.pc ≡ true }
     ensures on { TurnsOn tape.now.entries limit [] cpu bus.old bus.new result.cpu }
     ensures told { ToldTurns T.next T.has_enough tape.now.entries limit (over_bus cpu bus.old) (over_bus result.cpu bus.new) tracer.old tracer.new result.enough }
     ensures later { bus.old.wires.clock < bus.new.wires.clock }
@@ -138,31 +209,26 @@ pub(crate) fn trace_calmly<V: VectorUnit, P: SoundUnit, C: CellUnit, D: DividerU
     let mut reached = Reached::new();
     let mut noted = NotedBus::<V, P, C, D, T> {
         quiet: QuietBus::new(bus),
-        opcode: 0,
-        clocks: 0,
         reached: &mut reached,
     };
     let mut goes_on = true;
     let mut enough = false;
     while goes_on {
-        noted.begin();
+        noted.reached.clear();
+        let opcode = noted.quiet.bus.private_byte(cpu.state().pc);
+        let start = noted.quiet.clock();
         let _fetched = cpu.instruction(&mut noted, tape);
         let note = TurnNote {
             sequence: Sequence::Opcode,
-            opcode: noted.opcode,
-            clocks: noted.clocks,
+            opcode,
+            clocks: (noted.quiet.clock() - start) as u8,
             reached: noted.reached.as_slice(),
         };
         enough = tracer.turn(&note, cpu.state().pc);
-        goes_on = !enough && noted.quiet.lasts(&calm, &cpu);
+        goes_on = noted.goes_on(enough, &calm, &cpu);
     }
     noted.quiet.tell();
-    let NotedBus {
-        quiet,
-        opcode: _,
-        clocks: _,
-        reached: _,
-    } = noted;
+    let NotedBus { quiet, reached: _ } = noted;
     let QuietBus {
         bus: back,
         made: _,

@@ -8,7 +8,7 @@ ghost use Rattle.catchup_engine.specs.Turn.{reads_opcode};
 ghost use Rattle.catchup_engine.specs.Runs.{over_bus, BoundaryRun, BreakRunBus, CutRun, HasRoomTo, IsInRange, QuietRun, TracedBusRun, TurnsRun};
 
 use crate::breaks::{BreakList, Breaks, Nowhere};
-use crate::bus::{BoardBus, TRAIL_ROOM, WHOLE};
+use crate::bus::{BoardBus, TRAIL_ROOM, WHOLE, is_private};
 use crate::note::{Reached, TurnNote};
 use crate::noted::trace_calmly;
 use crate::quiet::run_calmly;
@@ -234,7 +234,7 @@ pub(crate) fn run_traced<V: VectorUnit, P: SoundUnit, C: CellUnit, D: DividerUni
     let _clock = bus.clock();
     let mut enough = false;
     while !enough && !is_done(&cpu, bus, limit) {
-        if goes_on(&cpu, bus, limit, &Nowhere) {
+        if goes_on(&cpu, bus, limit, &Nowhere) && is_private(cpu.state().pc) {
             let told = trace_calmly(cpu, bus, tape, limit, tracer);
             cpu = told.cpu;
             enough = told.enough;

@@ -86,6 +86,19 @@ impl<V: VectorUnit, P: SoundUnit, C: CellUnit, D: DividerUnit> BoardBus<V, P, C,
         self.program[usize::from(addr) - usize::from(PROGRAM_START)]
     }
 
+    /// The byte at an address of the RAM or of the program ROM.
+    #[inline(always)]
+    pub fn private_byte(&self, addr: u16) -> u8
+        requires { is_private addr ≡ true }
+        ensures { result ≡ byte_read addr self.now.wires }
+    {
+        if addr >= PROGRAM_START {
+            self.program_at(addr)
+        } else {
+            self.ram_byte(addr)
+        }
+    }
+
     /// Changes a byte of the RAM.
     #[inline(always)]
     pub fn put_ram(&mut self, k: u16, value: u8)
