@@ -1,11 +1,17 @@
 //! Instructions in whose clocks nothing comes of itself, of each of which a tracer is told.
-ghost use Rattle.std.specs.Prelude.{◌≡◌, ◌+◌, ◌<◌, ◌≤◌, ◌==◌, [], false, if◌then◌else◌};
-ghost use Rattle.catchup_engine.specs.Bus.{Fits};
+ghost use Rattle.std.specs.Prelude.{◌≡◌, ◌+◌, ◌-◌, ◌<◌, ◌≤◌, ◌&&◌, ◌||◌, [], false, true, is_none, length, nat_lt, not};
+ghost use Rattle.board_base.specs.declared.divider.TheConstants.{DIVIDER_PERIOD};
+ghost use Rattle.cpu_alu.specs.Flags.{is_masked};
+ghost use Rattle.cpu_core.specs.Course.{read_of, write_of};
+ghost use Rattle.catchup_engine.specs.Bus.{Fits, is_private};
+ghost use Rattle.catchup_engine.specs.Calm.{KeepsLines};
+ghost use Rattle.catchup_engine.specs.Notes.{NotedStep, noting};
+ghost use Rattle.catchup_engine.specs.Quiet.{passed, IsCounted, quiet_room};
 ghost use Rattle.catchup_engine.specs.Runs.{over_bus, GoesOn, HasRoomTo, IsInRange, TurnsOn};
 ghost use Rattle.catchup_engine.specs.Traced.{ToldTurns};
 
-use crate::bus::{BoardBus, PROGRAM_START};
-use crate::calm::calm_since;
+use crate::bus::{BoardBus, is_private};
+use crate::calm::{Calm, calm_since};
 use crate::note::{Reached, TurnNote};
 use crate::quiet::QuietBus;
 use crate::trace::Access;
@@ -16,6 +22,7 @@ use cpu_core::{Bus, Cpu};
 use earom_cells::CellUnit;
 use irq_watchdog::DividerUnit;
 use pokey_chip::SoundUnit;
+use std::marker::PhantomData;
 use tape_ports::Tape;
 
 /// The quiet bus, which notes the accesses that reach a device.
