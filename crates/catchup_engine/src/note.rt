@@ -45,7 +45,7 @@ impl Model for Reached {
 }
 
 impl Reached {
-    ghost use Rattle.std.specs.Prelude.{[], length, take};
+    ghost use Rattle.std.specs.Prelude.{[], ◌∷◌, ◌++◌, length, take};
     ghost use Rattle.catchup_engine.specs.Notes.{with_reached};
 
     /// None.
@@ -77,14 +77,23 @@ impl Reached {
         self.count = 0;
     }
 
+    /// Adds an access that reaches a device.
+    #[inline(always)]
+    pub(crate) fn push(&mut self, access: Access)
+        requires { length self.old < 7 }
+        ensures { self.new ≡ self.old ++ access ∷ [] }
+    {
+        self.accesses[usize::from(self.count)] = access;
+        self.count += 1;
+    }
+
     /// Adds an access, where it reaches a device.
     pub(crate) fn add(&mut self, access: Access)
         requires { length self.old < 7 }
         ensures { self.new ≡ with_reached self.old access }
     {
         if access.reaches_device() {
-            self.accesses[usize::from(self.count)] = access;
-            self.count += 1;
+            self.push(access);
         }
     }
 

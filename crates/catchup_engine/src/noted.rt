@@ -10,7 +10,7 @@ ghost use Rattle.catchup_engine.specs.Quiet.{passed, IsCounted, quiet_room};
 ghost use Rattle.catchup_engine.specs.Runs.{over_bus, GoesOn, HasRoomTo, IsInRange, TurnsOn};
 ghost use Rattle.catchup_engine.specs.Traced.{ToldTurns};
 
-use crate::bus::{BoardBus, is_private};
+use crate::bus::{BoardBus, PROGRAM_START, is_private};
 use crate::calm::{Calm, calm_since};
 use crate::note::{Reached, TurnNote};
 use crate::quiet::QuietBus;
@@ -18,11 +18,12 @@ use crate::trace::Access;
 use crate::tracer::Tracer;
 use avg_device::VectorUnit;
 use board_base::{CLOCK_LIMIT, RAM_LEN, Sequence};
+use board_map::row;
 use cpu_core::{Bus, Cpu};
 use earom_cells::CellUnit;
 use irq_watchdog::DividerUnit;
+use lockstep_board::{devices_read, devices_written};
 use pokey_chip::SoundUnit;
-use std::marker::PhantomData;
 use tape_ports::Tape;
 
 /// The quiet bus, which notes the accesses that reach a device.
@@ -31,100 +32,72 @@ struct NotedBus<'a, V: VectorUnit, P: SoundUnit, C: CellUnit, D: DividerUnit, T:
     reached: &'a mut Reached,
 }
 
-/// A byte that was read, and the clocks that the board has yet to be told of.
-#[derive(Drop)]
-struct DeviceByte {
-    value: u8,
-    made: u64,
-}
-
-/// Reads a byte past the RAM and before the program ROM, and notes the access.
+/// Moves the board on by the clocks counted and one more, reads a byte in that one, and notes the access
+/// where it reaches a device.
 ///
-/// It is never put into the processor, whose code with it would be too long for LLVM to put into the
-/// loop.
+/// LLVM never puts it into the processor: with it the processor would be too long to stand in the loop.
 #[inline(never)]
-fn read_noted<V: VectorUnit, P: SoundUnit, C: CellUnit, D: DividerUnit, T: Tracer>(
+fn read_noted<V: VectorUnit, P: SoundUnit, C: CellUnit, D: DividerUnit>(
     bus: &mut BoardBus<V, P, C, D>,
     made: u64,
     reached: &mut Reached,
-    tape: &Tape,
+    _tape: &Tape,
     addr: u16,
-) -> DeviceByte
-    requires fits { IsCounted tape.now made bus.old }
+) -> u8
+    requires fits { IsCounted _tape.now made bus.old }
     requires room { 1 ≤ quiet_room made bus.old }
     requires few { length reached.old < 7 }
     ensures lines { KeepsLines bus.old bus.new }
-    ensures noted { NotedStep tape.now.entries (read_of addr result.value) (noting (passed made bus.old) reached.old) (noting (passed result.made bus.new) reached.new) }
-    ensures fits { IsCounted tape.now result.made bus.new }
-    ensures room { quiet_room made bus.old ≤ quiet_room result.made bus.new + 1 }
+    ensures noted { NotedStep _tape.now.entries (read_of addr result) (noting (passed made bus.old) reached.old) (noting (passed 0 bus.new) reached.new) }
+    ensures fits { IsCounted _tape.now 0 bus.new }
+    ensures room { quiet_room made bus.old ≤ quiet_room 0 bus.new + 1 }
 {
-    let mut quiet = QuietBus::<V, P, C, D, T> {
-        bus,
-        made,
-        user: PhantomData,
-    };
-    let value = quiet.read(tape, addr);
-    let access = Access {
-        clock: quiet.clock() - 1,
-        addr,
-        value,
-        write: false,
-    };
-    reached.add(access);
-    let made = quiet.made;
-    let QuietBus {
-        bus: back,
-        made: _,
-        user: _,
-    } = quiet;
-    // opens the model
-    let _same = &*back;
-    DeviceByte { value, made }
+    bus.pass(made + 1);
+    let row = row(addr);
+    let value = bus.byte_by(addr, row);
+    if !devices_read(row.reads).is_empty() {
+        reached.push(Access {
+            clock: bus.clock() - 1,
+            addr,
+            value,
+            write: false,
+        });
+    }
+    value
 }
 
-/// Writes a byte past the RAM, notes the access, and returns the clocks that the board has yet to be
-/// told of.
+/// Moves the board on by the clocks counted and one more, writes a byte in that one, and notes the
+/// access where it reaches a device.
 ///
-/// It is never put into the processor, as `read_noted`.
+/// LLVM never puts it into the processor, as `read_noted`.
 #[inline(never)]
-fn write_noted<V: VectorUnit, P: SoundUnit, C: CellUnit, D: DividerUnit, T: Tracer>(
+fn write_noted<V: VectorUnit, P: SoundUnit, C: CellUnit, D: DividerUnit>(
     bus: &mut BoardBus<V, P, C, D>,
     made: u64,
     reached: &mut Reached,
-    tape: &Tape,
+    _tape: &Tape,
     addr: u16,
     value: u8,
-) -> u64
-    requires fits { IsCounted tape.now made bus.old }
+)
+    requires fits { IsCounted _tape.now made bus.old }
     requires room { 1 ≤ quiet_room made bus.old }
     requires few { length reached.old < 7 }
     ensures lines { KeepsLines bus.old bus.new }
-    ensures noted { NotedStep tape.now.entries (write_of addr value) (noting (passed made bus.old) reached.old) (noting (passed result bus.new) reached.new) }
-    ensures fits { IsCounted tape.now result bus.new }
-    ensures room { quiet_room made bus.old ≤ quiet_room result bus.new + 1 }
+    ensures noted { NotedStep _tape.now.entries (write_of addr value) (noting (passed made bus.old) reached.old) (noting (passed 0 bus.new) reached.new) }
+    ensures fits { IsCounted _tape.now 0 bus.new }
+    ensures room { quiet_room made bus.old ≤ quiet_room 0 bus.new + 1 }
 {
-    let mut quiet = QuietBus::<V, P, C, D, T> {
-        bus,
-        made,
-        user: PhantomData,
-    };
-    quiet.write(tape, addr, value);
-    let access = Access {
-        clock: quiet.clock() - 1,
-        addr,
-        value,
-        write: true,
-    };
-    reached.add(access);
-    let made = quiet.made;
-    let QuietBus {
-        bus: back,
-        made: _,
-        user: _,
-    } = quiet;
-    // opens the model
-    let _same = &*back;
-    made
+    bus.pass(made + 1);
+    let row = row(addr);
+    bus.put_by(addr, row, value);
+    if !devices_written(row.writes).is_empty() {
+        reached.push(Access {
+            clock: bus.clock() - 1,
+            addr,
+            value,
+            write: true,
+        });
+    }
 }
 
 impl<'a, V: VectorUnit, P: SoundUnit, C: CellUnit, D: DividerUnit, T: Tracer> NotedBus<
@@ -164,23 +137,26 @@ impl<'a, V: VectorUnit, P: SoundUnit, C: CellUnit, D: DividerUnit, T: Tracer> Bu
 
     #[inline(always)]
     fn read(&mut self, tape: &Tape, addr: u16) -> u8 {
-        if is_private(addr) {
-            return self.quiet.read(tape, addr);
+        if addr >= PROGRAM_START {
+            self.quiet.read(tape, addr)
+        } else if addr < RAM_LEN as u16 {
+            self.quiet.read(tape, addr)
+        } else {
+            let made = self.quiet.made;
+            self.quiet.made = 0;
+            read_noted(self.quiet.bus, made, self.reached, tape, addr)
         }
-        let made = self.quiet.made;
-        let byte = read_noted::<V, P, C, D, T>(self.quiet.bus, made, self.reached, tape, addr);
-        self.quiet.made = byte.made;
-        byte.value
     }
 
     #[inline(always)]
     fn write(&mut self, tape: &Tape, addr: u16, value: u8) {
         if addr < RAM_LEN as u16 {
-            return self.quiet.write(tape, addr, value);
+            self.quiet.write(tape, addr, value);
+        } else {
+            let made = self.quiet.made;
+            self.quiet.made = 0;
+            write_noted(self.quiet.bus, made, self.reached, tape, addr, value);
         }
-        let made = self.quiet.made;
-        self.quiet.made =
-            write_noted::<V, P, C, D, T>(self.quiet.bus, made, self.reached, tape, addr, value);
     }
 }
 

@@ -13,7 +13,7 @@ ghost use Rattle.lockstep_board.specs.Wires.{byte_put, byte_read, in0_byte};
 use crate::bus::{BoardBus, PROGRAM_START};
 use avg_device::VectorUnit;
 use board_base::{RAM_LEN, Record, VECTOR_RAM_LEN};
-use board_map::{Reads, Writes, row};
+use board_map::{Reads, Row, Writes, row};
 use earom_cells::CellUnit;
 use irq_watchdog::DividerUnit;
 use lockstep_board::{DeviceSet, devices_read, devices_written};
@@ -110,13 +110,23 @@ impl<V: VectorUnit, P: SoundUnit, C: CellUnit, D: DividerUnit> BoardBus<V, P, C,
 
     /// The byte that a read of an address gives, in the clock that counts as done.
     #[inline(never)]
-    #[tactic(auto, using(board_base::proofs::TickLaws::level, crate::proofs::SettledLaws::settled, crate::proofs::SettledLaws::brought), unfolding(lockstep_board::specs::Wires::byte_read, lockstep_board::specs::Budget::reaches_device))]
     pub fn byte(&mut self, addr: u16) -> u8
         ensures byte { result ≡ byte_read addr (at_clock (self.old.wires.clock - 1) self.old.wires) }
         ensures does { Does self.old self.new self.old.wires (2 * from_bool (reaches_device (read_of addr result))) }
         ensures current { lagging_at (row_of addr).reads self.new.lagging ≡ 0 }
     {
-        let row = row(addr);
+        self.byte_by(addr, row(addr))
+    }
+
+    /// The byte that a read of an address gives, by the address's row of the map.
+    #[inline(always)]
+    #[tactic(auto, using(board_base::proofs::TickLaws::level, crate::proofs::SettledLaws::settled, crate::proofs::SettledLaws::brought), unfolding(lockstep_board::specs::Wires::byte_read, lockstep_board::specs::Budget::reaches_device))]
+    pub fn byte_by(&mut self, addr: u16, row: Row) -> u8
+        requires row { row ≡ row_of addr }
+        ensures byte { result ≡ byte_read addr (at_clock (self.old.wires.clock - 1) self.old.wires) }
+        ensures does { Does self.old self.new self.old.wires (2 * from_bool (reaches_device (read_of addr result))) }
+        ensures current { lagging_at (row_of addr).reads self.new.lagging ≡ 0 }
+    {
         self.bring(devices_read(row.reads));
         match row.reads {
             Reads::Ram => self.ram_byte(row.offset),
@@ -135,14 +145,25 @@ impl<V: VectorUnit, P: SoundUnit, C: CellUnit, D: DividerUnit> BoardBus<V, P, C,
 
     /// Writes a byte to an address, in the clock that counts as done.
     #[inline(never)]
-    #[tactic(auto, using(board_base::proofs::TickLaws::level, crate::proofs::SettledLaws::settled, crate::proofs::DividerLaws::latches), unfolding(lockstep_board::specs::Wires::byte_put, lockstep_board::specs::Budget::reaches_device))]
     pub fn put(&mut self, addr: u16, value: u8)
         requires room { length self.old.wires.written < self.old.rooms.board }
         requires begun { 1 ≤ self.old.wires.clock }
         ensures does { Does self.old self.new (at_clock self.old.wires.clock (byte_put addr value (at_clock (self.old.wires.clock - 1) self.old.wires))) (2 * from_bool (reaches_device (write_of addr value))) }
         ensures few { length self.new.wires.written ≤ length self.old.wires.written + 1 }
     {
-        let row = row(addr);
+        self.put_by(addr, row(addr), value);
+    }
+
+    /// Writes a byte to an address, by the address's row of the map.
+    #[inline(always)]
+    #[tactic(auto, using(board_base::proofs::TickLaws::level, crate::proofs::SettledLaws::settled, crate::proofs::DividerLaws::latches), unfolding(lockstep_board::specs::Wires::byte_put, lockstep_board::specs::Budget::reaches_device))]
+    pub fn put_by(&mut self, addr: u16, row: Row, value: u8)
+        requires row { row ≡ row_of addr }
+        requires room { length self.old.wires.written < self.old.rooms.board }
+        requires begun { 1 ≤ self.old.wires.clock }
+        ensures does { Does self.old self.new (at_clock self.old.wires.clock (byte_put addr value (at_clock (self.old.wires.clock - 1) self.old.wires))) (2 * from_bool (reaches_device (write_of addr value))) }
+        ensures few { length self.new.wires.written ≤ length self.old.wires.written + 1 }
+    {
         // the divider's interrupt and watchdog are the same before its ticks and after them
         self.bring(DeviceSet {
             divider: false,
