@@ -1,5 +1,5 @@
 -- A run over calm boundaries of which somebody is told turn by turn.
-use Rattle.std.proofs.Common.{◌≡◌, ℕ, ◌+◌, ◌-◌, ◌≤◌, ◌<◌, Bool, true, false, not, ◌&&◌, ◌||◌, is_none, nat_lt, min, List, [], None, refl, subst}
+use Rattle.std.proofs.Common.{◌≡◌, ℕ, ◌+◌, ◌-◌, ◌≤◌, ◌<◌, Bool, true, false, not, ◌&&◌, ◌||◌, is_none, nat_lt, min, length, List, [], None, refl, sym, ap, ◌∙◌, subst, arith}
 use Rattle.std.proofs.lemmas.Bool.{or_parts}
 use Rattle.board_base.specs.declared.board.TheConstants.{CLOCK_LIMIT}
 use Rattle.board_base.specs.declared.divider.TheConstants.{DIVIDER_PERIOD}
@@ -13,12 +13,13 @@ use Rattle.tape_ports.specs.declared.entry.TapeEntry.{TapeEntry}
 use Rattle.tape_ports.specs.Tape.{TapeValue}
 use Rattle.lockstep_board.specs.Breaks.{is_at_any}
 use Rattle.lockstep_board.specs.Run.{is_over}
+use Rattle.lockstep_board.specs.Wires.{Wires, byte_read, devices_ticked, ticked}
 use Rattle.catchup_engine.specs.declared.trace.Access.{Access}
 use Rattle.catchup_engine.specs.declared.calm.Calm.{Calm}
-use Rattle.catchup_engine.specs.Bus.{BusStep, BusValue, Fits}
+use Rattle.catchup_engine.specs.Bus.{BusStep, BusValue, Fits, is_private}
 use Rattle.catchup_engine.specs.Calm.{IsCalm, KeepsLines}
 use Rattle.catchup_engine.specs.Notes.{NotedStep, NotedValue, note_of, noting}
-use Rattle.catchup_engine.specs.Quiet.{IsCounted, passed}
+use Rattle.catchup_engine.specs.Quiet.{IsCounted, later, passed}
 use Rattle.catchup_engine.specs.Runs.{GoesOn, HasRoomTo, IsInRange, over_bus}
 use Rattle.catchup_engine.specs.Trace.{TraceValue}
 use Rattle.catchup_engine.specs.Traced.{ToldTurns}
@@ -28,7 +29,15 @@ use Rattle.catchup_engine.proofs.Notes.{noted-turn, opcode_note}
 use Rattle.catchup_engine.proofs.QuietLaws.{passed-zero}
 use Rattle.catchup_engine.proofs.OpcodeLaws.{reads-opcode}
 use Rattle.catchup_engine.proofs.Seen.{runs-seen}
+use Rattle.catchup_engine.proofs.TapeLaws.{ticked-quiet}
 use Rattle.catchup_engine.proofs.TracedRuns.{turns-more, turns-none}
+
+-- the ticks of a clock in which nothing comes of itself, and those before it, leave the RAM and the program ROM
+pub kept-memories : (tape : TapeValue) (made : ℕ) (t : BusValue) → Fits tape (passed made t) → (passed made t).wires.clock < (passed made t).event_at
+    → ((ticked tape.entries (passed made t).wires).ram ≡ t.wires.ram) × ((ticked tape.entries (passed made t).wires).program ≡ t.wires.program)
+unfolding passed later devices_ticked
+kept-memories tape made t fits quiet =
+    let same = ticked-quiet tape (passed made t) fits quiet in (ap (λ (w : Wires). w.ram) same, ap (λ (w : Wires). w.program) same)
 
 module _ {T : Type 0} (next : T → TraceValue → ℕ → T) (enough : T → Bool) (tape : TapeValue) (limit : ℕ) where
   -- From c, s and w such a run led to e, t and v, with so many clocks that t has yet to be told of. The flags say whether he has
@@ -37,65 +46,96 @@ module _ {T : Type 0} (next : T → TraceValue → ℕ → T) (enough : T → Bo
     pub at : AtCalm tape limit [] calm c s made t e more
     pub turns : ToldTurns next enough tape.entries limit (over_bus c s) (over_bus e (passed made t)) w v full
     pub open_yet : more ≡ true → full ≡ false
+    pub opcode : more ≡ true → is_private e.pc ≡ true
 
   pub noted-starts : (calm : Calm) (c : CpuValue) (s : BusValue) (w : T) → limit ≤ CLOCK_LIMIT → IsInRange c s → s.begun ≡ false → HasRoomTo limit s → Fits tape s
-      → GoesOn limit [] c s → IsCalm limit calm s → calm.until ≡ min limit (s.event_at - 6) → AtNoted calm c s 0 s c w w false true
-  noted-starts calm c s w last range between room fits goes known until = record {
+      → GoesOn limit [] c s → is_private c.pc ≡ true → IsCalm limit calm s → calm.until ≡ min limit (s.event_at - 6) → AtNoted calm c s 0 s c w w false true
+  noted-starts calm c s w last range between room fits goes private known until = record {
     at = calm-starts tape limit [] calm c s last range between room fits goes known until;
     turns = rw (passed-zero s) (turns-none next enough tape.entries limit (over_bus c s) w).0;
     open_yet = λ _. refl;
+    opcode = λ _. private;
   }
 
-  bus-runs : (e f : CpuValue) (s : BusValue) (t : NotedValue) → Runs (NotedStep tape.entries) (registers_of e) Opcode (noting s 0 0 []) t f
+  bus-runs : (e f : CpuValue) (s : BusValue) (t : NotedValue) → Runs (NotedStep tape.entries) (registers_of e) Opcode (noting s []) t f
       → Runs (BusStep tape.entries) (registers_of e) Opcode s t.bus f
   bus-runs e f s t runs =
-      (runs-seen (BusStep tape.entries) (λ (k : NotedValue). k.bus) (λ k. 0) (λ x a b h. (refl, h.step)) (registers_of e) Opcode (noting s 0 0 []) t f runs).1
+      (runs-seen (BusStep tape.entries) (λ (k : NotedValue). k.bus) (λ k. 0) (λ x a b h. (refl, h.step)) (registers_of e) Opcode (noting s []) t f runs).1
 
-  -- an instruction is a turn, of which he is told
-  pub noted-goes : (calm : Calm) (c e f : CpuValue) (s t u : BusValue) (made n o k : ℕ) (l : List Access) (w v new : T) (full more then has : Bool) → more ≡ true → limit ≤ CLOCK_LIMIT
+  -- an instruction takes seven clocks at most, and reaches no more devices than it has clocks
+  pub record IsShort (from to : ℕ) (l : List Access) : Type 0 where
+    pub later : from ≤ to
+    pub few : to - from ≤ 7
+    pub reached : length l ≤ to - from
+
+  pub noted-short : (calm : Calm) (c e f : CpuValue) (s t u : BusValue) (made n : ℕ) (l : List Access) (w v : T) (full more : Bool) → more ≡ true
       → AtNoted calm c s made t e w v full more
-      → Runs (NotedStep tape.entries) (registers_of e) Opcode (noting (passed made t) 0 0 []) (noting (passed n u) o k l) f → f.mid ≡ None → IsCounted tape n u → KeepsLines t u
-      → (then ≡ true → u.wires.divider.phase + (u.event_at - u.wires.clock) < DIVIDER_PERIOD)
-      → ((trace : TraceValue) → opcode_note (noting (passed n u) o k l) ≡ note_of trace → new ≡ next v trace f.pc) → has ≡ enough new
-      → (then ≡ true → (nat_lt (u.wires.clock + n) calm.until && (is_none f.jam && (calm.silent || is_masked f.p))) ≡ true) → (then ≡ true → has ≡ false)
-      → AtNoted calm c s n u f w new has then
-  noted-goes calm c e f s t u made n o k l w v new full more then has on_yet last at runs boundary counted lines wrap told asked lasts open_yet =
+      → Runs (NotedStep tape.entries) (registers_of e) Opcode (noting (passed made t) []) (noting (passed n u) l) f → f.mid ≡ None
+      → IsShort (t.wires.clock + made) (u.wires.clock + n) l
+  unfolding passed later
+  noted-short calm c e f s t u made n l w v full more on_yet at runs boundary =
       let goes = at.at.goes on_yet in
       let reads = (reads-opcode e (passed made t) goes.reads).reads in
-      let turn = noted-turn tape e (passed made t) (noting (passed n u) o k l) f reads at.at.on.run.goes.between at.at.counted.fits runs boundary in
-      let before = goes-before tape limit [] e (passed made t) goes in
+      let turn = noted-turn tape e (passed made t) (noting (passed n u) l) f reads at.at.on.run.goes.between at.at.counted.fits runs boundary in
+      let clock = turn.turned.turned.clock in
+      record { later = omega (arith, clock); few = turn.few.0; reached = turn.few.1 }
+
+  -- an instruction is a turn, of which he is told
+  pub noted-goes : (calm : Calm) (c e f : CpuValue) (s t u : BusValue) (made n code clocks : ℕ) (l : List Access) (w v new : T) (full more then has : Bool) → more ≡ true → limit ≤ CLOCK_LIMIT
+      → AtNoted calm c s made t e w v full more
+      → Runs (NotedStep tape.entries) (registers_of e) Opcode (noting (passed made t) []) (noting (passed n u) l) f → f.mid ≡ None → IsCounted tape n u → KeepsLines t u
+      → ((k : Wires) → k.ram ≡ t.wires.ram → k.program ≡ t.wires.program → code ≡ byte_read e.pc k) → clocks ≡ u.wires.clock + n - (t.wires.clock + made)
+      → (then ≡ true → u.wires.divider.phase + (u.event_at - u.wires.clock) < DIVIDER_PERIOD)
+      → ((trace : TraceValue) → opcode_note code clocks l ≡ note_of trace → new ≡ next v trace f.pc) → has ≡ enough new
+      → then ≡ (not has && ((nat_lt (u.wires.clock + n) calm.until && (is_none f.jam && (calm.silent || is_masked f.p))) && is_private f.pc))
+      → AtNoted calm c s n u f w new has then
+  unfolding passed later
+  noted-goes calm c e f s t u made n code clocks l w v new full more then has on_yet last at runs boundary counted lines byte time wrap told asked goes_on =
+      let goes = at.at.goes on_yet in
+      let reads = (reads-opcode e (passed made t) goes.reads).reads in
+      let turn = noted-turn tape e (passed made t) (noting (passed n u) l) f reads at.at.on.run.goes.between at.at.counted.fits runs boundary in
+      let calm_then = nat_lt (u.wires.clock + n) calm.until && (is_none f.jam && (calm.silent || is_masked f.p)) in
+      let memories = kept-memories tape made t at.at.counted.fits reads.quiet in
+      let note = ap (λ k. opcode_note code k l) time ∙ turn.note code (byte (ticked tape.entries (passed made t).wires) memories.0 memories.1) in
       record {
-        at = calm-goes tape limit [] calm c e f s t u made n more then on_yet last at.at (bus-runs e f (passed made t) (noting (passed n u) o k l) runs) boundary counted lines wrap
-            (λ on. and-none _ (lasts on));
+        at = calm-goes tape limit [] calm c e f s t u made n more then on_yet last at.at (bus-runs e f (passed made t) (noting (passed n u) l) runs) boundary counted lines wrap
+            (λ on. and-none _ (parts has calm_then (is_private f.pc) (sym goes_on ∙ on)).1);
         turns =
             (turns-more next enough tape.entries limit (over_bus c s) (passed made t) (passed n u) e f w v new turn.trace has last
             (subst (λ flag. ToldTurns next enough tape.entries limit (over_bus c s) (over_bus e (passed made t)) w v flag) (at.open_yet on_yet) at.turns)
-            (or_parts (is_over limit (over_bus e (passed made t))) (is_at_any [] (over_bus e (passed made t))) goes.open_yet).0 at.at.on.range turn.turned turn.is (told turn.trace turn.note) asked).0;
-        open_yet = open_yet;
+            (or_parts (is_over limit (over_bus e (passed made t))) (is_at_any [] (over_bus e (passed made t))) goes.open_yet).0 at.at.on.range turn.turned turn.is (told turn.trace note) asked).0;
+        open_yet = λ on. (parts has calm_then (is_private f.pc) (sym goes_on ∙ on)).0;
+        opcode = λ on. (parts has calm_then (is_private f.pc) (sym goes_on ∙ on)).2;
       }
     where
       and-none : (b : Bool) → b ≡ true → (b && not false) ≡ true
       and-none true is = refl
       and-none false is = cc
 
+      parts : (a b d : Bool) → (not a && (b && d)) ≡ true → (a ≡ false) × (b ≡ true) × (d ≡ true)
+      parts false true true is = (refl, refl, refl)
+      parts false true false is = cc
+      parts false false d is = cc
+      parts true b d is = cc
+
   -- and the run has less to go
-  pub noted-smaller : (calm : Calm) (c e f : CpuValue) (s t u : BusValue) (made n o k : ℕ) (l : List Access) (w v : T) (full more : Bool) → more ≡ true
+  pub noted-smaller : (calm : Calm) (c e f : CpuValue) (s t u : BusValue) (made n : ℕ) (l : List Access) (w v : T) (full more : Bool) → more ≡ true
       → AtNoted calm c s made t e w v full more
-      → Runs (NotedStep tape.entries) (registers_of e) Opcode (noting (passed made t) 0 0 []) (noting (passed n u) o k l) f → f.mid ≡ None
+      → Runs (NotedStep tape.entries) (registers_of e) Opcode (noting (passed made t) []) (noting (passed n u) l) f → f.mid ≡ None
       → limit - (passed n u).wires.clock < limit - (passed made t).wires.clock
-  noted-smaller calm c e f s t u made n o k l w v full more on_yet at runs boundary =
-      calm-smaller tape limit [] calm c e f s t u made n more on_yet at.at (bus-runs e f (passed made t) (noting (passed n u) o k l) runs) boundary
+  noted-smaller calm c e f s t u made n l w v full more on_yet at runs boundary =
+      calm-smaller tape limit [] calm c e f s t u made n more on_yet at.at (bus-runs e f (passed made t) (noting (passed n u) l) runs) boundary
 
 -- an instruction over a bus that notes it, from one of which nothing is noted
 pub record IsNotedBy {S : Type 0} (entries : List TapeEntry) (seen : S → NotedValue) (bus : S → BusValue) (name name_then : S → ℕ) (e f : CpuValue) (m : ℕ) (b : BusValue) (s t : S) : Type 0 where
-  pub runs : Runs (NotedStep entries) (registers_of e) Opcode (noting (passed m b) 0 0 []) (seen t) f
+  pub runs : Runs (NotedStep entries) (registers_of e) Opcode (noting (passed m b) []) (seen t) f
   pub lines : KeepsLines b (bus t)
   pub same : name t ≡ name s
   pub same_then : name_then t ≡ name_then s
 
 pub noted-by : {S : Type 0} {R : course.Access → S → S → Type 0} (entries : List TapeEntry) (seen : S → NotedValue) (bus : S → BusValue) (name name_then : S → ℕ)
     → ((x : course.Access) (a b : S) → R x a b → (name b ≡ name a) × (name_then b ≡ name_then a) × KeepsLines (bus a) (bus b) × NotedStep entries x (seen a) (seen b))
-    → (e f : CpuValue) (m : ℕ) (b : BusValue) (s t : S) → seen s ≡ noting (passed m b) 0 0 [] → bus s ≡ b → Runs R (registers_of e) Opcode s t f
+    → (e f : CpuValue) (m : ℕ) (b : BusValue) (s t : S) → seen s ≡ noting (passed m b) [] → bus s ≡ b → Runs R (registers_of e) Opcode s t f
     → IsNotedBy entries seen bus name name_then e f m b s t
 noted-by entries seen bus name name_then lift e f m b s t start from runs =
     let one = runs-seen (NotedStep entries) seen name (λ x a c h. ((lift x a c h).0, (lift x a c h).3)) (registers_of e) Opcode s t f runs in
@@ -106,8 +146,3 @@ noted-by entries seen bus name name_then lift e f m b s t start from runs =
       same = one.0;
       same_then = two.0;
     }
-
--- what a flag says
-pub never : {A : Type 0} (b : Bool) → b ≡ false → b ≡ true → A
-never true off on = cc
-never false off on = cc

@@ -10,29 +10,23 @@ use Rattle.board_base.specs.Cpu.{CpuValue, MidValue}
 use Rattle.cpu_core.specs.Course as course
 use Rattle.cpu_core.specs.Course.{read_of, write_of}
 use Rattle.cpu_core.specs.Registers.{RegistersValue, registers_of}
-use Rattle.cpu_core.specs.Sequences.{Moves, Runs}
+use Rattle.cpu_core.specs.Sequences.{Moves, Runs, next_of, start_of}
 use Rattle.tape_ports.specs.declared.entry.TapeEntry.{TapeEntry}
 use Rattle.tape_ports.specs.Tape.{TapeValue}
 use Rattle.lockstep_board.specs.Budget.{reaches_device}
-use Rattle.lockstep_board.specs.Lockstep.{sequence_due}
-use Rattle.lockstep_board.specs.Wires.{ticked}
+use Rattle.lockstep_board.specs.Lockstep.{access_in, due_access, made_by, sequence_due}
+use Rattle.lockstep_board.specs.Wires.{byte_read, ticked}
 use Rattle.catchup_engine.specs.declared.trace.Access.{Access}
 use Rattle.catchup_engine.specs.Bus.{BusStep, BusValue, Fits}
 use Rattle.catchup_engine.specs.Notes.{NoteValue, NotedStep, NotedValue, note_of, noting, reaching, with_reached}
 use Rattle.catchup_engine.specs.Runs.{over_bus}
-use Rattle.catchup_engine.specs.Trace.{TraceValue, TracedStep, access_at, byte_of, first_value, made_of, no_access, sequence_at, seven_of, trace_of, traced}
+use Rattle.catchup_engine.specs.Trace.{TraceValue, TracedStep, access_at, byte_of, first_byte, first_value, made_of, no_access, sequence_at, seven_of, trace_of, traced}
 use Rattle.catchup_engine.specs.Turn.{ReadsOpcode, TurnedBus}
 use Rattle.catchup_engine.proofs.Seen.{moves-seen, runs-seen}
 use Rattle.catchup_engine.proofs.Steps.{moves-length}
 use Rattle.catchup_engine.proofs.TapeLaws.{ticked-quiet}
 use Rattle.catchup_engine.proofs.Traces.{fetch-byte, of_accesses, opcode-told, pushed-is, trace-named}
 use Rattle.catchup_engine.proofs.Turns.{opcode-turn}
-
--- what is noted of some accesses
-pub record IsNoted (t : NotedValue) (made : List Access) : Type 0 where
-  pub opcode : t.opcode ≡ first_value made
-  pub clocks : t.clocks ≡ length made
-  pub reached : t.reached ≡ reaching made
 
 -- they are no more than the accesses
 pub reaching-few : (made : List Access) → length (reaching made) ≤ length made
@@ -53,41 +47,23 @@ reaching-more made a = by_test (reaches_device (made_of a)) refl
     by_test false is =
         rw (filter-append (λ access. reaches_device (made_of access)) made (a ∷ []), is, append-nil (filter (λ access. reaches_device (made_of access)) made)) refl
 
-first-more : (made : List Access) (a : Access) → (if length made == 0 then a.value else first_value made) ≡ first_value (made ++ a ∷ [])
-first-more [] a = refl
-first-more (first ∷ others) a = search rules
-
-value-at : (clock : ℕ) (x : course.Access) → byte_of (Some x) ≡ (access_at clock x).value
-value-at clock (read_of a v) = refl
-value-at clock (write_of a v) = refl
-
-noted-more : (entries : List TapeEntry) (x : course.Access) (s t : NotedValue) (made : List Access) → NotedStep entries x s t → IsNoted s made
-    → IsNoted t (made ++ access_at (t.bus.wires.clock - 1) x ∷ [])
+noted-more : (entries : List TapeEntry) (x : course.Access) (s t : NotedValue) (made : List Access) → NotedStep entries x s t → s.reached ≡ reaching made
+    → t.reached ≡ reaching (made ++ access_at (t.bus.wires.clock - 1) x ∷ [])
 noted-more entries x s t made did is =
-    let a = access_at (t.bus.wires.clock - 1) x in
-    record {
-      opcode =
-          did.opcode
-          ∙ ap (λ n. if n == 0 then byte_of (Some x) else s.opcode) is.clocks
-          ∙ ap (λ b. if length made == 0 then b else s.opcode) (value-at (t.bus.wires.clock - 1) x)
-          ∙ ap (λ o. if length made == 0 then a.value else o) is.opcode
-          ∙ first-more made a;
-      clocks = did.clocks ∙ ap (λ n. n + 1) is.clocks ∙ sym (length-append made (a ∷ []));
-      reached = did.reached ∙ ap (λ l. with_reached l a) is.reached ∙ reaching-more made a;
-    }
+    let a = access_at (t.bus.wires.clock - 1) x in did.reached ∙ ap (λ l. with_reached l a) is ∙ reaching-more made a
 
 -- a bus that notes makes the accesses of one that traces
 record IsLifted (entries : List TapeEntry) (r : RegistersValue) (q : Sequence) (bytes more : List ℕ) (s t : NotedValue) (before : List Access) : Type 0 where
   made : List Access
   moves : Moves (TracedStep entries) r q bytes more (traced s.bus (of_accesses before)) (traced t.bus (of_accesses made))
-  noted : IsNoted t made
+  noted : t.reached ≡ reaching made
 
 lift : (entries : List TapeEntry) (r : RegistersValue) (q : Sequence) (bytes more : List ℕ) (s t : NotedValue) (before : List Access)
-    → Moves (NotedStep entries) r q bytes more s t → IsNoted s before → length before + length more ≤ 7 → IsLifted entries r q bytes more s t before
+    → Moves (NotedStep entries) r q bytes more s t → s.reached ≡ reaching before → length before + length more ≤ 7 → IsLifted entries r q bytes more s t before
 lift entries r q bytes [] s t before same is few = record {
   made = before;
   moves = ap (λ (k : NotedValue). traced k.bus (of_accesses before)) same;
-  noted = rw same is;
+  noted = ap (λ (k : NotedValue). k.reached) same ∙ is;
 }
 lift entries r q bytes (v ∷ more) s t before (x, m, is, did, rest) at few =
     let a = access_at (m.bus.wires.clock - 1) x in
@@ -99,49 +75,62 @@ lift entries r q bytes (v ∷ more) s t before (x, m, is, did, rest) at few =
       noted = others.noted;
     }
 
--- the note of an instruction, of which these are the byte of the first access, the clocks and the accesses that reach a device
-abbrev pub opcode_note : NotedValue → NoteValue
-opcode_note t = record { sequence = Opcode; opcode = t.opcode; clocks = t.clocks; reached = t.reached }
+-- the note of an instruction, of which these are the opcode, the clocks and the accesses that reach a device
+abbrev pub opcode_note : ℕ → ℕ → List Access → NoteValue
+opcode_note code clocks reached = record { sequence = Opcode; opcode = code; clocks = clocks; reached = reached }
 
--- an instruction over a bus that notes it is a turn, and its note is that of the board's trace
+-- An instruction over a bus that notes it is a turn, and its note is that of the board's trace: its opcode is the byte that stands at pc
+-- in the clock of its first access.
 pub record IsNotedTurn (entries : List TapeEntry) (c : CpuValue) (s : BusValue) (t : NotedValue) (e : CpuValue) : Type 0 where
   pub turned : TurnedBus entries 7 c s t.bus e
   pub trace : TraceValue
   pub is : trace ≡ trace_of entries (t.bus.wires.clock - s.wires.clock) (over_bus c s)
-  pub note : opcode_note t ≡ note_of trace
+  pub note : (code : ℕ) → code ≡ byte_read c.pc (ticked entries s.wires) → opcode_note code (t.bus.wires.clock - s.wires.clock) t.reached ≡ note_of trace
+  pub few : (t.bus.wires.clock - s.wires.clock ≤ 7) × (length t.reached ≤ t.bus.wires.clock - s.wires.clock)
 
-first-seven : (made : List Access) → first_value (seven_of made) ≡ first_value made
-first-seven [] = refl
-first-seven (first ∷ others) = refl
+-- the first byte of an instruction is the one at pc
+opcode-byte : (entries : List TapeEntry) (c : CpuValue) (s : BusValue) → c.mid ≡ None → Opcode ≡ sequence_due c (ticked entries s.wires)
+    → first_byte (over_bus c s).cpu.mid (access_in entries (over_bus c s)) ≡ byte_read c.pc (ticked entries s.wires)
+unfolding access_in next_of
+opcode-byte entries c s boundary due =
+    let w = ticked entries s.wires in
+    ap (λ (mid : Option MidValue). first_byte mid (due_access mid c w)) boundary ∙ ap (λ (q : Sequence). byte_of (made_by (next_of (start_of q c) q []) w)) (sym due)
 
-note-is : (t : NotedValue) (made : List Access) (o : ℕ) → IsNoted t made → o ≡ first_value (seven_of made)
-    → opcode_note t ≡ note_of (let k : TraceValue = record (of_accesses made) { sequence = Opcode; opcode = o } in k)
-note-is t made o is same =
-    let note = λ (code n : ℕ) (l : List Access). (let k : NoteValue = record { sequence = Opcode; opcode = code; clocks = n; reached = l } in k) in
-    ap (λ code. note code t.clocks t.reached) (is.opcode ∙ sym (first-seven made) ∙ sym same)
-    ∙ ap (λ n. note o n t.reached) is.clocks
-    ∙ ap (note o (length made))
-    (is.reached ∙ ap reaching (sym (take-append_seam made (drop (length made) (replicate 7 no_access)))))
+count-of : (entries : List TapeEntry) (n : ℕ) (c : CpuValue) (s : BusValue) (trace : TraceValue) → trace ≡ trace_of entries n (over_bus c s) → trace.count ≡ n
+unfolding trace_of
+count-of entries n c s trace is = ap (λ (k : TraceValue). k.count) is
 
 pub noted-turn : (tape : TapeValue) (c : CpuValue) (s : BusValue) (t : NotedValue) (e : CpuValue) → ReadsOpcode c s → s.begun ≡ false → Fits tape s
-    → Runs (NotedStep tape.entries) (registers_of c) Opcode (noting s 0 0 []) t e → e.mid ≡ None → IsNotedTurn tape.entries c s t e
+    → Runs (NotedStep tape.entries) (registers_of c) Opcode (noting s []) t e → e.mid ≡ None → IsNotedTurn tape.entries c s t e
 noted-turn tape c s t e reads between fits runs boundary =
     let entries = tape.entries in
     let r = registers_of c in
-    let start = noting s 0 0 [] in
+    let start = noting s [] in
     let bus = (runs-seen (BusStep entries) (λ (k : NotedValue). k.bus) (λ k. 0) (λ x a b h. (refl, h.step)) r Opcode start t e runs).1 in
     let moves = (moves-seen (BusStep entries) (λ (k : NotedValue). k.bus) (λ k. 0) (λ x a b h. (refl, h.step)) r Opcode [] runs.bytes start t runs.moves).1 in
     let few = moves-length entries r Opcode [] runs.bytes s t.bus moves (omega arith) in
-    let lifted = lift entries r Opcode [] runs.bytes start t [] runs.moves (record { opcode = refl; clocks = refl; reached = refl }) few in
+    let lifted = lift entries r Opcode [] runs.bytes start t [] runs.moves refl few in
     let due : Opcode ≡ sequence_due c (ticked entries s.wires) = sym (ap (sequence_due c) (ticked-quiet tape s fits reads.quiet) ∙ reads.due) in
     let full = traced t.bus (of_accesses lifted.made) in
     let told = opcode-told entries c s full e reads.boundary between due (record { bytes = runs.bytes; moves = lifted.moves; ends = runs.ends }) in
     let o = first_value (seven_of lifted.made) in
+    let byte = fetch-byte entries c s full reads.boundary told in
+    let trace : TraceValue = record (of_accesses lifted.made) { sequence = Opcode; opcode = o } in
+    let is =
+    trace-named entries (over_bus c s) full Opcode o told (due ∙ sym (ap (λ (mid : Option MidValue). sequence_at mid c (ticked entries s.wires)) reads.boundary)) byte in
+    let clocks : length lifted.made ≡ t.bus.wires.clock - s.wires.clock = count-of entries (t.bus.wires.clock - s.wires.clock) c s trace is in
+    let turned = opcode-turn tape c s t.bus e reads between fits bus boundary in
     record {
-      turned = opcode-turn tape c s t.bus e reads between fits bus boundary;
-      trace = record (of_accesses lifted.made) { sequence = Opcode; opcode = o };
-      is =
-          trace-named entries (over_bus c s) full Opcode o told (due ∙ sym (ap (λ (mid : Option MidValue). sequence_at mid c (ticked entries s.wires)) reads.boundary))
-          (fetch-byte entries c s full reads.boundary told);
-      note = note-is t lifted.made o lifted.noted refl;
+      turned = turned;
+      trace = trace;
+      is = is;
+      note = λ code at. (
+          ap (λ k. opcode_note k (t.bus.wires.clock - s.wires.clock) t.reached) (at ∙ sym (byte ∙ opcode-byte entries c s reads.boundary due))
+          ∙ ap (λ n. opcode_note o n t.reached) (sym clocks)
+          ∙ ap (opcode_note o (length lifted.made)) (lifted.noted ∙ ap reaching (sym (take-append_seam lifted.made (drop (length lifted.made) (replicate 7 no_access)))))
+          );
+      few = (
+        (let most = turned.at_most in omega (arith, most)),
+        (let most = ap length lifted.noted in let less = reaching-few lifted.made in omega (arith, most, less, clocks)),
+      );
     }

@@ -1,13 +1,14 @@
 -- The engine's bus, as the lockstep board sees it.
-use Rattle.std.specs.Prelude.{◌≡◌, ℕ, ◌+◌, ◌-◌, ◌*◌, ◌<◌, ◌≤◌, List, [], All, take, drop, Option, Some, None, Bool, false, min, length, if◌then◌else◌}
+use Rattle.std.specs.Prelude.{◌≡◌, ℕ, ◌+◌, ◌-◌, ◌*◌, ◌<◌, ◌≤◌, List, [], All, take, drop, Option, Some, None, Bool, false, ◌||◌, min, nat_le, nat_lt, length, if◌then◌else◌}
 use Rattle.std.specs.Int.{from_bool}
-use Rattle.board_base.specs.declared.board.TheConstants.{CLOCK_END}
+use Rattle.board_base.specs.declared.board.TheConstants.{CLOCK_END, RAM_LEN}
 use Rattle.board_map.specs.Map.{row_of}
 use Rattle.cpu_core.specs.Course.{Access, read_of, write_of}
 use Rattle.tape_ports.specs.declared.entry.TapeEntry.{TapeEntry}
 use Rattle.tape_ports.specs.Tape.{TapeValue, IsTape}
 use Rattle.lockstep_board.specs.Wires.{Wires, ticked, byte_read, byte_put}
 use Rattle.lockstep_board.specs.Budget.{reaches_device, ticks_price}
+use Rattle.catchup_engine.specs.declared.bus.TheConstants.{PROGRAM_START}
 use Rattle.catchup_engine.specs.EngineValue.{Rooms}
 use Rattle.catchup_engine.specs.Lags.{DeviceLags, lagging_at}
 
@@ -23,6 +24,10 @@ pub record BusValue : Type 0 where
   pub until : ℕ
   pub rooms : Rooms
   pub calls : ℕ
+
+-- an address of the RAM or of the program ROM, which the processor alone reaches
+abbrev pub is_private : ℕ → Bool
+is_private address = nat_lt address RAM_LEN || nat_le PROGRAM_START address
 
 -- the wires at another clock
 abbrev pub at_clock : ℕ → Wires → Wires

@@ -1,5 +1,5 @@
 -- What a turn did, as one who counts is told of it: of its accesses those alone that reach a device. This project's own.
-use Rattle.std.specs.Prelude.{◌≡◌, ℕ, ◌+◌, ◌-◌, ◌≤◌, ◌==◌, List, [], ◌∷◌, ◌++◌, length, take, Some, if◌then◌else◌}
+use Rattle.std.specs.Prelude.{◌≡◌, ℕ, ◌-◌, ◌≤◌, List, [], ◌∷◌, ◌++◌, length, take, if◌then◌else◌}
 use Rattle.std.specs.List.{filter}
 use Rattle.board_base.specs.declared.cpu.Sequence.{Sequence}
 use Rattle.cpu_core.specs.Course as course
@@ -7,7 +7,7 @@ use Rattle.tape_ports.specs.declared.entry.TapeEntry.{TapeEntry}
 use Rattle.lockstep_board.specs.Budget.{reaches_device}
 use Rattle.catchup_engine.specs.declared.trace.Access.{Access}
 use Rattle.catchup_engine.specs.Bus.{BusStep, BusValue}
-use Rattle.catchup_engine.specs.Trace.{TraceValue, access_at, byte_of, made_of}
+use Rattle.catchup_engine.specs.Trace.{TraceValue, access_at, made_of}
 
 -- the sequence, its opcode, its clocks, and its accesses that reach a device
 pub record NoteValue : Type 0 where
@@ -38,19 +38,15 @@ note_of trace = record {
 abbrev pub with_reached : List Access → Access → List Access
 with_reached reached access = if reaches_device (made_of access) then reached ++ access ∷ [] else reached
 
--- a bus, and what is noted of the accesses that it made: the byte of the first, their number, and those that reach a device
+-- a bus, and of the accesses that it made those that reach a device
 pub record NotedValue : Type 0 where
   pub bus : BusValue
-  pub opcode : ℕ
-  pub clocks : ℕ
   pub reached : List Access
 
-abbrev pub noting : BusValue → ℕ → ℕ → List Access → NotedValue
-noting bus opcode clocks reached = record { bus = bus; opcode = opcode; clocks = clocks; reached = reached }
+abbrev pub noting : BusValue → List Access → NotedValue
+noting bus reached = record { bus = bus; reached = reached }
 
 -- an access is made, and noted with its clock
 pub record NotedStep (entries : List TapeEntry) (x : course.Access) (s t : NotedValue) : Type 0 where
   pub step : BusStep entries x s.bus t.bus
-  pub opcode : t.opcode ≡ (if s.clocks == 0 then byte_of (Some x) else s.opcode)
-  pub clocks : t.clocks ≡ s.clocks + 1
   pub reached : t.reached ≡ with_reached s.reached (access_at (t.bus.wires.clock - 1) x)

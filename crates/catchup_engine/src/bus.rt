@@ -1,4 +1,6 @@
 //! All of the board but its processor: the devices, what they share, and an access of the bus.
+ghost use Rattle.std.specs.Prelude.{◌≡◌};
+ghost use Rattle.catchup_engine.specs.Bus.{is_private};
 
 mod clocking;
 mod construction;

@@ -45,7 +45,7 @@ impl Model for Reached {
 }
 
 impl Reached {
-    ghost use Rattle.std.specs.Prelude.{[], ◌∷◌, ◌++◌, length, take};
+    ghost use Rattle.std.specs.Prelude.{[], length, take};
     ghost use Rattle.catchup_engine.specs.Notes.{with_reached};
 
     /// None.
@@ -64,7 +64,7 @@ impl Reached {
     {
         let mut reached = Reached::new();
         for access in &trace.accesses[..usize::from(trace.count)] {
-            reached.add(*access);
+            reached.add(*access, access.reaches_device());
         }
         reached
     }
@@ -77,23 +77,16 @@ impl Reached {
         self.count = 0;
     }
 
-    /// Adds an access that reaches a device.
-    #[inline(always)]
-    pub(crate) fn push(&mut self, access: Access)
-        requires { length self.old < 7 }
-        ensures { self.new ≡ self.old ++ access ∷ [] }
-    {
-        self.accesses[usize::from(self.count)] = access;
-        self.count += 1;
-    }
-
     /// Adds an access, where it reaches a device.
-    pub(crate) fn add(&mut self, access: Access)
-        requires { length self.old < 7 }
+    #[inline(always)]
+    pub(crate) fn add(&mut self, access: Access, reaches: bool)
+        requires few { length self.old < 7 }
+        requires reaches { reaches ≡ reaches_device (made_of access) }
         ensures { self.new ≡ with_reached self.old access }
     {
-        if access.reaches_device() {
-            self.push(access);
+        if reaches {
+            self.accesses[usize::from(self.count)] = access;
+            self.count += 1;
         }
     }
 

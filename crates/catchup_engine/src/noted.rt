@@ -3,6 +3,7 @@ ghost use Rattle.std.specs.Prelude.{◌≡◌, ◌+◌, ◌-◌, ◌<◌, ◌≤
 ghost use Rattle.board_base.specs.declared.divider.TheConstants.{DIVIDER_PERIOD};
 ghost use Rattle.cpu_alu.specs.Flags.{is_masked};
 ghost use Rattle.cpu_core.specs.Course.{read_of, write_of};
+ghost use Rattle.lockstep_board.specs.Wires.{Wires, byte_read};
 ghost use Rattle.catchup_engine.specs.Bus.{Fits, is_private};
 ghost use Rattle.catchup_engine.specs.Calm.{KeepsLines};
 ghost use Rattle.catchup_engine.specs.Notes.{NotedStep, noting};
@@ -37,6 +38,7 @@ struct NotedBus<'a, V: VectorUnit, P: SoundUnit, C: CellUnit, D: DividerUnit, T:
 ///
 /// LLVM never puts it into the processor: with it the processor would be too long to stand in the loop.
 #[inline(never)]
+#[tactic(auto, unfolding(lockstep_board::specs::Budget::reaches_device))]
 fn read_noted<V: VectorUnit, P: SoundUnit, C: CellUnit, D: DividerUnit>(
     bus: &mut BoardBus<V, P, C, D>,
     made: u64,
@@ -55,14 +57,13 @@ fn read_noted<V: VectorUnit, P: SoundUnit, C: CellUnit, D: DividerUnit>(
     bus.pass(made + 1);
     let row = row(addr);
     let value = bus.byte_by(addr, row);
-    if !devices_read(row.reads).is_empty() {
-        reached.push(Access {
-            clock: bus.clock() - 1,
-            addr,
-            value,
-            write: false,
-        });
-    }
+    let access = Access {
+        clock: bus.clock() - 1,
+        addr,
+        value,
+        write: false,
+    };
+    reached.add(access, !devices_read(row.reads).is_empty());
     value
 }
 
@@ -71,6 +72,7 @@ fn read_noted<V: VectorUnit, P: SoundUnit, C: CellUnit, D: DividerUnit>(
 ///
 /// LLVM never puts it into the processor, as `read_noted`.
 #[inline(never)]
+#[tactic(auto, unfolding(lockstep_board::specs::Budget::reaches_device))]
 fn write_noted<V: VectorUnit, P: SoundUnit, C: CellUnit, D: DividerUnit>(
     bus: &mut BoardBus<V, P, C, D>,
     made: u64,
@@ -90,14 +92,13 @@ fn write_noted<V: VectorUnit, P: SoundUnit, C: CellUnit, D: DividerUnit>(
     bus.pass(made + 1);
     let row = row(addr);
     bus.put_by(addr, row, value);
-    if !devices_written(row.writes).is_empty() {
-        reached.push(Access {
-            clock: bus.clock() - 1,
-            addr,
-            value,
-            write: true,
-        });
-    }
+    let access = Access {
+        clock: bus.clock() - 1,
+        addr,
+        value,
+        write: true,
+    };
+    reached.add(access, !devices_written(row.writes).is_empty());
 }
 
 impl<'a, V: VectorUnit, P: SoundUnit, C: CellUnit, D: DividerUnit, T: Tracer> NotedBus<
@@ -108,6 +109,26 @@ impl<'a, V: VectorUnit, P: SoundUnit, C: CellUnit, D: DividerUnit, T: Tracer> No
     D,
     T,
 > {
+    /// Begins the note of a turn.
+    #[inline(always)]
+    fn begin(&mut self)
+        ensures same_reference { self.new.reached.ghost_name ≡ self.old.reached.ghost_name }
+        ensures same { self.new ≡ record self.old { reached = self.new.reached } }
+        ensures none { self.new.reached.now ≡ [] }
+    {
+        self.reached.clear();
+    }
+
+    /// The byte at an address of the RAM or of the program ROM. A read gives it as long as these two
+    /// stay, whatever the devices do.
+    #[inline(always)]
+    fn byte_at(&self, addr: u16) -> u8
+        requires { is_private addr ≡ true }
+        ensures { (w : Wires) → w.ram ≡ self.now.quiet.bus.now.wires.ram → w.program ≡ self.now.quiet.bus.now.wires.program → result ≡ byte_read addr w }
+    {
+        self.quiet.bus.private_byte(addr)
+    }
+
     /// Whether a tracer has not enough, and the fetch at this boundary surely reads an opcode, from the
     /// RAM or the program ROM.
     #[inline(always)]
@@ -197,14 +218,15 @@ pub(crate) fn trace_calmly<V: VectorUnit, P: SoundUnit, C: CellUnit, D: DividerU
     let mut goes_on = true;
     let mut enough = false;
     while goes_on {
-        noted.reached.clear();
-        let opcode = noted.quiet.bus.private_byte(cpu.state().pc);
+        noted.begin();
+        let opcode = noted.byte_at(cpu.state().pc);
         let start = noted.quiet.clock();
         let _fetched = cpu.instruction(&mut noted, tape);
+        let clocks = (noted.quiet.clock() - start) as u8;
         let note = TurnNote {
             sequence: Sequence::Opcode,
             opcode,
-            clocks: (noted.quiet.clock() - start) as u8,
+            clocks,
             reached: noted.reached.as_slice(),
         };
         enough = tracer.turn(&note, cpu.state().pc);

@@ -1,14 +1,14 @@
 //! What reads and writes of the address map do.
-ghost use Rattle.std.specs.Prelude.{◌≡◌, ◌+◌, ◌-◌, ◌*◌, ◌≤◌, ◌<◌, length, slice_index, slice_set, ◌++◌, ◌∷◌, []};
+ghost use Rattle.std.specs.Prelude.{◌≡◌, ◌+◌, ◌-◌, ◌*◌, ◌≤◌, ◌<◌, true, length, slice_index, slice_set, ◌++◌, ◌∷◌, []};
 ghost use Rattle.std.specs.Int.{from_bool};
 ghost use Rattle.cpu_core.specs.Course.{read_of, write_of};
 ghost use Rattle.lockstep_board.specs.Budget.{reaches_device};
-ghost use Rattle.board_map.specs.Map.{row_of};
+ghost use Rattle.board_map.specs.Map.{IsWithin, row_of};
 ghost use Rattle.catchup_engine.specs.Lags.{lagging_at};
-ghost use Rattle.catchup_engine.specs.Bus.{Does, at_clock};
+ghost use Rattle.catchup_engine.specs.Bus.{Does, at_clock, is_private};
 ghost use Rattle.lockstep_board.specs.Memory.{memory_byte};
 ghost use Rattle.avg_device.specs.Tick.{vg_reset};
-ghost use Rattle.lockstep_board.specs.Wires.{byte_put, byte_read, in0_byte};
+ghost use Rattle.lockstep_board.specs.Wires.{Wires, byte_put, byte_read, in0_byte};
 
 use crate::bus::{BoardBus, PROGRAM_START};
 use avg_device::VectorUnit;
@@ -86,11 +86,12 @@ impl<V: VectorUnit, P: SoundUnit, C: CellUnit, D: DividerUnit> BoardBus<V, P, C,
         self.program[usize::from(addr) - usize::from(PROGRAM_START)]
     }
 
-    /// The byte at an address of the RAM or of the program ROM.
+    /// The byte at an address of the RAM or of the program ROM. A read gives it as long as these two
+    /// stay, whatever the devices do.
     #[inline(always)]
     pub fn private_byte(&self, addr: u16) -> u8
         requires { is_private addr ≡ true }
-        ensures { result ≡ byte_read addr self.now.wires }
+        ensures { (w : Wires) → w.ram ≡ self.now.wires.ram → w.program ≡ self.now.wires.program → result ≡ byte_read addr w }
     {
         if addr >= PROGRAM_START {
             self.program_at(addr)
@@ -123,6 +124,7 @@ impl<V: VectorUnit, P: SoundUnit, C: CellUnit, D: DividerUnit> BoardBus<V, P, C,
     #[tactic(auto, using(board_base::proofs::TickLaws::level, crate::proofs::SettledLaws::settled, crate::proofs::SettledLaws::brought), unfolding(lockstep_board::specs::Wires::byte_read, lockstep_board::specs::Budget::reaches_device))]
     pub fn byte_by(&mut self, addr: u16, row: Row) -> u8
         requires row { row ≡ row_of addr }
+        requires inside { IsWithin row }
         ensures byte { result ≡ byte_read addr (at_clock (self.old.wires.clock - 1) self.old.wires) }
         ensures does { Does self.old self.new self.old.wires (2 * from_bool (reaches_device (read_of addr result))) }
         ensures current { lagging_at (row_of addr).reads self.new.lagging ≡ 0 }
@@ -159,6 +161,7 @@ impl<V: VectorUnit, P: SoundUnit, C: CellUnit, D: DividerUnit> BoardBus<V, P, C,
     #[tactic(auto, using(board_base::proofs::TickLaws::level, crate::proofs::SettledLaws::settled, crate::proofs::DividerLaws::latches), unfolding(lockstep_board::specs::Wires::byte_put, lockstep_board::specs::Budget::reaches_device))]
     pub fn put_by(&mut self, addr: u16, row: Row, value: u8)
         requires row { row ≡ row_of addr }
+        requires inside { IsWithin row }
         requires room { length self.old.wires.written < self.old.rooms.board }
         requires begun { 1 ≤ self.old.wires.clock }
         ensures does { Does self.old self.new (at_clock self.old.wires.clock (byte_put addr value (at_clock (self.old.wires.clock - 1) self.old.wires))) (2 * from_bool (reaches_device (write_of addr value))) }

@@ -1,11 +1,11 @@
-use Rattle.std.proofs.Common.{not, [], ap, sym, ◌∙◌, refl, arith}
+use Rattle.std.proofs.Common.{◌+◌, ◌-◌, [], length, ap, sym, ◌∙◌, refl, arith}
 use Rattle.board_base.specs.Cpu.{CpuValue}
 use Rattle.catchup_engine.specs.Notes.{noting}
 use Rattle.catchup_engine.specs.Quiet.{passed, quiet_room}
-use Rattle.lockstep_board.specs.Wires.{devices_ticked}
+use Rattle.lockstep_board.specs.Wires.{byte_read, devices_ticked}
 use Rattle.catchup_engine.proofs.CalmLaws.{none-pending}
 use Rattle.catchup_engine.proofs.CalmRuns.{calm-room}
-use Rattle.catchup_engine.proofs.NotedRuns.{never, noted-by, noted-goes, noted-smaller, noted-starts}
+use Rattle.catchup_engine.proofs.NotedRuns.{noted-by, noted-goes, noted-short, noted-smaller, noted-starts}
 use Rattle.catchup_engine.proofs.Notes.{opcode_note}
 use Rattle.catchup_engine.proofs.OpcodeLaws.{reads-opcode}
 use Rattle.catchup_engine.proofs.noted.trace_calmly.Goals as goal
@@ -21,8 +21,8 @@ pub loop-goes_on-init : goal.loop-goes_on-init
 loop-goes_on-init g c = record {
   at =
       rw (c.new.ensures.none, c.new.ensures.bus) (noted-starts g.T.Tracer.next g.T.Tracer.has_enough c.args.tape.now c.args.limit c.calm_since-calm.result c.args.cpu
-      c.args.bus.now c.args.tracer.now c.requires.limit c.requires.range c.requires.between c.requires.room c.requires.fits c.requires.goes_on c.calm_since-calm.ensures.calm
-      c.calm_since-calm.ensures.until);
+      c.args.bus.now c.args.tracer.now c.requires.limit c.requires.range c.requires.between c.requires.room c.requires.fits c.requires.goes_on c.requires.opcode
+      c.calm_since-calm.ensures.calm c.calm_since-calm.ensures.until);
   bus = refl;
   reached = refl;
 }
@@ -31,100 +31,120 @@ pub instruction-fetched-requires-clause-room : goal.instruction-fetched-requires
 instruction-fetched-requires-clause-room g c =
     let room = calm-room c.args.tape.now c.args.limit [] c.calm_since-calm.result c.args.cpu c.loop-goes_on.cpu c.args.bus.now c.loop-goes_on.noted.quiet.bus.now
     c.loop-goes_on.noted.quiet.made c.loop-goes_on.goes_on c.loop-goes_on-test.true c.requires.limit c.requires.room c.loop-goes_on.invariant.at.at in
-    let none = ap (λ k. k.clocks) c.begin.ensures.same in
+    let none = ap length c.begin.ensures.none in
     let same = ap (λ k. quiet_room k.quiet.made k.quiet.bus.now) c.begin.ensures.same in
     omega (arith, room, none, same)
 
+pub overflow_sub-clocks : goal.overflow_sub-clocks
+overflow_sub-clocks g c =
+    let t = c.loop-goes_on.noted.quiet.bus.now in
+    let made = c.loop-goes_on.noted.quiet.made in
+    let start =
+    ap (λ l. noting (passed c.begin.new.self.quiet.made c.begin.new.self.quiet.bus.now) l) c.begin.ensures.none
+    ∙ ap (λ k. noting (passed k.quiet.made k.quiet.bus.now) []) c.begin.ensures.same in
+    let did =
+    noted-by c.args.tape.now.entries (λ k. noting (passed k.quiet.made k.quiet.bus.now) k.reached.now) (λ k. k.quiet.bus.now) (λ k. k.quiet.bus.ghost_name)
+    (λ k. k.reached.ghost_name) (λ x a b h. h) c.loop-goes_on.cpu c.instruction-fetched.new.self made t c.begin.new.self c.instruction-fetched.new.bus start
+    (ap (λ k. k.quiet.bus.now) c.begin.ensures.same) c.instruction-fetched.ensures.runs in
+    let short =
+    noted-short g.T.Tracer.next g.T.Tracer.has_enough c.args.tape.now c.args.limit c.calm_since-calm.result c.args.cpu c.loop-goes_on.cpu c.instruction-fetched.new.self
+    c.args.bus.now t c.instruction-fetched.new.bus.quiet.bus.now made c.instruction-fetched.new.bus.quiet.made c.instruction-fetched.new.bus.reached.now c.args.tracer.now
+    c.loop-goes_on.tracer c.loop-goes_on.enough c.loop-goes_on.goes_on c.loop-goes_on-test.true c.loop-goes_on.invariant.at did.runs c.instruction-fetched.ensures.boundary in
+    let later = short.later in
+    let few = short.few in
+    let most = short.reached in
+    let from = c.clock-start.ensures ∙ ap (λ k. k.quiet.bus.now.wires.clock + k.quiet.made) c.begin.ensures.same in
+    let to = c.clock.ensures in
+    omega (arith, later, from, to)
+
+pub overflow_cast-clocks : goal.overflow_cast-clocks
+overflow_cast-clocks g c =
+    let t = c.loop-goes_on.noted.quiet.bus.now in
+    let made = c.loop-goes_on.noted.quiet.made in
+    let start =
+    ap (λ l. noting (passed c.begin.new.self.quiet.made c.begin.new.self.quiet.bus.now) l) c.begin.ensures.none
+    ∙ ap (λ k. noting (passed k.quiet.made k.quiet.bus.now) []) c.begin.ensures.same in
+    let did =
+    noted-by c.args.tape.now.entries (λ k. noting (passed k.quiet.made k.quiet.bus.now) k.reached.now) (λ k. k.quiet.bus.now) (λ k. k.quiet.bus.ghost_name)
+    (λ k. k.reached.ghost_name) (λ x a b h. h) c.loop-goes_on.cpu c.instruction-fetched.new.self made t c.begin.new.self c.instruction-fetched.new.bus start
+    (ap (λ k. k.quiet.bus.now) c.begin.ensures.same) c.instruction-fetched.ensures.runs in
+    let short =
+    noted-short g.T.Tracer.next g.T.Tracer.has_enough c.args.tape.now c.args.limit c.calm_since-calm.result c.args.cpu c.loop-goes_on.cpu c.instruction-fetched.new.self
+    c.args.bus.now t c.instruction-fetched.new.bus.quiet.bus.now made c.instruction-fetched.new.bus.quiet.made c.instruction-fetched.new.bus.reached.now c.args.tracer.now
+    c.loop-goes_on.tracer c.loop-goes_on.enough c.loop-goes_on.goes_on c.loop-goes_on-test.true c.loop-goes_on.invariant.at did.runs c.instruction-fetched.ensures.boundary in
+    let later = short.later in
+    let few = short.few in
+    let most = short.reached in
+    let from = c.clock-start.ensures ∙ ap (λ k. k.quiet.bus.now.wires.clock + k.quiet.made) c.begin.ensures.same in
+    let to = c.clock.ensures in
+    omega (arith, few, from, to)
+
 pub invariant_of-note : goal.invariant_of-note
-invariant_of-note g c = record {
-  clocks = c.instruction-fetched.ensures.fits.2;
-  reached = rw c.as_slice.ensures c.instruction-fetched.ensures.fits.1;
-}
-
-pub loop-goes_on-smaller-then-not-enough : goal.loop-goes_on-smaller-then-not-enough
-loop-goes_on-smaller-then-not-enough g c =
+invariant_of-note g c =
     let t = c.loop-goes_on.noted.quiet.bus.now in
     let made = c.loop-goes_on.noted.quiet.made in
     let start =
-    ap (λ l. noting (passed c.begin.new.self.quiet.made c.begin.new.self.quiet.bus.now) c.begin.new.self.opcode c.begin.new.self.clocks l) c.begin.ensures.none
-    ∙ ap (λ k. noting (passed k.quiet.made k.quiet.bus.now) k.opcode k.clocks []) c.begin.ensures.same in
+    ap (λ l. noting (passed c.begin.new.self.quiet.made c.begin.new.self.quiet.bus.now) l) c.begin.ensures.none
+    ∙ ap (λ k. noting (passed k.quiet.made k.quiet.bus.now) []) c.begin.ensures.same in
     let did =
-    noted-by c.args.tape.now.entries (λ k. noting (passed k.quiet.made k.quiet.bus.now) k.opcode k.clocks k.reached.now) (λ k. k.quiet.bus.now) (λ k. k.quiet.bus.ghost_name)
+    noted-by c.args.tape.now.entries (λ k. noting (passed k.quiet.made k.quiet.bus.now) k.reached.now) (λ k. k.quiet.bus.now) (λ k. k.quiet.bus.ghost_name)
     (λ k. k.reached.ghost_name) (λ x a b h. h) c.loop-goes_on.cpu c.instruction-fetched.new.self made t c.begin.new.self c.instruction-fetched.new.bus start
     (ap (λ k. k.quiet.bus.now) c.begin.ensures.same) c.instruction-fetched.ensures.runs in
-    noted-smaller g.T.Tracer.next g.T.Tracer.has_enough c.args.tape.now c.args.limit c.calm_since-calm.result c.args.cpu c.loop-goes_on.cpu c.instruction-fetched.new.self
-    c.args.bus.now t c.instruction-fetched.new.bus.quiet.bus.now made c.instruction-fetched.new.bus.quiet.made c.instruction-fetched.new.bus.opcode
-    c.instruction-fetched.new.bus.clocks c.instruction-fetched.new.bus.reached.now c.args.tracer.now c.loop-goes_on.tracer c.loop-goes_on.enough c.loop-goes_on.goes_on
-    c.loop-goes_on-test.true c.loop-goes_on.invariant.at did.runs c.instruction-fetched.ensures.boundary
-
-pub loop-goes_on-preserved-then-not-enough : goal.loop-goes_on-preserved-then-not-enough
-loop-goes_on-preserved-then-not-enough g c =
-    let t = c.loop-goes_on.noted.quiet.bus.now in
-    let made = c.loop-goes_on.noted.quiet.made in
-    let start =
-    ap (λ l. noting (passed c.begin.new.self.quiet.made c.begin.new.self.quiet.bus.now) c.begin.new.self.opcode c.begin.new.self.clocks l) c.begin.ensures.none
-    ∙ ap (λ k. noting (passed k.quiet.made k.quiet.bus.now) k.opcode k.clocks []) c.begin.ensures.same in
-    let did =
-    noted-by c.args.tape.now.entries (λ k. noting (passed k.quiet.made k.quiet.bus.now) k.opcode k.clocks k.reached.now) (λ k. k.quiet.bus.now) (λ k. k.quiet.bus.ghost_name)
-    (λ k. k.reached.ghost_name) (λ x a b h. h) c.loop-goes_on.cpu c.instruction-fetched.new.self made t c.begin.new.self c.instruction-fetched.new.bus start
-    (ap (λ k. k.quiet.bus.now) c.begin.ensures.same) c.instruction-fetched.ensures.runs in
-    let u = c.instruction-fetched.new.bus.quiet.bus.now in
-    let n = c.instruction-fetched.new.bus.quiet.made in
-    let f = c.instruction-fetched.new.self in
-    let calm = c.calm_since-calm.result in
-    record {
-      at =
-          noted-goes g.T.Tracer.next g.T.Tracer.has_enough c.args.tape.now c.args.limit calm c.args.cpu c.loop-goes_on.cpu f c.args.bus.now t u made n
-          c.instruction-fetched.new.bus.opcode c.instruction-fetched.new.bus.clocks c.instruction-fetched.new.bus.reached.now c.args.tracer.now c.loop-goes_on.tracer
-          c.turn-enough.new.self c.loop-goes_on.enough c.loop-goes_on.goes_on c.lasts-goes_on.result c.turn-enough.result c.loop-goes_on-test.true c.requires.limit
-          c.loop-goes_on.invariant.at did.runs c.instruction-fetched.ensures.boundary c.instruction-fetched.ensures.fits.0 did.lines (λ _. c.lasts-goes_on.ensures.wrap)
-          (λ trace is. c.turn-enough.ensures.next trace
-          (ap (λ l. opcode_note (noting (passed n u) c.instruction-fetched.new.bus.opcode c.instruction-fetched.new.bus.clocks l)) c.as_slice.ensures ∙ is)
-          ∙ ap (λ (k : CpuValue). g.T.Tracer.next c.loop-goes_on.tracer trace k.pc) (c.behind-cpu.view_is ∙ c.state.ensures.value)) c.turn-enough.ensures.enough (λ on. sym c.lasts-goes_on.ensures.value ∙ on) (λ _. c.if-not-enough.true);
-      bus = did.same ∙ ap (λ k. k.quiet.bus.ghost_name) c.begin.ensures.same ∙ c.loop-goes_on.invariant.bus;
-      reached = did.same_then ∙ c.begin.ensures.same_reference ∙ c.loop-goes_on.invariant.reached;
-    }
+    let short =
+    noted-short g.T.Tracer.next g.T.Tracer.has_enough c.args.tape.now c.args.limit c.calm_since-calm.result c.args.cpu c.loop-goes_on.cpu c.instruction-fetched.new.self
+    c.args.bus.now t c.instruction-fetched.new.bus.quiet.bus.now made c.instruction-fetched.new.bus.quiet.made c.instruction-fetched.new.bus.reached.now c.args.tracer.now
+    c.loop-goes_on.tracer c.loop-goes_on.enough c.loop-goes_on.goes_on c.loop-goes_on-test.true c.loop-goes_on.invariant.at did.runs c.instruction-fetched.ensures.boundary in
+    let later = short.later in
+    let few = short.few in
+    let most = short.reached in
+    let from = c.clock-start.ensures ∙ ap (λ k. k.quiet.bus.now.wires.clock + k.quiet.made) c.begin.ensures.same in
+    let to = c.clock.ensures in
+    let same = ap length c.as_slice.ensures in
+    record { clocks = omega (arith, few, from, to); reached = omega (arith, most, from, to, same) }
 
 pub loop-goes_on-smaller : goal.loop-goes_on-smaller
 loop-goes_on-smaller g c =
     let t = c.loop-goes_on.noted.quiet.bus.now in
     let made = c.loop-goes_on.noted.quiet.made in
     let start =
-    ap (λ l. noting (passed c.begin.new.self.quiet.made c.begin.new.self.quiet.bus.now) c.begin.new.self.opcode c.begin.new.self.clocks l) c.begin.ensures.none
-    ∙ ap (λ k. noting (passed k.quiet.made k.quiet.bus.now) k.opcode k.clocks []) c.begin.ensures.same in
+    ap (λ l. noting (passed c.begin.new.self.quiet.made c.begin.new.self.quiet.bus.now) l) c.begin.ensures.none
+    ∙ ap (λ k. noting (passed k.quiet.made k.quiet.bus.now) []) c.begin.ensures.same in
     let did =
-    noted-by c.args.tape.now.entries (λ k. noting (passed k.quiet.made k.quiet.bus.now) k.opcode k.clocks k.reached.now) (λ k. k.quiet.bus.now) (λ k. k.quiet.bus.ghost_name)
+    noted-by c.args.tape.now.entries (λ k. noting (passed k.quiet.made k.quiet.bus.now) k.reached.now) (λ k. k.quiet.bus.now) (λ k. k.quiet.bus.ghost_name)
     (λ k. k.reached.ghost_name) (λ x a b h. h) c.loop-goes_on.cpu c.instruction-fetched.new.self made t c.begin.new.self c.instruction-fetched.new.bus start
     (ap (λ k. k.quiet.bus.now) c.begin.ensures.same) c.instruction-fetched.ensures.runs in
     noted-smaller g.T.Tracer.next g.T.Tracer.has_enough c.args.tape.now c.args.limit c.calm_since-calm.result c.args.cpu c.loop-goes_on.cpu c.instruction-fetched.new.self
-    c.args.bus.now t c.instruction-fetched.new.bus.quiet.bus.now made c.instruction-fetched.new.bus.quiet.made c.instruction-fetched.new.bus.opcode
-    c.instruction-fetched.new.bus.clocks c.instruction-fetched.new.bus.reached.now c.args.tracer.now c.loop-goes_on.tracer c.loop-goes_on.enough c.loop-goes_on.goes_on
-    c.loop-goes_on-test.true c.loop-goes_on.invariant.at did.runs c.instruction-fetched.ensures.boundary
+    c.args.bus.now t c.instruction-fetched.new.bus.quiet.bus.now made c.instruction-fetched.new.bus.quiet.made c.instruction-fetched.new.bus.reached.now c.args.tracer.now
+    c.loop-goes_on.tracer c.loop-goes_on.enough c.loop-goes_on.goes_on c.loop-goes_on-test.true c.loop-goes_on.invariant.at did.runs c.instruction-fetched.ensures.boundary
 
 pub loop-goes_on-preserved : goal.loop-goes_on-preserved
 loop-goes_on-preserved g c =
     let t = c.loop-goes_on.noted.quiet.bus.now in
     let made = c.loop-goes_on.noted.quiet.made in
     let start =
-    ap (λ l. noting (passed c.begin.new.self.quiet.made c.begin.new.self.quiet.bus.now) c.begin.new.self.opcode c.begin.new.self.clocks l) c.begin.ensures.none
-    ∙ ap (λ k. noting (passed k.quiet.made k.quiet.bus.now) k.opcode k.clocks []) c.begin.ensures.same in
+    ap (λ l. noting (passed c.begin.new.self.quiet.made c.begin.new.self.quiet.bus.now) l) c.begin.ensures.none
+    ∙ ap (λ k. noting (passed k.quiet.made k.quiet.bus.now) []) c.begin.ensures.same in
     let did =
-    noted-by c.args.tape.now.entries (λ k. noting (passed k.quiet.made k.quiet.bus.now) k.opcode k.clocks k.reached.now) (λ k. k.quiet.bus.now) (λ k. k.quiet.bus.ghost_name)
+    noted-by c.args.tape.now.entries (λ k. noting (passed k.quiet.made k.quiet.bus.now) k.reached.now) (λ k. k.quiet.bus.now) (λ k. k.quiet.bus.ghost_name)
     (λ k. k.reached.ghost_name) (λ x a b h. h) c.loop-goes_on.cpu c.instruction-fetched.new.self made t c.begin.new.self c.instruction-fetched.new.bus start
     (ap (λ k. k.quiet.bus.now) c.begin.ensures.same) c.instruction-fetched.ensures.runs in
     let u = c.instruction-fetched.new.bus.quiet.bus.now in
     let n = c.instruction-fetched.new.bus.quiet.made in
-    let f = c.instruction-fetched.new.self in
-    let calm = c.calm_since-calm.result in
+    let clocks = c.clock.result - c.clock-start.result in
+    let from = c.clock-start.ensures ∙ ap (λ k. k.quiet.bus.now.wires.clock + k.quiet.made) c.begin.ensures.same in
     record {
       at =
-          noted-goes g.T.Tracer.next g.T.Tracer.has_enough c.args.tape.now c.args.limit calm c.args.cpu c.loop-goes_on.cpu f c.args.bus.now t u made n
-          c.instruction-fetched.new.bus.opcode c.instruction-fetched.new.bus.clocks c.instruction-fetched.new.bus.reached.now c.args.tracer.now c.loop-goes_on.tracer
-          c.turn-enough.new.self c.loop-goes_on.enough c.loop-goes_on.goes_on _ c.turn-enough.result c.loop-goes_on-test.true c.requires.limit
-          c.loop-goes_on.invariant.at did.runs c.instruction-fetched.ensures.boundary c.instruction-fetched.ensures.fits.0 did.lines (λ on. never _ (ap not c.if-not-enough.false) on)
-          (λ trace is. c.turn-enough.ensures.next trace
-          (ap (λ l. opcode_note (noting (passed n u) c.instruction-fetched.new.bus.opcode c.instruction-fetched.new.bus.clocks l)) c.as_slice.ensures ∙ is)
-          ∙ ap (λ (k : CpuValue). g.T.Tracer.next c.loop-goes_on.tracer trace k.pc) (c.behind-cpu.view_is ∙ c.state.ensures.value)) c.turn-enough.ensures.enough (λ on. never _ (ap not c.if-not-enough.false) on) (λ on. never _ (ap not c.if-not-enough.false) on);
+          noted-goes g.T.Tracer.next g.T.Tracer.has_enough c.args.tape.now c.args.limit c.calm_since-calm.result c.args.cpu c.loop-goes_on.cpu c.instruction-fetched.new.self
+          c.args.bus.now t u made n c.byte_at-opcode.result clocks c.instruction-fetched.new.bus.reached.now c.args.tracer.now c.loop-goes_on.tracer c.turn-enough.new.self
+          c.loop-goes_on.enough c.loop-goes_on.goes_on c.goes_on-goes_on.result c.turn-enough.result c.loop-goes_on-test.true c.requires.limit c.loop-goes_on.invariant.at
+          did.runs c.instruction-fetched.ensures.boundary c.instruction-fetched.ensures.fits.0 did.lines
+          (λ w ram program. c.byte_at-opcode.ensures w (ram ∙ sym (ap (λ k. k.quiet.bus.now.wires.ram) c.begin.ensures.same))
+          (program ∙ sym (ap (λ k. k.quiet.bus.now.wires.program) c.begin.ensures.same))
+          ∙ ap (λ (k : CpuValue). byte_read k.pc w) (c.behind-cpu.view_is ∙ c.state.ensures.value))
+          (ap (λ k. k - c.clock-start.result) c.clock.ensures ∙ ap (λ k. u.wires.clock + n - k) from) c.goes_on-goes_on.ensures.wrap
+          (λ trace is. c.turn-enough.ensures.next trace (ap (λ l. opcode_note c.byte_at-opcode.result clocks l) c.as_slice.ensures ∙ is)
+          ∙ ap (λ (k : CpuValue). g.T.Tracer.next c.loop-goes_on.tracer trace k.pc) (c.behind-cpu-in-loop-goes_on.view_is ∙ c.state-in-loop-goes_on.ensures.value))
+          c.turn-enough.ensures.enough c.goes_on-goes_on.ensures.value;
       bus = did.same ∙ ap (λ k. k.quiet.bus.ghost_name) c.begin.ensures.same ∙ c.loop-goes_on.invariant.bus;
       reached = did.same_then ∙ c.begin.ensures.same_reference ∙ c.loop-goes_on.invariant.reached;
     }

@@ -9,8 +9,8 @@ loop-enough-init g c = record {
   fits = c.requires.fits;
 }
 
-pub loop-enough-preserved-then-goes_on : goal.loop-enough-preserved-then-goes_on
-loop-enough-preserved-then-goes_on g c = record {
+pub loop-enough-preserved-then-is_private : goal.loop-enough-preserved-then-is_private
+loop-enough-preserved-then-is_private g c = record {
   at =
       told-goes_calmly g.T.Tracer.next g.T.Tracer.has_enough c.args.tape.now.entries c.args.limit c.args.cpu c.args.bus.now c.loop-enough.bus c.trace_calmly-told.new.bus
       c.loop-enough.cpu c.trace_calmly-told.result.cpu c.args.tracer.now c.loop-enough.tracer c.trace_calmly-told.new.tracer c.trace_calmly-told.result.enough
@@ -30,7 +30,7 @@ loop-enough-preserved g c = record {
       c.args.tracer.now c.loop-enough.tracer f) c.loop-enough-test.true c.loop-enough.invariant.at)
       (sym c.is_done.ensures ∙ c.if-not-is_done.true) c.trace_running-trace.ensures.turned c.trace_running-trace.ensures.trace
       (c.turn-enough.ensures.next c.trace_running-trace.result c.of.ensures
-      ∙ ap (λ (k : CpuValue). g.T.Tracer.next c.loop-enough.tracer c.trace_running-trace.result k.pc) (c.behind-cpu.view_is ∙ c.state.ensures.value))
+      ∙ ap (λ (k : CpuValue). g.T.Tracer.next c.loop-enough.tracer c.trace_running-trace.result k.pc) (c.behind-cpu-else-goes_on.view_is ∙ c.state-else-goes_on.ensures.value))
       c.turn-enough.ensures.enough;
   fits = c.trace_running-trace.ensures.fits;
 }

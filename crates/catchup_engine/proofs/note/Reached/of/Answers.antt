@@ -3,8 +3,8 @@ use Rattle.catchup_engine.specs.declared.trace.Access.{Access}
 use Rattle.catchup_engine.proofs.Notes.{reaching-few}
 use Rattle.catchup_engine.proofs.note.Reached.of.Goals as goal
 
-pub add-requires : goal.add-requires
-add-requires c =
+pub add-requires-clause-few : goal.add-requires-clause-few
+add-requires-clause-few c =
     let items = take c.from.result c.trace.inside.accesses in
     let few = reaching-few (take c.loop-access.access-index items) in
     let front = length-take c.loop-access.access-index items in

@@ -1,57 +1,41 @@
-use Rattle.std.proofs.Common.{◌-◌, ap, ◌∙◌, refl, arith}
+use Rattle.std.proofs.Common.{◌-◌, length, ap, refl, arith}
 use Rattle.cpu_core.specs.Course.{read_of}
-use Rattle.catchup_engine.specs.Notes.{with_reached}
 use Rattle.catchup_engine.specs.Quiet.{passed}
 use Rattle.catchup_engine.specs.Trace.{access_at}
-use Rattle.catchup_engine.proofs.NotedSteps.{clock-after, clock-passed, plain-reached, program-plain, ram-plain}
+use Rattle.catchup_engine.proofs.NotedSteps.{plain-reached, program-plain, ram-plain, reached-most}
 use Rattle.catchup_engine.proofs.noted.NotedBusBus.read.Goals as goal
-use Rattle.catchup_engine.proofs.noted.NotedBusBus.read.Goals.{else-addr-via-then-addr+else-addr-lt-PROGRAM_START, else-addr-via-else-addr}
 
-pub overflow_sub-clock : goal.overflow_sub-clock
-overflow_sub-clock g c =
-    let q = c.read-value.new.self in
-    clock-after c.args.tape.now.entries (read_of c.args.addr c.read-value.result) c.args.self.now.quiet.made q.made c.clock-clock.result
-    c.args.self.now.quiet.bus.now q.bus.now c.read-value.ensures.step.2 (rw c.count.ensures at c.clock-clock.ensures)
-
-pub add-requires : goal.add-requires
-add-requires g c = rw c.count.ensures (let few = c.requires.fits.1 in let room = c.requires.room in omega (arith, few, room))
-
-pub returns-then-addr-lt-PROGRAM_START-clause-step : goal.returns-then-addr-lt-PROGRAM_START-clause-step
-returns-then-addr-lt-PROGRAM_START-clause-step g c =
-    let q = c.read-value.new.self in
-    let x = read_of c.args.addr c.read-value.result in
-    let l = c.args.self.now.reached.now in
-    rw c.count.ensures (
-      c.read-value.ensures.step.0,
+pub returns-then-addr-ge-PROGRAM_START-clause-step : goal.returns-then-addr-ge-PROGRAM_START-clause-step
+returns-then-addr-ge-PROGRAM_START-clause-step g c =
+    let q = c.read.new.self in
+    let x = read_of c.args.addr c.read.result in (
+      c.read.ensures.step.0,
       refl,
-      c.read-value.ensures.step.1,
+      c.read.ensures.step.1,
       record {
-        step = c.read-value.ensures.step.2;
-        opcode = refl;
-        clocks = refl;
-        reached =
-            (rw c.count.ensures at c.add.ensures)
-            ∙ ap (λ n. with_reached l (access_at (n - 1) x)) (clock-passed q.made c.clock-clock.result q.bus.now (rw c.count.ensures at c.clock-clock.ensures));
+        step = c.read.ensures.step.2;
+        reached = plain-reached c.args.self.now.reached.now ((passed q.made q.bus.now).wires.clock - 1) x
+            (program-plain c.args.addr c.read.result c.if-addr-ge-PROGRAM_START.true c.ranges.addr.fits);
       },
     )
 
-pub returns-else-addr-clause-step : goal.returns-else-addr-clause-step
-returns-else-addr-clause-step g c =
-    let q = c.read-value.new.self in
-    let a = c.args.addr in
-    let x = read_of a c.read-value.result in
-    let l = c.args.self.now.reached.now in
-    rw c.count.ensures (
-      c.read-value.ensures.step.0,
+pub returns-then-addr-clause-step : goal.returns-then-addr-clause-step
+returns-then-addr-clause-step g c =
+    let q = c.read-then-addr.new.self in
+    let x = read_of c.args.addr c.read-then-addr.result in (
+      c.read-then-addr.ensures.step.0,
       refl,
-      c.read-value.ensures.step.1,
+      c.read-then-addr.ensures.step.1,
       record {
-        step = c.read-value.ensures.step.2;
-        opcode = refl;
-        clocks = refl;
-        reached = plain-reached l ((passed q.made q.bus.now).wires.clock - 1) x (elim c.else-addr.branch [
-          | else-addr-via-then-addr+else-addr-lt-PROGRAM_START w ↦ program-plain a c.read-value.result w.if-addr-lt-PROGRAM_START.false c.ranges.addr.fits
-          | else-addr-via-else-addr w ↦ ram-plain a c.read-value.result w.if-addr.false
-        ]);
+        step = c.read-then-addr.ensures.step.2;
+        reached = plain-reached c.args.self.now.reached.now ((passed q.made q.bus.now).wires.clock - 1) x (ram-plain c.args.addr c.read-then-addr.result c.if-addr.true);
       },
     )
+
+pub returns-else-addr-clause-room : goal.returns-else-addr-clause-room
+returns-else-addr-clause-room g c =
+    let l = c.args.self.now.reached.now in
+    let most = reached-most l (access_at ((passed 0 c.read_noted.new.bus).wires.clock - 1) (read_of c.args.addr c.read_noted.result)) (length l) (omega arith) in
+    let same = ap length c.read_noted.ensures.noted.reached in
+    let room = c.read_noted.ensures.room in
+    omega (arith, most, same, room)
