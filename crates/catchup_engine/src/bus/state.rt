@@ -209,7 +209,7 @@ impl<V: VectorUnit, P: SoundUnit, C: CellUnit, D: DividerUnit> BoardBus<V, P, C,
         let _clock = self.clock;
     }
     /// Tells that the divider stands before its wrap. It does nothing.
-    #[tactic(auto, using(crate::proofs::SettledLaws::settled))]
+    #[tactic(auto, using(board_base::proofs::TickLaws::level, crate::proofs::SettledLaws::settled))]
     pub fn lemma_phase(&self)
         requires settled { lagging_of self.now.lagging ≡ 0 }
         ensures { self.now.wires.divider.phase < DIVIDER_PERIOD }
