@@ -2,7 +2,7 @@ use Rattle.std.proofs.Common.{ap, refl, sym, ◌∙◌}
 use Rattle.lockstep_board.specs.Order.{cleared}
 use Rattle.lockstep_board.proofs.Ended.{over-stop}
 use Rattle.board_watch.proofs.FollowLaws.{cut-part, followed-over, followed-part, followed-start, part-smaller, window-open}
-use Rattle.board_watch.proofs.rest.Rested.follow.Goals as goal
+use Rattle.board_watch.proofs.synced.SyncedMachine.follow.Goals as goal
 
 pub parts-init : goal.parts-init
 parts-init g c = record {
@@ -13,14 +13,14 @@ parts-init g c = record {
 pub returns-in_default-clause-taken : goal.returns-in_default-clause-taken
 returns-in_default-clause-taken g c =
     let p = c.in_default.ensures.part in
-    cut-part _ _ _ _ _ _ _ _ g.met.F.Follow.in_parts c.args.tape.now.entries c.args.limit _ c.parts.self.engine.now.board p.0 _ _ p.1 _ _ _ _ _
-    c.parts.invariant.followed c.parts.self.rest.placed c.parts.self.rest.empty p.2 p.3
+    cut-part _ _ _ _ _ _ _ _ g.met.F.Follow.in_parts c.args.tape.now.entries c.args.limit _ (g.M.Machine.value c.parts.self.machine.now).board p.0 _ _ p.1 _ _ _ _ _
+    c.parts.invariant.followed c.parts.self.is_synced.placed c.parts.self.is_synced.empty p.2 p.3
 
 pub parts-smaller : goal.parts-smaller
 parts-smaller g c =
     let p = c.in-Ok.ensures.part in
-    part-smaller _ _ c.args.tape.now.entries c.args.limit c.parts.self.engine.now.board p.0 c.part.new.self.engine.now.board c.parts.follower p.1 c.parts.self.rest.phase
-    p.2 p.5 c.part.ensures.boundary (window-open c.args.limit c.part.new.self.engine.now.board (sym c.in-Ok.ensures.stop ∙ c.in-Window.is))
+    part-smaller _ _ c.args.tape.now.entries c.args.limit (g.M.Machine.value c.parts.self.machine.now).board p.0 (g.M.Machine.value c.part.new.self.machine.now).board c.parts.follower p.1 c.parts.self.is_synced.phase
+    p.2 p.5 c.part.ensures.boundary (window-open c.args.limit (g.M.Machine.value c.part.new.self.machine.now).board (sym c.in-Ok.ensures.stop ∙ c.in-Window.is))
 
 pub parts-preserved : goal.parts-preserved
 parts-preserved g c =
@@ -28,17 +28,17 @@ parts-preserved g c =
     record {
       same = c.part.ensures.same ∙ c.parts.invariant.same;
       followed =
-          followed-part _ _ _ _ _ _ _ _ g.met.F.Follow.in_parts c.args.tape.now.entries c.args.limit _ c.parts.self.engine.now.board p.0 c.part.new.self.engine.now.board
-          _ _ p.1 c.part.new.follower _ _ _ _ _ _ c.parts.invariant.followed c.parts.self.rest.placed c.parts.self.rest.empty p.2 p.5 p.4 p.3 c.in-Ok.ensures.cause;
+          followed-part _ _ _ _ _ _ _ _ g.met.F.Follow.in_parts c.args.tape.now.entries c.args.limit _ (g.M.Machine.value c.parts.self.machine.now).board p.0 (g.M.Machine.value c.part.new.self.machine.now).board
+          _ _ p.1 c.part.new.follower _ _ _ _ _ _ c.parts.invariant.followed c.parts.self.is_synced.placed c.parts.self.is_synced.empty p.2 p.5 p.4 p.3 c.in-Ok.ensures.cause;
     }
 
 pub returns-in_default-stop : goal.returns-in_default-stop
 returns-in_default-stop g c =
     let p = c.in-Ok.ensures.part in
-    let there = c.part.new.self.engine.now.board in
+    let there = (g.M.Machine.value c.part.new.self.machine.now).board in
     let followed =
-    followed-part _ _ _ _ _ _ _ _ g.met.F.Follow.in_parts c.args.tape.now.entries c.args.limit _ c.parts.self.engine.now.board p.0 there
-    _ _ p.1 c.part.new.follower _ _ _ _ _ _ c.parts.invariant.followed c.parts.self.rest.placed c.parts.self.rest.empty p.2 p.5 p.4 p.3 c.in-Ok.ensures.cause in
+    followed-part _ _ _ _ _ _ _ _ g.met.F.Follow.in_parts c.args.tape.now.entries c.args.limit _ (g.M.Machine.value c.parts.self.machine.now).board p.0 there
+    _ _ p.1 c.part.new.follower _ _ _ _ _ _ c.parts.invariant.followed c.parts.self.is_synced.placed c.parts.self.is_synced.empty p.2 p.5 p.4 p.3 c.in-Ok.ensures.cause in
     let over = over-stop c.args.limit there c.part.ensures.boundary (λ w. c.in_default-stop.not-Window (c.in-Ok.ensures.stop ∙ w)) in
     let all = followed-over _ _ _ g.met.F.Follow.stands_still c.args.tape.now.entries c.args.limit _ there _ c.part.new.follower _ _ _ _ followed over in
     record {
