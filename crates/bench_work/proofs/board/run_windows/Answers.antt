@@ -1,5 +1,5 @@
 use Rattle.lockstep_board.specs.Run.{to_boundary}
-use Rattle.bench_work.proofs.board.run_rested.Goals as goal
+use Rattle.bench_work.proofs.board.run_windows.Goals as goal
 
 pub returns-clause-board : goal.returns-clause-board
 unfolding to_boundary
