@@ -32,6 +32,31 @@ pub struct SyncedMachine<'a, M: Machine> {
     ghost is_synced: { IsSynced (M.value machine.now) } by { Prim.hlevel props },
 }
 
+/// Takes on another board, and leaves the machine synchronised.
+fn load_synced<M: Machine>(machine: &mut M, state: &BoardState)
+    requires synced { IsSynced (M.value machine.old) }
+    requires undocumented { IfSome state.now.cpu.jam (λ o. row_of o ≡ None) }
+    requires place { IfSome state.now.cpu.mid (λ _. IsMiddle state.now.cpu) }
+    ensures value { M.value machine.new ≡ record (M.value machine.old) {
+      board = record { cpu = state.now.cpu; wires = reloaded (M.value machine.old).board.wires state.now };
+      calls = counted_on (M.value machine.old).calls 5;
+    } }
+    ensures synced { IsSynced (M.value machine.new) }
+{
+    machine.load(state);
+    machine.lemma_range();
+}
+
+/// Forgets the records of a settled machine, and leaves it synchronised.
+fn forget_records<M: Machine>(machine: &mut M)
+    requires settled { (M.value machine.old).lagging ≡ 0 }
+    ensures value { M.value machine.new ≡ record (M.value machine.old) { board = cleared (M.value machine.old).board } }
+    ensures synced { IsSynced (M.value machine.new) }
+{
+    machine.clear_trails();
+    machine.lemma_range();
+}
+
 /// Runs the board to the end of a run, or to the first boundary after the divider's next wrap where
 /// that comes first.
 #[tactic(auto, unfolding(lockstep_board::specs::Run::to_boundary, lockstep_board::specs::Run::to_cut))]
@@ -86,8 +111,7 @@ impl<'a, M: Machine> SyncedMachine<'a, M> {
           calls = counted_on (value_of self.old).calls 5;
         } }
     {
-        self.machine.load(state);
-        self.machine.lemma_range();
+        load_synced(self.machine, state);
     }
 
     /// Runs up to the end of a window, the first one of `watch`, and hands its records to a watcher.
@@ -123,8 +147,7 @@ impl<'a, M: Machine> SyncedMachine<'a, M> {
         self.machine.settle();
         let upto = self.machine.clock();
         let taken = watcher.take(&self.machine.trails(), upto, out);
-        self.machine.clear_trails();
-        self.machine.lemma_range();
+        forget_records(self.machine);
         let Ok(()) = taken else {
             return Err(SinkFault);
         };
@@ -189,8 +212,7 @@ impl<'a, M: Machine> SyncedMachine<'a, M> {
         let stop = self.machine.run_traced(tape, limit, follower);
         self.machine.settle();
         let handed = follower.take_part(&self.machine.trails(), out);
-        self.machine.clear_trails();
-        self.machine.lemma_range();
+        forget_records(self.machine);
         let Ok(()) = handed else {
             return Err(SinkFault);
         };
@@ -235,8 +257,7 @@ impl<'a, M: Machine> SyncedMachine<'a, M> {
     {
         let _stop = self.machine.step(tape);
         self.machine.settle();
-        self.machine.clear_trails();
-        self.machine.lemma_range();
+        forget_records(self.machine);
     }
 
     /// Makes the turns up to a limit, or up to the end of a window where that comes first, and forgets
@@ -251,8 +272,7 @@ impl<'a, M: Machine> SyncedMachine<'a, M> {
     {
         let _stop = self.machine.run(tape, limit);
         self.machine.settle();
-        self.machine.clear_trails();
-        self.machine.lemma_range();
+        forget_records(self.machine);
     }
 
     /// Makes some turns, one at least, up to a limit, to where pc is one of these addresses, or to the
@@ -267,7 +287,6 @@ impl<'a, M: Machine> SyncedMachine<'a, M> {
     {
         self.machine.run_to_break(tape, limit, addresses);
         self.machine.settle();
-        self.machine.clear_trails();
-        self.machine.lemma_range();
+        forget_records(self.machine);
     }
 }
