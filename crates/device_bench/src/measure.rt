@@ -5,6 +5,7 @@ use bench_work::{BoardTally, Form, Registers, Tally, Work, count, draw, play, ru
 use board_base::{CLOCK_LIMIT, CpuState, OutOfMemory, VectorMemory};
 use board_watch::SyncedMachine;
 use catchup_engine::Machine;
+use pokey_chip::SoundUnit;
 use std::alloc::Global;
 use std::io;
 use std::time::{CpuClock, Duration};

@@ -13,7 +13,7 @@ unreachable-requires g c =
 pub returns : goal.returns
 unfolding saved_bytes
 returns g c =
-    let now = (g.M.Machine.value c.args.synced.now.machine.now) in
+    let now = g.M.Machine.value c.args.synced.now.machine.now in
     let read = c.read.ensures.again (board_of now.board.cpu now.board.wires) c.requires.whole (inl c.requires.bytes) in
     let same : c.in-Ok.state ≡ board_of now.board.cpu now.board.wires = cc in
     record { same = c.load.ensures.same; value = loaded-same now (g.M.Machine.value c.load.new.self.machine.now) c.in-Ok.state c.args.synced.now.is_synced.empty c.load.ensures.value same }
