@@ -1,19 +1,15 @@
 ghost use Rattle.std.specs.Prelude.{◌≡◌, ◌≤◌, [], ⊤};
-ghost use Rattle.lockstep_board.specs.Order.{HasNoRecords, cleared, records_of};
+ghost use Rattle.lockstep_board.specs.Order.{cleared, records_of};
 ghost use Rattle.lockstep_board.specs.Run.{to_boundary};
-ghost use Rattle.board_watch.specs.Rested.{engine_of, loan_of};
+ghost use Rattle.board_watch.specs.SyncedMachine.{loan_of, value_of};
 ghost use Rattle.bench_work.specs.Boards.{empty_tallies, tallies_of, with_records};
 ghost use Rattle.bench_work.specs.BoardLaws.{tallied_in_parts};
 
 use crate::tally::Tally;
-use avg_device::VectorUnit;
 use board_base::{CLOCK_LIMIT, Trails};
-use board_watch::{Nowhere, Rested, Until, Watch};
-use catchup_engine::Engine;
-use earom_cells::CellUnit;
-use irq_watchdog::DividerUnit;
+use board_watch::{Nowhere, SyncedMachine, Until, Watch};
+use catchup_engine::Machine;
 use outside_io::{Sink, SinkFault};
-use pokey_chip::SoundUnit;
 use tape_ports::Tape;
 
 /// What records a board has made, part by part: strokes, levels of each POKEY, and latches and
@@ -63,35 +59,20 @@ impl Watch for BoardTally {
     }
 }
 
-/// Runs an engine at rest to the limit, and tells what records there were.
-fn run_rested<V: VectorUnit, P: SoundUnit, C: CellUnit, D: DividerUnit>(
-    rested: &mut Rested<'_, V, P, C, D>,
+/// Runs an engine to the limit, window by window, and tells what records there were.
+pub fn run_windows<M: Machine>(
+    synced: &mut SyncedMachine<'_, M>,
     tape: &Tape,
     limit: u64,
 ) -> BoardTally
     requires limit { limit ≤ CLOCK_LIMIT }
-    ensures same { loan_of rested.new ≡ loan_of rested.old }
-    ensures board { (engine_of rested.new).board ≡ cleared (to_boundary tape.now.entries limit (engine_of rested.old).board) }
-    ensures tally { result ≡ tallies_of (records_of (to_boundary tape.now.entries limit (engine_of rested.old).board)) }
+    ensures same { loan_of synced.new ≡ loan_of synced.old }
+    ensures board { (value_of synced.new).board ≡ cleared (to_boundary tape.now.entries limit (value_of synced.old).board) }
+    ensures tally { result ≡ tallies_of (records_of (to_boundary tape.now.entries limit (value_of synced.old).board)) }
 {
     let mut tally = BoardTally::new();
-    let Ok(_stop) = rested.watch(tape, Until::Boundary(limit), &mut tally, &mut Nowhere) else {
+    let Ok(_stop) = synced.watch(tape, Until::Boundary(limit), &mut tally, &mut Nowhere) else {
         unreachable!();
     };
     tally
-}
-
-/// Runs an engine to the limit, window by window, and tells what records there were.
-pub fn run_windows<V: VectorUnit, P: SoundUnit, C: CellUnit, D: DividerUnit>(
-    engine: &mut Engine<V, P, C, D>,
-    tape: &Tape,
-    limit: u64,
-) -> BoardTally
-    requires limit { limit ≤ CLOCK_LIMIT }
-    requires settled { engine.old.lagging ≡ 0 }
-    requires empty { HasNoRecords engine.old.board }
-    ensures board { engine.new.board ≡ cleared (to_boundary tape.now.entries limit engine.old.board) }
-    ensures tally { result ≡ tallies_of (records_of (to_boundary tape.now.entries limit engine.old.board)) }
-{
-    run_rested(&mut Rested::of(engine), tape, limit)
 }

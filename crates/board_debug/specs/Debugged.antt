@@ -9,7 +9,7 @@ use Rattle.debug_script.specs.Script.{script_of}
 use Rattle.debug_script.specs.Stops.{no_stops}
 use Rattle.board_debug.specs.declared.fault.DebugFault.{DebugFault}
 use Rattle.board_debug.specs.declared.fault.DebugFault.TheVariants.{BadCommand, SinkFault, OutOfMemory}
-use Rattle.board_watch.specs.Rest.{IsAtRest}
+use Rattle.board_watch.specs.Synced.{IsSynced}
 use Rattle.board_debug.specs.Session.{session_board, session_text}
 
 -- the whole text of these commands was written, and the engine stands for the board that they leave
@@ -17,7 +17,7 @@ pub record RanWhole (tape : TapeValue) (commands : List Command) (before now : E
   pub text : out1 ≡ grown out0 (session_text tape no_stops commands before.board)
   pub faults : faults1 ≡ faults0
   pub board : now.board ≡ session_board tape no_stops commands before.board
-  pub rest : IsAtRest now
+  pub rest : IsSynced now
 
 -- a first part of it was written, before a fault of the output
 pub record RanPart (tape : TapeValue) (commands : List Command) (before : EngineValue) (out0 out1 : Option (List ℕ)) (faults0 faults1 : ℕ) : Type 0 where

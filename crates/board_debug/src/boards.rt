@@ -10,7 +10,7 @@ ghost use Rattle.board_debug.specs.OneRun.{HasRoom, IsNextOf, IsReached, lesser}
 use crate::board_text::write_board;
 use avg_device::VectorUnit;
 use board_base::{BoardState, CLOCK_LIMIT};
-use catchup_engine::Engine;
+use catchup_engine::{Engine, Machine};
 use earom_cells::CellUnit;
 use irq_watchdog::DividerUnit;
 use keyframes::{Keyframes, go_to, keep_board};
@@ -41,29 +41,24 @@ fn next_above(clocks: &[u64], last: u64) -> Option<u64>
 }
 
 /// Keeps the boards of a run at some clocks, from the least to the greatest.
-fn keep_each<V: VectorUnit, P: SoundUnit, C: CellUnit, D: DividerUnit>(
-    engine: &mut Engine<V, P, C, D>,
-    keys: &mut Keyframes,
-    tape: &Tape,
-    clocks: &[u64],
-)
-    requires settled { engine.old.lagging ≡ 0 }
-    requires empty { HasNoRecords engine.old.board }
-    requires along { Along keys.old.kept tape.now.entries (run_start keys.old.kept engine.old.board) }
+fn keep_each<M: Machine>(machine: &mut M, keys: &mut Keyframes, tape: &Tape, clocks: &[u64])
+    requires settled { (M.value machine.old).lagging ≡ 0 }
+    requires empty { HasNoRecords (M.value machine.old).board }
+    requires along { Along keys.old.kept tape.now.entries (run_start keys.old.kept (M.value machine.old).board) }
     requires limit { All (λ clock. clock ≤ CLOCK_LIMIT) clocks.now }
-    ensures settled { engine.new.lagging ≡ 0 }
-    ensures empty { HasNoRecords engine.new.board }
-    ensures same { run_start keys.new.kept engine.new.board ≡ run_start keys.old.kept engine.old.board }
-    ensures along { Along keys.new.kept tape.now.entries (run_start keys.new.kept engine.new.board) }
+    ensures settled { (M.value machine.new).lagging ≡ 0 }
+    ensures empty { HasNoRecords (M.value machine.new).board }
+    ensures same { run_start keys.new.kept (M.value machine.new).board ≡ run_start keys.old.kept (M.value machine.old).board }
+    ensures along { Along keys.new.kept tape.now.entries (run_start keys.new.kept (M.value machine.new).board) }
     ensures done { HasRoom keys.old (length clocks.now) → (most : ℕ) → All (λ clock. clock ≤ most) clocks.now
-        → engine.new.done ≤ engine.old.done + (most - (run_start keys.old.kept engine.old.board).wires.clock) }
+        → (M.value machine.new).done ≤ (M.value machine.old).done + (most - (run_start keys.old.kept (M.value machine.old).board).wires.clock) }
     ensures reached { HasRoom keys.old (length clocks.now)
-        → All (λ clock. let b = run_start keys.old.kept engine.old.board in b.wires.clock ≤ clock → IsReached tape.now.entries b keys.new.kept clock) clocks.now }
+        → All (λ clock. let b = run_start keys.old.kept (M.value machine.old).board in b.wires.clock ≤ clock → IsReached tape.now.entries b keys.new.kept clock) clocks.now }
 {
     let mut last = keys.clock_of(0);
     while let Some(next) = next_above(clocks, last) {
-        go_to(engine, keys, tape, next);
-        keep_board(engine, keys);
+        go_to(machine, keys, tape, next);
+        keep_board(machine, keys);
         last = next;
     }
 }

@@ -8,43 +8,31 @@ ghost use Rattle.outside_io.specs.Sink.{Takes};
 ghost use Rattle.board_debug.specs.Session.{seen_in};
 
 use arrayvec::ArrayVec;
-use avg_device::VectorUnit;
-use catchup_engine::Engine;
+use catchup_engine::Machine;
 use debug_lines::{ROW, dis_line, mem_line, vdis_line};
 use debug_script::Span;
-use earom_cells::CellUnit;
-use irq_watchdog::DividerUnit;
 use outside_io::{Sink, SinkFault};
-use pokey_chip::SoundUnit;
 
 /// So many bytes from an address on, 16 at most.
-fn row<V: VectorUnit, P: SoundUnit, C: CellUnit, D: DividerUnit>(
-    engine: &Engine<V, P, C, D>,
-    address: u16,
-    count: u16,
-) -> ArrayVec<Option<u8>, ROW>
+fn row<M: Machine>(machine: &M, address: u16, count: u16) -> ArrayVec<Option<u8>, ROW>
     requires { count ≤ ROW }
-    ensures { result.items ≡ bytes_from (seen_in engine.now.board) address count }
+    ensures { result.items ≡ bytes_from (seen_in (M.value machine.now).board) address count }
 {
     let mut bytes = ArrayVec::new();
     for i in 0..count {
-        bytes.push(engine.byte_at(address.wrapping_add(i)));
+        bytes.push(machine.byte_at(address.wrapping_add(i)));
     }
     bytes
 }
 
 /// Writes bytes, in lines of 16.
-pub fn write_mem<V: VectorUnit, P: SoundUnit, C: CellUnit, D: DividerUnit, O: Sink>(
-    engine: &Engine<V, P, C, D>,
-    span: Span,
-    out: &mut O,
-) -> Result<(), SinkFault>
-    ensures taken { Takes (O.taken out.old) (O.taken out.new) (mem_text (seen_in engine.now.board) span.from span.count) result }
+pub fn write_mem<M: Machine, O: Sink>(machine: &M, span: Span, out: &mut O) -> Result<(), SinkFault>
+    ensures taken { Takes (O.taken out.old) (O.taken out.new) (mem_text (seen_in (M.value machine.now).board) span.from span.count) result }
     ensures cause { HasCause (O.faults out.old) (O.faults out.new) result }
 {
     for k in 0..span.count.div_ceil(16) {
         let address = span.from.wrapping_add(16 * k);
-        let bytes = row(engine, address, (span.count - 16 * k).min(16));
+        let bytes = row(machine, address, (span.count - 16 * k).min(16));
         let Ok(()) = out.write(mem_line(address, &bytes).bytes()) else {
             return Err(SinkFault);
         };
@@ -53,15 +41,12 @@ pub fn write_mem<V: VectorUnit, P: SoundUnit, C: CellUnit, D: DividerUnit, O: Si
 }
 
 /// The bytes from an address on, up to the first that can't be seen, three at most.
-fn instruction_bytes<V: VectorUnit, P: SoundUnit, C: CellUnit, D: DividerUnit>(
-    engine: &Engine<V, P, C, D>,
-    address: u16,
-) -> ArrayVec<u8, 3>
-    ensures { result.items ≡ readable (seen_in engine.now.board) address 3 }
+fn instruction_bytes<M: Machine>(machine: &M, address: u16) -> ArrayVec<u8, 3>
+    ensures { result.items ≡ readable (seen_in (M.value machine.now).board) address 3 }
 {
     let mut bytes = ArrayVec::new();
     for i in 0..3 {
-        match engine.byte_at(address.wrapping_add(i)) {
+        match machine.byte_at(address.wrapping_add(i)) {
             Some(byte) => bytes.push(byte),
             None => return bytes,
         }
@@ -70,17 +55,13 @@ fn instruction_bytes<V: VectorUnit, P: SoundUnit, C: CellUnit, D: DividerUnit>(
 }
 
 /// Writes instructions of the processor, a line each.
-pub fn write_dis<V: VectorUnit, P: SoundUnit, C: CellUnit, D: DividerUnit, O: Sink>(
-    engine: &Engine<V, P, C, D>,
-    span: Span,
-    out: &mut O,
-) -> Result<(), SinkFault>
-    ensures taken { Takes (O.taken out.old) (O.taken out.new) (dis_text (seen_in engine.now.board) span.from span.count) result }
+pub fn write_dis<M: Machine, O: Sink>(machine: &M, span: Span, out: &mut O) -> Result<(), SinkFault>
+    ensures taken { Takes (O.taken out.old) (O.taken out.new) (dis_text (seen_in (M.value machine.now).board) span.from span.count) result }
     ensures cause { HasCause (O.faults out.old) (O.faults out.new) result }
 {
     let mut address = span.from;
     for _shown in 0..span.count {
-        let (line, size) = dis_line(address, &instruction_bytes(engine, address));
+        let (line, size) = dis_line(address, &instruction_bytes(machine, address));
         let Ok(()) = out.write(line.bytes()) else {
             return Err(SinkFault);
         };
@@ -90,14 +71,11 @@ pub fn write_dis<V: VectorUnit, P: SoundUnit, C: CellUnit, D: DividerUnit, O: Si
 }
 
 /// The word of the vector generator at an address.
-fn word_at<V: VectorUnit, P: SoundUnit, C: CellUnit, D: DividerUnit>(
-    engine: &Engine<V, P, C, D>,
-    address: u16,
-) -> u16
-    ensures { result ≡ word_seen (seen_in engine.now.board) address }
+fn word_at<M: Machine>(machine: &M, address: u16) -> u16
+    ensures { result ≡ word_seen (seen_in (M.value machine.now).board) address }
 {
-    let low = engine.byte_at(address).unwrap_or(0);
-    let high = engine.byte_at(address.wrapping_add(1)).unwrap_or(0);
+    let low = machine.byte_at(address).unwrap_or(0);
+    let high = machine.byte_at(address.wrapping_add(1)).unwrap_or(0);
     u16::from_le_bytes([low, high])
 }
 
@@ -109,18 +87,18 @@ fn further_on(address: u16, n: u8) -> u16
 }
 
 /// Writes instructions of the vector generator, a line each.
-pub fn write_vdis<V: VectorUnit, P: SoundUnit, C: CellUnit, D: DividerUnit, O: Sink>(
-    engine: &Engine<V, P, C, D>,
+pub fn write_vdis<M: Machine, O: Sink>(
+    machine: &M,
     span: Span,
     out: &mut O,
 ) -> Result<(), SinkFault>
-    ensures taken { Takes (O.taken out.old) (O.taken out.new) (vdis_text (seen_in engine.now.board) span.from span.count) result }
+    ensures taken { Takes (O.taken out.old) (O.taken out.new) (vdis_text (seen_in (M.value machine.now).board) span.from span.count) result }
     ensures cause { HasCause (O.faults out.old) (O.faults out.new) result }
 {
     let mut address = span.from;
     for _shown in 0..span.count {
-        let second = word_at(engine, further_on(address, 2));
-        let (line, size) = vdis_line(address, word_at(engine, address), second);
+        let second = word_at(machine, further_on(address, 2));
+        let (line, size) = vdis_line(address, word_at(machine, address), second);
         let Ok(()) = out.write(line.bytes()) else {
             return Err(SinkFault);
         };

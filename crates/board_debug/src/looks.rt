@@ -1,66 +1,52 @@
 //! What a session looks at between two turns.
 ghost use Rattle.std.specs.Prelude.{◌≡◌, ◌==◌, find, map, length, true, unwrap_or};
 ghost use Rattle.lockstep_board.specs.Lockstep as lockstep;
-ghost use Rattle.board_watch.specs.Rested.{engine_of};
+ghost use Rattle.board_watch.specs.SyncedMachine.{value_of};
 ghost use Rattle.board_debug.specs.Looks.{IsBefore, break_look, jam_look, look_after, look_before, look_until, vg_look, watch_look, watched_byte};
 
 use crate::found::Found;
 use arrayvec::ArrayVec;
-use avg_device::VectorUnit;
-use board_watch::Rested;
+use board_watch::SyncedMachine;
+use catchup_engine::Machine;
 use debug_script::{STOPS, Stops};
-use earom_cells::CellUnit;
-use irq_watchdog::DividerUnit;
-use pokey_chip::SoundUnit;
 
 /// Whether the board is jammed.
-fn look_at_jam<V: VectorUnit, P: SoundUnit, C: CellUnit, D: DividerUnit>(
-    rested: &Rested<'_, V, P, C, D>,
-) -> Option<Found>
-    ensures { result ≡ jam_look (engine_of rested.now).board }
+fn look_at_jam<M: Machine>(synced: &SyncedMachine<'_, M>) -> Option<Found>
+    ensures { result ≡ jam_look (value_of synced.now).board }
 {
-    match rested.engine().cpu().jam {
+    match synced.machine().cpu().jam {
         Some(opcode) => Some(Found::Jam(opcode)),
         None => None,
     }
 }
 
 /// Whether the board is jammed, or else the tape has ended.
-pub fn look_before<V: VectorUnit, P: SoundUnit, C: CellUnit, D: DividerUnit>(
-    rested: &Rested<'_, V, P, C, D>,
-    end: u64,
-) -> Option<Found>
-    ensures { result ≡ look_before end (engine_of rested.now).board }
+pub fn look_before<M: Machine>(synced: &SyncedMachine<'_, M>, end: u64) -> Option<Found>
+    ensures { result ≡ look_before end (value_of synced.now).board }
 {
-    match look_at_jam(rested) {
+    match look_at_jam(synced) {
         Some(found) => Some(found),
-        None if end <= rested.engine().clock() => Some(Found::End),
+        None if end <= synced.machine().clock() => Some(Found::End),
         None => None,
     }
 }
 
 /// The same, and then whether a clock has come.
-pub fn look_until<V: VectorUnit, P: SoundUnit, C: CellUnit, D: DividerUnit>(
-    rested: &Rested<'_, V, P, C, D>,
-    end: u64,
-    clock: u64,
-) -> Option<Found>
-    ensures { result ≡ look_until end clock (engine_of rested.now).board }
+pub fn look_until<M: Machine>(synced: &SyncedMachine<'_, M>, end: u64, clock: u64) -> Option<Found>
+    ensures { result ≡ look_until end clock (value_of synced.now).board }
 {
-    match look_before(rested, end) {
+    match look_before(synced, end) {
         Some(found) => Some(found),
-        None if clock <= rested.engine().clock() => Some(Found::Until),
+        None if clock <= synced.machine().clock() => Some(Found::Until),
         None => None,
     }
 }
 
 /// How turns that are all made have ended: with a jam, or else as asked.
-pub fn look_at_last<V: VectorUnit, P: SoundUnit, C: CellUnit, D: DividerUnit>(
-    rested: &Rested<'_, V, P, C, D>,
-) -> Found
-    ensures { result ≡ unwrap_or (jam_look (engine_of rested.now).board) Found.Step }
+pub fn look_at_last<M: Machine>(synced: &SyncedMachine<'_, M>) -> Found
+    ensures { result ≡ unwrap_or (jam_look (value_of synced.now).board) Found.Step }
 {
-    look_at_jam(rested).unwrap_or(Found::Step)
+    look_at_jam(synced).unwrap_or(Found::Step)
 }
 
 /// The first of some addresses that is this one.
@@ -71,26 +57,20 @@ fn first_at(addresses: &[u16], pc: u16) -> Option<u16>
 }
 
 /// Whether pc is one of these.
-pub fn look_at_breaks<V: VectorUnit, P: SoundUnit, C: CellUnit, D: DividerUnit>(
-    rested: &Rested<'_, V, P, C, D>,
-    breaks: &[u16],
-) -> Option<Found>
-    ensures { result ≡ break_look breaks.now (engine_of rested.now).board }
+pub fn look_at_breaks<M: Machine>(synced: &SyncedMachine<'_, M>, breaks: &[u16]) -> Option<Found>
+    ensures { result ≡ break_look breaks.now (value_of synced.now).board }
 {
-    match first_at(breaks, rested.engine().cpu().pc) {
+    match first_at(breaks, synced.machine().cpu().pc) {
         Some(address) => Some(Found::Break(address)),
         None => None,
     }
 }
 
 /// A byte of the RAM or of the vector RAM.
-fn watched_byte<V: VectorUnit, P: SoundUnit, C: CellUnit, D: DividerUnit>(
-    rested: &Rested<'_, V, P, C, D>,
-    address: u16,
-) -> u8
-    ensures { result ≡ watched_byte (engine_of rested.now).board address }
+fn watched_byte<M: Machine>(synced: &SyncedMachine<'_, M>, address: u16) -> u8
+    ensures { result ≡ watched_byte (value_of synced.now).board address }
 {
-    rested.engine().byte_at(address).unwrap_or(0)
+    synced.machine().byte_at(address).unwrap_or(0)
 }
 
 /// What a look after a turn compares with: the watched bytes before it, and whether the generator
@@ -103,34 +83,31 @@ pub struct Before {
 
 impl Before {
     /// Looks at a board before a turn.
-    pub fn of<V: VectorUnit, P: SoundUnit, C: CellUnit, D: DividerUnit>(
-        rested: &Rested<'_, V, P, C, D>,
-        stops: &Stops,
-    ) -> Before
-        ensures { IsBefore stops.now (engine_of rested.now).board result }
+    pub fn of<M: Machine>(synced: &SyncedMachine<'_, M>, stops: &Stops) -> Before
+        ensures { IsBefore stops.now (value_of synced.now).board result }
     {
         let mut bytes = ArrayVec::new();
         'watches: for address in stops.watches() {
-            bytes.push(watched_byte(rested, *address));
+            bytes.push(watched_byte(synced, *address));
         }
         Before {
             bytes,
-            halted: rested.engine().is_halted(),
+            halted: synced.machine().is_halted(),
         }
     }
 
     /// Whether a watched byte has changed since.
-    fn look_at_watches<V: VectorUnit, P: SoundUnit, C: CellUnit, D: DividerUnit>(
+    fn look_at_watches<M: Machine>(
         &self,
-        rested: &Rested<'_, V, P, C, D>,
+        synced: &SyncedMachine<'_, M>,
         watches: &[u16],
     ) -> Option<Found>
         requires { length watches.now ≡ length self.now.bytes.items }
         ensures { (before : lockstep.Board) → self.now.bytes.items ≡ map (watched_byte before) watches.now
-            → result ≡ watch_look watches.now before (engine_of rested.now).board }
+            → result ≡ watch_look watches.now before (value_of synced.now).board }
     {
         'watches: for i in 0..watches.len() {
-            if watched_byte(rested, watches[i]) != self.bytes[i] {
+            if watched_byte(synced, watches[i]) != self.bytes[i] {
                 return Some(Found::Watch(watches[i]));
             }
         }
@@ -138,13 +115,10 @@ impl Before {
     }
 
     /// Whether the generator has halted since.
-    fn look_at_vg<V: VectorUnit, P: SoundUnit, C: CellUnit, D: DividerUnit>(
-        &self,
-        rested: &Rested<'_, V, P, C, D>,
-    ) -> Option<Found>
-        ensures { (before : lockstep.Board) → self.now.halted ≡ before.wires.vg.halted → result ≡ vg_look true before (engine_of rested.now).board }
+    fn look_at_vg<M: Machine>(&self, synced: &SyncedMachine<'_, M>) -> Option<Found>
+        ensures { (before : lockstep.Board) → self.now.halted ≡ before.wires.vg.halted → result ≡ vg_look true before (value_of synced.now).board }
     {
-        if rested.engine().is_halted() && !self.halted {
+        if synced.machine().is_halted() && !self.halted {
             Some(Found::Vg)
         } else {
             None
@@ -154,26 +128,26 @@ impl Before {
 
 /// What `go` looks at after a turn, in order: a jam, the tape's END, the breaks, the watches, and the
 /// generator.
-pub fn look_after<V: VectorUnit, P: SoundUnit, C: CellUnit, D: DividerUnit>(
-    rested: &Rested<'_, V, P, C, D>,
+pub fn look_after<M: Machine>(
+    synced: &SyncedMachine<'_, M>,
     end: u64,
     stops: &Stops,
     before: &Before,
 ) -> Option<Found>
     requires watched { length before.now.bytes.items ≡ length stops.now.watches }
-    ensures { (b : lockstep.Board) → IsBefore stops.now b before.now → result ≡ look_after end stops.now b (engine_of rested.now).board }
+    ensures { (b : lockstep.Board) → IsBefore stops.now b before.now → result ≡ look_after end stops.now b (value_of synced.now).board }
 {
-    if let Some(found) = look_before(rested, end) {
+    if let Some(found) = look_before(synced, end) {
         return Some(found);
     }
-    if let Some(found) = look_at_breaks(rested, stops.breaks()) {
+    if let Some(found) = look_at_breaks(synced, stops.breaks()) {
         return Some(found);
     }
-    if let Some(found) = before.look_at_watches(rested, stops.watches()) {
+    if let Some(found) = before.look_at_watches(synced, stops.watches()) {
         return Some(found);
     }
     if stops.vg() {
-        before.look_at_vg(rested)
+        before.look_at_vg(synced)
     } else {
         None
     }

@@ -6,7 +6,7 @@ ghost use Rattle.board_debug.specs.Debugged.{Debugs};
 use crate::fault::DebugFault;
 use crate::session::run_commands;
 use avg_device::VectorUnit;
-use board_watch::Rested;
+use board_watch::SyncedMachine;
 use catchup_engine::Engine;
 use debug_script::{ScriptFault, read_script};
 use earom_cells::CellUnit;
@@ -37,7 +37,7 @@ pub fn run_script<V: VectorUnit, P: SoundUnit, C: CellUnit, D: DividerUnit, O: S
         Err(ScriptFault::BadCommand(line)) => return Err(DebugFault::BadCommand(line)),
         Err(_) => return Err(DebugFault::OutOfMemory),
     };
-    match run_commands(&mut Rested::of(engine), tape, &commands, out) {
+    match run_commands(&mut SyncedMachine::of(engine), tape, &commands, out) {
         Ok(()) => Ok(()),
         Err(_) => Err(DebugFault::SinkFault),
     }

@@ -4,25 +4,18 @@ ghost use Rattle.outside_io.specs.Sink.{Takes};
 ghost use Rattle.board_debug.specs.Looks.{stop_text};
 
 use crate::found::Found;
-use avg_device::VectorUnit;
-use catchup_engine::Engine;
-use earom_cells::CellUnit;
-use irq_watchdog::DividerUnit;
+use catchup_engine::Machine;
 use outside_io::{Sink, SinkFault};
-use pokey_chip::SoundUnit;
 use text_line::Line;
 
 /// The line of a stop: what was found, and the clock.
 #[tactic(auto, using(std::proofs::Common::append_assoc), unfolding(crate::specs::Looks::stop_text))]
-fn stop_line<V: VectorUnit, P: SoundUnit, C: CellUnit, D: DividerUnit>(
-    engine: &Engine<V, P, C, D>,
-    found: Found,
-) -> Line
-    ensures { result ≡ stop_text found engine.now.board }
+fn stop_line<M: Machine>(machine: &M, found: Found) -> Line
+    ensures { result ≡ stop_text found (M.value machine.now).board }
 {
     let line = Line::of("stop");
     let line = match found {
-        Found::Jam(opcode) => line.word("jam").hex_word(engine.cpu().pc).hex_byte(opcode),
+        Found::Jam(opcode) => line.word("jam").hex_word(machine.cpu().pc).hex_byte(opcode),
         Found::End => line.word("end"),
         Found::Break(address) => line.word("break").hex_word(address),
         Found::Watch(address) => line.word("watch").hex_word(address),
@@ -30,17 +23,17 @@ fn stop_line<V: VectorUnit, P: SoundUnit, C: CellUnit, D: DividerUnit>(
         Found::Step => line.word("step"),
         Found::Until => line.word("until"),
     };
-    line.word("at").number(engine.clock()).end()
+    line.word("at").number(machine.clock()).end()
 }
 
 /// Writes the line of a stop.
-pub fn write_stop<V: VectorUnit, P: SoundUnit, C: CellUnit, D: DividerUnit, O: Sink>(
-    engine: &Engine<V, P, C, D>,
+pub fn write_stop<M: Machine, O: Sink>(
+    machine: &M,
     found: Found,
     out: &mut O,
 ) -> Result<(), SinkFault>
-    ensures taken { Takes (O.taken out.old) (O.taken out.new) (stop_text found engine.now.board) result }
+    ensures taken { Takes (O.taken out.old) (O.taken out.new) (stop_text found (M.value machine.now).board) result }
     ensures cause { HasCause (O.faults out.old) (O.faults out.new) result }
 {
-    out.write(stop_line(engine, found).bytes())
+    out.write(stop_line(machine, found).bytes())
 }

@@ -3,12 +3,8 @@ ghost use Rattle.board_stretch.specs.Kept.{IsKept};
 ghost use Rattle.board_stretch.specs.Stretches.{EndsAt};
 
 use crate::told::Told;
-use avg_device::VectorUnit;
 use board_base::BoardState;
-use catchup_engine::Engine;
-use earom_cells::CellUnit;
-use irq_watchdog::DividerUnit;
-use pokey_chip::SoundUnit;
+use catchup_engine::Machine;
 use save_state::STATE_LEN;
 
 /// What a stretch came to.
@@ -26,23 +22,20 @@ pub struct Stretch {
     pub jammed: bool,
 }
 
-/// A stretch of which this is kept, and which ended where an engine stands.
-pub(crate) fn ended<V: VectorUnit, P: SoundUnit, C: CellUnit, D: DividerUnit>(
-    engine: &Engine<V, P, C, D>,
-    told: Told,
-) -> Stretch
-    requires settled { engine.now.lagging ≡ 0 }
-    ensures { (room : ℕ) → (text : List ℕ) → IsKept room text told → EndsAt room text engine.now.board result }
+/// A stretch of which this is kept, and which ended where a machine stands.
+pub(crate) fn ended<M: Machine>(machine: &M, told: Told) -> Stretch
+    requires settled { (M.value machine.now).lagging ≡ 0 }
+    ensures { (room : ℕ) → (text : List ℕ) → IsKept room text told → EndsAt room text (M.value machine.now).board result }
 {
     let mut state = BoardState::power_on();
-    engine.state(&mut state);
+    machine.state(&mut state);
     let mut board = [0; STATE_LEN];
     save_state::write(&state, &mut board);
     Stretch {
         board,
         told: told.bytes,
         wanted: told.wanted,
-        clock: engine.clock(),
-        jammed: engine.cpu().jam.is_some(),
+        clock: machine.clock(),
+        jammed: machine.cpu().jam.is_some(),
     }
 }

@@ -12,7 +12,7 @@ use crate::fault::StretchFault;
 use crate::parts::{Parts, Start, read_parts};
 use crate::watching::watch_within;
 use board_base::{BoardState, CLOCK_LIMIT};
-use board_watch::{Rested, Until};
+use board_watch::{SyncedMachine, Until};
 use catchup_engine::{Devices, Engine};
 use sampled_run::Sampler;
 use save_state::STATE_LEN;
@@ -46,9 +46,9 @@ fn advance_parts(
     else {
         return Err(StretchFault::NoMemory);
     };
-    let mut rested = Rested::of(&mut engine);
-    match watch_within(alloc, &mut rested, &parts.tape, until, &mut LogWriter, room) {
-        Ok(told) => Ok(ended(rested.engine(), told)),
+    let mut synced = SyncedMachine::of(&mut engine);
+    match watch_within(alloc, &mut synced, &parts.tape, until, &mut LogWriter, room) {
+        Ok(told) => Ok(ended(synced.machine(), told)),
         Err(_) => Err(StretchFault::NoMemory),
     }
 }
@@ -94,16 +94,16 @@ fn record_parts(
     else {
         return Err(StretchFault::NoMemory);
     };
-    let mut rested = Rested::of(&mut engine);
+    let mut synced = SyncedMachine::of(&mut engine);
     match watch_within(
         alloc,
-        &mut rested,
+        &mut synced,
         &parts.tape,
         until,
         &mut RecordWriter,
         room,
     ) {
-        Ok(told) => Ok(ended(rested.engine(), told)),
+        Ok(told) => Ok(ended(synced.machine(), told)),
         Err(_) => Err(StretchFault::NoMemory),
     }
 }
@@ -148,11 +148,11 @@ fn sample_parts(
     else {
         return Err(StretchFault::NoMemory);
     };
-    let mut rested = Rested::of(&mut engine);
-    let mut sampler = Sampler::of(&rested, per);
+    let mut synced = SyncedMachine::of(&mut engine);
+    let mut sampler = Sampler::of(&synced, per);
     let until = Until::Boundary(limit);
-    match watch_within(alloc, &mut rested, &parts.tape, until, &mut sampler, room) {
-        Ok(told) => Ok(ended(rested.engine(), told)),
+    match watch_within(alloc, &mut synced, &parts.tape, until, &mut sampler, room) {
+        Ok(told) => Ok(ended(synced.machine(), told)),
         Err(_) => Err(StretchFault::NoMemory),
     }
 }

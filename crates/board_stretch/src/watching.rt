@@ -1,45 +1,41 @@
 //! A run whose watcher tells no more than there is room for.
 ghost use Rattle.std.specs.Prelude.{◌≡◌, ◌≤◌, IfOk, OnOk};
-ghost use Rattle.board_watch.specs.Rested.{engine_of, loan_of};
+ghost use Rattle.board_watch.specs.SyncedMachine.{loan_of, value_of};
 ghost use Rattle.board_watch.specs.Windows.{clock_in, end_of};
 ghost use Rattle.lockstep_board.specs.Order.{cleared, records_of};
 ghost use Rattle.board_stretch.specs.Kept.{IsKept};
 
 use crate::growing::GrowingSink;
 use crate::told::Told;
-use avg_device::VectorUnit;
 use board_base::CLOCK_LIMIT;
-use board_watch::{Rested, Until, Watch};
-use catchup_engine::Stop;
-use earom_cells::CellUnit;
-use irq_watchdog::DividerUnit;
-use pokey_chip::SoundUnit;
+use board_watch::{SyncedMachine, Until, Watch};
+use catchup_engine::{Machine, Stop};
 use std::alloc::{AllocError, Global};
 use tape_ports::Tape;
 
-/// Runs to a clock or to a boundary, as `Rested::watch` does, and keeps what the watcher tells as far as
+/// Runs to a clock or to a boundary, as `SyncedMachine::watch` does, and keeps what the watcher tells as far as
 /// there is room for it. It takes memory for that room and for what is told of one window.
-pub(crate) fn watch_within<V: VectorUnit, P: SoundUnit, C: CellUnit, D: DividerUnit, W: Watch>(
+pub(crate) fn watch_within<M: Machine, W: Watch>(
     alloc: Global,
-    rested: &mut Rested<'_, V, P, C, D>,
+    synced: &mut SyncedMachine<'_, M>,
     tape: &Tape,
     until: Until,
     watcher: &mut W,
     room: usize,
 ) -> Result<Told, AllocError>
     requires limit { clock_in until ≤ CLOCK_LIMIT }
-    requires room { let last = end_of tape.now.entries until (engine_of rested.old).board in
-        W.can_take watcher.old (engine_of rested.old).board.wires.clock (records_of last) last.wires.clock }
-    ensures same { loan_of rested.new ≡ loan_of rested.old }
-    ensures told { let last = end_of tape.now.entries until (engine_of rested.old).board in
+    requires room { let last = end_of tape.now.entries until (value_of synced.old).board in
+        W.can_take watcher.old (value_of synced.old).board.wires.clock (records_of last) last.wires.clock }
+    ensures same { loan_of synced.new ≡ loan_of synced.old }
+    ensures told { let last = end_of tape.now.entries until (value_of synced.old).board in
         IfOk result (λ t. IsKept room (W.tells watcher.old (records_of last) last.wires.clock) t) }
-    ensures board { OnOk result ((engine_of rested.new).board ≡ cleared (end_of tape.now.entries until (engine_of rested.old).board)) }
+    ensures board { OnOk result ((value_of synced.new).board ≡ cleared (end_of tape.now.entries until (value_of synced.old).board)) }
 {
     let mut told = Told::new(alloc, room)?;
     let mut lines = GrowingSink::new(alloc);
     'windows: loop {
         lines.clear();
-        let Ok(stop) = rested.window(tape, until, watcher, &mut lines) else {
+        let Ok(stop) = synced.window(tape, until, watcher, &mut lines) else {
             return Err(AllocError);
         };
         told.take(lines.bytes())?;

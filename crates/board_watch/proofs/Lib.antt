@@ -1,3 +1,2 @@
 pub mod FollowLaws
-pub mod RestLaws
 pub mod WatchLaws

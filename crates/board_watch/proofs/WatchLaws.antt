@@ -20,7 +20,7 @@ use Rattle.lockstep_board.proofs.InOrder.{stepped-made}
 use Rattle.lockstep_board.proofs.Wraps.{wrap-counted}
 use Rattle.board_watch.specs.declared.until.Until.{Until}
 use Rattle.board_watch.specs.declared.until.Until.TheVariants.{Clock, Boundary}
-use Rattle.board_watch.specs.Rest.{IsAtRest}
+use Rattle.board_watch.specs.Synced.{IsSynced}
 use Rattle.board_watch.specs.Watch.{IsTakenInParts, TakesInParts, joined, recorded}
 use Rattle.board_watch.specs.Windows.{EndsSo, IsFirstWindow, clock_in, end_of, price_to, steps_to, window_end, window_price, window_steps}
 
@@ -139,7 +139,7 @@ module _ (entries : List TapeEntry) where
       omega arith
 
   -- a window that came to the divider's wrap has a wrap that pays for it
-  pub wrap-paid : (until : Until) (e next : EngineValue) → IsAtRest e → next.board ≡ cleared (window_end entries until e.board)
+  pub wrap-paid : (until : Until) (e next : EngineValue) → IsSynced e → next.board ≡ cleared (window_end entries until e.board)
       → wrap_of e.board ≤ next.board.wires.clock → next.calls ≤ e.calls + budget entries (window_steps entries until e.board) e.board + 5
       → next.calls + price_to entries until next.board ≤ e.calls + price_to entries until e.board
   wrap-paid until e next rest is far most =
@@ -152,7 +152,7 @@ module _ (entries : List TapeEntry) where
       omega arith
 
   -- and each window is paid by the run, but for the five calls after it
-  pub window-paid : (until : Until) (e : EngineValue) (calls : ℕ) → IsAtRest e
+  pub window-paid : (until : Until) (e : EngineValue) (calls : ℕ) → IsSynced e
       → calls ≤ e.calls + budget entries (window_steps entries until e.board) e.board + 5 → calls ≤ e.calls + price_to entries until e.board + 5
   window-paid until e calls rest most =
       let split = price-split until e.board rest.placed in

@@ -1,5 +1,5 @@
 pub mod Follow
-pub mod Rest
-pub mod Rested
+pub mod Synced
+pub mod SyncedMachine
 pub mod Watch
 pub mod Windows

@@ -1,16 +1,16 @@
-//! An engine at rest, its runs in windows, and watchers of their records.
+//! A synchronised machine, its runs in windows, and watchers of their records.
 #![tactic(auto)]
 
 mod follow;
 mod laws;
 mod nowhere;
-mod rest;
+mod synced;
 mod until;
 mod watch;
 
 pub use follow::Follow;
 pub use laws::windows_are_the_run;
 pub use nowhere::Nowhere;
-pub use rest::Rested;
+pub use synced::SyncedMachine;
 pub use until::Until;
 pub use watch::Watch;

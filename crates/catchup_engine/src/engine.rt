@@ -6,7 +6,7 @@ ghost use Rattle.lockstep_board.specs.Budget.{budget};
 ghost use Rattle.catchup_engine.specs.EngineValue.{HasRoom, counted_on};
 ghost use Rattle.lockstep_board.specs.Order.{HasNoRecords, cleared};
 ghost use Rattle.lockstep_board.specs.Memory.{memory_byte};
-ghost use Rattle.lockstep_board.specs.Run.{boundary_steps, cause_of, cut_steps, is_over, to_boundary, to_cut, window_limit, wrap_of};
+ghost use Rattle.lockstep_board.specs.Run.{boundary_steps, cause_of, cut_steps, is_over, to_boundary, to_cut, window_limit, wrap_of, IsPlaced};
 ghost use Rattle.catchup_engine.specs.Trace.{step_trace};
 ghost use Rattle.catchup_engine.specs.Traced.{TracedRun};
 ghost use Rattle.lockstep_board.specs.Wires.{board_of, reloaded, wires_of};
@@ -391,5 +391,17 @@ impl<V: VectorUnit, P: SoundUnit, C: CellUnit, D: DividerUnit> Engine<V, P, C, D
         ensures { result ≡ self.now.done }
     {
         self.done
+    }
+
+    /// Tells that the board stands where a run can bring it. It does nothing.
+    pub fn lemma_range(&self)
+        requires settled { self.now.lagging ≡ 0 }
+        ensures placed { IsPlaced self.now.board }
+        ensures phase { self.now.board.wires.divider.phase < DIVIDER_PERIOD }
+    {
+        if let Some(mid) = self.cpu.state().mid {
+            let _count = mid.count; // opens the model
+        }
+        self.bus.lemma_phase();
     }
 }

@@ -1,12 +1,10 @@
 ghost use Rattle.std.specs.Prelude.{◌≡◌, ◌≤◌};
-ghost use Rattle.lockstep_board.specs.Order.{HasNoRecords};
 
 use avg_device::VectorUnit;
 use bench_work::{BoardTally, Form, Registers, Tally, Work, count, draw, play, run_windows};
 use board_base::{CLOCK_LIMIT, CpuState, OutOfMemory, VectorMemory};
-use catchup_engine::Engine;
-use earom_cells::CellUnit;
-use irq_watchdog::DividerUnit;
+use board_watch::SyncedMachine;
+use catchup_engine::Machine;
 use pokey_chip::SoundUnit;
 use std::alloc::Global;
 use std::io;
@@ -112,19 +110,17 @@ pub fn timed_counting<C: CpuClock>(
     Ok(Timed { outcome, nanos })
 }
 
-/// Times an engine that runs to a limit, window by window.
-pub fn timed_running<T: CpuClock, V: VectorUnit, P: SoundUnit, C: CellUnit, D: DividerUnit>(
+/// Times a machine that runs to a limit, window by window.
+pub fn timed_running<T: CpuClock, M: Machine>(
     clock: &T,
-    engine: &mut Engine<V, P, C, D>,
+    synced: &mut SyncedMachine<'_, M>,
     tape: &Tape,
     limit: u64,
 ) -> Result<Timed<BoardTally>, Fault>
     requires limit { limit ≤ CLOCK_LIMIT }
-    requires settled { engine.old.lagging ≡ 0 }
-    requires empty { HasNoRecords engine.old.board }
 {
     let start = clock.thread_cpu_time()?;
-    let outcome = run_windows(engine, tape, limit);
+    let outcome = run_windows(synced, tape, limit);
     let nanos = nanos_since(clock, start)?;
     Ok(Timed { outcome, nanos })
 }

@@ -10,6 +10,7 @@ use bench_work::{
     BoardTally, Form, ROUND_CLOCKS, Report, SLICE, Tally, Tune, long_vectors, short_vectors,
 };
 use board_base::{BoardState, CLOCK_LIMIT, CpuState, VectorMemory};
+use board_watch::SyncedMachine;
 use catchup_engine::{Devices, Engine};
 use earom_cells::Earom;
 use irq_watchdog::Divider;
@@ -279,7 +280,7 @@ fn run_board<R: CpuClock, V: VectorUnit, P: SoundUnit>(
 {
     let tape = Tape::new(alloc, &[], limit)?;
     let mut engine = Engine::new(alloc, image, &BoardState::power_on(), devices, true)?;
-    let timed = timed_running(rt, &mut engine, &tape, limit)?;
+    let timed = timed_running(rt, &mut SyncedMachine::of(&mut engine), &tape, limit)?;
     Ok(Ran {
         clock: engine.clock(),
         pc: engine.cpu().pc,

@@ -5,6 +5,7 @@ ghost use Rattle.gravitar_commands.specs.Stages.{Ends, EndFaults, WroteNothing, 
 
 use crate::failure::{Ending, Failure};
 use board_base::BoardState;
+use board_watch::SyncedMachine;
 use catchup_engine::{Devices, Engine};
 use outside_io::Sink;
 use soak_run::run_soak;
@@ -27,7 +28,7 @@ pub fn perform_soak<O: Sink>(alloc: Global, seed: u64, out: &mut O) -> Result<En
     let Ok(mut engine) = Engine::new(alloc, &image, &board, Devices::fast(), false) else {
         return Err(Failure::NoMemory);
     };
-    match run_soak(&mut engine, &tape, tape.end(), out) {
+    match run_soak(&mut SyncedMachine::of(&mut engine), &tape, tape.end(), out) {
         Ok(()) => Ok(Ending::Done),
         Err(_) => Err(Failure::Outside),
     }

@@ -1,7 +1,7 @@
 //! Runs that are told otherwise than by their log.
 ghost use Rattle.std.specs.Prelude.{◌≡◌, ◌≤◌, ℕ, IfOk, IfSome, List, Option};
 ghost use Rattle.board_base.specs.declared.board.TheConstants.{CLOCK_LIMIT};
-ghost use Rattle.lockstep_board.specs.Order.{HasNoRecords};
+ghost use Rattle.board_watch.specs.SyncedMachine.{value_of};
 ghost use Rattle.cpu_core.specs.Places.{IsProcessor};
 ghost use Rattle.outside_io.specs.Shelf.{Kept};
 ghost use Rattle.gravitar_commands.specs.Outcome.{ForReading, finished, run_files, told_outcome, telling_outcome};
@@ -12,14 +12,11 @@ use crate::failure::{Ending, Failure};
 use crate::limit::{has_timers, limit_by};
 use crate::load::load_run;
 use crate::parts::Parts;
-use avg_device::VectorUnit;
-use catchup_engine::{Devices, Engine};
+use board_watch::SyncedMachine;
+use catchup_engine::{Devices, Engine, Machine};
 use command_line::{PER_LIMIT, RunWords};
 use cycle_profile::Profile;
-use earom_cells::CellUnit;
-use irq_watchdog::DividerUnit;
 use outside_io::{Shelf, Sink, SinkFault};
-use pokey_chip::SoundUnit;
 use sampled_run::run_sampled;
 use sound_pcm::MAX_PER;
 use std::alloc::Global;
@@ -52,10 +49,10 @@ pub(crate) fn written(took: Result<(), SinkFault>) -> Result<Ending, Failure>
     }
 }
 
-/// Runs the board of an engine, and tells it. A profile takes its memory first.
-fn tell<V: VectorUnit, P: SoundUnit, C: CellUnit, D: DividerUnit, O: Sink>(
+/// Runs the board of a machine, and tells it. A profile takes its memory first.
+fn tell<M: Machine, O: Sink>(
     alloc: Global,
-    engine: &mut Engine<V, P, C, D>,
+    synced: &mut SyncedMachine<'_, M>,
     tape: &Tape,
     limit: u64,
     telling: Telling,
@@ -63,19 +60,17 @@ fn tell<V: VectorUnit, P: SoundUnit, C: CellUnit, D: DividerUnit, O: Sink>(
 ) -> Result<Ending, Failure>
     requires limit { limit ≤ CLOCK_LIMIT }
     requires told { CanTell telling }
-    requires settled { engine.old.lagging ≡ 0 }
-    requires empty { HasNoRecords engine.old.board }
-    ensures taken { Told (O.taken out.old) (O.taken out.new) (telling_text telling tape.now.entries limit engine.old.board) result }
+    ensures taken { Told (O.taken out.old) (O.taken out.new) (telling_text telling tape.now.entries limit (value_of synced.old).board) result }
     ensures faults { StageFaults (O.faults out.old) (O.faults out.new) result }
 {
     match telling {
-        Telling::Samples(per) => written(run_sampled(engine, tape, limit, per, out)),
-        Telling::Frames => written(run_framed(engine, tape, limit, out)),
+        Telling::Samples(per) => written(run_sampled(synced, tape, limit, per, out)),
+        Telling::Frames => written(run_framed(synced, tape, limit, out)),
         Telling::Profile => {
-            let Ok(profile) = Profile::new(alloc, engine.cpu().pc) else {
+            let Ok(profile) = Profile::new(alloc, synced.machine().cpu().pc) else {
                 return Err(Failure::NoMemory);
             };
-            written(run_profiled(engine, tape, limit, profile, out))
+            written(run_profiled(synced, tape, limit, profile, out))
         }
     }
 }
@@ -102,7 +97,14 @@ fn tell_parts<O: Sink>(
     else {
         return Err(Failure::NoMemory);
     };
-    tell(alloc, &mut engine, &parts.tape, limit, telling, out)
+    tell(
+        alloc,
+        &mut SyncedMachine::of(&mut engine),
+        &parts.tape,
+        limit,
+        telling,
+        out,
+    )
 }
 
 /// Runs an image with a tape, and tells the run. Nothing is stored, and a board that jams ends it as

@@ -12,7 +12,7 @@ ghost use Rattle.keyframes.specs.Seeking.{AddsBoard, Along, CanBeLoaded, IsOnRun
 use crate::keyframes::Keyframes;
 use avg_device::VectorUnit;
 use board_base::{BoardState, CLOCK_LIMIT};
-use catchup_engine::{Engine, Stop};
+use catchup_engine::{Engine, Machine, Stop};
 use earom_cells::CellUnit;
 use irq_watchdog::DividerUnit;
 use pokey_chip::SoundUnit;
@@ -46,119 +46,103 @@ fn start_index(keys: &Keyframes, clock: u64) -> u32
 }
 
 /// Takes on a kept board.
-fn load_kept<V: VectorUnit, P: SoundUnit, C: CellUnit, D: DividerUnit>(
-    engine: &mut Engine<V, P, C, D>,
-    keys: &Keyframes,
-    index: u32,
-)
-    requires settled { engine.old.lagging ≡ 0 }
-    requires empty { HasNoRecords engine.old.board }
+fn load_kept<M: Machine>(machine: &mut M, keys: &Keyframes, index: u32)
+    requires settled { (M.value machine.old).lagging ≡ 0 }
+    requires empty { HasNoRecords (M.value machine.old).board }
     requires within { index < length keys.now.kept }
     requires loadable { All (λ keyframe. CanBeLoaded keyframe.board) keys.now.kept }
-    ensures board { (d : Keyframe) → engine.new.board ≡ over_image engine.old.board (get_or keys.now.kept index d).board }
-    ensures settled { engine.new.lagging ≡ 0 }
-    ensures empty { HasNoRecords engine.new.board }
-    ensures done { engine.new.done ≡ engine.old.done }
+    ensures board { (d : Keyframe) → (M.value machine.new).board ≡ over_image (M.value machine.old).board (get_or keys.now.kept index d).board }
+    ensures settled { (M.value machine.new).lagging ≡ 0 }
+    ensures empty { HasNoRecords (M.value machine.new).board }
+    ensures done { (M.value machine.new).done ≡ (M.value machine.old).done }
 {
     let mut state = BoardState::power_on();
     keys.board(index, &mut state);
-    engine.load(&state);
+    machine.load(&state);
 }
 
 /// Runs to a clock, or to the end of a window where that comes first, and forgets the records.
-fn run_window<V: VectorUnit, P: SoundUnit, C: CellUnit, D: DividerUnit>(
-    engine: &mut Engine<V, P, C, D>,
-    tape: &Tape,
-    clock: u64,
-) -> Stop
+fn run_window<M: Machine>(machine: &mut M, tape: &Tape, clock: u64) -> Stop
     requires limit { clock ≤ CLOCK_LIMIT }
-    requires settled { engine.old.lagging ≡ 0 }
-    requires empty { HasNoRecords engine.old.board }
-    ensures settled { engine.new.lagging ≡ 0 }
-    ensures empty { HasNoRecords engine.new.board }
-    ensures board { engine.new.board ≡ cleared (to_cut tape.now.entries clock (wrap_of engine.old.board) engine.old.board) }
-    ensures stop { result ≡ cause_of clock engine.new.board }
-    ensures later { result ≡ Stop.Window → engine.old.board.wires.clock < engine.new.board.wires.clock }
-    ensures before { result ≡ Stop.Window → engine.new.board.wires.clock < clock }
-    ensures done { engine.new.done + engine.old.board.wires.clock ≤ engine.old.done + engine.new.board.wires.clock }
+    requires settled { (M.value machine.old).lagging ≡ 0 }
+    requires empty { HasNoRecords (M.value machine.old).board }
+    ensures settled { (M.value machine.new).lagging ≡ 0 }
+    ensures empty { HasNoRecords (M.value machine.new).board }
+    ensures board { (M.value machine.new).board ≡ cleared (to_cut tape.now.entries clock (wrap_of (M.value machine.old).board) (M.value machine.old).board) }
+    ensures stop { result ≡ cause_of clock (M.value machine.new).board }
+    ensures later { result ≡ Stop.Window → (M.value machine.old).board.wires.clock < (M.value machine.new).board.wires.clock }
+    ensures before { result ≡ Stop.Window → (M.value machine.new).board.wires.clock < clock }
+    ensures done { (M.value machine.new).done + (M.value machine.old).board.wires.clock ≤ (M.value machine.old).done + (M.value machine.new).board.wires.clock }
 {
-    let stop = engine.run_to(tape, clock);
-    engine.settle();
-    engine.clear_trails();
+    let stop = machine.run_to(tape, clock);
+    machine.settle();
+    machine.clear_trails();
     stop
 }
 
 /// Runs to a clock, window by window.
-fn run_on<V: VectorUnit, P: SoundUnit, C: CellUnit, D: DividerUnit>(
-    engine: &mut Engine<V, P, C, D>,
-    tape: &Tape,
-    clock: u64,
-)
+fn run_on<M: Machine>(machine: &mut M, tape: &Tape, clock: u64)
     requires limit { clock ≤ CLOCK_LIMIT }
-    requires settled { engine.old.lagging ≡ 0 }
-    requires empty { HasNoRecords engine.old.board }
-    ensures settled { engine.new.lagging ≡ 0 }
-    ensures empty { HasNoRecords engine.new.board }
-    ensures board { engine.new.board ≡ cleared (to_clock tape.now.entries clock engine.old.board) }
-    ensures on_run { (b : Board) → IsOnRun tape.now.entries b engine.old.board → IsOnRun tape.now.entries b engine.new.board }
-    ensures same { (kept : List Keyframe) → 0 < length kept → run_start kept engine.new.board ≡ run_start kept engine.old.board }
-    ensures done { engine.new.done + engine.old.board.wires.clock ≤ engine.old.done + engine.new.board.wires.clock }
+    requires settled { (M.value machine.old).lagging ≡ 0 }
+    requires empty { HasNoRecords (M.value machine.old).board }
+    ensures settled { (M.value machine.new).lagging ≡ 0 }
+    ensures empty { HasNoRecords (M.value machine.new).board }
+    ensures board { (M.value machine.new).board ≡ cleared (to_clock tape.now.entries clock (M.value machine.old).board) }
+    ensures on_run { (b : Board) → IsOnRun tape.now.entries b (M.value machine.old).board → IsOnRun tape.now.entries b (M.value machine.new).board }
+    ensures same { (kept : List Keyframe) → 0 < length kept → run_start kept (M.value machine.new).board ≡ run_start kept (M.value machine.old).board }
+    ensures done { (M.value machine.new).done + (M.value machine.old).board.wires.clock ≤ (M.value machine.old).done + (M.value machine.new).board.wires.clock }
 {
     'windows: loop {
-        match run_window(engine, tape, clock) {
+        match run_window(machine, tape, clock) {
             Stop::Window => {}
             _ => return,
         }
     }
 }
 
-/// Keeps the board of an engine that stands `stride` clocks or more after the last kept one.
-fn keep_if_due<V: VectorUnit, P: SoundUnit, C: CellUnit, D: DividerUnit>(
-    engine: &Engine<V, P, C, D>,
-    keys: &mut Keyframes,
-    stride: u64,
-)
-    requires settled { engine.now.lagging ≡ 0 }
+/// Keeps the board of a machine that stands `stride` clocks or more after the last kept one.
+fn keep_if_due<M: Machine>(machine: &M, keys: &mut Keyframes, stride: u64)
+    requires settled { (M.value machine.now).lagging ≡ 0 }
     requires some { 0 < length keys.old.kept }
     requires stride { 1 ≤ stride }
     ensures first { (e : Board) → run_start keys.new.kept e ≡ run_start keys.old.kept e }
-    ensures along { (entries : List TapeEntry) → (b : Board) → Along keys.old.kept entries b → IsOnRun entries b engine.now.board → Along keys.new.kept entries b }
-    ensures near { IfSome (last_of keys.new.kept) (λ last. engine.now.board.wires.clock < last.board.clock + stride) }
+    ensures along { (entries : List TapeEntry) → (b : Board) → Along keys.old.kept entries b → IsOnRun entries b (M.value machine.now).board → Along keys.new.kept entries b }
+    ensures near { IfSome (last_of keys.new.kept) (λ last. (M.value machine.now).board.wires.clock < last.board.clock + stride) }
 {
     let last = keys.clock_of(keys.len() - 1);
-    if engine.clock().saturating_sub(last) >= stride {
+    if machine.clock().saturating_sub(last) >= stride {
         let mut state = BoardState::power_on();
-        engine.state(&mut state);
+        machine.state(&mut state);
         keys.keep(&state);
     }
 }
 
 /// Runs to a clock, window by window, and keeps a board after each window that ends `stride` clocks or
 /// more after the last kept one.
-fn run_keeping<V: VectorUnit, P: SoundUnit, C: CellUnit, D: DividerUnit>(
-    engine: &mut Engine<V, P, C, D>,
+fn run_keeping<M: Machine>(
+    machine: &mut M,
     keys: &mut Keyframes,
     tape: &Tape,
     clock: u64,
     stride: u64,
 )
-    requires settled { engine.old.lagging ≡ 0 }
-    requires empty { HasNoRecords engine.old.board }
-    requires along { Along keys.old.kept tape.now.entries (run_start keys.old.kept engine.old.board) }
-    requires on_run { IsOnRun tape.now.entries (run_start keys.old.kept engine.old.board) engine.old.board }
+    requires settled { (M.value machine.old).lagging ≡ 0 }
+    requires empty { HasNoRecords (M.value machine.old).board }
+    requires along { Along keys.old.kept tape.now.entries (run_start keys.old.kept (M.value machine.old).board) }
+    requires on_run { IsOnRun tape.now.entries (run_start keys.old.kept (M.value machine.old).board) (M.value machine.old).board }
     requires limit { clock ≤ CLOCK_LIMIT }
     requires stride { 1 ≤ stride }
-    ensures settled { engine.new.lagging ≡ 0 }
-    ensures empty { HasNoRecords engine.new.board }
-    ensures board { engine.new.board ≡ cleared (to_clock tape.now.entries clock engine.old.board) }
-    ensures same { run_start keys.new.kept engine.new.board ≡ run_start keys.old.kept engine.old.board }
-    ensures along { Along keys.new.kept tape.now.entries (run_start keys.old.kept engine.old.board) }
-    ensures done { engine.new.done + engine.old.board.wires.clock ≤ engine.old.done + engine.new.board.wires.clock }
-    ensures near { IfSome (last_of keys.new.kept) (λ last. engine.new.board.wires.clock < last.board.clock + stride) }
+    ensures settled { (M.value machine.new).lagging ≡ 0 }
+    ensures empty { HasNoRecords (M.value machine.new).board }
+    ensures board { (M.value machine.new).board ≡ cleared (to_clock tape.now.entries clock (M.value machine.old).board) }
+    ensures same { run_start keys.new.kept (M.value machine.new).board ≡ run_start keys.old.kept (M.value machine.old).board }
+    ensures along { Along keys.new.kept tape.now.entries (run_start keys.old.kept (M.value machine.old).board) }
+    ensures done { (M.value machine.new).done + (M.value machine.old).board.wires.clock ≤ (M.value machine.old).done + (M.value machine.new).board.wires.clock }
+    ensures near { IfSome (last_of keys.new.kept) (λ last. (M.value machine.new).board.wires.clock < last.board.clock + stride) }
 {
     'windows: loop {
-        let stop = run_window(engine, tape, clock);
-        keep_if_due(engine, keys, stride);
+        let stop = run_window(machine, tape, clock);
+        keep_if_due(machine, keys, stride);
         match stop {
             Stop::Window => {}
             _ => return,
@@ -166,52 +150,44 @@ fn run_keeping<V: VectorUnit, P: SoundUnit, C: CellUnit, D: DividerUnit>(
     }
 }
 
-/// Brings an engine to the board of a run at a clock, which may be inside a sequence, and keeps no board.
+/// Brings a machine to the board of a run at a clock, which may be inside a sequence, and keeps no board.
 ///
 /// The run begins at the first kept board, and all kept boards lie along it. Below the clock of the
-/// first one it is that board; from a jam on it is the jammed board. The engine goes on from the last
+/// first one it is that board; from a jam on it is the jammed board. The machine goes on from the last
 /// kept board at or below the clock. It takes no memory.
-pub fn go_to<V: VectorUnit, P: SoundUnit, C: CellUnit, D: DividerUnit>(
-    engine: &mut Engine<V, P, C, D>,
-    keys: &Keyframes,
-    tape: &Tape,
-    clock: u64,
-)
-    requires settled { engine.old.lagging ≡ 0 }
-    requires empty { HasNoRecords engine.old.board }
-    requires along { Along keys.now.kept tape.now.entries (run_start keys.now.kept engine.old.board) }
+pub fn go_to<M: Machine>(machine: &mut M, keys: &Keyframes, tape: &Tape, clock: u64)
+    requires settled { (M.value machine.old).lagging ≡ 0 }
+    requires empty { HasNoRecords (M.value machine.old).board }
+    requires along { Along keys.now.kept tape.now.entries (run_start keys.now.kept (M.value machine.old).board) }
     requires limit { clock ≤ CLOCK_LIMIT }
-    ensures settled { engine.new.lagging ≡ 0 }
-    ensures empty { HasNoRecords engine.new.board }
-    ensures board { engine.new.board ≡ cleared (to_clock tape.now.entries clock (run_start keys.now.kept engine.old.board)) }
-    ensures on_run { IsOnRun tape.now.entries (run_start keys.now.kept engine.old.board) engine.new.board }
-    ensures same { run_start keys.now.kept engine.new.board ≡ run_start keys.now.kept engine.old.board }
-    ensures along { Along keys.now.kept tape.now.entries (run_start keys.now.kept engine.new.board) }
+    ensures settled { (M.value machine.new).lagging ≡ 0 }
+    ensures empty { HasNoRecords (M.value machine.new).board }
+    ensures board { (M.value machine.new).board ≡ cleared (to_clock tape.now.entries clock (run_start keys.now.kept (M.value machine.old).board)) }
+    ensures on_run { IsOnRun tape.now.entries (run_start keys.now.kept (M.value machine.old).board) (M.value machine.new).board }
+    ensures same { run_start keys.now.kept (M.value machine.new).board ≡ run_start keys.now.kept (M.value machine.old).board }
+    ensures along { Along keys.now.kept tape.now.entries (run_start keys.now.kept (M.value machine.new).board) }
     ensures done { All (λ keyframe. keyframe.board.clock ≤ clock
-        → engine.new.done + keyframe.board.clock ≤ engine.old.done + engine.new.board.wires.clock) keys.now.kept }
-    ensures before { clock < (run_start keys.now.kept engine.old.board).wires.clock → engine.new.done ≤ engine.old.done }
+        → (M.value machine.new).done + keyframe.board.clock ≤ (M.value machine.old).done + (M.value machine.new).board.wires.clock) keys.now.kept }
+    ensures before { clock < (run_start keys.now.kept (M.value machine.old).board).wires.clock → (M.value machine.new).done ≤ (M.value machine.old).done }
 {
     let nearest = start_index(keys, clock);
-    load_kept(engine, keys, nearest);
-    run_on(engine, tape, clock);
+    load_kept(machine, keys, nearest);
+    run_on(machine, tape, clock);
 }
 
-/// Keeps the board of an engine where its clock is past that of the last kept one. Where there is no room
+/// Keeps the board of a machine where its clock is past that of the last kept one. Where there is no room
 /// more, every second kept board is dropped before.
-pub fn keep_board<V: VectorUnit, P: SoundUnit, C: CellUnit, D: DividerUnit>(
-    engine: &Engine<V, P, C, D>,
-    keys: &mut Keyframes,
-)
-    requires settled { engine.now.lagging ≡ 0 }
+pub fn keep_board<M: Machine>(machine: &M, keys: &mut Keyframes)
+    requires settled { (M.value machine.now).lagging ≡ 0 }
     requires some { 0 < length keys.old.kept }
     ensures first { (e : Board) → run_start keys.new.kept e ≡ run_start keys.old.kept e }
-    ensures along { (entries : List TapeEntry) → (b : Board) → Along keys.old.kept entries b → IsOnRun entries b engine.now.board → Along keys.new.kept entries b }
-    ensures roomy { is_crowded keys.old ≡ false → AddsBoard keys.old keys.new engine.now.board }
+    ensures along { (entries : List TapeEntry) → (b : Board) → Along keys.old.kept entries b → IsOnRun entries b (M.value machine.now).board → Along keys.new.kept entries b }
+    ensures roomy { is_crowded keys.old ≡ false → AddsBoard keys.old keys.new (M.value machine.now).board }
 {
     let last = keys.clock_of(keys.len() - 1);
-    if last < engine.clock() {
+    if last < machine.clock() {
         let mut board = BoardState::power_on();
-        engine.state(&mut board);
+        machine.state(&mut board);
         keys.keep(&board);
     }
 }

@@ -3,6 +3,7 @@ ghost use Rattle.lockstep_board.specs.Order.{HasNoRecords};
 
 use avg_device::FastVg;
 use board_base::BoardState;
+use board_watch::SyncedMachine;
 use catchup_engine::{Devices, Engine};
 use earom_cells::Earom;
 use irq_watchdog::Divider;
@@ -81,7 +82,12 @@ fn lines_tell_the_records_by_kind(rt: HostRuntime) -> Result<(), Fail> {
     for (program, limit, lines) in CASES {
         let mut engine = engine_of(rt.alloc(), program)?;
         let mut out = MemorySink::new(rt.alloc(), 200, &[])?;
-        let done = run_soak(&mut engine, &tape, limit.min(90_000), &mut out);
+        let done = run_soak(
+            &mut SyncedMachine::of(&mut engine),
+            &tape,
+            limit.min(90_000),
+            &mut out,
+        );
         assert_eq!(rt; done, Ok(()), "{program}");
         assert_eq!(rt; out.bytes(), lines.as_bytes(), "{program}");
     }

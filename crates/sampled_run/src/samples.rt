@@ -1,22 +1,18 @@
 ghost use Rattle.std.specs.Prelude.{◌≡◌, ◌+◌, ◌≤◌, OnOk};
 ghost use Rattle.outside_io.specs.Causes.{HasCause};
 ghost use Rattle.outside_io.specs.Sink.{Takes};
-ghost use Rattle.lockstep_board.specs.Order.{HasNoRecords, cleared};
+ghost use Rattle.lockstep_board.specs.Order.{cleared};
 ghost use Rattle.lockstep_board.specs.Run.{to_boundary};
-ghost use Rattle.board_watch.specs.Rested.{engine_of, loan_of};
+ghost use Rattle.board_watch.specs.SyncedMachine.{loan_of, value_of};
 ghost use Rattle.sound_pcm.specs.Mixing.{AreLevels};
 ghost use Rattle.sound_pcm.specs.declared.mixer.TheConstants.{MAX_PER};
 ghost use Rattle.sampled_run.specs.BoardSamples.{sampled_bytes, IsMixerOf};
 ghost use Rattle.sampled_run.specs.Sampling.{CanMix, IsSamplerOf, sampled_in_parts, sampler_after, samples_in};
 
-use avg_device::VectorUnit;
 use board_base::{BoardState, CLOCK_LIMIT, PokeyState, Trails};
-use board_watch::{Rested, Until, Watch};
-use catchup_engine::Engine;
-use earom_cells::CellUnit;
-use irq_watchdog::DividerUnit;
+use board_watch::{SyncedMachine, Until, Watch};
+use catchup_engine::Machine;
 use outside_io::{Sink, SinkFault};
-use pokey_chip::SoundUnit;
 use sound_pcm::Mixer;
 use tape_ports::Tape;
 
@@ -66,70 +62,41 @@ fn mixer_of(clock: u64, per: u32, first: [u8; 4], second: [u8; 4]) -> Mixer
     Mixer::new(clock, per, [a1, a2, a3, a4, b1, b2, b3, b4])
 }
 
-/// A mixer that stands where the board of an engine at rest stands, with its levels.
-fn mixer_at<V: VectorUnit, P: SoundUnit, C: CellUnit, D: DividerUnit>(
-    rested: &Rested<'_, V, P, C, D>,
-    per: u32,
-) -> Mixer
+/// A mixer that stands where the board of a synchronised machine stands, with its levels.
+fn mixer_at<M: Machine>(synced: &SyncedMachine<'_, M>, per: u32) -> Mixer
     requires some { 1 ≤ per }
     requires longest { per ≤ MAX_PER }
-    ensures mixer { IsMixerOf (engine_of rested.now).board per result }
-    ensures clock { (engine_of rested.now).board.wires.clock ≤ CLOCK_LIMIT + 16 }
+    ensures mixer { IsMixerOf (value_of synced.now).board per result }
+    ensures clock { (value_of synced.now).board.wires.clock ≤ CLOCK_LIMIT + 16 }
 {
     let mut state = BoardState::power_on();
-    rested.engine().state(&mut state);
+    synced.machine().state(&mut state);
     let first = levels_of(&state.sound1);
     let second = levels_of(&state.sound2);
     mixer_of(state.clock, per, first, second)
 }
 
 impl Sampler {
-    /// A sampler that begins a group of `per` clocks, 1 to 65,535, where the board of an engine at rest
+    /// A sampler that begins a group of `per` clocks, 1 to 65,535, where the board of a synchronised machine
     /// stands.
-    pub fn of<V: VectorUnit, P: SoundUnit, C: CellUnit, D: DividerUnit>(
-        rested: &Rested<'_, V, P, C, D>,
-        per: u32,
-    ) -> Sampler
+    pub fn of<M: Machine>(synced: &SyncedMachine<'_, M>, per: u32) -> Sampler
         requires some { 1 ≤ per }
         requires longest { per ≤ MAX_PER }
-        ensures begins { IsSamplerOf (engine_of rested.now).board per result }
-        ensures clock { (engine_of rested.now).board.wires.clock ≤ CLOCK_LIMIT + 16 }
+        ensures begins { IsSamplerOf (value_of synced.now).board per result }
+        ensures clock { (value_of synced.now).board.wires.clock ≤ CLOCK_LIMIT + 16 }
     {
         Sampler {
-            mixer: mixer_at(rested, per),
+            mixer: mixer_at(synced, per),
         }
-    }
-}
-
-/// Runs the board of an engine at rest, and writes its samples.
-fn run_rested<V: VectorUnit, P: SoundUnit, C: CellUnit, D: DividerUnit, O: Sink>(
-    rested: &mut Rested<'_, V, P, C, D>,
-    tape: &Tape,
-    limit: u64,
-    per: u32,
-    out: &mut O,
-) -> Result<(), SinkFault>
-    requires limit { limit ≤ CLOCK_LIMIT }
-    requires some { 1 ≤ per }
-    requires longest { per ≤ MAX_PER }
-    ensures same { loan_of rested.new ≡ loan_of rested.old }
-    ensures taken { Takes (O.taken out.old) (O.taken out.new) (sampled_bytes tape.now.entries limit per (engine_of rested.old).board) result }
-    ensures cause { HasCause (O.faults out.old) (O.faults out.new) result }
-    ensures board { OnOk result ((engine_of rested.new).board ≡ cleared (to_boundary tape.now.entries limit (engine_of rested.old).board)) }
-{
-    let mut sampler = Sampler::of(rested, per);
-    match rested.watch(tape, Until::Boundary(limit), &mut sampler, out) {
-        Ok(_) => Ok(()),
-        Err(_) => Err(SinkFault),
     }
 }
 
 /// Runs the board over a tape to the first boundary that isn't before the limit or to an undocumented
 /// opcode, and writes its samples: each is the sum of the eight levels of the two POKEYs over `per`
 /// clocks, 1 to 65,535, as four bytes, the lowest first. The last clocks, which are no whole group,
-/// give none. After a fault the engine is only to be dropped. It takes no memory.
-pub fn run_sampled<V: VectorUnit, P: SoundUnit, C: CellUnit, D: DividerUnit, O: Sink>(
-    engine: &mut Engine<V, P, C, D>,
+/// give none. After a fault the machine is only to be dropped. It takes no memory.
+pub fn run_sampled<M: Machine, O: Sink>(
+    synced: &mut SyncedMachine<'_, M>,
     tape: &Tape,
     limit: u64,
     per: u32,
@@ -138,11 +105,14 @@ pub fn run_sampled<V: VectorUnit, P: SoundUnit, C: CellUnit, D: DividerUnit, O: 
     requires limit { limit ≤ CLOCK_LIMIT }
     requires some { 1 ≤ per }
     requires longest { per ≤ MAX_PER }
-    requires settled { engine.old.lagging ≡ 0 }
-    requires empty { HasNoRecords engine.old.board }
-    ensures taken { Takes (O.taken out.old) (O.taken out.new) (sampled_bytes tape.now.entries limit per engine.old.board) result }
+    ensures same { loan_of synced.new ≡ loan_of synced.old }
+    ensures taken { Takes (O.taken out.old) (O.taken out.new) (sampled_bytes tape.now.entries limit per (value_of synced.old).board) result }
     ensures cause { HasCause (O.faults out.old) (O.faults out.new) result }
-    ensures board { OnOk result (engine.new.board ≡ cleared (to_boundary tape.now.entries limit engine.old.board)) }
+    ensures board { OnOk result ((value_of synced.new).board ≡ cleared (to_boundary tape.now.entries limit (value_of synced.old).board)) }
 {
-    run_rested(&mut Rested::of(engine), tape, limit, per, out)
+    let mut sampler = Sampler::of(synced, per);
+    match synced.watch(tape, Until::Boundary(limit), &mut sampler, out) {
+        Ok(_) => Ok(()),
+        Err(_) => Err(SinkFault),
+    }
 }

@@ -15,7 +15,7 @@ use Rattle.lockstep_board.proofs.Places.{stepped-placed}
 use Rattle.lockstep_board.proofs.Runs.{stepped-add}
 use Rattle.board_watch.specs.declared.until.Until.TheVariants.{Clock, Boundary}
 use Rattle.sliced_run.specs.Events.{Event, Did, DidFirst, sending}
-use Rattle.board_watch.specs.Rest.{IsAtRest}
+use Rattle.board_watch.specs.Synced.{IsSynced}
 use Rattle.board_watch.specs.Windows.{steps_to, window_price}
 use Rattle.sliced_run.specs.Slice.{slice_text, text_of_steps}
 use Rattle.sliced_run.specs.Slices.{FitsCalls, StopsIn, Wanted, cut_events, ending_text, last_board, last_events, run_budget, run_events, saved_bytes, storing}
@@ -77,12 +77,12 @@ pub record CutUpTo (entries : List TapeEntry) (limit : ℕ) (wanted : Wanted) (c
   pub shelf : shelf1 ≡ shelf0
   pub sink : sink1 ≡ sink0
   pub absences : absences0 ≤ absences1
-  pub fresh : IsAtRest now
+  pub fresh : IsSynced now
   pub most : now.calls ≤ start.calls + window_price entries steps start.board + 10 * i
   pub least : counted_on start.calls (5 * i) ≤ now.calls
 
 pub cuts-start : (entries : List TapeEntry) (limit : ℕ) (wanted : Wanted) (cuts : List ℕ) (now : EngineValue) (out : Option (List ℕ))
-    (stores : Option (List Kept)) (shelf sink absences : ℕ) → IsAtRest now
+    (stores : Option (List Kept)) (shelf sink absences : ℕ) → IsSynced now
     → CutUpTo entries limit wanted cuts now now 0 out out stores stores shelf shelf sink sink absences absences
 unfolding stepped
 cuts-start entries limit wanted cuts now out stores shelf sink absences fresh = record {
@@ -160,7 +160,7 @@ module _ (entries : List TapeEntry) (limit : ℕ) (wanted : Wanted) (cuts : List
     -- one cut more
     pub cuts-on : (next : EngineValue) (out2 : Option (List ℕ)) (stores2 : Option (List Kept)) (shelf2 sink2 absences2 : ℕ)
         → Did (cut_events entries lowered wanted.save now.board) out1 out2 stores1 stores2 → shelf2 ≡ shelf1 → sink2 ≡ sink1 → absences1 ≤ absences2
-        → next.board ≡ cleared (to_clock entries lowered now.board) → IsAtRest next
+        → next.board ≡ cleared (to_clock entries lowered now.board) → IsSynced next
         → next.calls ≤ now.calls + window_price entries (clock_steps entries lowered now.board) now.board + 10 → counted_on now.calls 5 ≤ next.calls
         → CutUpTo entries limit wanted cuts start next (i + 1) out0 out2 stores0 stores2 shelf0 shelf2 sink0 sink2 absences0 absences2
     cuts-on next out2 stores2 shelf2 sink2 absences2 did shelf sink absences board fresh most least =

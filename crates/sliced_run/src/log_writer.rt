@@ -3,18 +3,15 @@ ghost use Rattle.outside_io.specs.Causes.{HasCause};
 ghost use Rattle.outside_io.specs.Sink.{Takes};
 ghost use Rattle.lockstep_board.specs.Order.{cleared};
 ghost use Rattle.board_watch.specs.Windows.{clock_in, end_of, price_to};
-ghost use Rattle.board_watch.specs.Rested.{engine_of, loan_of};
+ghost use Rattle.board_watch.specs.SyncedMachine.{loan_of, value_of};
 ghost use Rattle.sliced_run.specs.Slice.{AreTrails, slice_text, text_of_records};
 ghost use Rattle.sliced_run.specs.LogParts.{log-taken_in_parts};
 
-use avg_device::VectorUnit;
 use board_base::{CLOCK_LIMIT, Trails};
-use board_watch::{Rested, Until, Watch};
-use earom_cells::CellUnit;
-use irq_watchdog::DividerUnit;
+use board_watch::{SyncedMachine, Until, Watch};
+use catchup_engine::Machine;
 use log_text::write_merged;
 use outside_io::{Sink, SinkFault};
-use pokey_chip::SoundUnit;
 use tape_ports::Tape;
 
 /// Writes the log: a line for each record, by clock and part.
@@ -41,21 +38,21 @@ impl Watch for LogWriter {
 }
 
 /// Runs the board to the end of a slice, and writes its lines. It takes no memory.
-pub(crate) fn run_slice<V: VectorUnit, P: SoundUnit, C: CellUnit, D: DividerUnit, O: Sink>(
-    rested: &mut Rested<'_, V, P, C, D>,
+pub(crate) fn run_slice<M: Machine, O: Sink>(
+    synced: &mut SyncedMachine<'_, M>,
     tape: &Tape,
     until: Until,
     out: &mut O,
 ) -> Result<(), SinkFault>
     requires limit { clock_in until ≤ CLOCK_LIMIT }
-    ensures same { loan_of rested.new ≡ loan_of rested.old }
-    ensures taken { Takes (O.taken out.old) (O.taken out.new) (slice_text tape.now.entries until (engine_of rested.old).board) result }
+    ensures same { loan_of synced.new ≡ loan_of synced.old }
+    ensures taken { Takes (O.taken out.old) (O.taken out.new) (slice_text tape.now.entries until (value_of synced.old).board) result }
     ensures cause { HasCause (O.faults out.old) (O.faults out.new) result }
-    ensures board { OnOk result ((engine_of rested.new).board ≡ cleared (end_of tape.now.entries until (engine_of rested.old).board)) }
-    ensures calls { (engine_of rested.new).calls ≤ (engine_of rested.old).calls + price_to tape.now.entries until (engine_of rested.old).board + 5 }
-    ensures more { (engine_of rested.old).calls ≤ (engine_of rested.new).calls }
+    ensures board { OnOk result ((value_of synced.new).board ≡ cleared (end_of tape.now.entries until (value_of synced.old).board)) }
+    ensures calls { (value_of synced.new).calls ≤ (value_of synced.old).calls + price_to tape.now.entries until (value_of synced.old).board + 5 }
+    ensures more { (value_of synced.old).calls ≤ (value_of synced.new).calls }
 {
-    match rested.watch(tape, until, &mut LogWriter, out) {
+    match synced.watch(tape, until, &mut LogWriter, out) {
         Ok(_) => Ok(()),
         Err(_) => Err(SinkFault),
     }

@@ -6,7 +6,7 @@ ghost use Rattle.outside_io.specs.Sink.{Takes};
 ghost use Rattle.catchup_engine.specs.EngineValue.{counted_on};
 ghost use Rattle.lockstep_board.specs.Order.{HasNoRecords, cleared};
 ghost use Rattle.lockstep_board.specs.Run.{boundary_steps, clock_steps, to_clock, to_boundary};
-ghost use Rattle.board_watch.specs.Rested.{engine_of, loan_of};
+ghost use Rattle.board_watch.specs.SyncedMachine.{loan_of, value_of};
 ghost use Rattle.sliced_run.specs.Events.{Did, DidFirst, stores_of};
 ghost use Rattle.sliced_run.specs.LastLine.{last_text};
 ghost use Rattle.board_watch.specs.Windows.{window_price};
@@ -18,8 +18,8 @@ use crate::log_writer::run_slice;
 use crate::outside_fault::OutsideFault;
 use avg_device::VectorUnit;
 use board_base::{BoardState, CLOCK_LIMIT};
-use board_watch::{Rested, Until};
-use catchup_engine::Engine;
+use board_watch::{SyncedMachine, Until};
+use catchup_engine::{Engine, Machine};
 use earom_cells::CellUnit;
 use irq_watchdog::DividerUnit;
 use log_text::{write_cost, write_end, write_jam};
@@ -44,8 +44,8 @@ pub fn store_under<S: Shelf>(name: Option<&str>, bytes: &[u8], shelf: &mut S) ->
 
 /// Runs to a cut, writes its lines, stores its board under a name where one is given, and goes on
 /// from the board that is read back. `saved` had the board of the cut before.
-fn cut_slice<V: VectorUnit, P: SoundUnit, C: CellUnit, D: DividerUnit, S: Shelf, O: Sink>(
-    rested: &mut Rested<'_, V, P, C, D>,
+fn cut_slice<M: Machine, S: Shelf, O: Sink>(
+    synced: &mut SyncedMachine<'_, M>,
     tape: &Tape,
     cut: u64,
     save: Option<&str>,
@@ -54,43 +54,43 @@ fn cut_slice<V: VectorUnit, P: SoundUnit, C: CellUnit, D: DividerUnit, S: Shelf,
     out: &mut O,
 ) -> Result<(), OutsideFault>
     requires limit { cut ≤ CLOCK_LIMIT }
-    ensures same { loan_of rested.new ≡ loan_of rested.old }
-    ensures done { OnOk result (Did (cut_events tape.now.entries cut (option_map (λ name. name.now) save.entry) (engine_of rested.old).board)
+    ensures same { loan_of synced.new ≡ loan_of synced.old }
+    ensures done { OnOk result (Did (cut_events tape.now.entries cut (option_map (λ name. name.now) save.entry) (value_of synced.old).board)
         (O.taken out.old) (O.taken out.new) (S.stores shelf.old) (S.stores shelf.new)) }
-    ensures stopped { OnErr result (DidFirst (cut_events tape.now.entries cut (option_map (λ name. name.now) save.entry) (engine_of rested.old).board)
+    ensures stopped { OnErr result (DidFirst (cut_events tape.now.entries cut (option_map (λ name. name.now) save.entry) (value_of synced.old).board)
         (O.taken out.old) (O.taken out.new) (S.stores shelf.old) (S.stores shelf.new)) }
     ensures faults { SliceFaults (S.faults shelf.old) (S.faults shelf.new) (O.faults out.old) (O.faults out.new) result }
     ensures absences { S.absences shelf.old ≤ S.absences shelf.new }
-    ensures board { OnOk result ((engine_of rested.new).board ≡ cleared (to_clock tape.now.entries cut (engine_of rested.old).board)) }
-    ensures most { OnOk result ((engine_of rested.new).calls ≤ (engine_of rested.old).calls
-        + window_price tape.now.entries (clock_steps tape.now.entries cut (engine_of rested.old).board) (engine_of rested.old).board + 10) }
-    ensures least { OnOk result (counted_on (engine_of rested.old).calls 5 ≤ (engine_of rested.new).calls) }
+    ensures board { OnOk result ((value_of synced.new).board ≡ cleared (to_clock tape.now.entries cut (value_of synced.old).board)) }
+    ensures most { OnOk result ((value_of synced.new).calls ≤ (value_of synced.old).calls
+        + window_price tape.now.entries (clock_steps tape.now.entries cut (value_of synced.old).board) (value_of synced.old).board + 10) }
+    ensures least { OnOk result (counted_on (value_of synced.old).calls 5 ≤ (value_of synced.new).calls) }
 {
-    let Ok(()) = run_slice(rested, tape, Until::Clock(cut), out) else {
+    let Ok(()) = run_slice(synced, tape, Until::Clock(cut), out) else {
         return Err(OutsideFault::Out);
     };
-    saved.save(rested);
+    saved.save(synced);
     let Ok(()) = store_under(save, &saved.bytes, shelf) else {
         return Err(OutsideFault::Shelf);
     };
-    load_saved(rested, &saved.bytes);
+    load_saved(synced, &saved.bytes);
     Ok(())
 }
 
 /// Writes the last line of a run that has ended: E with the clock, or X with the clock, pc and the
 /// opcode that jammed the processor.
-pub fn write_last<V: VectorUnit, P: SoundUnit, C: CellUnit, D: DividerUnit, O: Sink>(
-    rested: &Rested<'_, V, P, C, D>,
+pub fn write_last<M: Machine, O: Sink>(
+    synced: &SyncedMachine<'_, M>,
     out: &mut O,
 ) -> Result<(), SinkFault>
-    ensures taken { Takes (O.taken out.old) (O.taken out.new) (last_text (engine_of rested.now).board (engine_of rested.now).board.cpu.jam) result }
+    ensures taken { Takes (O.taken out.old) (O.taken out.new) (last_text (value_of synced.now).board (value_of synced.now).board.cpu.jam) result }
     ensures cause { HasCause (O.faults out.old) (O.faults out.new) result }
 {
-    let engine = rested.engine();
-    let cpu = engine.cpu();
+    let machine = synced.machine();
+    let cpu = machine.cpu();
     match cpu.jam {
-        Some(opcode) => write_jam(engine.clock(), cpu.pc, opcode, out),
-        None => write_end(engine.clock(), out),
+        Some(opcode) => write_jam(machine.clock(), cpu.pc, opcode, out),
+        None => write_end(machine.clock(), out),
     }
 }
 
@@ -106,35 +106,33 @@ fn write_calls<O: Sink>(cost: bool, calls: u64, out: &mut O) -> Result<(), SinkF
 }
 
 /// Writes the last line of a run that has ended, and then its device calls where they are asked for.
-fn write_ending<V: VectorUnit, P: SoundUnit, C: CellUnit, D: DividerUnit, O: Sink>(
-    rested: &Rested<'_, V, P, C, D>,
+fn write_ending<M: Machine, O: Sink>(
+    synced: &SyncedMachine<'_, M>,
     cost: bool,
     out: &mut O,
 ) -> Result<(), SinkFault>
-    ensures taken { Takes (O.taken out.old) (O.taken out.new) (ending_text cost (engine_of rested.now).calls (engine_of rested.now).board) result }
+    ensures taken { Takes (O.taken out.old) (O.taken out.new) (ending_text cost (value_of synced.now).calls (value_of synced.now).board) result }
     ensures cause { HasCause (O.faults out.old) (O.faults out.new) result }
 {
-    let Ok(()) = write_last(rested, out) else {
+    let Ok(()) = write_last(synced, out) else {
         return Err(SinkFault);
     };
-    write_calls(cost, rested.engine().calls(), out)
+    write_calls(cost, synced.machine().calls(), out)
 }
 
 /// The cells of the EAROM.
-fn cells_of<V: VectorUnit, P: SoundUnit, C: CellUnit, D: DividerUnit>(
-    rested: &Rested<'_, V, P, C, D>,
-) -> [u8; 64]
-    ensures { result ≡ (engine_of rested.now).board.wires.earom.cells }
+fn cells_of<M: Machine>(synced: &SyncedMachine<'_, M>) -> [u8; 64]
+    ensures { result ≡ (value_of synced.now).board.wires.earom.cells }
 {
     let mut state = BoardState::power_on();
-    rested.engine().state(&mut state);
+    synced.machine().state(&mut state);
     state.earom.cells
 }
 
 /// Runs to the end, writes the lines, the last line and the device calls where they are asked for,
 /// and stores the board and then the cells, each where it has a name.
-fn end_slice<V: VectorUnit, P: SoundUnit, C: CellUnit, D: DividerUnit, S: Shelf, O: Sink>(
-    rested: &mut Rested<'_, V, P, C, D>,
+fn end_slice<M: Machine, S: Shelf, O: Sink>(
+    synced: &mut SyncedMachine<'_, M>,
     tape: &Tape,
     limit: u64,
     save: Option<&str>,
@@ -144,36 +142,36 @@ fn end_slice<V: VectorUnit, P: SoundUnit, C: CellUnit, D: DividerUnit, S: Shelf,
     out: &mut O,
 ) -> Result<(), OutsideFault>
     requires limit { limit ≤ CLOCK_LIMIT }
-    ensures same { loan_of rested.new ≡ loan_of rested.old }
-    ensures done { OnOk result (Did (last_events tape.now.entries limit (wanted_of save.entry earom.entry cost) (engine_of rested.new).calls (engine_of rested.old).board)
+    ensures same { loan_of synced.new ≡ loan_of synced.old }
+    ensures done { OnOk result (Did (last_events tape.now.entries limit (wanted_of save.entry earom.entry cost) (value_of synced.new).calls (value_of synced.old).board)
         (O.taken out.old) (O.taken out.new) (S.stores shelf.old) (S.stores shelf.new)) }
-    ensures stopped { OnErr result (DidFirst (last_events tape.now.entries limit (wanted_of save.entry earom.entry cost) (engine_of rested.new).calls (engine_of rested.old).board)
+    ensures stopped { OnErr result (DidFirst (last_events tape.now.entries limit (wanted_of save.entry earom.entry cost) (value_of synced.new).calls (value_of synced.old).board)
         (O.taken out.old) (O.taken out.new) (S.stores shelf.old) (S.stores shelf.new)) }
     ensures faults { SliceFaults (S.faults shelf.old) (S.faults shelf.new) (O.faults out.old) (O.faults out.new) result }
     ensures absences { S.absences shelf.old ≤ S.absences shelf.new }
-    ensures board { OnOk result ((engine_of rested.new).board ≡ cleared (to_boundary tape.now.entries limit (engine_of rested.old).board)) }
-    ensures calls { (engine_of rested.new).calls ≤ (engine_of rested.old).calls
-        + window_price tape.now.entries (boundary_steps tape.now.entries limit (engine_of rested.old).board) (engine_of rested.old).board + 5 }
-    ensures more { (engine_of rested.old).calls ≤ (engine_of rested.new).calls }
+    ensures board { OnOk result ((value_of synced.new).board ≡ cleared (to_boundary tape.now.entries limit (value_of synced.old).board)) }
+    ensures calls { (value_of synced.new).calls ≤ (value_of synced.old).calls
+        + window_price tape.now.entries (boundary_steps tape.now.entries limit (value_of synced.old).board) (value_of synced.old).board + 5 }
+    ensures more { (value_of synced.old).calls ≤ (value_of synced.new).calls }
 {
-    let Ok(()) = run_slice(rested, tape, Until::Boundary(limit), out) else {
+    let Ok(()) = run_slice(synced, tape, Until::Boundary(limit), out) else {
         return Err(OutsideFault::Out);
     };
-    let Ok(()) = write_ending(rested, cost, out) else {
+    let Ok(()) = write_ending(synced, cost, out) else {
         return Err(OutsideFault::Out);
     };
-    let Ok(()) = store_under(save, &Saved::of(rested).bytes, shelf) else {
+    let Ok(()) = store_under(save, &Saved::of(synced).bytes, shelf) else {
         return Err(OutsideFault::Shelf);
     };
-    let Ok(()) = store_under(earom, &cells_of(rested), shelf) else {
+    let Ok(()) = store_under(earom, &cells_of(synced), shelf) else {
         return Err(OutsideFault::Shelf);
     };
     Ok(())
 }
 
-/// Runs the board of an engine at rest in slices.
-fn run_rested<V: VectorUnit, P: SoundUnit, C: CellUnit, D: DividerUnit, S: Shelf, O: Sink>(
-    rested: &mut Rested<'_, V, P, C, D>,
+/// Runs the board of a synchronised machine in slices.
+fn run_synced<M: Machine, S: Shelf, O: Sink>(
+    synced: &mut SyncedMachine<'_, M>,
     tape: &Tape,
     cuts: &[u64],
     limit: u64,
@@ -184,20 +182,20 @@ fn run_rested<V: VectorUnit, P: SoundUnit, C: CellUnit, D: DividerUnit, S: Shelf
     out: &mut O,
 ) -> Result<(), OutsideFault>
     requires limit { limit ≤ CLOCK_LIMIT }
-    ensures same { loan_of rested.new ≡ loan_of rested.old }
-    ensures done { OnOk result (Did (run_events tape.now.entries limit (wanted_of save.entry earom.entry cost) (engine_of rested.new).calls cuts.now (engine_of rested.old).board)
+    ensures same { loan_of synced.new ≡ loan_of synced.old }
+    ensures done { OnOk result (Did (run_events tape.now.entries limit (wanted_of save.entry earom.entry cost) (value_of synced.new).calls cuts.now (value_of synced.old).board)
         (O.taken out.old) (O.taken out.new) (S.stores shelf.old) (S.stores shelf.new)) }
-    ensures stopped { OnErr result (StopsIn tape.now.entries limit (wanted_of save.entry earom.entry cost) (engine_of rested.old).calls cuts.now (engine_of rested.old).board
+    ensures stopped { OnErr result (StopsIn tape.now.entries limit (wanted_of save.entry earom.entry cost) (value_of synced.old).calls cuts.now (value_of synced.old).board
         (O.taken out.old) (O.taken out.new) (S.stores shelf.old) (S.stores shelf.new)) }
     ensures faults { SliceFaults (S.faults shelf.old) (S.faults shelf.new) (O.faults out.old) (O.faults out.new) result }
     ensures absences { S.absences shelf.old ≤ S.absences shelf.new }
-    ensures board { OnOk result ((engine_of rested.new).board ≡ cleared (last_board tape.now.entries limit cuts.now (engine_of rested.old).board)) }
-    ensures calls { OnOk result (FitsCalls tape.now.entries limit (length cuts.now) (engine_of rested.old).board (engine_of rested.old).calls (engine_of rested.new).calls) }
+    ensures board { OnOk result ((value_of synced.new).board ≡ cleared (last_board tape.now.entries limit cuts.now (value_of synced.old).board)) }
+    ensures calls { OnOk result (FitsCalls tape.now.entries limit (length cuts.now) (value_of synced.old).board (value_of synced.old).calls (value_of synced.new).calls) }
 {
-    let mut saved = Saved::of(rested);
+    let mut saved = Saved::of(synced);
     for cut in cuts {
         match cut_slice(
-            rested,
+            synced,
             tape,
             (*cut).min(limit),
             save,
@@ -209,7 +207,7 @@ fn run_rested<V: VectorUnit, P: SoundUnit, C: CellUnit, D: DividerUnit, S: Shelf
             Err(fault) => return Err(fault),
         }
     }
-    end_slice(rested, tape, limit, save, earom, cost, shelf, out)
+    end_slice(synced, tape, limit, save, earom, cost, shelf, out)
 }
 
 /// Runs the board over a tape, in slices, to the first boundary that isn't before the limit or to an
@@ -245,8 +243,8 @@ pub fn run_slices<V: VectorUnit, P: SoundUnit, C: CellUnit, D: DividerUnit, S: S
     ensures settled { OnOk result (engine.new.lagging ≡ 0) }
     ensures calls { OnOk result (FitsCalls tape.now.entries limit (length cuts.now) engine.old.board engine.old.calls engine.new.calls) }
 {
-    run_rested(
-        &mut Rested::of(engine),
+    run_synced(
+        &mut SyncedMachine::of(engine),
         tape,
         cuts,
         limit,

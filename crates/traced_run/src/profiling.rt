@@ -2,22 +2,18 @@
 ghost use Rattle.std.specs.Prelude.{◌≡◌, ◌≤◌, [], false, OnOk};
 ghost use Rattle.outside_io.specs.Causes.{HasCause};
 ghost use Rattle.outside_io.specs.Sink.{Takes};
-ghost use Rattle.lockstep_board.specs.Order.{HasNoRecords, cleared};
+ghost use Rattle.lockstep_board.specs.Order.{cleared};
 ghost use Rattle.lockstep_board.specs.Run.{to_boundary};
-ghost use Rattle.board_watch.specs.Rested.{engine_of, loan_of};
+ghost use Rattle.board_watch.specs.SyncedMachine.{loan_of, value_of};
 ghost use Rattle.traced_run.specs.BoardProfile.{no_profile, profiled_text};
 ghost use Rattle.traced_run.specs.Profiling.{behind_run, profiler_told};
 ghost use Rattle.traced_run.specs.ProfilingLaws.{profiled_in_parts, profiled_still};
 
-use avg_device::VectorUnit;
 use board_base::{CLOCK_LIMIT, Trails};
-use board_watch::{Follow, Rested};
-use catchup_engine::{Engine, Tracer, TurnNote};
+use board_watch::{Follow, SyncedMachine};
+use catchup_engine::{Machine, Tracer, TurnNote};
 use cycle_profile::Profile;
-use earom_cells::CellUnit;
-use irq_watchdog::DividerUnit;
 use outside_io::{Sink, SinkFault};
-use pokey_chip::SoundUnit;
 use sliced_run::write_last;
 use tape_ports::Tape;
 
@@ -60,47 +56,28 @@ impl Follow for Profiler {
     ghost stands_still = { profiled_still };
 }
 
-/// Runs the board of an engine at rest, and writes its profile and the last line.
-fn profile_rested<V: VectorUnit, P: SoundUnit, C: CellUnit, D: DividerUnit, O: Sink>(
-    rested: &mut Rested<'_, V, P, C, D>,
+/// Runs the board over a tape to the first boundary that isn't before the limit or to an undocumented
+/// opcode, counts its turns in the profile, and then writes it and the last line of the run. The
+/// profile is a new one, of the address at which the processor stands. After a fault the machine is
+/// only to be dropped. It takes no memory.
+pub fn run_profiled<M: Machine, O: Sink>(
+    synced: &mut SyncedMachine<'_, M>,
     tape: &Tape,
     limit: u64,
     profile: Profile,
     out: &mut O,
 ) -> Result<(), SinkFault>
     requires limit { limit ≤ CLOCK_LIMIT }
-    requires fresh { profile ≡ no_profile (engine_of rested.old).board.cpu.pc }
-    ensures same { loan_of rested.new ≡ loan_of rested.old }
-    ensures taken { Takes (O.taken out.old) (O.taken out.new) (profiled_text tape.now.entries limit (engine_of rested.old).board) result }
+    requires fresh { profile ≡ no_profile (value_of synced.old).board.cpu.pc }
+    ensures same { loan_of synced.new ≡ loan_of synced.old }
+    ensures taken { Takes (O.taken out.old) (O.taken out.new) (profiled_text tape.now.entries limit (value_of synced.old).board) result }
     ensures cause { HasCause (O.faults out.old) (O.faults out.new) result }
-    ensures board { OnOk result ((engine_of rested.new).board ≡ cleared (to_boundary tape.now.entries limit (engine_of rested.old).board)) }
+    ensures board { OnOk result ((value_of synced.new).board ≡ cleared (to_boundary tape.now.entries limit (value_of synced.old).board)) }
 {
     let mut profiler = Profiler { profile };
-    let Ok(_) = rested.follow(tape, limit, &mut profiler, out) else {
+    let Ok(_) = synced.follow(tape, limit, &mut profiler, out) else {
         return Err(SinkFault);
     };
     profiler.profile.write(out)?;
-    write_last(rested, out)
-}
-
-/// Runs the board over a tape to the first boundary that isn't before the limit or to an undocumented
-/// opcode, counts its turns in the profile, and then writes it and the last line of the run. The
-/// profile is a new one, of the address at which the processor stands. After a fault the engine is
-/// only to be dropped. It takes no memory.
-pub fn run_profiled<V: VectorUnit, P: SoundUnit, C: CellUnit, D: DividerUnit, O: Sink>(
-    engine: &mut Engine<V, P, C, D>,
-    tape: &Tape,
-    limit: u64,
-    profile: Profile,
-    out: &mut O,
-) -> Result<(), SinkFault>
-    requires limit { limit ≤ CLOCK_LIMIT }
-    requires fresh { profile ≡ no_profile engine.old.board.cpu.pc }
-    requires settled { engine.old.lagging ≡ 0 }
-    requires empty { HasNoRecords engine.old.board }
-    ensures taken { Takes (O.taken out.old) (O.taken out.new) (profiled_text tape.now.entries limit engine.old.board) result }
-    ensures cause { HasCause (O.faults out.old) (O.faults out.new) result }
-    ensures board { OnOk result (engine.new.board ≡ cleared (to_boundary tape.now.entries limit engine.old.board)) }
-{
-    profile_rested(&mut Rested::of(engine), tape, limit, profile, out)
+    write_last(synced, out)
 }

@@ -1,12 +1,12 @@
 //! The board at rest: its devices brought to the present, its state, and its records.
-ghost use Rattle.std.specs.Prelude.{◌≡◌, ◌+◌, ◌≤◌, ◌==◌, IsSome, []};
+ghost use Rattle.std.specs.Prelude.{◌≡◌, ◌+◌, ◌≤◌, ◌<◌, ◌==◌, IsSome, []};
 ghost use Rattle.catchup_engine.specs.Lags.{all_lag, lagging_among, lagging_of, none_lags, with_brought};
 ghost use Rattle.lockstep_board.specs.Wires.{board_of};
 
 use crate::bus::clocking::level_divider;
 use crate::bus::{BoardBus, TRAIL_ROOM};
 use avg_device::VectorUnit;
-use board_base::{BoardState, CLOCK_LIMIT, CpuState, Trails};
+use board_base::{BoardState, CLOCK_LIMIT, CpuState, DIVIDER_PERIOD, Trails};
 use earom_cells::CellUnit;
 use irq_watchdog::DividerUnit;
 use lockstep_board::{ALL_DEVICES, DeviceSet};
@@ -204,6 +204,15 @@ impl<V: VectorUnit, P: SoundUnit, C: CellUnit, D: DividerUnit> BoardBus<V, P, C,
         requires levels1 { self.now.wires.levels1 ≡ [] }
         requires levels2 { self.now.wires.levels2 ≡ [] }
         ensures { self.now.wires.clock + TRAIL_ROOM ≤ self.now.until }
+    {
+        // opens the model
+        let _clock = self.clock;
+    }
+    /// Tells that the divider stands before its wrap. It does nothing.
+    #[tactic(auto, using(board_base::proofs::TickLaws::level, crate::proofs::SettledLaws::settled))]
+    pub fn lemma_phase(&self)
+        requires settled { lagging_of self.now.lagging ≡ 0 }
+        ensures { self.now.wires.divider.phase < DIVIDER_PERIOD }
     {
         // opens the model
         let _clock = self.clock;

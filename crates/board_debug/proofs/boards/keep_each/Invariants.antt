@@ -9,11 +9,11 @@ use Rattle.board_debug.proofs.boards.keep_each.Given as goal
 -- the engine can go on along the same run, and where there is room it is on the way to all clocks
 abbrev pub invariant-loop-next : goal.invariant-loop-next
 invariant-loop-next g l = record {
-  settled : l.engine.lagging ≡ 0;
-  empty : HasNoRecords l.engine.board;
-  same : run_start l.keys.kept l.engine.board ≡ run_start l.fn.keys.kept l.fn.engine.board;
-  along : Along l.keys.kept l.fn.tape.entries (run_start l.keys.kept l.engine.board);
-  way : HasRoom l.fn.keys (length l.fn.clocks) → Way l.fn.tape.entries l.fn.clocks (run_start l.fn.keys.kept l.fn.engine.board) l.fn.engine.done l.keys l.engine.done l.last;
+  settled : (g.M.Machine.value l.machine).lagging ≡ 0;
+  empty : HasNoRecords (g.M.Machine.value l.machine).board;
+  same : run_start l.keys.kept (g.M.Machine.value l.machine).board ≡ run_start l.fn.keys.kept (g.M.Machine.value l.fn.machine).board;
+  along : Along l.keys.kept l.fn.tape.entries (run_start l.keys.kept (g.M.Machine.value l.machine).board);
+  way : HasRoom l.fn.keys (length l.fn.clocks) → Way l.fn.tape.entries l.fn.clocks (run_start l.fn.keys.kept (g.M.Machine.value l.fn.machine).board) (g.M.Machine.value l.fn.machine).done l.keys (g.M.Machine.value l.machine).done l.last;
 }
 
 abbrev pub decreases-loop-next : goal.decreases-loop-next

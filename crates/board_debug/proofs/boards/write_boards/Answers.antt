@@ -24,7 +24,7 @@ pub returns-in_default-clause-taken : goal.returns-in_default-clause-taken
 returns-in_default-clause-taken g c =
     piece-cut _ _ _ _ _ _ _
     (board-on c.args.tape.now.entries c.args.clocks.now c.loop-clock.clock-index 0 (run_start c.args.keys.now.kept c.args.engine.now.board)
-    (run_start c.keep_each.new.keys.kept c.loop-clock.engine.board) c.go_to.new.engine.board c.state.new.into c.loop-clock-test.true c.go_to.ensures.board
+    (run_start c.keep_each.new.keys.kept c.loop-clock.engine.board) c.go_to.new.machine.board c.state.new.into c.loop-clock-test.true c.go_to.ensures.board
     c.loop-clock.invariant.same c.state.ensures.board)
     c.in_default.ensures.taken c.loop-clock.invariant.text
 
@@ -32,7 +32,7 @@ pub loop-clock-preserved : goal.loop-clock-preserved
 loop-clock-preserved g c = record {
   text = piece-taken _ _ _ _ _ _ _
       (board-on c.args.tape.now.entries c.args.clocks.now c.loop-clock.clock-index 0 (run_start c.args.keys.now.kept c.args.engine.now.board)
-      (run_start c.keep_each.new.keys.kept c.loop-clock.engine.board) c.go_to.new.engine.board c.state.new.into c.loop-clock-test.true c.go_to.ensures.board
+      (run_start c.keep_each.new.keys.kept c.loop-clock.engine.board) c.go_to.new.machine.board c.state.new.into c.loop-clock-test.true c.go_to.ensures.board
       c.loop-clock.invariant.same c.state.ensures.board)
       c.in-Ok.ensures.taken c.loop-clock.invariant.text;
   faults = c.in-Ok.ensures.cause ∙ c.loop-clock.invariant.faults;
@@ -49,7 +49,7 @@ loop-clock-preserved g c = record {
       let board = c.go_to.ensures.board ∙ ap (λ (from : Board). cleared (to_clock entries clock from)) inv.same in
       let start = ap (λ (from : Board). from.wires.clock) inv.same in
       let free =
-      reached-free entries b c.go_to.new.engine.board c.keep_each.new.keys.kept clock c.loop-clock.engine.done c.go_to.new.engine.done
+      reached-free entries b c.go_to.new.machine.board c.keep_each.new.keys.kept clock c.loop-clock.engine.done c.go_to.new.machine.done
       (inv.reached room c.loop-clock.clock-index 0 c.loop-clock-test.true) board c.go_to.ensures.done
       (λ below. c.go_to.ensures.before (omega (arith, below, start))) in
       let old = inv.done room most all in
@@ -70,7 +70,7 @@ returns-in_default-clause-done g c = λ room most all.
     let board = c.go_to.ensures.board ∙ ap (λ (from : Board). cleared (to_clock entries clock from)) inv.same in
     let start = ap (λ (from : Board). from.wires.clock) inv.same in
     let free =
-    reached-free entries b c.go_to.new.engine.board c.keep_each.new.keys.kept clock c.loop-clock.engine.done c.go_to.new.engine.done
+    reached-free entries b c.go_to.new.machine.board c.keep_each.new.keys.kept clock c.loop-clock.engine.done c.go_to.new.machine.done
     (inv.reached room c.loop-clock.clock-index 0 c.loop-clock-test.true) board c.go_to.ensures.done
     (λ below. c.go_to.ensures.before (omega (arith, below, start))) in
     let old = inv.done room most all in

@@ -10,17 +10,17 @@ returns-in-None g c =
     sym (
     c.loop-i.invariant.items
     ∙ ap (λ (l : List ℕ). c.loop-i.bytes.items ++ l)
-    (readable-none (seen_in c.args.engine.now.board) c.args.address c.loop-i.i c.loop-i-test.true (sym c.byte_at.ensures ∙ c.in-None.is))
+    (readable-none (seen_in (g.M.Machine.value c.args.machine.now).board) c.args.address c.loop-i.i c.loop-i-test.true (sym c.byte_at.ensures ∙ c.in-None.is))
     ∙ append-nil c.loop-i.bytes.items
     )
 
 pub loop-i-preserved : goal.loop-i-preserved
 loop-i-preserved g c =
-    let rest = readable (seen_in c.args.engine.now.board) (further c.args.address (c.loop-i.i + 1)) (3 - (c.loop-i.i + 1)) in
+    let rest = readable (seen_in (g.M.Machine.value c.args.machine.now).board) (further c.args.address (c.loop-i.i + 1)) (3 - (c.loop-i.i + 1)) in
     record {
       items = c.loop-i.invariant.items
           ∙ ap (λ (l : List ℕ). c.loop-i.bytes.items ++ l)
-          (readable-more (seen_in c.args.engine.now.board) c.args.address c.loop-i.i c.in-Some.byte c.loop-i-test.true (sym c.byte_at.ensures ∙ c.in-Some.is))
+          (readable-more (seen_in (g.M.Machine.value c.args.machine.now).board) c.args.address c.loop-i.i c.in-Some.byte c.loop-i-test.true (sym c.byte_at.ensures ∙ c.in-Some.is))
           ∙ sym (append_assoc c.loop-i.bytes.items (c.in-Some.byte ∷ []) rest)
           ∙ ap (λ (l : List ℕ). l ++ rest) (sym c.push.ensures.items);
       len = (let before = c.loop-i.invariant.len in let more = c.push.ensures.len in omega arith);
@@ -31,6 +31,6 @@ returns g c =
     sym (
     c.loop-i.invariant.items
     ∙ ap (λ (l : List ℕ). c.loop-i.bytes.items ++ l)
-    (readable-last (seen_in c.args.engine.now.board) c.args.address c.loop-i.i c.loop-i-test.false)
+    (readable-last (seen_in (g.M.Machine.value c.args.machine.now).board) c.args.address c.loop-i.i c.loop-i-test.false)
     ∙ append-nil c.loop-i.bytes.items
     )

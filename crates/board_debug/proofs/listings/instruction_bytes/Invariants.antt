@@ -6,7 +6,7 @@ use Rattle.board_debug.proofs.listings.instruction_bytes.Given as goal
 
 abbrev pub invariant-loop-i : goal.invariant-loop-i
 invariant-loop-i g l = record {
-  items : readable (seen_in l.fn.engine.board) l.fn.address 3
-      ≡ l.bytes.items ++ readable (seen_in l.fn.engine.board) (further l.fn.address l.i) (3 - l.i);
+  items : readable (seen_in (g.M.Machine.value l.fn.machine).board) l.fn.address 3
+      ≡ l.bytes.items ++ readable (seen_in (g.M.Machine.value l.fn.machine).board) (further l.fn.address l.i) (3 - l.i);
   len : length l.bytes.items ≡ l.i;
 }

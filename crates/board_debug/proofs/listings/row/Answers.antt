@@ -6,7 +6,7 @@ use Rattle.board_debug.proofs.listings.row.Goals as goal
 
 pub loop-i-preserved : goal.loop-i-preserved
 loop-i-preserved g c =
-    let seen = seen_in c.args.engine.now.board in
+    let seen = seen_in (g.M.Machine.value c.args.machine.now).board in
     record {
       items = c.push.ensures.items
           ∙ ap (λ (l : List (Option ℕ)). l ++ c.byte_at.result ∷ []) c.loop-i.invariant.items

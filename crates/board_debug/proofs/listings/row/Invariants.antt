@@ -5,6 +5,6 @@ use Rattle.board_debug.proofs.listings.row.Given as goal
 
 abbrev pub invariant-loop-i : goal.invariant-loop-i
 invariant-loop-i g l = record {
-  items : l.bytes.items ≡ bytes_from (seen_in l.fn.engine.board) l.fn.address l.i;
+  items : l.bytes.items ≡ bytes_from (seen_in (g.M.Machine.value l.fn.machine).board) l.fn.address l.i;
   len : length l.bytes.items ≡ l.i;
 }

@@ -7,20 +7,20 @@ use Rattle.board_debug.proofs.listings.write_dis.Goals as goal
 
 pub loop-shown-init : goal.loop-shown-init
 loop-shown-init g c = record {
-  text = none-taken _ _ _ (ap (dis_text (seen_in c.args.engine.now.board) c.args.span.from) (not-less c.args.span.count));
+  text = none-taken _ _ _ (ap (dis_text (seen_in (g.M.Machine.value c.args.machine.now).board) c.args.span.from) (not-less c.args.span.count));
   faults = refl;
 }
 
 pub returns-in_default-clause-taken : goal.returns-in_default-clause-taken
 returns-in_default-clause-taken g c =
-    let line = dis-is (seen_in c.args.engine.now.board) c.loop-shown.address c.loop-shown._shown c.args.span.count c.dis_line-line.result.1
+    let line = dis-is (seen_in (g.M.Machine.value c.args.machine.now).board) c.loop-shown.address c.loop-shown._shown c.args.span.count c.dis_line-line.result.1
     (further c.loop-shown.address c.dis_line-line.result.1) c.bytes.result.now c.deref.result.now c.loop-shown-test.true
     (c.deref.ensures.0 ∙ c.instruction_bytes.ensures) (c.bytes.ensures ∙ c.dis_line-line.ensures.line) c.dis_line-line.ensures.size refl in
     piece-cut _ _ _ _ _ _ _ line c.in_default.ensures.taken c.loop-shown.invariant.text
 
 pub loop-shown-preserved : goal.loop-shown-preserved
 loop-shown-preserved g c =
-    let line = dis-is (seen_in c.args.engine.now.board) c.loop-shown.address c.loop-shown._shown c.args.span.count c.dis_line-line.result.1
+    let line = dis-is (seen_in (g.M.Machine.value c.args.machine.now).board) c.loop-shown.address c.loop-shown._shown c.args.span.count c.dis_line-line.result.1
     (further c.loop-shown.address c.from-address.result) c.bytes.result.now c.deref.result.now c.loop-shown-test.true
     (c.deref.ensures.0 ∙ c.instruction_bytes.ensures) (c.bytes.ensures ∙ c.dis_line-line.ensures.line) c.dis_line-line.ensures.size
     (ap (further c.loop-shown.address) c.from-address.ensures) in
@@ -31,5 +31,5 @@ loop-shown-preserved g c =
 
 pub returns-clause-taken : goal.returns-clause-taken
 returns-clause-taken g c =
-    whole-taken _ _ _ _ (dis-last (seen_in c.args.engine.now.board) c.loop-shown.address c.loop-shown._shown c.args.span.count c.loop-shown-test.false)
+    whole-taken _ _ _ _ (dis-last (seen_in (g.M.Machine.value c.args.machine.now).board) c.loop-shown.address c.loop-shown._shown c.args.span.count c.loop-shown-test.false)
     c.loop-shown.invariant.text

@@ -6,13 +6,13 @@ use Rattle.board_debug.proofs.listings.write_mem.Goals as goal
 
 pub loop-k-init : goal.loop-k-init
 loop-k-init g c = record {
-  text = none-taken _ _ _ (mem-first (seen_in c.args.engine.now.board) c.args.span.from c.args.span.count);
+  text = none-taken _ _ _ (mem-first (seen_in (g.M.Machine.value c.args.machine.now).board) c.args.span.from c.args.span.count);
   faults = refl;
 }
 
 pub returns-in_default-clause-taken : goal.returns-in_default-clause-taken
 returns-in_default-clause-taken g c =
-    let seen = seen_in c.args.engine.now.board in
+    let seen = seen_in (g.M.Machine.value c.args.machine.now).board in
     let line = row-is seen c.args.span.from c.args.span.count c.loop-k.k c.div_ceil-k-end.result c.min.result (further c.args.span.from (16 * c.loop-k.k))
     c.bytes.result.now c.deref.result.now c.div_ceil-k-end.ensures c.loop-k-test.true c.min.ensures refl (c.deref.ensures.0 ∙ c.row-bytes.ensures)
     (c.bytes.ensures ∙ c.mem_line.ensures) in
@@ -20,7 +20,7 @@ returns-in_default-clause-taken g c =
 
 pub loop-k-preserved : goal.loop-k-preserved
 loop-k-preserved g c =
-    let seen = seen_in c.args.engine.now.board in
+    let seen = seen_in (g.M.Machine.value c.args.machine.now).board in
     let line = row-is seen c.args.span.from c.args.span.count c.loop-k.k c.div_ceil-k-end.result c.min.result (further c.args.span.from (16 * c.loop-k.k))
     c.bytes.result.now c.deref.result.now c.div_ceil-k-end.ensures c.loop-k-test.true c.min.ensures refl (c.deref.ensures.0 ∙ c.row-bytes.ensures)
     (c.bytes.ensures ∙ c.mem_line.ensures) in
@@ -31,5 +31,5 @@ loop-k-preserved g c =
 
 pub returns-clause-taken : goal.returns-clause-taken
 returns-clause-taken g c =
-    whole-taken _ _ _ _ (rows-last (seen_in c.args.engine.now.board) c.args.span.from c.args.span.count c.loop-k.k c.div_ceil-k-end.result
+    whole-taken _ _ _ _ (rows-last (seen_in (g.M.Machine.value c.args.machine.now).board) c.args.span.from c.args.span.count c.loop-k.k c.div_ceil-k-end.result
     c.div_ceil-k-end.ensures c.loop-k-test.false) c.loop-k.invariant.text

@@ -6,14 +6,14 @@ use Rattle.board_debug.proofs.listings.write_vdis.Goals as goal
 
 pub loop-shown-init : goal.loop-shown-init
 loop-shown-init g c = record {
-  text = none-taken _ _ _ (ap (vdis_text (seen_in c.args.engine.now.board) c.args.span.from) (not-less c.args.span.count));
+  text = none-taken _ _ _ (ap (vdis_text (seen_in (g.M.Machine.value c.args.machine.now).board) c.args.span.from) (not-less c.args.span.count));
   faults = refl;
 }
 
 pub returns-in_default-clause-taken : goal.returns-in_default-clause-taken
 unfolding vdis_text
 returns-in_default-clause-taken g c =
-    let seen = seen_in c.args.engine.now.board in
+    let seen = seen_in (g.M.Machine.value c.args.machine.now).board in
     let address = c.loop-shown.address in
     let left = c.args.span.count - (c.loop-shown._shown + 1) in
     let line = vdis-is seen address left c.word_at.result c.word_at-second.result c.vdis_line-line.result.1 _
@@ -25,7 +25,7 @@ returns-in_default-clause-taken g c =
 pub loop-shown-preserved : goal.loop-shown-preserved
 unfolding vdis_text
 loop-shown-preserved g c =
-    let seen = seen_in c.args.engine.now.board in
+    let seen = seen_in (g.M.Machine.value c.args.machine.now).board in
     let address = c.loop-shown.address in
     let left = c.args.span.count - (c.loop-shown._shown + 1) in
     let line = vdis-is seen address left c.word_at.result c.word_at-second.result c.vdis_line-line.result.1 _
@@ -39,5 +39,5 @@ loop-shown-preserved g c =
 
 pub returns-clause-taken : goal.returns-clause-taken
 returns-clause-taken g c =
-    whole-taken _ _ _ _ (vdis-last (seen_in c.args.engine.now.board) c.loop-shown.address c.loop-shown._shown c.args.span.count c.loop-shown-test.false)
+    whole-taken _ _ _ _ (vdis-last (seen_in (g.M.Machine.value c.args.machine.now).board) c.loop-shown.address c.loop-shown._shown c.args.span.count c.loop-shown-test.false)
     c.loop-shown.invariant.text

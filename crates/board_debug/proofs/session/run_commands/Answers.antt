@@ -8,8 +8,8 @@ use Rattle.board_debug.proofs.session.run_commands.Goals as goal
 
 pub loop-command-init : goal.loop-command-init
 loop-command-init g c = record {
-  text = none-taken _ _ _ (ap (λ (s : StopsValue). session_text c.args.tape.now s c.args.commands.now c.args.rested.now.engine.now.board) (sym c.new-stops.ensures));
-  board = ap (λ (s : StopsValue). session_board c.args.tape.now s c.args.commands.now c.args.rested.now.engine.now.board) (sym c.new-stops.ensures);
+  text = none-taken _ _ _ (ap (λ (s : StopsValue). session_text c.args.tape.now s c.args.commands.now (g.M.Machine.value c.args.synced.now.machine.now).board) (sym c.new-stops.ensures));
+  board = ap (λ (s : StopsValue). session_board c.args.tape.now s c.args.commands.now (g.M.Machine.value c.args.synced.now.machine.now).board) (sym c.new-stops.ensures);
   faults = refl;
   fit = subst (λ (s : StopsValue). Fit s c.args.commands.now) (sym c.new-stops.ensures) c.requires.fit;
   loan = refl;
@@ -19,7 +19,7 @@ pub returns-in_default-clause-taken : goal.returns-in_default-clause-taken
 returns-in_default-clause-taken g c =
     let command = get_or c.args.commands.now c.loop-command.command-index (Break 0) in
     piece-cut _ _ _ _ _ _ _
-    (text-now c.args.tape.now c.loop-command.stops c.args.commands.now c.loop-command.command-index command (Break 0) c.loop-command.rested.engine.now.board
+    (text-now c.args.tape.now c.loop-command.stops c.args.commands.now c.loop-command.command-index command (Break 0) (g.M.Machine.value c.loop-command.synced.machine.now).board
     c.loop-command-test.true refl)
     c.in_default.ensures.taken c.loop-command.invariant.text
 
@@ -28,12 +28,12 @@ loop-command-preserved g c =
     let command = get_or c.args.commands.now c.loop-command.command-index (Break 0) in
     record {
       text = piece-taken _ _ _ _ _ _ _
-          (text-on c.args.tape.now c.loop-command.stops c.note.new.self c.args.commands.now c.loop-command.command-index command (Break 0) c.loop-command.rested.engine.now.board
-          c.perform.new.rested.engine.now.board c.loop-command-test.true refl c.note.ensures c.in-Ok.ensures.board)
+          (text-on c.args.tape.now c.loop-command.stops c.note.new.self c.args.commands.now c.loop-command.command-index command (Break 0) (g.M.Machine.value c.loop-command.synced.machine.now).board
+          (g.M.Machine.value c.perform.new.synced.machine.now).board c.loop-command-test.true refl c.note.ensures c.in-Ok.ensures.board)
           c.in-Ok.ensures.taken c.loop-command.invariant.text;
       board = c.loop-command.invariant.board
-          ∙ board-on c.args.tape.now c.loop-command.stops c.note.new.self c.args.commands.now c.loop-command.command-index command (Break 0) c.loop-command.rested.engine.now.board
-          c.perform.new.rested.engine.now.board c.loop-command-test.true refl c.note.ensures c.in-Ok.ensures.board;
+          ∙ board-on c.args.tape.now c.loop-command.stops c.note.new.self c.args.commands.now c.loop-command.command-index command (Break 0) (g.M.Machine.value c.loop-command.synced.machine.now).board
+          (g.M.Machine.value c.perform.new.synced.machine.now).board c.loop-command-test.true refl c.note.ensures c.in-Ok.ensures.board;
       faults = c.in-Ok.ensures.cause ∙ c.loop-command.invariant.faults;
       fit = subst (λ (s : StopsValue). Fit s (drop (c.loop-command.command-index + 1) c.args.commands.now)) (sym c.note.ensures)
           (fit-now c.loop-command.stops c.args.commands.now c.loop-command.command-index command (Break 0) c.loop-command-test.true refl c.loop-command.invariant.fit).1;
@@ -42,10 +42,10 @@ loop-command-preserved g c =
 
 pub returns-clause-taken : goal.returns-clause-taken
 returns-clause-taken g c =
-    whole-taken _ _ _ _ (text-last c.args.tape.now c.loop-command.stops c.args.commands.now c.loop-command.command-index c.loop-command.rested.engine.now.board
+    whole-taken _ _ _ _ (text-last c.args.tape.now c.loop-command.stops c.args.commands.now c.loop-command.command-index (g.M.Machine.value c.loop-command.synced.machine.now).board
     c.loop-command-test.false) c.loop-command.invariant.text
 
 pub returns-clause-board : goal.returns-clause-board
 returns-clause-board g c =
     sym (c.loop-command.invariant.board ∙ board-last c.args.tape.now c.loop-command.stops c.args.commands.now c.loop-command.command-index
-    c.loop-command.rested.engine.now.board c.loop-command-test.false)
+    (g.M.Machine.value c.loop-command.synced.machine.now).board c.loop-command-test.false)

@@ -13,5 +13,5 @@ returns g c = λ room text kept. record {
   board = c.write.ensures.bytes ∙ ap state_bytes c.state.ensures.board;
   whole = subst IsWhole c.state.ensures.board c.write.ensures.range;
   clock = c.clock.ensures;
-  jammed = c.is_some.ensures ∙ ap (λ (cpu : CpuValue). is_some cpu.jam) (c.behind-engine.view_is ∙ c.cpu.ensures);
+  jammed = c.is_some.ensures ∙ ap (λ (cpu : CpuValue). is_some cpu.jam) (c.behind-machine.view_is ∙ c.cpu.ensures);
 }

@@ -11,20 +11,20 @@ use Rattle.board_stretch.proofs.stretch.advance_parts.Goals as goal
 
 pub watch_within-requires-clause-room : goal.watch_within-requires-clause-room
 watch_within-requires-clause-room c =
-    run-trails c.args.parts.now.tape.entries c.args.until c.of-rested.result.engine.now.board c.of-rested.result.rest.empty
+    run-trails c.args.parts.now.tape.entries c.args.until c.of-synced.result.machine.now.board c.of-synced.result.is_synced.empty
 
 pub returns-in-Ok-watch_within-clause-done : goal.returns-in-Ok-watch_within-clause-done
 returns-in-Ok-watch_within-clause-done c =
     let entries = c.args.parts.now.tape.entries in
     let until = c.args.until in
     let first = first_board c.args.timers c.args.parts.now in
-    let before = c.of-rested.result.engine.now.board in
-    let begins : before ≡ first = ap (λ (e : EngineValue). e.board) c.of-rested.ensures.engine ∙ c.in-Ok.ensures.board in
+    let before = c.of-synced.result.machine.now.board in
+    let begins : before ≡ first = ap (λ (e : EngineValue). e.board) c.of-synced.ensures.value ∙ c.in-Ok.ensures.board in
     let kept : IsKept c.args.room (slice_text entries until first) c.in-Ok-watch_within.told =
     subst (λ (l : List ℕ). IsKept c.args.room l c.in-Ok-watch_within.told)
-    (run-text entries until before c.of-rested.result.rest.empty ∙ ap (slice_text entries until) begins) c.in-Ok-watch_within.ensures.told in
-    let there : c.engine.result.now.board ≡ cleared (end_of entries until first) =
-    ap (λ (e : EngineValue). e.board) c.engine.ensures.engine
+    (run-text entries until before c.of-synced.result.is_synced.empty ∙ ap (slice_text entries until) begins) c.in-Ok-watch_within.ensures.told in
+    let there : c.machine.result.now.board ≡ cleared (end_of entries until first) =
+    ap (λ (e : EngineValue). e.board) c.machine.ensures.value
     ∙ c.in-Ok-watch_within.ensures.board
     ∙ ap (λ b. cleared (end_of entries until b)) begins in
     ends-behind _ _ _ _ c.ended.result (c.ended.ensures c.args.room _ kept) there

@@ -14,7 +14,7 @@ use Rattle.board_stretch.proofs.stretch.sample_parts.Goals as goal
 pub watch_within-requires-clause-room : goal.watch_within-requires-clause-room
 unfolding to_boundary
 watch_within-requires-clause-room c =
-    run-room c.args.parts.now.tape.entries c.of-rested.result.engine.now.board c.of-rested.result.rest.empty c.args.limit c.args.per c.of-sampler.result.mixer
+    run-room c.args.parts.now.tape.entries c.of-synced.result.machine.now.board c.of-synced.result.is_synced.empty c.args.limit c.args.per c.of-sampler.result.mixer
     c.requires.limit c.of-sampler.ensures.clock c.of-sampler.ensures.begins
 
 pub returns-in-Ok-watch_within-clause-done : goal.returns-in-Ok-watch_within-clause-done
@@ -23,14 +23,14 @@ returns-in-Ok-watch_within-clause-done c =
     let entries = c.args.parts.now.tape.entries in
     let limit = c.args.limit in
     let first = first_board c.args.timers c.args.parts.now in
-    let before = c.of-rested.result.engine.now.board in
-    let begins : before ≡ first = ap (λ (e : EngineValue). e.board) c.of-rested.ensures.engine ∙ c.in-Ok.ensures.board in
+    let before = c.of-synced.result.machine.now.board in
+    let begins : before ≡ first = ap (λ (e : EngineValue). e.board) c.of-synced.ensures.value ∙ c.in-Ok.ensures.board in
     let kept : IsKept c.args.room (sampled_bytes entries limit c.args.per first) c.in-Ok-watch_within.told =
     subst (λ (l : List ℕ). IsKept c.args.room l c.in-Ok-watch_within.told)
-    (run-sampled entries before c.of-rested.result.rest.empty limit c.args.per c.of-sampler.result.mixer c.requires.some c.of-sampler.ensures.begins
+    (run-sampled entries before c.of-synced.result.is_synced.empty limit c.args.per c.of-sampler.result.mixer c.requires.some c.of-sampler.ensures.begins
     ∙ ap (sampled_bytes entries limit c.args.per) begins) c.in-Ok-watch_within.ensures.told in
-    let there : c.engine.result.now.board ≡ cleared (end_of entries (Boundary limit) first) =
-    ap (λ (e : EngineValue). e.board) c.engine.ensures.engine
+    let there : c.machine.result.now.board ≡ cleared (end_of entries (Boundary limit) first) =
+    ap (λ (e : EngineValue). e.board) c.machine.ensures.value
     ∙ c.in-Ok-watch_within.ensures.board
     ∙ ap (λ b. cleared (end_of entries (Boundary limit) b)) begins in
     ends-behind _ _ _ _ c.ended.result (c.ended.ensures c.args.room _ kept) there

@@ -13,24 +13,24 @@ windows-init g c = record {
 
 pub window-requires-clause-room : goal.window-requires-clause-room
 window-requires-clause-room g c =
-    keeps-room _ _ _ g.met.W.Watch.in_parts c.args.tape.now.entries c.args.until _ _ c.windows.rested.engine.now.board _ _ _
-    c.windows.invariant.kept c.windows.rested.rest.placed c.windows.rested.rest.empty
+    keeps-room _ _ _ g.met.W.Watch.in_parts c.args.tape.now.entries c.args.until _ _ (g.M.Machine.value c.windows.synced.machine.now).board _ _ _
+    c.windows.invariant.kept c.windows.synced.is_synced.placed c.windows.synced.is_synced.empty
 
 pub windows-preserved : goal.windows-preserved
 windows-preserved g c = record {
   same = c.window.ensures.same ∙ c.windows.invariant.same;
   kept =
-      keeps-window _ _ _ g.met.W.Watch.in_parts c.args.tape.now.entries c.args.until _ _ c.windows.rested.engine.now.board _ _ _
-      c.windows.invariant.kept c.windows.rested.rest.placed c.windows.rested.rest.empty c.window.new.self.engine.now.board _ _ _ _
+      keeps-window _ _ _ g.met.W.Watch.in_parts c.args.tape.now.entries c.args.until _ _ (g.M.Machine.value c.windows.synced.machine.now).board _ _ _
+      c.windows.invariant.kept c.windows.synced.is_synced.placed c.windows.synced.is_synced.empty (g.M.Machine.value c.window.new.self.machine.now).board _ _ _ _
       c.window.ensures.board c.in-Ok.ensures.next c.clear.ensures (ap Some c.bytes.ensures ∙ c.in-Ok.ensures.taken)
       (λ room text before. ok-holds _ _ _ c.in_ok-take.was (c.take.ensures room text before));
 }
 
 pub returns-in_default-stop : goal.returns-in_default-stop
 returns-in_default-stop g c =
-    let last = last-window c.args.tape.now.entries c.args.until c.windows.rested.engine.now.board c.window.new.self.engine.now.board
-    c.windows.rested.rest.placed c.window.ensures.board c.window.ensures.ends
-    (λ w. c.in_default-stop.not-Window (◌∙◌ {b = cause_of (clock_in c.args.until) c.window.new.self.engine.now.board} c.in-Ok.ensures.stop w)) in
+    let last = last-window c.args.tape.now.entries c.args.until (g.M.Machine.value c.windows.synced.machine.now).board (g.M.Machine.value c.window.new.self.machine.now).board
+    c.windows.synced.is_synced.placed c.window.ensures.board c.window.ensures.ends
+    (λ w. c.in_default-stop.not-Window (◌∙◌ {b = cause_of (clock_in c.args.until) (g.M.Machine.value c.window.new.self.machine.now).board} c.in-Ok.ensures.stop w)) in
     record {
       same = c.window.ensures.same ∙ c.windows.invariant.same;
       told =

@@ -5,10 +5,10 @@ use Rattle.board_stretch.proofs.watching.watch_within.Given as goal
 
 abbrev pub invariant-windows : goal.invariant-windows
 invariant-windows g l = record {
-  same : l.rested.engine.ghost_name ≡ l.fn.rested.engine.ghost_name;
-  kept : KeepsUp g.W.Watch.can_take g.W.Watch.tells g.W.Watch.next l.fn.room l.rested.engine.now.board.wires.clock
-      (end_of l.tape.entries l.fn.until l.fn.rested.engine.now.board) (end_of l.tape.entries l.fn.until l.rested.engine.now.board) l.fn.watcher l.watcher l.told;
+  same : l.synced.machine.ghost_name ≡ l.fn.synced.machine.ghost_name;
+  kept : KeepsUp g.W.Watch.can_take g.W.Watch.tells g.W.Watch.next l.fn.room (g.M.Machine.value l.synced.machine.now).board.wires.clock
+      (end_of l.tape.entries l.fn.until (g.M.Machine.value l.fn.synced.machine.now).board) (end_of l.tape.entries l.fn.until (g.M.Machine.value l.synced.machine.now).board) l.fn.watcher l.watcher l.told;
 }
 
 abbrev pub decreases-windows : goal.decreases-windows
-decreases-windows g l = clock_in l.fn.until - l.rested.engine.now.board.wires.clock
+decreases-windows g l = clock_in l.fn.until - (g.M.Machine.value l.synced.machine.now).board.wires.clock

@@ -22,7 +22,7 @@ returns-then-last-clock-clause-first g c =
 
 pub returns-then-last-clock-clause-along : goal.returns-then-last-clock-clause-along
 returns-then-last-clock-clause-along g c = λ entries b along on_run.
-    along-kept c.args.keys.now c.keep.ensures.0 c.keep.new.self c.state.new.into c.keep.ensures.1 c.keep.ensures.2 entries b c.args.engine.now.board
+    along-kept c.args.keys.now c.keep.ensures.0 c.keep.new.self c.state.new.into c.keep.ensures.1 c.keep.ensures.2 entries b (g.M.Machine.value c.args.machine.now).board
     (record {
       undocumented = subst (λ (b : BoardValue). IfSome b.cpu.jam (λ o. row_of o ≡ None)) (sym c.state.ensures.board) c.state.ensures.undocumented;
       place = subst (λ (b : BoardValue). IfSome b.cpu.mid (λ _. IsMiddle b.cpu)) (sym c.state.ensures.board) c.state.ensures.place;
@@ -30,13 +30,13 @@ returns-then-last-clock-clause-along g c = λ entries b along on_run.
 
 pub returns-then-last-clock-clause-roomy : goal.returns-then-last-clock-clause-roomy
 returns-then-last-clock-clause-roomy g c = λ roomy.
-    inl (adds-board c.args.keys.now c.keep.ensures.0 c.keep.new.self c.state.new.into c.args.engine.now.board
+    inl (adds-board c.args.keys.now c.keep.ensures.0 c.keep.new.self c.state.new.into (g.M.Machine.value c.args.machine.now).board
     c.keep.ensures.1 c.keep.ensures.2 c.state.ensures.board roomy)
 
 pub returns-else-last-clock-clause-roomy : goal.returns-else-last-clock-clause-roomy
 returns-else-last-clock-clause-roomy g c = λ roomy.
     inr (
       refl,
-      last-clock (λ n. c.args.engine.now.board.wires.clock ≤ n) c.args.keys.now.kept c.len.result c.clock_of-last.result c.len.ensures
+      last-clock (λ n. (g.M.Machine.value c.args.machine.now).board.wires.clock ≤ n) c.args.keys.now.kept c.len.result c.clock_of-last.result c.len.ensures
           c.clock_of-last.ensures (omega (arith, c.if-last-clock.false, c.clock.ensures)),
     )

@@ -21,7 +21,7 @@ returns-then-saturating_sub-stride-clause-first g c =
 
 pub returns-then-saturating_sub-stride-clause-along : goal.returns-then-saturating_sub-stride-clause-along
 returns-then-saturating_sub-stride-clause-along g c = λ entries b along on_run.
-    along-kept c.args.keys.now c.keep.ensures.0 c.keep.new.self c.state.new.into c.keep.ensures.1 c.keep.ensures.2 entries b c.args.engine.now.board
+    along-kept c.args.keys.now c.keep.ensures.0 c.keep.new.self c.state.new.into c.keep.ensures.1 c.keep.ensures.2 entries b (g.M.Machine.value c.args.machine.now).board
     (record {
       undocumented = subst (λ (b : BoardValue). IfSome b.cpu.jam (λ o. row_of o ≡ None)) (sym c.state.ensures.board) c.state.ensures.undocumented;
       place = subst (λ (b : BoardValue). IfSome b.cpu.mid (λ _. IsMiddle b.cpu)) (sym c.state.ensures.board) c.state.ensures.place;
@@ -31,10 +31,10 @@ pub returns-then-saturating_sub-stride-clause-near : goal.returns-then-saturatin
 returns-then-saturating_sub-stride-clause-near g c =
     let clock = ap (λ (b : BoardValue). b.clock) c.state.ensures.board in
     last-is c.args.keys.now c.keep.ensures.0 c.keep.new.self c.state.new.into c.keep.ensures.1 c.keep.ensures.2
-    (λ last. c.args.engine.now.board.wires.clock < last.board.clock + c.args.stride) (omega (arith, clock, c.requires.stride))
+    (λ last. (g.M.Machine.value c.args.machine.now).board.wires.clock < last.board.clock + c.args.stride) (omega (arith, clock, c.requires.stride))
 
 pub returns-else-saturating_sub-stride-clause-near : goal.returns-else-saturating_sub-stride-clause-near
 returns-else-saturating_sub-stride-clause-near g c =
     let due = c.if-saturating_sub-stride.false in
-    last-clock (λ n. c.args.engine.now.board.wires.clock < n + c.args.stride) c.args.keys.now.kept c.len.result c.clock_of-last.result c.len.ensures
+    last-clock (λ n. (g.M.Machine.value c.args.machine.now).board.wires.clock < n + c.args.stride) c.args.keys.now.kept c.len.result c.clock_of-last.result c.len.ensures
     c.clock_of-last.ensures (omega (arith, due, c.saturating_sub.ensures, c.clock.ensures))

@@ -18,9 +18,9 @@ windows-init g c = record {
 pub windows-preserved : goal.windows-preserved
 windows-preserved g c =
     let entries = c.args.tape.now.entries in
-    let now = c.windows.engine.board in
-    let next = c.run_window-stop.new.engine.board in
-    let b = run_start c.args.keys.now.kept c.args.engine.now.board in
+    let now = (g.M.Machine.value c.windows.machine).board in
+    let next = (g.M.Machine.value c.run_window-stop.new.machine).board in
+    let b = run_start c.args.keys.now.kept (g.M.Machine.value c.args.machine.now).board in
     let is = c.run_window-stop.ensures.board in
     let inv = c.windows.invariant in
     let before = inv.done in
@@ -42,9 +42,9 @@ windows-preserved g c =
 pub returns-in_default : goal.returns-in_default
 returns-in_default g c =
     let entries = c.args.tape.now.entries in
-    let now = c.windows.engine.board in
-    let next = c.run_window-stop.new.engine.board in
-    let b = run_start c.args.keys.now.kept c.args.engine.now.board in
+    let now = (g.M.Machine.value c.windows.machine).board in
+    let next = (g.M.Machine.value c.run_window-stop.new.machine).board in
+    let b = run_start c.args.keys.now.kept (g.M.Machine.value c.args.machine.now).board in
     let is = c.run_window-stop.ensures.board in
     let inv = c.windows.invariant in
     let before = inv.done in
@@ -54,7 +54,7 @@ returns-in_default g c =
       settled = c.run_window-stop.ensures.settled;
       empty = c.run_window-stop.ensures.empty;
       board =
-          window-last entries b now next c.args.clock (wrap_of now) is c.args.engine.now.board
+          window-last entries b now next c.args.clock (wrap_of now) is (g.M.Machine.value c.args.machine.now).board
           (λ w. c.in_default.not-Window (◌∙◌ {b = cause_of c.args.clock next} c.run_window-stop.ensures.stop w)) inv.rest;
       same =
           c.keep_if_due.ensures.first next

@@ -7,14 +7,14 @@ use Rattle.keyframes.proofs.seeking.run_keeping.Given as goal
 -- the engine has come to a board of the run, from which the run goes on to the same board
 abbrev pub invariant-windows : goal.invariant-windows
 invariant-windows g l = record {
-  settled : l.engine.lagging ≡ 0;
-  empty : HasNoRecords l.engine.board;
-  along : Along l.keys.kept l.tape.entries (run_start l.fn.keys.kept l.fn.engine.board);
-  on_run : IsOnRun l.tape.entries (run_start l.fn.keys.kept l.fn.engine.board) l.engine.board;
-  same : run_start l.keys.kept l.engine.board ≡ run_start l.fn.keys.kept l.fn.engine.board;
-  rest : cleared (to_clock l.tape.entries l.clock l.engine.board) ≡ cleared (to_clock l.tape.entries l.clock l.fn.engine.board);
-  done : l.engine.done + l.fn.engine.board.wires.clock ≤ l.fn.engine.done + l.engine.board.wires.clock;
+  settled : (g.M.Machine.value l.machine).lagging ≡ 0;
+  empty : HasNoRecords (g.M.Machine.value l.machine).board;
+  along : Along l.keys.kept l.tape.entries (run_start l.fn.keys.kept (g.M.Machine.value l.fn.machine).board);
+  on_run : IsOnRun l.tape.entries (run_start l.fn.keys.kept (g.M.Machine.value l.fn.machine).board) (g.M.Machine.value l.machine).board;
+  same : run_start l.keys.kept (g.M.Machine.value l.machine).board ≡ run_start l.fn.keys.kept (g.M.Machine.value l.fn.machine).board;
+  rest : cleared (to_clock l.tape.entries l.clock (g.M.Machine.value l.machine).board) ≡ cleared (to_clock l.tape.entries l.clock (g.M.Machine.value l.fn.machine).board);
+  done : (g.M.Machine.value l.machine).done + (g.M.Machine.value l.fn.machine).board.wires.clock ≤ (g.M.Machine.value l.fn.machine).done + (g.M.Machine.value l.machine).board.wires.clock;
 }
 
 abbrev pub decreases-windows : goal.decreases-windows
-decreases-windows g l = l.clock - l.engine.board.wires.clock
+decreases-windows g l = l.clock - (g.M.Machine.value l.machine).board.wires.clock

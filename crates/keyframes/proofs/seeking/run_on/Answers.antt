@@ -16,8 +16,8 @@ windows-init g c = record {
 pub windows-preserved : goal.windows-preserved
 windows-preserved g c =
     let entries = c.args.tape.now.entries in
-    let now = c.windows.engine.board in
-    let next = c.run_window.new.engine.board in
+    let now = (g.M.Machine.value c.windows.machine).board in
+    let next = (g.M.Machine.value c.run_window.new.machine).board in
     let is = c.run_window.ensures.board in
     let inv = c.windows.invariant in
     let before = inv.done in
@@ -34,8 +34,8 @@ windows-preserved g c =
 pub returns-in_default : goal.returns-in_default
 returns-in_default g c =
     let entries = c.args.tape.now.entries in
-    let now = c.windows.engine.board in
-    let next = c.run_window.new.engine.board in
+    let now = (g.M.Machine.value c.windows.machine).board in
+    let next = (g.M.Machine.value c.run_window.new.machine).board in
     let is = c.run_window.ensures.board in
     let inv = c.windows.invariant in
     let before = inv.done in
@@ -44,7 +44,7 @@ returns-in_default g c =
       settled = c.run_window.ensures.settled;
       empty = c.run_window.ensures.empty;
       board =
-          window-last entries now now next c.args.clock (wrap_of now) is c.args.engine.now.board
+          window-last entries now now next c.args.clock (wrap_of now) is (g.M.Machine.value c.args.machine.now).board
           (λ w. c.in_default.not-Window (◌∙◌ {b = cause_of c.args.clock next} c.run_window.ensures.stop w)) inv.rest;
       on_run = λ b on. window-on_run entries b now next c.args.clock (wrap_of now) is (inv.on_run b on);
       same = λ kept some. start-same kept next now some (window-image entries now now next c.args.clock (wrap_of now) is) ∙ inv.same kept some;

@@ -7,8 +7,8 @@ use Rattle.keyframes.proofs.seeking.run_window.Goals as goal
 
 pub returns-clause-done : goal.returns-clause-done
 returns-clause-done g c =
-    let before = c.args.engine.now in
-    let ran = c.run_to-stop.new.self in
+    let before = g.M.Machine.value c.args.machine.now in
+    let ran = g.M.Machine.value c.run_to-stop.new.self in
     let done = c.run_to-stop.ensures.done in
     let later = cut-later c.args.tape.now.entries c.args.clock (wrap_of before.board) before.board in
     let clock = ap (λ (b : Board). b.wires.clock) c.run_to-stop.ensures.board in

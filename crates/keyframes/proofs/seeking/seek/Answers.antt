@@ -7,12 +7,12 @@ use Rattle.keyframes.proofs.seeking.seek.Goals as goal
 
 pub run_keeping-requires-clause-along : goal.run_keeping-requires-clause-along
 run_keeping-requires-clause-along g c =
-    (begins c.args.keys.now.kept c.args.tape.now.entries c.args.engine.now.board c.load_kept.new.engine.board c.start_index-index.result
+    (begins c.args.keys.now.kept c.args.tape.now.entries c.args.engine.now.board c.load_kept.new.machine.board c.start_index-index.result
     c.requires.along c.start_index-index.ensures.within c.load_kept.ensures.board).along
 
 pub run_keeping-requires-clause-on_run : goal.run_keeping-requires-clause-on_run
 run_keeping-requires-clause-on_run g c =
-    (begins c.args.keys.now.kept c.args.tape.now.entries c.args.engine.now.board c.load_kept.new.engine.board c.start_index-index.result
+    (begins c.args.keys.now.kept c.args.tape.now.entries c.args.engine.now.board c.load_kept.new.machine.board c.start_index-index.result
     c.requires.along c.start_index-index.ensures.within c.load_kept.ensures.board).on_run
 
 pub returns-clause-board : goal.returns-clause-board
@@ -20,12 +20,12 @@ returns-clause-board g c =
     let found = c.start_index-index.ensures in
     c.run_keeping.ensures.board
     ∙ seek-board c.args.keys.now.kept c.args.clock c.start_index-index.result found.rising found.within found.nearest found.first
-    c.args.tape.now.entries c.args.engine.now.board c.load_kept.new.engine.board c.requires.along c.load_kept.ensures.board
+    c.args.tape.now.entries c.args.engine.now.board c.load_kept.new.machine.board c.requires.along c.load_kept.ensures.board
 
 pub returns-clause-same : goal.returns-clause-same
 returns-clause-same g c =
     c.run_keeping.ensures.same
-    ∙ (begins c.args.keys.now.kept c.args.tape.now.entries c.args.engine.now.board c.load_kept.new.engine.board c.start_index-index.result
+    ∙ (begins c.args.keys.now.kept c.args.tape.now.entries c.args.engine.now.board c.load_kept.new.machine.board c.start_index-index.result
     c.requires.along c.start_index-index.ensures.within c.load_kept.ensures.board).start
 
 pub returns-clause-along : goal.returns-clause-along
@@ -47,7 +47,7 @@ returns-clause-before g c = λ before.
     let d : Keyframe = record { board = state_of e; pages = [] } in
     let found = c.start_index-index.ensures in
     let later = not-before-first kept c.args.clock c.start_index-index.result found.rising found.within found.nearest found.first d in
-    let stays = before-first kept c.args.tape.now.entries (run_start kept e) c.run_keeping.new.engine.board c.args.clock d c.requires.along
+    let stays = before-first kept c.args.tape.now.entries (run_start kept e) c.run_keeping.new.machine.board c.args.clock d c.requires.along
     (returns-clause-board g c) before in
     let from = ap (λ (b : Board). b.wires.clock) (c.load_kept.ensures.board d) in
     let same = c.load_kept.ensures.done in

@@ -13,8 +13,8 @@ use Rattle.sliced_run.proofs.slices.cut_slice.Goals as goal
 pub returns-in_default-clause-stopped : goal.returns-in_default-clause-stopped
 unfolding cut_events
 returns-in_default-clause-stopped g c =
-    let lines = slice_text c.args.tape.now.entries (Clock c.args.cut) c.args.rested.now.engine.now.board in
-    let store = storing (option_map (λ name. name.now) c.args.save) (saved_bytes (to_clock c.args.tape.now.entries c.args.cut c.args.rested.now.engine.now.board)) in
+    let lines = slice_text c.args.tape.now.entries (Clock c.args.cut) (g.M.Machine.value c.args.synced.now.machine.now).board in
+    let store = storing (option_map (λ name. name.now) c.args.save) (saved_bytes (to_clock c.args.tape.now.entries c.args.cut (g.M.Machine.value c.args.synced.now.machine.now).board)) in
     let out0 = g.O.Sink.taken c.args.out.now in
     let out1 = g.O.Sink.taken c.run_slice.new.out in
     let stores = g.S.Shelf.stores c.args.shelf.now in
@@ -23,8 +23,8 @@ returns-in_default-clause-stopped g c =
 pub returns-in_default-store_under-clause-stopped : goal.returns-in_default-store_under-clause-stopped
 unfolding cut_events
 returns-in_default-store_under-clause-stopped g c =
-    let lines = slice_text c.args.tape.now.entries (Clock c.args.cut) c.args.rested.now.engine.now.board in
-    let store = storing (option_map (λ name. name.now) c.args.save) (saved_bytes (to_clock c.args.tape.now.entries c.args.cut c.args.rested.now.engine.now.board)) in
+    let lines = slice_text c.args.tape.now.entries (Clock c.args.cut) (g.M.Machine.value c.args.synced.now.machine.now).board in
+    let store = storing (option_map (λ name. name.now) c.args.save) (saved_bytes (to_clock c.args.tape.now.entries c.args.cut (g.M.Machine.value c.args.synced.now.machine.now).board)) in
     let out0 = g.O.Sink.taken c.args.out.now in
     let out1 = g.O.Sink.taken c.run_slice.new.out in
     let stores0 = g.S.Shelf.stores c.args.shelf.now in
@@ -36,20 +36,20 @@ returns-in_default-store_under-clause-stopped g c =
 pub returns-clause-done : goal.returns-clause-done
 unfolding cut_events
 returns-clause-done g c =
-    let last = to_clock c.args.tape.now.entries c.args.cut c.args.rested.now.engine.now.board in
-    let lines = slice_text c.args.tape.now.entries (Clock c.args.cut) c.args.rested.now.engine.now.board in
+    let last = to_clock c.args.tape.now.entries c.args.cut (g.M.Machine.value c.args.synced.now.machine.now).board in
+    let lines = slice_text c.args.tape.now.entries (Clock c.args.cut) (g.M.Machine.value c.args.synced.now.machine.now).board in
     let name = option_map (λ name. name.now) c.args.save in
     let out0 = g.O.Sink.taken c.args.out.now in
     let out1 = g.O.Sink.taken c.run_slice.new.out in
     let stores0 = g.S.Shelf.stores c.args.shelf.now in
     let stores1 = g.S.Shelf.stores c.store_under.new.shelf in
-    let is = at-cut c.args.tape.now.entries c.args.cut c.args.rested.now.engine.now.board c.run_slice.new.rested.engine.now.board c.in-Ok.ensures.board in
-    let held = saved-cleared last c.run_slice.new.rested.engine.now.board c.save.new.self.bytes is c.save.ensures.bytes in
+    let is = at-cut c.args.tape.now.entries c.args.cut (g.M.Machine.value c.args.synced.now.machine.now).board (g.M.Machine.value c.run_slice.new.synced.machine.now).board c.in-Ok.ensures.board in
+    let held = saved-cleared last (g.M.Machine.value c.run_slice.new.synced.machine.now).board c.save.new.self.bytes is c.save.ensures.bytes in
     did-then (sending lines) (storing name (saved_bytes last)) out0 out1 out1 stores0 stores0 stores1
     (did-sending lines out0 out1 stores0 stores0 c.in-Ok.ensures.taken refl)
     (did-storing name (saved_bytes last) c.save.new.self.bytes out1 out1 stores0 stores1 held refl c.in-Ok-store_under.ensures.stored)
 
 pub returns-clause-board : goal.returns-clause-board
 returns-clause-board g c =
-    at-cut c.args.tape.now.entries c.args.cut c.args.rested.now.engine.now.board c.load_saved.new.rested.engine.now.board
-    (ap (λ (e : EngineValue). e.board) c.load_saved.ensures.engine ∙ c.in-Ok.ensures.board)
+    at-cut c.args.tape.now.entries c.args.cut (g.M.Machine.value c.args.synced.now.machine.now).board (g.M.Machine.value c.load_saved.new.synced.machine.now).board
+    (ap (λ (e : EngineValue). e.board) c.load_saved.ensures.value ∙ c.in-Ok.ensures.board)

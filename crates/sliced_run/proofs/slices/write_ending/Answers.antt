@@ -7,5 +7,5 @@ returns-in_default-clause-taken g c = took_first _ _ _ _ c.in_default.ensures.ta
 
 pub returns-clause-taken : goal.returns-clause-taken
 returns-clause-taken g c =
-    takes-then _ _ _ _ (cost_line c.args.cost c.args.rested.now.engine.now.calls) c.write_calls.result c.in-Ok.ensures.taken
-    (rw (c.calls.ensures, c.engine.ensures.engine) at c.write_calls.ensures.taken)
+    takes-then _ _ _ _ (cost_line c.args.cost (g.M.Machine.value c.args.synced.now.machine.now).calls) c.write_calls.result c.in-Ok.ensures.taken
+    (rw (c.calls.ensures, c.machine.ensures.value) at c.write_calls.ensures.taken)

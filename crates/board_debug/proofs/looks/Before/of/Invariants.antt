@@ -4,6 +4,6 @@ use Rattle.board_debug.proofs.looks.Before.of.Given as goal
 
 abbrev pub invariant-watches : goal.invariant-watches
 invariant-watches g l = record {
-  bytes : l.bytes.items ≡ map (watched_byte l.rested.engine.now.board) (take l.address-index l.stops.watches);
+  bytes : l.bytes.items ≡ map (watched_byte (g.M.Machine.value l.synced.machine.now).board) (take l.address-index l.stops.watches);
   len : length l.bytes.items ≡ l.address-index;
 }

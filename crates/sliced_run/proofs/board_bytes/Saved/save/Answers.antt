@@ -5,4 +5,4 @@ use Rattle.sliced_run.proofs.board_bytes.Saved.save.Goals as goal
 
 pub returns-clause-bytes : goal.returns-clause-bytes
 unfolding saved_bytes
-returns-clause-bytes g c = rw (← c.engine.ensures.engine) (c.write.ensures.bytes ∙ ap state_bytes c.state.ensures.board)
+returns-clause-bytes g c = rw (← c.machine.ensures.value) (c.write.ensures.bytes ∙ ap state_bytes c.state.ensures.board)

@@ -1,0 +1,261 @@
+//! A machine: what the crates above an engine ask of it, in words of the engine's value.
+ghost use Rattle.std.specs.Prelude.{◌≡◌, ◌+◌, ◌-◌, ◌≤◌, ◌<◌, ◌||◌, true, None, IfSome};
+ghost use Rattle.board_base.specs.declared.divider.TheConstants.{DIVIDER_PERIOD};
+ghost use Rattle.cpu_core.specs.Places.{IsMiddle};
+ghost use Rattle.cpu_table.specs.Opcodes.{row_of};
+ghost use Rattle.lockstep_board.specs.Breaks.{is_at_any, BreakRun};
+ghost use Rattle.lockstep_board.specs.Budget.{budget};
+ghost use Rattle.lockstep_board.specs.Memory.{memory_byte};
+ghost use Rattle.lockstep_board.specs.Order.{HasNoRecords, cleared};
+ghost use Rattle.lockstep_board.specs.Run.{boundary_steps, cause_of, cut_steps, is_over, to_boundary, to_cut, window_limit, wrap_of, IsPlaced};
+ghost use Rattle.lockstep_board.specs.Wires.{board_of, reloaded};
+ghost use Rattle.catchup_engine.specs.EngineValue.{EngineValue, counted_on};
+ghost use Rattle.catchup_engine.specs.Traced.{TracedRun};
+
+use crate::engine::Engine;
+use crate::tracer::Tracer;
+use avg_device::VectorUnit;
+use board_base::{BoardState, CLOCK_LIMIT, CpuState, Trails};
+use earom_cells::CellUnit;
+use irq_watchdog::DividerUnit;
+use lockstep_board::Stop;
+use pokey_chip::SoundUnit;
+use tape_ports::Tape;
+
+/// Something that runs a board, as an `Engine` does. The crates above take one by this trait, so
+/// that they don't name the types of its devices.
+pub trait Machine {
+    /// What it is to its callers.
+    ghost value: { Self → EngineValue };
+
+    /// Takes on another board over the same image. Five device calls.
+    fn load(&mut self, state: &BoardState)
+        requires settled { (value self.old).lagging ≡ 0 }
+        requires empty { HasNoRecords (value self.old).board }
+        requires undocumented { IfSome state.now.cpu.jam (λ o. row_of o ≡ None) }
+        requires place { IfSome state.now.cpu.mid (λ _. IsMiddle state.now.cpu) }
+        ensures value { value self.new ≡ record (value self.old) { board = record { cpu = state.now.cpu; wires = reloaded (value self.old).board.wires state.now }; calls = counted_on (value self.old).calls 5 } };
+
+    /// Runs to the limit, or to the first boundary after the divider's next wrap where that comes
+    /// first. A board that is jammed takes no clock; a sequence under way is ended first.
+    fn run(&mut self, tape: &Tape, limit: u64) -> Stop
+        requires limit { limit ≤ CLOCK_LIMIT }
+        requires settled { (value self.old).lagging ≡ 0 }
+        requires empty { HasNoRecords (value self.old).board }
+        ensures board { (value self.new).board ≡ to_boundary tape.now.entries (window_limit limit (value self.old).board) (value self.old).board }
+        ensures cause { result ≡ cause_of limit (value self.new).board }
+        ensures boundary { (value self.new).board.cpu.mid ≡ None }
+        ensures window { result ≡ Stop.Window → wrap_of (value self.old).board ≤ (value self.new).board.wires.clock }
+        ensures later { result ≡ Stop.Window → (value self.old).board.wires.clock < (value self.new).board.wires.clock }
+        ensures before { result ≡ Stop.Window → (value self.new).board.wires.clock < limit }
+        ensures calls { (value self.new).calls ≤ (value self.old).calls
+            + budget tape.now.entries (boundary_steps tape.now.entries (window_limit limit (value self.old).board) (value self.old).board) (value self.old).board }
+        ensures more { (value self.old).calls ≤ (value self.new).calls }
+        ensures done { (value self.new).done ≡ counted_on (value self.old).done ((value self.new).board.wires.clock - (value self.old).board.wires.clock) }
+        ensures rooms { (value self.new).rooms ≡ (value self.old).rooms };
+
+    /// Runs turn by turn, one turn at least, to the first boundary that isn't before the limit, at
+    /// which pc is one of these addresses, or that comes after the divider's next wrap, whichever
+    /// comes first. A board that is jammed takes no clock.
+    fn run_to_break(&mut self, tape: &Tape, limit: u64, addresses: &[u16])
+        requires limit { limit ≤ CLOCK_LIMIT }
+        requires before { (value self.old).board.wires.clock < limit }
+        requires settled { (value self.old).lagging ≡ 0 }
+        requires empty { HasNoRecords (value self.old).board }
+        ensures run { BreakRun tape.now.entries limit addresses.now (value self.old).board (value self.new).board }
+        ensures window { BreakRun tape.now.entries (window_limit limit (value self.old).board) addresses.now (value self.old).board (value self.new).board }
+        ensures ends { (is_over (window_limit limit (value self.old).board) (value self.new).board || is_at_any addresses.now (value self.new).board) ≡ true }
+        ensures boundary { (value self.new).board.cpu.mid ≡ None }
+        ensures later { (value self.old).board.cpu.jam ≡ None → (value self.old).board.wires.clock < (value self.new).board.wires.clock }
+        ensures calls { (value self.new).calls ≤ (value self.old).calls + budget tape.now.entries ((value self.new).board.wires.clock - (value self.old).board.wires.clock) (value self.old).board }
+        ensures more { (value self.old).calls ≤ (value self.new).calls }
+        ensures done { (value self.new).done ≡ counted_on (value self.old).done ((value self.new).board.wires.clock - (value self.old).board.wires.clock) }
+        ensures rooms { (value self.new).rooms ≡ (value self.old).rooms };
+
+    /// Does what is left of the sequence under way, or else one instruction or sequence. A board that
+    /// is jammed takes no clock.
+    fn step(&mut self, tape: &Tape) -> Stop
+        requires clock { (value self.old).board.wires.clock < CLOCK_LIMIT }
+        requires settled { (value self.old).lagging ≡ 0 }
+        requires empty { HasNoRecords (value self.old).board }
+        ensures board { (value self.new).board ≡ to_boundary tape.now.entries ((value self.old).board.wires.clock + 1) (value self.old).board }
+        ensures cause { result ≡ cause_of ((value self.old).board.wires.clock + 1) (value self.new).board }
+        ensures boundary { (value self.new).board.cpu.mid ≡ None }
+        ensures calls { (value self.new).calls ≤ (value self.old).calls
+            + budget tape.now.entries (boundary_steps tape.now.entries ((value self.old).board.wires.clock + 1) (value self.old).board) (value self.old).board }
+        ensures more { (value self.old).calls ≤ (value self.new).calls }
+        ensures done { (value self.new).done ≡ counted_on (value self.old).done ((value self.new).board.wires.clock - (value self.old).board.wires.clock) }
+        ensures rooms { (value self.new).rooms ≡ (value self.old).rooms };
+
+    /// Runs turn by turn to the limit, to the first boundary after the divider's next wrap, or to
+    /// where a tracer has enough, whichever comes first, and tells the tracer of each turn. A board
+    /// that is jammed makes none.
+    fn run_traced<T: Tracer>(&mut self, tape: &Tape, limit: u64, tracer: &mut T) -> Stop
+        requires limit { limit ≤ CLOCK_LIMIT }
+        requires settled { (value self.old).lagging ≡ 0 }
+        requires empty { HasNoRecords (value self.old).board }
+        ensures run { TracedRun T.next T.has_enough tape.now.entries (window_limit limit (value self.old).board) (value self.old).board (value self.new).board tracer.old tracer.new }
+        ensures cause { result ≡ cause_of limit (value self.new).board }
+        ensures boundary { (value self.new).board.cpu.mid ≡ None }
+        ensures calls { (value self.new).calls ≤ (value self.old).calls + budget tape.now.entries ((value self.new).board.wires.clock - (value self.old).board.wires.clock) (value self.old).board }
+        ensures more { (value self.old).calls ≤ (value self.new).calls }
+        ensures done { (value self.new).done ≡ counted_on (value self.old).done ((value self.new).board.wires.clock - (value self.old).board.wires.clock) }
+        ensures rooms { (value self.new).rooms ≡ (value self.old).rooms };
+
+    /// Runs to this clock, inside a sequence too, or to the first boundary after the divider's next
+    /// wrap where that comes first. A board that is jammed takes no clock.
+    fn run_to(&mut self, tape: &Tape, cut: u64) -> Stop
+        requires cut { cut ≤ CLOCK_LIMIT }
+        requires settled { (value self.old).lagging ≡ 0 }
+        requires empty { HasNoRecords (value self.old).board }
+        ensures board { (value self.new).board ≡ to_cut tape.now.entries cut (wrap_of (value self.old).board) (value self.old).board }
+        ensures cause { result ≡ cause_of cut (value self.new).board }
+        ensures window { result ≡ Stop.Window → wrap_of (value self.old).board ≤ (value self.new).board.wires.clock }
+        ensures later { result ≡ Stop.Window → (value self.old).board.wires.clock < (value self.new).board.wires.clock }
+        ensures before { result ≡ Stop.Window → (value self.new).board.wires.clock < cut }
+        ensures calls { (value self.new).calls ≤ (value self.old).calls
+            + budget tape.now.entries (cut_steps tape.now.entries cut (wrap_of (value self.old).board) (value self.old).board) (value self.old).board }
+        ensures more { (value self.old).calls ≤ (value self.new).calls }
+        ensures done { (value self.new).done ≡ counted_on (value self.old).done ((value self.new).board.wires.clock - (value self.old).board.wires.clock) }
+        ensures rooms { (value self.new).rooms ≡ (value self.old).rooms };
+
+    /// Brings each device to the present. One that stands there already isn't called, so that there
+    /// are as many device calls as devices that lag, or fewer.
+    fn settle(&mut self)
+        ensures value { value self.new ≡ record (value self.old) { lagging = 0; calls = (value self.new).calls } }
+        ensures calls { (value self.new).calls ≤ (value self.old).calls + (value self.old).lagging }
+        ensures few { (value self.old).lagging ≤ 5 }
+        ensures more { (value self.old).calls ≤ (value self.new).calls };
+
+    /// Copies the board.
+    fn state(&self, into: &mut BoardState)
+        requires settled { (value self.now).lagging ≡ 0 }
+        ensures board { into.new ≡ board_of (value self.now).board.cpu (value self.now).board.wires }
+        ensures undocumented { IfSome (value self.now).board.cpu.jam (λ o. row_of o ≡ None) }
+        ensures place { IfSome (value self.now).board.cpu.mid (λ _. IsMiddle (value self.now).board.cpu) };
+
+    /// The clocks done.
+    fn clock(&self) -> u64
+        ensures { result ≡ (value self.now).board.wires.clock };
+
+    /// The processor.
+    fn cpu(&self) -> &CpuState
+        ensures { result.now ≡ (value self.now).board.cpu };
+
+    /// Whether the vector generator is halted.
+    fn is_halted(&self) -> bool
+        requires settled { (value self.now).lagging ≡ 0 }
+        ensures { result ≡ (value self.now).board.wires.vg.halted };
+
+    /// The byte at an address of the RAM, the vector RAM or a ROM; none elsewhere.
+    fn byte_at(&self, addr: u16) -> Option<u8>
+        ensures { result ≡ memory_byte addr (value self.now).board.wires };
+
+    /// The records of each part since the last clearing, in order; those of a device that lags end
+    /// where it stands.
+    fn trails(&self) -> Trails<'_>
+        ensures vector { (value self.now).lagging ≡ 0 → result.vector.now.records ≡ (value self.now).board.wires.strokes }
+        ensures sound1 { (value self.now).lagging ≡ 0 → result.sound1.now.records ≡ (value self.now).board.wires.levels1 }
+        ensures sound2 { (value self.now).lagging ≡ 0 → result.sound2.now.records ≡ (value self.now).board.wires.levels2 }
+        ensures board { result.board.now.records ≡ (value self.now).board.wires.written }
+        ensures rooms { (value self.now).rooms ≡ record { vector = result.vector.now.room; sound1 = result.sound1.now.room; sound2 = result.sound2.now.room; board = result.board.now.room } };
+
+    /// Forgets the records, and leaves the board; the trails have their first room again.
+    fn clear_trails(&mut self)
+        requires settled { (value self.old).lagging ≡ 0 }
+        ensures { value self.new ≡ record (value self.old) { board = cleared (value self.old).board } };
+
+    /// The sum of the device calls, or the greatest number of 64 bits.
+    fn calls(&self) -> u64
+        ensures { result ≡ (value self.now).calls };
+
+    /// Tells that its board stands where a run can bring it. It does nothing.
+    fn lemma_range(&self)
+        requires settled { (value self.now).lagging ≡ 0 }
+        ensures placed { IsPlaced (value self.now).board }
+        ensures phase { (value self.now).board.wires.divider.phase < DIVIDER_PERIOD };
+}
+
+impl<V: VectorUnit, P: SoundUnit, C: CellUnit, D: DividerUnit> Machine for Engine<V, P, C, D> {
+    ghost value = { λ e. e };
+
+    #[inline(always)]
+    fn load(&mut self, state: &BoardState) {
+        self.load(state)
+    }
+
+    #[inline(always)]
+    fn run(&mut self, tape: &Tape, limit: u64) -> Stop {
+        self.run(tape, limit)
+    }
+
+    #[inline(always)]
+    fn run_to_break(&mut self, tape: &Tape, limit: u64, addresses: &[u16]) {
+        self.run_to_break(tape, limit, addresses)
+    }
+
+    #[inline(always)]
+    fn step(&mut self, tape: &Tape) -> Stop {
+        self.step(tape)
+    }
+
+    #[inline(always)]
+    fn run_traced<T: Tracer>(&mut self, tape: &Tape, limit: u64, tracer: &mut T) -> Stop {
+        self.run_traced(tape, limit, tracer)
+    }
+
+    #[inline(always)]
+    fn run_to(&mut self, tape: &Tape, cut: u64) -> Stop {
+        self.run_to(tape, cut)
+    }
+
+    #[inline(always)]
+    fn settle(&mut self) {
+        self.settle()
+    }
+
+    #[inline(always)]
+    fn state(&self, into: &mut BoardState) {
+        self.state(into)
+    }
+
+    #[inline(always)]
+    fn clock(&self) -> u64 {
+        self.clock()
+    }
+
+    #[inline(always)]
+    fn cpu(&self) -> &CpuState {
+        self.cpu()
+    }
+
+    #[inline(always)]
+    fn is_halted(&self) -> bool {
+        self.is_halted()
+    }
+
+    #[inline(always)]
+    fn byte_at(&self, addr: u16) -> Option<u8> {
+        self.byte_at(addr)
+    }
+
+    #[inline(always)]
+    fn trails(&self) -> Trails<'_> {
+        self.trails()
+    }
+
+    #[inline(always)]
+    fn clear_trails(&mut self) {
+        self.clear_trails()
+    }
+
+    #[inline(always)]
+    fn calls(&self) -> u64 {
+        self.calls()
+    }
+
+    #[inline(always)]
+    fn lemma_range(&self) {
+        self.lemma_range()
+    }
+}
