@@ -17,6 +17,22 @@ pub enum Pending {
     Watchdog,
 }
 
+impl Pending {
+    ghost use Rattle.std.specs.Prelude.{◌≡◌};
+    ghost use Rattle.board_base.specs.Divider.{reset_number};
+
+    /// Its number, by which saved boards and the debugger name it.
+    pub fn number(self) -> u8
+        ensures { result ≡ reset_number self }
+    {
+        match self {
+            Pending::Nothing => 0,
+            Pending::Power => 1,
+            Pending::Watchdog => 2,
+        }
+    }
+}
+
 /// The interrupt divider and the watchdog. This project's own profile.
 ///
 /// `phase` counts the clocks since the last wrap, so it is below `DIVIDER_PERIOD`; `dog` the

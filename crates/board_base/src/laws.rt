@@ -7,12 +7,14 @@ use crate::earom::{CELLS, HOLD_CLOCKS};
 use crate::phase::{DRAW, EXECUTE, HIGH_BYTE, LOW_BYTE, SECOND_HIGH, SECOND_LOW};
 use crate::pokey::{LONGEST_PERIOD, POT_LIMIT, PRESCALER_BASE, PRESCALER_LINE};
 use crate::vector_memory::{VECTOR_LEN, VECTOR_RAM_LEN, VECTOR_ROM_LEN};
+use crate::vg::{BEAM_EDGE, DELTA_EDGE};
 
 /// The numbers of the board, each by its name in the definitions.
 pub fn board_numbers()
     ensures clock { (CLOCK_LIMIT ≡ 2 ^ 48) × (CLOCK_END ≡ 2 ^ 49) }
     ensures memory { (RAM_LEN ≡ 2048) × (VECTOR_RAM_LEN ≡ 2048) × (VECTOR_ROM_LEN ≡ 14336) × (VECTOR_LEN ≡ 16384) }
     ensures phases { (LOW_BYTE ≡ 0) × (HIGH_BYTE ≡ 1) × (SECOND_LOW ≡ 2) × (SECOND_HIGH ≡ 3) × (EXECUTE ≡ 4) × (DRAW ≡ 5) }
+    ensures beam { (BEAM_EDGE ≡ 2 ^ 30) × (DELTA_EDGE ≡ 2 ^ 27) }
     ensures pokey { (PRESCALER_BASE ≡ 28) × (PRESCALER_LINE ≡ 114) × (POT_LIMIT ≡ 228) × (LONGEST_PERIOD ≡ 65542) }
     ensures divider { (DIVIDER_PERIOD ≡ 6144) × (WATCHDOG_WRAPS ≡ 8) }
     ensures earom { (CELLS ≡ 64) × (HOLD_CLOCKS ≡ 1512) }

@@ -31,4 +31,4 @@ pub use record::Record;
 pub use time::sooner;
 pub use trail::{Trail, Trails};
 pub use vector_memory::{VECTOR_LEN, VECTOR_RAM_LEN, VECTOR_ROM_LEN, VectorMemory};
-pub use vg::VgState;
+pub use vg::{BEAM_EDGE, DELTA_EDGE, VgState};

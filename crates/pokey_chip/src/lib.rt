@@ -23,4 +23,5 @@ mod voice;
 pub use fast::FastPokey;
 pub use laws::{control_bits, register_numbers};
 pub use plain::PlainPokey;
+pub use registers::RANDOM;
 pub use unit::{SoundUnit, one_record_a_clock};
