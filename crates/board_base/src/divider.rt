@@ -1,3 +1,4 @@
+use crate::device::PowerOn;
 use std::marker::Model;
 
 /// The clocks from a wrap of the divider to the next.
@@ -57,12 +58,14 @@ impl Model for DividerState {
     ghost inverse = { λ d. record { phase = d.phase; irq = d.irq; dog = d.dog; pending = d.pending } };
 }
 
-impl DividerState {
+impl PowerOn for DividerState {
     ghost use Rattle.std.specs.Prelude.{◌≡◌};
     ghost use Rattle.board_base.specs.Divider.{divider_at_power_on};
 
+    ghost at_power_on = { divider_at_power_on };
+
     /// The divider at power-on.
-    pub fn power_on() -> DividerState
+    fn power_on() -> DividerState
         ensures { result ≡ divider_at_power_on }
     {
         DividerState {

@@ -1,3 +1,4 @@
+use crate::device::PowerOn;
 use std::marker::Model;
 
 /// The bound of the beam to each side.
@@ -45,12 +46,14 @@ impl Model for VgState {
     ghost inverse = { vg_fields };
 }
 
-impl VgState {
+impl PowerOn for VgState {
     ghost use Rattle.std.specs.Prelude.{◌≡◌};
     ghost use Rattle.board_base.specs.Vg.{vg_at_power_on};
 
+    ghost at_power_on = { vg_at_power_on };
+
     /// The generator at power-on.
-    pub fn power_on() -> VgState
+    fn power_on() -> VgState
         ensures { result ≡ vg_at_power_on }
     {
         VgState {

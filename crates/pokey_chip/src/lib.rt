@@ -8,6 +8,7 @@ mod bits;
 mod channel;
 mod control;
 mod counts;
+mod device;
 pub mod fast;
 pub mod laws;
 mod noise;
