@@ -10,7 +10,7 @@ use board_base::{CLOCK_END, Device, Trail, VectorMemory, VgState};
 /// How a vector generator moves over many clocks.
 pub trait Moves {
     /// Does the `n` clocks from `from` on, and appends their strokes.
-    fn advance(state: &mut VgState, memory: &VectorMemory, from: u64, n: u64, trail: &mut Trail)
+    fn run(state: &mut VgState, memory: &VectorMemory, from: u64, n: u64, trail: &mut Trail)
         requires room { n ≤ trail.old.spare }
         requires clocks { from + n ≤ CLOCK_END }
         ensures state { state.new ≡ ticks (vg_tick memory.now) from n state.old }
@@ -25,7 +25,7 @@ impl<M: Moves> VectorUnit for Device<VgState, M> {
     }
 
     fn advance(&mut self, memory: &VectorMemory, from: u64, n: u64, trail: &mut Trail) {
-        M::advance(self.change(), memory, from, n, trail);
+        M::run(self.change(), memory, from, n, trail);
     }
 
     fn go(&mut self) {

@@ -11,7 +11,7 @@ pub struct ByWords;
 
 impl Moves for ByWords {
     #[tactic(auto, using(crate::proofs::ManyTicks::start))]
-    fn advance(state: &mut VgState, memory: &VectorMemory, from: u64, n: u64, trail: &mut Trail) {
+    fn run(state: &mut VgState, memory: &VectorMemory, from: u64, n: u64, trail: &mut Trail) {
         let mut done = 0;
         while done < n {
             done += leap(state, memory, from + done, n - done, trail);

@@ -10,7 +10,7 @@ pub struct ByClocks;
 
 impl Moves for ByClocks {
     #[tactic(auto, using(crate::proofs::ManyTicks::start))]
-    fn advance(state: &mut VgState, memory: &VectorMemory, from: u64, n: u64, trail: &mut Trail) {
+    fn run(state: &mut VgState, memory: &VectorMemory, from: u64, n: u64, trail: &mut Trail) {
         for done in 0..n {
             tick(state, memory, from + done, trail);
         }

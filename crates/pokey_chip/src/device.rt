@@ -12,7 +12,7 @@ use board_base::{CLOCK_END, Device, PokeyState, Trail};
 pub trait Moves {
     /// Does `n` clocks, the first of them `from`, and records the levels in each clock that changes
     /// them.
-    fn advance(state: &mut PokeyState, from: u64, n: u64, trail: &mut Trail)
+    fn run(state: &mut PokeyState, from: u64, n: u64, trail: &mut Trail)
         requires room { n ≤ trail.old.spare }
         requires clocks { from + n ≤ CLOCK_END }
         ensures state { state.new ≡ times pokey_tick n state.old }
@@ -27,7 +27,7 @@ impl<M: Moves> SoundUnit for Device<PokeyState, M> {
     }
 
     fn advance(&mut self, from: u64, n: u64, trail: &mut Trail) {
-        M::advance(self.change(), from, n, trail);
+        M::run(self.change(), from, n, trail);
     }
 
     fn read(&self, reg: u8) -> u8 {

@@ -48,8 +48,10 @@ fn record_levels(
 
 impl Moves for ByUnderflows {
     // The first clock is looked at always, since a state that was taken on may have other levels
-    // than those that its channels have.
-    fn advance(state: &mut PokeyState, from: u64, n: u64, trail: &mut Trail) {
+    // than those that its channels have. A function of its own gets better registers from LLVM than
+    // one that is put into its caller.
+    #[inline(never)]
+    fn run(state: &mut PokeyState, from: u64, n: u64, trail: &mut Trail) {
         if n == 0 {
             return;
         }

@@ -10,7 +10,7 @@ pub struct ByClocks;
 
 impl Moves for ByClocks {
     #[tactic(auto, using(board_base::proofs::TickLaws::one_tick, crate::proofs::RecordLemmas::unchanged))]
-    fn advance(state: &mut PokeyState, from: u64, n: u64, trail: &mut Trail) {
+    fn run(state: &mut PokeyState, from: u64, n: u64, trail: &mut Trail) {
         for i in 0..n {
             tick_into(state, from + i, trail);
         }
