@@ -4,7 +4,7 @@ use Rattle.avg_device.specs.declared.unit.VectorUnit as vector
 use Rattle.pokey_chip.specs.declared.unit.SoundUnit as sound
 use Rattle.earom_cells.specs.declared.unit.CellUnit as cells
 use Rattle.irq_watchdog.specs.declared.unit.DividerUnit as divider
-use Rattle.board_base.specs.declared.clocked.Clocked as clocked
+use Rattle.board_base.specs.declared.device.Clocked as clocked
 use Rattle.catchup_engine.specs.EngineValue.{EngineValue}
 use Rattle.board_watch.specs.declared.rest.Rested.{Rested}
 
