@@ -1,3 +1,2 @@
 pub mod Leap
 pub mod Tick
-pub mod Unit

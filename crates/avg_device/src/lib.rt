@@ -3,6 +3,7 @@
 #![tactic(auto)]
 
 mod control;
+mod device;
 mod draw;
 mod execute;
 mod fast;

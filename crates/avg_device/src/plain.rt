@@ -1,92 +1,18 @@
-ghost use Rattle.std.specs.Prelude.{◌≡◌, ◌≤◌, ◌+◌};
-ghost use Rattle.board_base.specs.Ticks.{made, ticks};
-ghost use Rattle.board_base.specs.Trail.{Extended};
-ghost use Rattle.board_base.specs.Vg.{vg_at_power_on};
-ghost use Rattle.avg_device.specs.Tick.{vg_gives, vg_tick};
-
-use crate::control::{go, reset};
+use crate::device::Moves;
 use crate::tick::tick;
-use crate::unit::VectorUnit;
-use board_base::{CLOCK_END, CallCount, Clocked, Trail, VectorMemory, VgState};
-use std::marker::Model;
+use board_base::{Device, Trail, VectorMemory, VgState};
 
 /// A vector generator that moves clock by clock.
-#[derive(Drop)]
-pub struct PlainVg {
-    state: VgState,
-    calls: CallCount,
-}
+pub type PlainVg = Device<VgState, ByClocks>;
 
-impl Model for PlainVg {
-    ghost use Rattle.avg_device.specs.Unit.{CountedVg};
+/// Clock by clock.
+pub struct ByClocks;
 
-    ghost Value = { CountedVg };
-
-    ghost view = { λ v. record { device = v.state; calls = v.calls } };
-}
-
-impl PlainVg {
-    /// A generator at power-on.
-    pub fn new() -> PlainVg
-        ensures device { result.device ≡ vg_at_power_on }
-        ensures calls { result.calls ≡ 0 }
-    {
-        PlainVg {
-            state: VgState::power_on(),
-            calls: CallCount::new(),
+impl Moves for ByClocks {
+    #[tactic(auto, using(crate::proofs::ManyTicks::start))]
+    fn run(state: &mut VgState, memory: &VectorMemory, from: u64, n: u64, trail: &mut Trail) {
+        for done in 0..n {
+            tick(state, memory, from + done, trail);
         }
-    }
-}
-
-impl Clocked for PlainVg {
-    ghost calls = { λ v. v.calls };
-
-    fn calls(&self) -> u64 {
-        self.calls.get()
-    }
-}
-
-/// Does `n` clocks, one by one.
-#[tactic(auto, using(crate::proofs::ManyTicks::start))]
-fn tick_each(state: &mut VgState, memory: &VectorMemory, from: u64, n: u64, trail: &mut Trail)
-    requires room { n ≤ trail.old.spare }
-    requires clocks { from + n ≤ CLOCK_END }
-    ensures state { state.new ≡ ticks (vg_tick memory.now) from n state.old }
-    ensures records { Extended trail.old trail.new (made (vg_tick memory.now) vg_gives from n state.old) }
-{
-    for done in 0..n {
-        tick(state, memory, from + done, trail);
-    }
-}
-
-impl VectorUnit for PlainVg {
-    ghost device = { λ v. v.device };
-
-    fn load(&mut self, state: &VgState) {
-        self.state = *state;
-        self.calls.rise();
-    }
-
-    fn advance(&mut self, memory: &VectorMemory, from: u64, n: u64, trail: &mut Trail) {
-        tick_each(&mut self.state, memory, from, n, trail);
-        self.calls.rise();
-    }
-
-    fn go(&mut self) {
-        go(&mut self.state);
-        self.calls.rise();
-    }
-
-    fn reset(&mut self) {
-        reset(&mut self.state);
-        self.calls.rise();
-    }
-
-    fn halted(&self) -> bool {
-        self.state.halted
-    }
-
-    fn state(&self) -> VgState {
-        self.state
     }
 }

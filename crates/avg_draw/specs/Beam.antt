@@ -2,6 +2,7 @@
 use Rattle.std.specs.Prelude.{ℕ, ◌-◌, ◌*◌, ◌/◌, ◌^◌, max, nat_le, count_by, ℤ, pos, neg_ℤ, ◌*ℤ◌, unsigned_abs}
 use Rattle.std.specs.Int.{int_max, int_min}
 use Rattle.std.specs.List.{range_with_len}
+use Rattle.board_base.specs.declared.vg.TheConstants.{BEAM_EDGE}
 
 -- how far the beam goes for a distance: a linear scale takes 256ths off, and each step of the binary scale halves it
 unfoldable pub delta_of : ℤ → ℕ → ℕ → ℤ
@@ -9,7 +10,7 @@ delta_of d lin bin = d *ℤ pos ((256 - lin) * 2 ^ (7 - bin))
 
 -- a place is held within the bounds of the screen
 unfoldable pub held : ℤ → ℤ
-held at = int_max (neg_ℤ (pos (2 ^ 30))) (int_min at (pos (2 ^ 30)))
+held at = int_max (neg_ℤ (pos BEAM_EDGE)) (int_min at (pos BEAM_EDGE))
 
 -- the binary digits of a number below 2^16: as many as there are powers of two up to it
 unfoldable pub binary_digits : ℕ → ℕ

@@ -1,8 +1,10 @@
 ghost use Rattle.std.specs.Prelude.{◌≡◌, ◌-◌, ◌*◌, ◌/◌, ◌^◌, max, ◌<◌, ◌≤◌, pos, neg_ℤ, ◌+ℤ◌, ◌≤ℤ◌};
 ghost use Rattle.avg_draw.specs.Beam.{binary_digits, clocks_of, delta_of, held};
 
+use board_base::BEAM_EDGE;
+
 /// The bound of the beam to each side.
-const EDGE: i32 = 1 << 30;
+const EDGE: i32 = BEAM_EDGE as i32;
 
 /// The linear and the binary scale in one.
 #[tactic(auto, using(crate::proofs::Scales::scale_bound, crate::proofs::Scales::scale_shift))]
@@ -27,7 +29,7 @@ pub fn delta(d: i16, lin: u8, bin: u8) -> i32
     i32::from(d) * i32::from(scale(lin, bin))
 }
 
-/// The beam after a move, held within 2^30 to each side.
+/// The beam after a move, held within `BEAM_EDGE` to each side.
 #[tactic(auto, unfolding(crate::specs::Beam::held))]
 pub fn move_beam(at: i32, delta: i32) -> i32
     requires at_low { neg_ℤ (pos (2 ^ 30)) ≤ℤ at }

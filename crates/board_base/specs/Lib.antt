@@ -2,8 +2,10 @@ pub mod Board
 pub mod BoardFields
 pub mod Counts
 pub mod Cpu
+pub mod Devices
 pub mod Divider
 pub mod Earom
+pub mod Lending
 pub mod Pokey
 pub mod PokeyFields
 pub mod Ranges

@@ -1,6 +1,7 @@
 -- The vector generator, as a plain record. Its phases and scales are this project's own profile.
-use Rattle.std.specs.Prelude.{◌≡◌, ◌≢◌, ℕ, ◌<◌, ◌≤◌, ◌^◌, ℤ, pos, Bool, true, List, length, replicate, All}
+use Rattle.std.specs.Prelude.{◌≡◌, ◌≢◌, ℕ, ◌<◌, ◌≤◌, ℤ, pos, Bool, true, List, length, replicate, All}
 use Rattle.board_base.specs.declared.phase.TheConstants.{DRAW}
+use Rattle.board_base.specs.declared.vg.TheConstants.{BEAM_EDGE, DELTA_EDGE}
 use Rattle.board_base.specs.Ranges.{IsWithin}
 
 -- whether it is halted, the phase of its next tick, where it reads, its return stack, what it draws with, the word
@@ -35,10 +36,10 @@ pub record IsVg (v : VgValue) : Type 0 where
   pub bytes : length v.bytes ≡ 4
   pub stack : length v.stack ≡ 4
   pub words : All (λ to. to < 8192) v.stack
-  pub x : IsWithin (2 ^ 30) v.x
-  pub y : IsWithin (2 ^ 30) v.y
-  pub dx : IsWithin (2 ^ 27) v.dx
-  pub dy : IsWithin (2 ^ 27) v.dy
+  pub x : IsWithin BEAM_EDGE v.x
+  pub y : IsWithin BEAM_EDGE v.y
+  pub dx : IsWithin DELTA_EDGE v.dx
+  pub dy : IsWithin DELTA_EDGE v.dy
   pub drawing : v.phase ≡ DRAW → 1 ≤ v.left
   pub longest : v.left ≤ 8192
   pub resting : v.phase ≢ DRAW → v.left ≡ 0

@@ -1,4 +1,5 @@
 use crate::cpu::CpuState;
+use crate::device::PowerOn;
 use crate::divider::DividerState;
 use crate::earom::EaromState;
 use crate::pokey::PokeyState;

@@ -1,3 +1,4 @@
+use crate::device::PowerOn;
 use std::marker::Model;
 
 /// The clocks from a wrap of the divider to the next.
@@ -15,6 +16,22 @@ pub enum Pending {
     Power,
     /// One that the watchdog asked for.
     Watchdog,
+}
+
+impl Pending {
+    ghost use Rattle.std.specs.Prelude.{◌≡◌};
+    ghost use Rattle.board_base.specs.Divider.{reset_number};
+
+    /// Its number, by which saved boards and the debugger name it.
+    pub fn number(self) -> u8
+        ensures { result ≡ reset_number self }
+    {
+        match self {
+            Pending::Nothing => 0,
+            Pending::Power => 1,
+            Pending::Watchdog => 2,
+        }
+    }
 }
 
 /// The interrupt divider and the watchdog. This project's own profile.
@@ -41,12 +58,14 @@ impl Model for DividerState {
     ghost inverse = { λ d. record { phase = d.phase; irq = d.irq; dog = d.dog; pending = d.pending } };
 }
 
-impl DividerState {
+impl PowerOn for DividerState {
     ghost use Rattle.std.specs.Prelude.{◌≡◌};
     ghost use Rattle.board_base.specs.Divider.{divider_at_power_on};
 
+    ghost at_power_on = { divider_at_power_on };
+
     /// The divider at power-on.
-    pub fn power_on() -> DividerState
+    fn power_on() -> DividerState
         ensures { result ≡ divider_at_power_on }
     {
         DividerState {

@@ -1,3 +1,4 @@
+use crate::device::PowerOn;
 use std::marker::Model;
 
 /// The cells of an EAROM, a byte each.
@@ -33,12 +34,14 @@ impl Model for EaromState {
     ghost inverse = { λ e. record { addr = e.addr; value = e.value; control = e.control; hold = e.hold; out = e.out; cells = e.cells } };
 }
 
-impl EaromState {
+impl PowerOn for EaromState {
     ghost use Rattle.std.specs.Prelude.{◌≡◌};
     ghost use Rattle.board_base.specs.Earom.{earom_at_power_on};
 
+    ghost at_power_on = { earom_at_power_on };
+
     /// The EAROM at power-on, with all cells erased.
-    pub fn power_on() -> EaromState
+    fn power_on() -> EaromState
         ensures { result ≡ earom_at_power_on }
     {
         EaromState {

@@ -1,3 +1,4 @@
+use crate::device::PowerOn;
 use std::marker::Model;
 
 /// The clocks from a pulse of the prescaler of the base clock to the next (C012294 data sheet, 64 kHz).
@@ -54,12 +55,14 @@ impl Model for PokeyState {
     ghost inverse = { pokey_fields };
 }
 
-impl PokeyState {
+impl PowerOn for PokeyState {
     ghost use Rattle.std.specs.Prelude.{◌≡◌};
     ghost use Rattle.board_base.specs.Pokey.{pokey_at_power_on};
 
+    ghost at_power_on = { pokey_at_power_on };
+
     /// A POKEY at power-on.
-    pub fn power_on() -> PokeyState
+    fn power_on() -> PokeyState
         ensures { result ≡ pokey_at_power_on }
     {
         PokeyState {

@@ -1,10 +1,17 @@
+use crate::device::PowerOn;
 use std::marker::Model;
+
+/// The bound of the beam to each side.
+pub const BEAM_EDGE: u32 = 1 << 30;
+
+/// The bound of the distance that a vector goes to each side.
+pub const DELTA_EDGE: u32 = 1 << 27;
 
 /// The vector generator. Its phases, scales and drawing times are this project's own profile.
 ///
 /// `pc` and `stack` are word addresses below 8,192; `bytes` are those of the word under way; `left`
 /// is the number of drawing clocks that are left, in phase 5 alone. The beam `x`, `y` is within
-/// plus and minus 2^30, `dx` and `dy` within plus and minus 2^27.
+/// plus and minus `BEAM_EDGE`, `dx` and `dy` within plus and minus `DELTA_EDGE`.
 #[derive(Clone, Copy, Debug, PartialEq, Eq)]
 pub struct VgState {
     pub halted: bool,
@@ -39,12 +46,14 @@ impl Model for VgState {
     ghost inverse = { vg_fields };
 }
 
-impl VgState {
+impl PowerOn for VgState {
     ghost use Rattle.std.specs.Prelude.{◌≡◌};
     ghost use Rattle.board_base.specs.Vg.{vg_at_power_on};
 
+    ghost at_power_on = { vg_at_power_on };
+
     /// The generator at power-on.
-    pub fn power_on() -> VgState
+    fn power_on() -> VgState
         ensures { result ≡ vg_at_power_on }
     {
         VgState {

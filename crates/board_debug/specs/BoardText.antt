@@ -13,6 +13,7 @@ use Rattle.board_base.specs.Earom.{EaromValue}
 use Rattle.board_base.specs.Pokey.{PokeyValue}
 use Rattle.board_base.specs.Vg.{VgValue}
 use Rattle.text_line.specs.Words.{hex_byte, hex_word, line}
+use Rattle.pokey_chip.specs.declared.registers.TheConstants.{RANDOM}
 use Rattle.pokey_chip.specs.Registers.{register_read}
 
 -- clock N
@@ -74,7 +75,7 @@ pokey_text name p =
     line (name ∷ codes "audf" ∷ hex_byte (slice_index p.audf 0) ∷ hex_byte (slice_index p.audf 1) ∷ hex_byte (slice_index p.audf 2) ∷ hex_byte (slice_index p.audf 3)
     ∷ codes "audc" ∷ hex_byte (slice_index p.audc 0) ∷ hex_byte (slice_index p.audc 1) ∷ hex_byte (slice_index p.audc 2) ∷ hex_byte (slice_index p.audc 3)
     ∷ codes "audctl" ∷ hex_byte p.audctl ∷ codes "skctl" ∷ hex_byte p.skctl ∷ codes "irqen" ∷ decimal p.irqen ∷ codes "irqst" ∷ decimal p.irqst
-    ∷ codes "random" ∷ hex_byte (register_read 10 p) ∷ [])
+    ∷ codes "random" ∷ hex_byte (register_read RANDOM p) ∷ [])
 
 -- earom addr HH control HH hold N out HH
 unfoldable pub earom_text : EaromValue → List ℕ

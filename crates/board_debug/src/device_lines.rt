@@ -1,15 +1,10 @@
 ghost use Rattle.std.specs.Prelude.{◌≡◌, ◌≤◌, length};
-ghost use Rattle.board_base.specs.Divider.{reset_number};
 ghost use Rattle.board_debug.specs.BoardText.{beam_text, divider_text, earom_text, pokey_text, ports_text, vg_text};
 ghost use Rattle.pokey_chip.specs.Registers.{register_read};
 
-use board_base::{BoardState, DividerState, EaromState, Pending, PokeyState, VgState};
-use pokey_chip::{PlainPokey, SoundUnit};
+use board_base::{BoardState, DividerState, EaromState, PokeyState, VgState};
+use pokey_chip::{PlainPokey, RANDOM, SoundUnit};
 use text_line::Line;
-
-/// The register of a POKEY that gives a byte of its long polynomial register (POKEY C012294 data
-/// sheet).
-const RANDOM: u8 = 0xA;
 
 /// The line of the output latch and the ports.
 #[tactic(auto, using(std::proofs::Common::append_assoc), unfolding(crate::specs::BoardText::ports_text))]
@@ -28,17 +23,6 @@ pub(crate) fn ports_line(state: &BoardState) -> Line
         .end()
 }
 
-/// The number of a pending reset.
-fn number_of(pending: Pending) -> u8
-    ensures { result ≡ reset_number pending }
-{
-    match pending {
-        Pending::Nothing => 0,
-        Pending::Power => 1,
-        Pending::Watchdog => 2,
-    }
-}
-
 /// The line of the interrupt divider and the watchdog.
 #[tactic(auto, using(std::proofs::Common::append_assoc), unfolding(crate::specs::BoardText::divider_text))]
 pub(crate) fn divider_line(divider: &DividerState) -> Line
@@ -52,7 +36,7 @@ pub(crate) fn divider_line(divider: &DividerState) -> Line
         .word("dog")
         .small(divider.dog)
         .word("reset")
-        .small(number_of(divider.pending))
+        .small(divider.pending.number())
         .end()
 }
 
@@ -91,7 +75,7 @@ pub(crate) fn beam_line(vg: &VgState) -> Line
 
 /// The byte that RANDOM of a POKEY reads.
 fn random(state: &PokeyState) -> u8
-    ensures { result ≡ register_read 10 state.now }
+    ensures { result ≡ register_read RANDOM state.now }
 {
     let mut pokey = PlainPokey::new();
     pokey.load(state);

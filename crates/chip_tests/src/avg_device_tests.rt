@@ -1,7 +1,7 @@
 ghost use Rattle.std.specs.Prelude.{◌+◌, ◌≤◌};
 
 use avg_device::{FastVg, PlainVg, VectorUnit};
-use board_base::{CLOCK_END, Clocked, Record, Trail, VectorMemory, VgState};
+use board_base::{CLOCK_END, Clocked, PowerOn, Record, Trail, VectorMemory, VgState};
 use std::alloc::Global;
 use std::process::Abort;
 use std::test::Fail;

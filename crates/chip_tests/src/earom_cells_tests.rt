@@ -1,4 +1,4 @@
-use board_base::EaromState;
+use board_base::{EaromState, PowerOn};
 use earom_cells::{CellUnit, Earom};
 
 /// An EAROM whose cells are all F0, with 3C latched for cell 5.

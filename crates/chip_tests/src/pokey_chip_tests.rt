@@ -1,4 +1,4 @@
-use board_base::{Clocked, PokeyState, Trail};
+use board_base::{Clocked, PokeyState, PowerOn, Trail};
 use pokey_chip::{FastPokey, PlainPokey, SoundUnit};
 use std::test::Fail;
 

@@ -104,7 +104,7 @@ impl Burner {
 
     /// Puts a byte, where a ROM stands.
     pub(crate) fn put(&mut self, byte: u8) {
-        if let VECTOR_ROM_START..=0x5FFF | PROGRAM_ROM_START..=0xFFFF = self.place {
+        if self.image.byte_at(self.place).is_some() {
             self.image.put(self.place, byte);
         }
         self.place = self.place.wrapping_add(1);

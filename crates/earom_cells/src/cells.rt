@@ -1,48 +1,13 @@
 ghost use Rattle.std.specs.Prelude.{◌≡◌, ◌<◌};
-ghost use Rattle.board_base.specs.Earom.{earom_at_power_on};
 ghost use Rattle.board_base.specs.Ticks.{times};
 ghost use Rattle.earom_cells.specs.Tick.{is_clock_high, is_not_c1_high, is_c2_high, is_selected, earom_tick, is_held, reads_out, completed, controlled};
 
 use crate::unit::CellUnit;
 use bit_words::is_set;
-use board_base::{CallCount, Clocked, EaromState, HOLD_CLOCKS};
-use std::marker::Model;
+use board_base::{Device, EaromState, HOLD_CLOCKS};
 
 /// An EAROM that moves any number of clocks at the same cost.
-#[derive(Drop)]
-pub struct Earom {
-    state: EaromState,
-    calls: CallCount,
-}
-
-impl Model for Earom {
-    ghost use Rattle.earom_cells.specs.Unit.{CountedEarom};
-
-    ghost Value = { CountedEarom };
-
-    ghost view = { λ e. record { device = e.state; calls = e.calls } };
-}
-
-impl Earom {
-    /// An EAROM at power-on, with all cells erased.
-    pub fn new() -> Earom
-        ensures device { result.device ≡ earom_at_power_on }
-        ensures calls { result.calls ≡ 0 }
-    {
-        Earom {
-            state: EaromState::power_on(),
-            calls: CallCount::new(),
-        }
-    }
-}
-
-impl Clocked for Earom {
-    ghost calls = { λ e. e.calls };
-
-    fn calls(&self) -> u64 {
-        self.calls.get()
-    }
-}
+pub type Earom = Device<EaromState>;
 
 /// Whether the clock line is high.
 fn is_clock_high(control: u8) -> bool
@@ -114,45 +79,49 @@ fn advance_state(state: &mut EaromState, n: u64)
     }
 }
 
+/// Writes the control bits, and reads the addressed cell into the output latch where they ask for it.
+#[tactic(auto, unfolding(crate::specs::Tick::controlled))]
+fn write_control(state: &mut EaromState, value: u8)
+    ensures { state.new ≡ controlled value state.old }
+{
+    let control = value % 16;
+    if reads_out(state.control, control) {
+        state.out = state.cells[state.addr as usize];
+    }
+    state.control = control;
+    state.hold = 0;
+}
+
 impl CellUnit for Earom {
     ghost device = { λ e. e.device };
 
     fn load(&mut self, state: &EaromState) {
-        self.state = *state;
-        self.calls.rise();
+        *self.change() = *state;
     }
 
     fn advance(&mut self, n: u64) {
-        advance_state(&mut self.state, n);
-        self.calls.rise();
+        advance_state(self.change(), n);
     }
 
     fn latch(&mut self, addr: u8, value: u8) {
-        self.state = EaromState {
+        let state = self.change();
+        *state = EaromState {
             addr,
             value,
             hold: 0,
-            ..self.state
+            ..*state
         };
-        self.calls.rise();
     }
 
-    #[tactic(auto, unfolding(crate::specs::Tick::controlled))]
     fn control(&mut self, value: u8) {
-        let control = value % 16;
-        if reads_out(self.state.control, control) {
-            self.state.out = self.state.cells[self.state.addr as usize];
-        }
-        self.state.control = control;
-        self.state.hold = 0;
-        self.calls.rise();
+        write_control(self.change(), value);
     }
 
     fn output(&self) -> u8 {
-        self.state.out
+        self.get().out
     }
 
     fn state(&self) -> EaromState {
-        self.state
+        *self.get()
     }
 }

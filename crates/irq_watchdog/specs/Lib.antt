@@ -1,2 +1,1 @@
 pub mod Tick
-pub mod Unit

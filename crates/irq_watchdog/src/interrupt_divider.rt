@@ -1,11 +1,9 @@
 ghost use Rattle.std.specs.Prelude.{◌≡◌, ◌+◌, ◌/◌, ◌%◌, ◌^◌, ◌<◌, ◌≤◌, nat_le, if◌then◌else◌};
-ghost use Rattle.board_base.specs.Divider.{divider_at_power_on};
 ghost use Rattle.board_base.specs.Ticks.{times};
 ghost use Rattle.irq_watchdog.specs.Tick.{divider_tick};
 
 use crate::unit::DividerUnit;
-use board_base::{CallCount, Clocked, DIVIDER_PERIOD, DividerState, Pending, WATCHDOG_WRAPS};
-use std::marker::Model;
+use board_base::{DIVIDER_PERIOD, Device, DividerState, Pending, WATCHDOG_WRAPS};
 
 /// The clocks from a wrap to the next.
 const PERIOD: u64 = DIVIDER_PERIOD as u64;
@@ -14,40 +12,7 @@ const PERIOD: u64 = DIVIDER_PERIOD as u64;
 const WRAPS: u64 = WATCHDOG_WRAPS as u64;
 
 /// A divider that moves any number of clocks at the same cost.
-#[derive(Drop)]
-pub struct Divider {
-    state: DividerState,
-    calls: CallCount,
-}
-
-impl Model for Divider {
-    ghost use Rattle.irq_watchdog.specs.Unit.{CountedDivider};
-
-    ghost Value = { CountedDivider };
-
-    ghost view = { λ d. record { device = d.state; calls = d.calls } };
-}
-
-impl Divider {
-    /// A divider at power-on.
-    pub fn new() -> Divider
-        ensures device { result.device ≡ divider_at_power_on }
-        ensures calls { result.calls ≡ 0 }
-    {
-        Divider {
-            state: DividerState::power_on(),
-            calls: CallCount::new(),
-        }
-    }
-}
-
-impl Clocked for Divider {
-    ghost calls = { λ d. d.calls };
-
-    fn calls(&self) -> u64 {
-        self.calls.get()
-    }
-}
+pub type Divider = Device<DividerState>;
 
 /// The phase after `n` clocks.
 #[tactic(auto, using(crate::proofs::Moves::rounds))]
@@ -121,47 +86,43 @@ impl DividerUnit for Divider {
     ghost device = { λ d. d.device };
 
     fn load(&mut self, state: &DividerState) {
-        self.state = *state;
-        self.calls.rise();
+        *self.change() = *state;
     }
 
     fn advance(&mut self, n: u64) {
-        self.state = moved(self.state, n);
-        self.calls.rise();
+        let state = self.change();
+        *state = moved(*state, n);
     }
 
     fn irq(&self) -> bool {
-        self.state.irq
+        self.get().irq
     }
 
     fn pending(&self) -> Pending {
-        self.state.pending
+        self.get().pending
     }
 
     fn quiet(&self) -> u64 {
-        PERIOD - u64::from(self.state.phase)
+        PERIOD - u64::from(self.get().phase)
     }
 
     fn bit3k(&self) -> bool {
-        self.state.phase / 0x100 % 2 == 1
+        self.get().phase / 0x100 % 2 == 1
     }
 
     fn acknowledge(&mut self) {
-        self.state.irq = false;
-        self.calls.rise();
+        self.change().irq = false;
     }
 
     fn clear(&mut self) {
-        self.state.dog = 0;
-        self.calls.rise();
+        self.change().dog = 0;
     }
 
     fn taken(&mut self) {
-        self.state.pending = Pending::Nothing;
-        self.calls.rise();
+        self.change().pending = Pending::Nothing;
     }
 
     fn state(&self) -> DividerState {
-        self.state
+        *self.get()
     }
 }

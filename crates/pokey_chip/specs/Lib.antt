@@ -5,6 +5,5 @@ pub mod Pulses
 pub mod Quiet
 pub mod Registers
 pub mod Tick
-pub mod Unit
 pub mod Noise
 pub mod Tones

@@ -30,7 +30,8 @@ pub(crate) const POT7: u8 = 0x7;
 
 pub(crate) const ALLPOT: u8 = 0x8;
 
-pub(crate) const RANDOM: u8 = 0xA;
+/// The register that gives the low byte of the long polynomial register.
+pub const RANDOM: u8 = 0xA;
 
 pub(crate) const IRQST: u8 = 0xE;
 

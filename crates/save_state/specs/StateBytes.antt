@@ -14,6 +14,7 @@ use Rattle.board_base.specs.declared.divider.TheConstants.{DIVIDER_PERIOD, WATCH
 use Rattle.board_base.specs.declared.earom.TheConstants.{HOLD_CLOCKS}
 use Rattle.board_base.specs.declared.pokey.TheConstants.{LONGEST_PERIOD, POT_LIMIT, PRESCALER_BASE, PRESCALER_LINE}
 use Rattle.board_base.specs.declared.vector_memory.TheConstants.{VECTOR_RAM_LEN}
+use Rattle.board_base.specs.declared.vg.TheConstants.{BEAM_EDGE, DELTA_EDGE}
 use Rattle.board_base.specs.declared.cpu.Sequence.{Sequence}
 use Rattle.board_base.specs.declared.cpu.Sequence.TheVariants.{Opcode, Interrupt, Reset}
 use Rattle.board_base.specs.declared.phase.TheConstants.{DRAW}
@@ -165,10 +166,10 @@ stack_rows =
 -- the beam, the vector being drawn, and the clocks that are left of it, in the phase that draws alone
 abbrev pub beam_rows : List (Row VgValue)
 beam_rows =
-    row 66 (signed_to 1073741824) (λ v. i32_bytes v.x) ∷
-    row 70 (signed_to 1073741824) (λ v. i32_bytes v.y) ∷
-    row 74 (signed_to 134217728) (λ v. i32_bytes v.dx) ∷
-    row 78 (signed_to 134217728) (λ v. i32_bytes v.dy) ∷
+    row 66 (signed_to BEAM_EDGE) (λ v. i32_bytes v.x) ∷
+    row 70 (signed_to BEAM_EDGE) (λ v. i32_bytes v.y) ∷
+    row 74 (signed_to DELTA_EDGE) (λ v. i32_bytes v.dx) ∷
+    row 78 (signed_to DELTA_EDGE) (λ v. i32_bytes v.dy) ∷
     row_by 82 2 (λ facts. left_range facts.drawing) (λ v. u16_bytes v.left) ∷
     []
 

@@ -8,7 +8,8 @@ use board_base::divider::DIVIDER_PERIOD;
 use board_base::phase::DRAW;
 use board_base::vector_memory::VECTOR_RAM_LEN;
 use board_base::{
-    HOLD_CLOCKS, LONGEST_PERIOD, POT_LIMIT, PRESCALER_BASE, PRESCALER_LINE, WATCHDOG_WRAPS,
+    BEAM_EDGE, DELTA_EDGE, HOLD_CLOCKS, LONGEST_PERIOD, POT_LIMIT, PRESCALER_BASE, PRESCALER_LINE,
+    WATCHDOG_WRAPS,
 };
 
 /// The bytes of a field, and the numbers that it takes. Numbers stand low byte first. The last five
@@ -107,10 +108,10 @@ pub static GENERATOR: [Field; 25] = [
     Field(60, Word(8191)),
     Field(62, Word(8191)),
     Field(64, Word(8191)),
-    Field(66, Signed(1 << 30)), // x
-    Field(70, Signed(1 << 30)), // y
-    Field(74, Signed(1 << 27)), // dx
-    Field(78, Signed(1 << 27)), // dy
+    Field(66, Signed(BEAM_EDGE)), // x
+    Field(70, Signed(BEAM_EDGE)), // y
+    Field(74, Signed(DELTA_EDGE)), // dx
+    Field(78, Signed(DELTA_EDGE)), // dy
     Field(82, ClocksLeft),
 ];
 

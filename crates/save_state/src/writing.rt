@@ -42,7 +42,7 @@ fn put_divider(out: &mut [u8; STATE_LEN], at: usize, divider: &DividerState) -> 
     ensures at { result ≡ at + 5 }
 {
     let at = put(out, at, &divider.phase.to_le_bytes());
-    let pending = divider.pending as u8;
+    let pending = divider.pending.number();
     put(out, at, &[u8::from(divider.irq), divider.dog, pending])
 }
 

@@ -2,7 +2,7 @@ use Rattle.std.proofs.Common.{◌≡◌, ◌+◌, ◌≤◌}
 use Rattle.board_base.specs.Ticks.{times}
 use Rattle.board_base.specs.Trail.{Extended}
 use Rattle.pokey_chip.specs.Tick.{levels_made, pokey_tick}
-use Rattle.pokey_chip.proofs.plain.advance_by_clocks.Given as goal
+use Rattle.pokey_chip.proofs.plain.ByClocksMoves.run.Given as goal
 
 abbrev pub invariant-loop-i : goal.invariant-loop-i
 invariant-loop-i l = record {

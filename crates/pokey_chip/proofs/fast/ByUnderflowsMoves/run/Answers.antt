@@ -6,7 +6,7 @@ use Rattle.pokey_chip.specs.Tick.{pokey_tick}
 use Rattle.pokey_chip.specs.Tones.{levels_on}
 use Rattle.pokey_chip.proofs.MoveLaws.{begun-records, is-left}
 use Rattle.pokey_chip.proofs.MovedLaws.{begun, moved, moved-records, moved-state, next-later}
-use Rattle.pokey_chip.proofs.fast.advance_by_underflows.Goals as goal
+use Rattle.pokey_chip.proofs.fast.ByUnderflowsMoves.run.Goals as goal
 
 pub returns-then-n-eq0-clause-state : goal.returns-then-n-eq0-clause-state
 returns-then-n-eq0-clause-state c = sym (times-still pokey_tick c.args.n c.args.state.now (omega arith))

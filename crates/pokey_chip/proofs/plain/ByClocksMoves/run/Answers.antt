@@ -2,7 +2,7 @@ use Rattle.std.proofs.Common.{arith, sym, ◌∙◌, ap}
 use Rattle.pokey_chip.specs.Tick.{pokey_tick}
 use Rattle.pokey_chip.proofs.RecordLemmas.{extended-more}
 use Rattle.board_base.proofs.TickLaws.{times-more}
-use Rattle.pokey_chip.proofs.plain.advance_by_clocks.Goals as goal
+use Rattle.pokey_chip.proofs.plain.ByClocksMoves.run.Goals as goal
 
 pub loop-i-preserved : goal.loop-i-preserved
 loop-i-preserved c = record {

@@ -3,7 +3,7 @@ use Rattle.std.proofs.Common.{◌+◌, arith}
 use Rattle.board_base.proofs.ExtendedLaws.{Extended-more}
 use Rattle.board_base.proofs.TickLaws.{made-more, ticks-more}
 use Rattle.avg_device.proofs.ManyTicks.{vg_gives-few}
-use Rattle.avg_device.proofs.plain.tick_each.Goals as goal
+use Rattle.avg_device.proofs.plain.ByClocksMoves.run.Goals as goal
 
 pub loop-done-preserved : goal.loop-done-preserved
 loop-done-preserved c = record {

@@ -1,6 +1,6 @@
 use Rattle.std.proofs.Common.{ℕ, ◌+◌, ◌-◌}
 use Rattle.pokey_chip.proofs.MovedLaws.{IsMoved}
-use Rattle.pokey_chip.proofs.fast.advance_by_underflows.Given as goal
+use Rattle.pokey_chip.proofs.fast.ByUnderflowsMoves.run.Given as goal
 
 abbrev pub invariant-loop-at : goal.invariant-loop-at
 invariant-loop-at l = (k : ℕ) × IsMoved l.fn.state l.from l.n l.at l.fn.trail l.trail l.voices l.noise l.tones l.heard l.last k

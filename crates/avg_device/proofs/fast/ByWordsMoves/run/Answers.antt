@@ -3,7 +3,7 @@ use Rattle.std.proofs.Common.{◌+◌, arith}
 use Rattle.board_base.proofs.ExtendedLaws.{Extended-more}
 use Rattle.board_base.proofs.TickLaws.{made-add, ticks-add}
 use Rattle.avg_device.proofs.ManyTicks.{vg_made-few}
-use Rattle.avg_device.proofs.fast.leap_each.Goals as goal
+use Rattle.avg_device.proofs.fast.ByWordsMoves.run.Goals as goal
 
 pub loop-done-preserved : goal.loop-done-preserved
 loop-done-preserved c = record {

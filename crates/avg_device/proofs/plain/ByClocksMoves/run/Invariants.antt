@@ -3,7 +3,7 @@ use Rattle.std.proofs.Common.{◌≡◌, ◌+◌, ◌≤◌}
 use Rattle.board_base.specs.Ticks.{made, ticks}
 use Rattle.board_base.specs.Trail.{Extended}
 use Rattle.avg_device.specs.Tick.{vg_gives, vg_tick}
-use Rattle.avg_device.proofs.plain.tick_each.Given as goal
+use Rattle.avg_device.proofs.plain.ByClocksMoves.run.Given as goal
 
 abbrev pub invariant-loop-done : goal.invariant-loop-done
 invariant-loop-done l = record {
