@@ -159,9 +159,9 @@ impl<'a, V: VectorUnit, P: SoundUnit, C: CellUnit, D: DividerUnit, T: Tracer> Bu
     #[inline(always)]
     fn read(&mut self, tape: &Tape, addr: u16) -> u8 {
         if addr >= PROGRAM_START {
-            self.quiet.read(tape, addr)
+            self.quiet.read_program(addr)
         } else if addr < RAM_LEN as u16 {
-            self.quiet.read(tape, addr)
+            self.quiet.read_ram(addr)
         } else {
             let made = self.quiet.made;
             self.quiet.made = 0;
@@ -172,7 +172,7 @@ impl<'a, V: VectorUnit, P: SoundUnit, C: CellUnit, D: DividerUnit, T: Tracer> Bu
     #[inline(always)]
     fn write(&mut self, tape: &Tape, addr: u16, value: u8) {
         if addr < RAM_LEN as u16 {
-            self.quiet.write(tape, addr, value);
+            self.quiet.write_ram(addr, value);
         } else {
             let made = self.quiet.made;
             self.quiet.made = 0;

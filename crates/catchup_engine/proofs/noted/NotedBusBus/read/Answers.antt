@@ -1,36 +1,54 @@
-use Rattle.std.proofs.Common.{◌-◌, length, ap, refl, arith}
+use Rattle.std.proofs.Common.{◌+◌, ◌-◌, length, ap, refl, arith}
 use Rattle.cpu_core.specs.Course.{read_of}
 use Rattle.catchup_engine.specs.Quiet.{passed}
 use Rattle.catchup_engine.specs.Trace.{access_at}
+use Rattle.catchup_engine.proofs.CalmLaws.{keeps-refl}
 use Rattle.catchup_engine.proofs.NotedSteps.{plain-reached, program-plain, ram-plain, reached-most}
+use Rattle.catchup_engine.proofs.QuietLaws.{counted-below, program-reads, ram-reads}
 use Rattle.catchup_engine.proofs.noted.NotedBusBus.read.Goals as goal
 
-pub returns-then-addr-ge-PROGRAM_START-clause-step : goal.returns-then-addr-ge-PROGRAM_START-clause-step
-returns-then-addr-ge-PROGRAM_START-clause-step g c =
-    let q = c.read.new.self in
-    let x = read_of c.args.addr c.read.result in (
-      c.read.ensures.step.0,
-      refl,
-      c.read.ensures.step.1,
-      record {
-        step = c.read.ensures.step.2;
-        reached = plain-reached c.args.self.now.reached.now ((passed q.made q.bus.now).wires.clock - 1) x
-            (program-plain c.args.addr c.read.result c.if-addr-ge-PROGRAM_START.true c.ranges.addr.fits);
-      },
-    )
+pub read_program-requires-clause-clock : goal.read_program-requires-clause-clock
+read_program-requires-clause-clock g c =
+    let room = c.requires.room in counted-below c.args.tape.now c.args.self.now.quiet.made c.args.self.now.quiet.bus.now c.requires.fits.0 (omega (arith, room))
 
-pub returns-then-addr-clause-step : goal.returns-then-addr-clause-step
-returns-then-addr-clause-step g c =
-    let q = c.read-then-addr.new.self in
-    let x = read_of c.args.addr c.read-then-addr.result in (
-      c.read-then-addr.ensures.step.0,
-      refl,
-      c.read-then-addr.ensures.step.1,
-      record {
-        step = c.read-then-addr.ensures.step.2;
-        reached = plain-reached c.args.self.now.reached.now ((passed q.made q.bus.now).wires.clock - 1) x (ram-plain c.args.addr c.read-then-addr.result c.if-addr.true);
-      },
-    )
+pub read_ram-requires-clause-clock : goal.read_ram-requires-clause-clock
+read_ram-requires-clause-clock g c =
+    let room = c.requires.room in counted-below c.args.tape.now c.args.self.now.quiet.made c.args.self.now.quiet.bus.now c.requires.fits.0 (omega (arith, room))
+
+pub returns-then-addr-ge-PROGRAM_START : goal.returns-then-addr-ge-PROGRAM_START
+returns-then-addr-ge-PROGRAM_START g c =
+    let q = c.args.self.now.quiet in
+    let room = c.requires.room in
+    let few = c.requires.fits.1 in
+    let is =
+    program-reads c.args.tape.now q.made c.args.addr c.read_program.result q.bus.now c.requires.fits.0 (omega (arith, room)) c.if-addr-ge-PROGRAM_START.true
+    c.ranges.addr.fits c.read_program.ensures.byte in
+    let left = is.room in
+    let reached =
+    plain-reached c.args.self.now.reached.now ((passed (q.made + 1) q.bus.now).wires.clock - 1) (read_of c.args.addr c.read_program.result)
+    (program-plain c.args.addr c.read_program.result c.if-addr-ge-PROGRAM_START.true c.ranges.addr.fits) in
+    rw c.read_program.ensures.same (record {
+      step = (refl, refl, keeps-refl q.bus.now, record { step = is.step; reached = reached });
+      fits = (is.fits, few);
+      room = omega (arith, left);
+    })
+
+pub returns-then-addr : goal.returns-then-addr
+returns-then-addr g c =
+    let q = c.args.self.now.quiet in
+    let room = c.requires.room in
+    let few = c.requires.fits.1 in
+    let is =
+    ram-reads c.args.tape.now q.made c.args.addr c.read_ram.result q.bus.now c.requires.fits.0 (omega (arith, room)) c.if-addr.true c.read_ram.ensures.byte in
+    let left = is.room in
+    let reached =
+    plain-reached c.args.self.now.reached.now ((passed (q.made + 1) q.bus.now).wires.clock - 1) (read_of c.args.addr c.read_ram.result)
+    (ram-plain c.args.addr c.read_ram.result c.if-addr.true) in
+    rw c.read_ram.ensures.same (record {
+      step = (refl, refl, keeps-refl q.bus.now, record { step = is.step; reached = reached });
+      fits = (is.fits, few);
+      room = omega (arith, left);
+    })
 
 pub returns-else-addr-clause-room : goal.returns-else-addr-clause-room
 returns-else-addr-clause-room g c =
