@@ -193,7 +193,7 @@ module _ (p : PokeyValue) (from n at k : ℕ) (x y : TrailValue) (vs : Voices) (
     fourth-there : IsVoice Fourth at p ws.fourth
     fourth-there = comes-on Fourth k at p vs.fourth is.fourth is.later small is.fourth_due ws.fourth fourth2
 
-    pub next-later : at < next
+    next-later : at < next
     next-later =
         omega (
           arith,

@@ -1,11 +1,11 @@
-use Rattle.std.proofs.Common.{◌≡◌, ◌<◌, ◌≤◌, refl, ap, sym, ◌∙◌, arith}
+use Rattle.std.proofs.Common.{◌≡◌, ◌≤◌, Some, refl, ap, sym, ◌∙◌, arith}
 use Rattle.board_base.proofs.TickLaws.{times-still}
 use Rattle.board_base.specs.Pokey.{PokeyValue}
 use Rattle.pokey_chip.specs.declared.channel.Channel.TheVariants.{First, Second, Third, Fourth}
 use Rattle.pokey_chip.specs.Tick.{pokey_tick}
 use Rattle.pokey_chip.specs.Tones.{levels_on}
 use Rattle.pokey_chip.proofs.MoveLaws.{begun-records, is-left}
-use Rattle.pokey_chip.proofs.MovedLaws.{begun, moved, moved-records, moved-state, next-later}
+use Rattle.pokey_chip.proofs.MovedLaws.{IsMoved, begun, moved, moved-records, moved-state}
 use Rattle.pokey_chip.proofs.fast.ByUnderflowsMoves.run.Goals as goal
 
 pub returns-then-n-eq0-clause-state : goal.returns-then-n-eq0-clause-state
@@ -33,9 +33,10 @@ loop-at-init c = (
       c.of-voices.ensures.fourth,
 )
 
-later : (c : goal.After-soonest-at) → c.loop-at.at < c.soonest-at.result
-later c =
-    next-later c.args.state.now c.args.from c.args.n c.loop-at.at c.loop-at.invariant.0 c.args.trail.now c.loop-at.trail c.loop-at.voices c.loop-at.noise c.loop-at.tones c.loop-at.heard c.loop-at.last c.loop-at.invariant.1 (omega arith) (omega arith)
+-- the loop's invariant once the underflows of a clock are done
+done : (c : goal.After-soonest-at) → IsMoved c.args.state.now c.args.from c.args.n c.soonest-at.result c.args.trail.now c.record_levels.new.trail c.after-voices.result c.reaching-noise.result c.after-tones.result (Some c.on-on.result) c.record_levels.new.last c.loop-at.at
+done c =
+    moved c.args.state.now c.args.from c.args.n c.loop-at.at c.loop-at.invariant.0 c.args.trail.now c.loop-at.trail c.loop-at.voices c.loop-at.noise c.loop-at.tones c.loop-at.heard c.loop-at.last c.loop-at.invariant.1 (omega arith) (omega arith)
     c.of-tuning.result c.outputs.result c.due.result c.on-on.result c.soonest-at.result c.record_levels.new.trail c.after-voices.result c.reaching-noise.result c.after-tones.result c.record_levels.new.last
     c.of-tuning.ensures c.reaching-noise.ensures.noise c.reaching-noise.ensures.since
     c.outputs.ensures.four c.outputs.ensures.five c.outputs.ensures.long
@@ -45,20 +46,10 @@ later c =
     c.after-voices.ensures.first c.after-voices.ensures.second c.after-voices.ensures.third c.after-voices.ensures.fourth c.soonest-at.ensures
 
 pub loop-at-smaller : goal.loop-at-smaller
-loop-at-smaller c = omega (arith, later c)
+loop-at-smaller c = let m = done c in omega (arith, m.later)
 
 pub loop-at-preserved : goal.loop-at-preserved
-loop-at-preserved c = (
-  c.loop-at.at,
-  moved c.args.state.now c.args.from c.args.n c.loop-at.at c.loop-at.invariant.0 c.args.trail.now c.loop-at.trail c.loop-at.voices c.loop-at.noise c.loop-at.tones c.loop-at.heard c.loop-at.last c.loop-at.invariant.1 (omega arith) (omega arith)
-      c.of-tuning.result c.outputs.result c.due.result c.on-on.result c.soonest-at.result c.record_levels.new.trail c.after-voices.result c.reaching-noise.result c.after-tones.result c.record_levels.new.last
-      c.of-tuning.ensures c.reaching-noise.ensures.noise c.reaching-noise.ensures.since
-      c.outputs.ensures.four c.outputs.ensures.five c.outputs.ensures.long
-      c.due.ensures.bits c.after-tones.ensures.tone c.after-tones.ensures.pass c.after-tones.ensures.turned c.on-on.ensures
-      (c.record_levels.ensures.last ∙ ap (λ (q : PokeyValue). levels_on c.on-on.result q.audc) c.start.view_is)
-      (rw (ap (λ (q : PokeyValue). q.audc) c.start.view_is) at c.record_levels.ensures.records) c.record_levels.ensures.few
-      c.after-voices.ensures.first c.after-voices.ensures.second c.after-voices.ensures.third c.after-voices.ensures.fourth c.soonest-at.ensures,
-)
+loop-at-preserved c = (c.loop-at.at, done c)
 
 pub put_counts-requires-clause-first : goal.put_counts-requires-clause-first
 put_counts-requires-clause-first c =
