@@ -35,12 +35,12 @@ use Rattle.gravitar_commands.specs.declared.failure.Ending.TheVariants.{Done, Ja
 use Rattle.gravitar_commands.specs.declared.failure.Failure.{Failure}
 use Rattle.gravitar_commands.specs.declared.failure.Failure.TheVariants.{Bad, Absent, Outside, NoMemory}
 use Rattle.outside_io.specs.Events.{Did, Event, sending, stored, storing, text_of, stores_of}
-use Rattle.outside_io.specs.Seen.{Seen, SameLoans, HostDid, HostDidFirst, HostDidNothing, NoFault}
+use Rattle.outside_io.specs.Seen.{Seen, SameLoans, HostDid, HostDidFirst, HostDidNothing, HostStores, HostWrites, NoFault}
 use Rattle.gravitar_commands.specs.Endings.{ending_by, status_of_ending}
 use Rattle.gravitar_commands.specs.Outcome.{Comes, ComesOf, ComesOver, asm_files, asm_outcome, CommandComes, FitsRun, ForReading, Outcome, and_then, command_outcome, debug_files, debug_outcome, outside_text, finished, first_board, limit_of, memory_text, refused, read_as, run_files, run_outcome, script_file, script_read, show_outcome, soak_outcome, state_file, usage_text, wanted_by, note_text, workload_of}
 use Rattle.sliced_run.specs.Slices.{FitsCalls, StopsIn, Wanted, last_board, run_events}
 use Rattle.gravitar_commands.specs.Sources.{both_listings}
-use Rattle.gravitar_commands.specs.Stages.{status_of, note_of, HostEnds, HostFaults, HostQuiet, IsBadOrMemory, Keeps, Noted, Performs, Refuses, RunComes, StageAbsences, session_outcome}
+use Rattle.gravitar_commands.specs.Stages.{status_of, note_of, HostEnds, HostFaults, HostQuiet, IsBadOrMemory, Keeps, Noted, Performs, Refuses, RunEnds, StageAbsences, session_outcome}
 use Rattle.sliced_run.proofs.CutLaws.{fits-least}
 use Rattle.outside_io.proofs.EventLaws.{did-first-of, did-first-sending, did-nothing, did-sending, did-then, did-then-first}
 
@@ -116,8 +116,8 @@ usage-note told words notes0 notes1 faults0 faults1 none h =
 -- a refusal that is the outcome
 refusal : (outcome : Outcome) (failure : Failure) (status : ℕ) (before now : Seen) → status ≡ status_of failure
     → HostEnds outcome before now (Err failure) → status ≢ 6 → status ≢ 7 → outcome ≡ refused (status_of failure) (note_of failure)
-refusal outcome (Bad note) status before now is ends not6 not7 = ends
-refusal outcome (Absent note) status before now is ends not6 not7 = ends
+refusal outcome (Bad note) status before now is ends not6 not7 = ends.failed
+refusal outcome (Absent note) status before now is ends not6 not7 = ends.failed
 refusal outcome Outside status before now is ends not6 not7 = absurd (not6 is)
 refusal outcome NoMemory status before now is ends not6 not7 = absurd (not7 is)
 
@@ -151,7 +151,7 @@ pub done-outcome : (words : List (List ℕ)) (command : CommandValue) (ending : 
     → Comes words before.files (λ outcome. (status ≡ outcome.status) × HostDid outcome.events before now)
 done-outcome words command ending status before now some is performs =
     of-command (λ outcome. HostEnds outcome before now (Ok ending)) (λ outcome. (status ≡ outcome.status) × HostDid outcome.events before now)
-    words command before.files some (λ outcome ends. (is ∙ sym ends.0, ends.2)) performs
+    words command before.files some (λ outcome ends. (is ∙ sym ends.done.0, ends.done.2)) performs
 
 -- nothing was noted
 noted-nothing : (notes : Option (List ℕ)) (faults : ℕ) → Noted notes notes faults faults []
@@ -166,7 +166,7 @@ pub done-note : (words : List (List ℕ)) (command : CommandValue) (ending : End
     → Comes words before.files (λ outcome. Noted notes notes faults faults outcome.note)
 done-note words command ending before now notes faults some performs =
     of-command (λ outcome. HostEnds outcome before now (Ok ending)) (λ outcome. Noted notes notes faults faults outcome.note) words command
-    before.files some (λ outcome ends. subst (λ text. Noted notes notes faults faults text) (sym ends.1) (noted-nothing notes faults)) performs
+    before.files some (λ outcome ends. subst (λ text. Noted notes notes faults faults text) (sym ends.done.1) (noted-nothing notes faults)) performs
 
 -- a fault outside has let the first part of what is defined be done
 pub failure-stopped : (words : List (List ℕ)) (command : CommandValue) (failure : Failure) (status : ℕ) (before now : Seen)
@@ -176,7 +176,7 @@ failure-stopped words command (Bad note) status before now some is performs six 
 failure-stopped words command (Absent note) status before now some is performs six = absurd (omega arith)
 failure-stopped words command Outside status before now some is performs six =
     of-command (λ outcome. HostEnds outcome before now (Err Outside)) (λ outcome. HostDidFirst outcome.events before now)
-    words command before.files some (λ outcome ends. ends) performs
+    words command before.files some (λ outcome ends. ends.failed) performs
 failure-stopped words command NoMemory status before now some is performs six = absurd (omega arith)
 
 pub fault-note : (failure : Failure) (status : ℕ) (notes0 notes1 : Option (List ℕ)) (faults0 faults1 : ℕ) → status ≡ status_of failure
@@ -254,11 +254,12 @@ first-after events a b c nothing part = record {
 
 pub ends-after : (outcome : Outcome) (a b c : Seen) (result : Result Ending Failure) → HostDidNothing a b → HostEnds outcome b c result
     → HostEnds outcome a c result
-ends-after outcome a b c (Ok ending) nothing ends = (ends.0, ends.1, did-after outcome.events a b c nothing ends.2)
-ends-after outcome a b c (Err Outside) nothing ends = first-after outcome.events a b c nothing ends
-ends-after outcome a b c (Err NoMemory) nothing ends = tt
-ends-after outcome a b c (Err (Bad note)) nothing ends = ends
-ends-after outcome a b c (Err (Absent note)) nothing ends = ends
+ends-after outcome a b c (Ok ending) nothing ends =
+    record { done = (ends.done.0, ends.done.1, did-after outcome.events a b c nothing ends.done.2); failed = tt }
+ends-after outcome a b c (Err Outside) nothing ends = record { done = tt; failed = first-after outcome.events a b c nothing ends.failed }
+ends-after outcome a b c (Err NoMemory) nothing ends = record { done = tt; failed = tt }
+ends-after outcome a b c (Err (Bad note)) nothing ends = record { done = tt; failed = ends.failed }
+ends-after outcome a b c (Err (Absent note)) nothing ends = record { done = tt; failed = ends.failed }
 
 nothing-then : (a b c : Seen) → HostDidNothing a b → HostDidNothing b c → HostDidNothing a c
 nothing-then a b c first rest = (rest.0 ∙ first.0, rest.1 ∙ first.1)
@@ -305,20 +306,20 @@ keeps-after a b c result loaded keeps = record {
 -- a stage that stopped before anything was done
 pub failure-ends : {A : Type 0} (files : Result A Outcome) (outcome : A → Outcome) (failure : Failure) (before now : Seen) → HostDidNothing before now
     → Refuses files failure → HostEnds (finished files outcome) before now (Err failure)
-failure-ends files outcome (Bad note) before now nothing refuses = ap (λ r. finished r outcome) refuses
-failure-ends files outcome (Absent note) before now nothing refuses = ap (λ r. finished r outcome) refuses
-failure-ends files outcome Outside before now nothing refuses = did-nothing _ _ _ _ _ nothing.0 nothing.1
-failure-ends files outcome NoMemory before now nothing refuses = tt
+failure-ends files outcome (Bad note) before now nothing refuses = record { done = tt; failed = ap (λ r. finished r outcome) refuses }
+failure-ends files outcome (Absent note) before now nothing refuses = record { done = tt; failed = ap (λ r. finished r outcome) refuses }
+failure-ends files outcome Outside before now nothing refuses = record { done = tt; failed = did-nothing _ _ _ _ _ nothing.0 nothing.1 }
+failure-ends files outcome NoMemory before now nothing refuses = record { done = tt; failed = tt }
 
 -- a run that stopped at its files
 pub run-stopped : (run : RunValue) (failure : Failure) (before now : Seen) → HostDidNothing before now
     → IfSome before.files (λ files. ForReading run.settings.state files (λ reading. Refuses (run_files files run reading) failure))
     → Performs (run_of run) before now (Err failure)
+unfolding command_outcome
 run-stopped run failure before now nothing refuses = of before.files refuses
   where
     of : (told : Option Files) → IfSome told (λ files. ForReading run.settings.state files (λ reading. Refuses (run_files files run reading) failure))
         → ComesOver (run_of run) told (λ outcome. HostEnds outcome before now (Err failure))
-    unfolding command_outcome
     of None refuses = tt
     of (Some files) refuses = λ reading is.
         (let (calls, fits) = some-calls run.settings (run_files files run reading) in record {
@@ -328,16 +329,29 @@ run-stopped run failure before now nothing refuses = of before.files refuses
         })
 
 -- a run whose files were good
-pub run-comes : (told : Option Files) (run : RunValue) (said : SettingsValue) (parts : Parts) (holds : Outcome → Type 0) → said ≡ run.settings
-    → IfSome told (λ files. ForReading run.settings.state files (λ reading. run_files files run reading ≡ Ok parts)) → RunComes said parts holds
-    → ComesOver (run_of run) told holds
+pub run-comes : (run : RunValue) (said : SettingsValue) (parts : Parts) (before read now : Seen) (result : Result Ending Failure) → said ≡ run.settings
+    → HostDidNothing before read
+    → IfSome before.files (λ files. ForReading run.settings.state files (λ reading. run_files files run reading ≡ Ok parts))
+    → RunEnds said parts read now result → Performs (run_of run) before now result
 unfolding command_outcome
-run-comes None run said parts holds same good comes = tt
-run-comes (Some files) run said parts holds same good comes = λ reading is. record {
-  calls = comes.calls;
-  fits = rw (good reading is, sym same) comes.fits;
-  of_outcome = rw (good reading is, sym same) comes.of_outcome;
-}
+run-comes run said parts before read now result same nothing good comes = of before.files good
+  where
+    of : (told : Option Files) → IfSome told (λ files. ForReading run.settings.state files (λ reading. run_files files run reading ≡ Ok parts))
+        → ComesOver (run_of run) told (λ outcome. HostEnds outcome before now result)
+    of None good = tt
+    of (Some files) good = λ reading is. record {
+      calls = comes.calls;
+      fits = rw (good reading is, sym same) comes.fits;
+      of_outcome = rw (good reading is, sym same) (ends-after (run_outcome said parts comes.calls) before read now result nothing comes.ends);
+    }
+
+-- all of an outcome was done, or a first part of it
+pub done-ends : (outcome : Outcome) (before now : Seen) → outcome.status ≡ 0 → outcome.note ≡ [] → HostDid outcome.events before now
+    → HostEnds outcome before now (Ok Done)
+done-ends outcome before now status note did = record { done = (status, note, did); failed = tt }
+
+pub stopped-ends : (outcome : Outcome) (before now : Seen) → HostDidFirst outcome.events before now → HostEnds outcome before now (Err Outside)
+stopped-ends outcome before now part = record { done = tt; failed = part }
 
 -- sources that couldn't be had
 pub asm-stopped : (told : Option Files) (words : AsmValue) (failure : Failure) (before now : Seen) → HostDidNothing before now
@@ -361,35 +375,33 @@ asm-comes (Some files) words made holds good comes = λ reading is. record { cal
 -- what was done of good sources: both listings and the store, the listings alone, or a first part of them
 module _ (words : AsmValue) (made : Assembled) (before read now : Seen) (good : IfSome before.files (λ files. asm_files files words ≡ Ok made))
     (nothing : HostDidNothing before read) (text : List ℕ) (listed : text ≡ both_listings made) where
-  pub asm-unwritten : HostDidFirst (sending text) read now → Performs (asm_of words) before now (Err Outside)
+  pub asm-unwritten : {E : Type 0} (e : E) → HostWrites {T = Unit {0}} read now text (Err e) → Performs (asm_of words) before now (Err Outside)
   unfolding asm_outcome
-  asm-unwritten part =
+  asm-unwritten e writes =
       asm-comes before.files words made (λ outcome. HostEnds outcome before now (Err Outside)) good
-      (did-first-of (sending (both_listings made)) (storing (Some words.image) made.image) _ _ _ _
-      (first-after (sending (both_listings made)) before read now nothing (subst (λ (t : List ℕ). HostDidFirst (sending t) read now) listed part)))
+      (stopped-ends _ before now (did-first-of (sending (both_listings made)) (storing (Some words.image) made.image) _ _ _ _
+      (first-after (sending (both_listings made)) before read now nothing (subst (λ (t : List ℕ). HostDidFirst (sending t) read now) listed writes.part))))
 
-  module _ (did : HostDid (sending text) read now) (last : Seen) where
+  module _ {E : Type 0} (u : Unit {0}) (writes : HostWrites {E = E} read now text (Ok u)) (last : Seen) (name bytes : List ℕ) where
     wrote : HostDid (sending (both_listings made)) before now
-    wrote = did-after (sending (both_listings made)) before read now nothing (subst (λ (t : List ℕ). HostDid (sending t) read now) listed did)
+    wrote = did-after (sending (both_listings made)) before read now nothing (subst (λ (t : List ℕ). HostDid (sending t) read now) listed writes.did)
 
-    pub asm-unstored : HostDidNothing now last → Performs (asm_of words) before last (Err Outside)
+    pub asm-unstored : {F : Type 0} (f : F) → HostStores {T = Unit {0}} now last name bytes (Err f) → Performs (asm_of words) before last (Err Outside)
     unfolding asm_outcome
-    asm-unstored idle =
+    asm-unstored f stores =
         asm-comes before.files words made (λ outcome. HostEnds outcome before last (Err Outside)) good
-        (did-then-first (sending (both_listings made)) (storing (Some words.image) made.image) _ _ _ _ _ _ wrote
-        (did-nothing (storing (Some words.image) made.image) _ _ _ _ idle.0 idle.1))
+        (stopped-ends _ before last (did-then-first (sending (both_listings made)) (storing (Some words.image) made.image) _ _ _ _ _ _ wrote
+        (did-nothing (storing (Some words.image) made.image) _ _ _ _ stores.nothing.0 stores.nothing.1)))
 
-    pub asm-done : (name bytes : List ℕ) → name ≡ words.image → bytes ≡ made.image → HostDid (stored name bytes ∷ []) now last
+    pub asm-done : {F : Type 0} (v : Unit {0}) → name ≡ words.image → bytes ≡ made.image → HostStores {E = F} now last name bytes (Ok v)
         → Performs (asm_of words) before last (Ok Done)
     unfolding asm_outcome
-    asm-done name bytes named whole kept =
-        asm-comes before.files words made (λ outcome. HostEnds outcome before last (Ok Done)) good (
-          refl,
-          refl,
-          did-then (sending (both_listings made)) (storing (Some words.image) made.image) _ _ _ _ _ _ wrote
-              (subst (λ (n : List ℕ). HostDid (stored n made.image ∷ []) now last) named
-              (subst (λ (b : List ℕ). HostDid (stored name b ∷ []) now last) whole kept)),
-        )
+    asm-done v named whole stores =
+        asm-comes before.files words made (λ outcome. HostEnds outcome before last (Ok Done)) good
+        (done-ends _ before last refl refl
+        (did-then (sending (both_listings made)) (storing (Some words.image) made.image) _ _ _ _ _ _ wrote
+        (subst (λ (n : List ℕ). HostDid (stored n made.image ∷ []) now last) named
+        (subst (λ (b : List ℕ). HostDid (stored name b ∷ []) now last) whole stores.did))))
 
 -- a session whose files couldn't be had
 refused-first : {A B : Type 0} (given : Result A Outcome) (next : A → Result B Outcome) (failure : Failure) → Refuses given failure → Refuses (and_then given next) failure
@@ -455,6 +467,11 @@ debug-unread told again words run name parts failure before now same named kept 
     by_told None g r = tt
     by_told (Some files) g r = λ reading is. then_ files reading (g reading is) r
 
+-- the words as they lie in their type
+pub debug-same : (words inner : DebugValue) (before now : Seen) (result : Result Ending Failure) → inner ≡ words
+    → Performs (debug_of inner) before now result → Performs (debug_of words) before now result
+debug-same words inner before now result is performs = subst (λ (w : DebugValue). Performs (debug_of w) before now result) is performs
+
 finished-session : (wired : Bool) (parts : Parts) (read : Result (List Command) Outcome)
     → finished {A = Parts × List Command} (and_then read (λ commands. Ok (parts, commands))) (λ session. debug_outcome wired session.0 session.1)
     ≡ finished read (debug_outcome wired parts)
@@ -510,22 +527,30 @@ module _ (wired : Bool) (name bytes : List ℕ) (parts : Parts) (before now : Se
       → HostEnds (session_outcome wired name parts bytes) before now (Ok Done)
   unfolding debug_outcome
   session-done commands first made is took =
-      rw (script-good bytes commands short is) (refl, refl, did-sending _ _ _ _ _ (rw (← made) took) idle)
+      rw (script-good bytes commands short is) (done-ends _ before now refl refl (did-sending _ _ _ _ _ (rw (← made) took) idle))
 
   pub session-cut : (commands : List Command) (first : Board) → first ≡ first_board wired parts → script_of bytes ≡ Ok commands
       → (k : ℕ) × (now.taken ≡ grown before.taken (take k (session_text parts.tape no_stops commands first)))
       → HostEnds (session_outcome wired name parts bytes) before now (Err Outside)
   unfolding debug_outcome
   session-cut commands first made is cut =
-      rw (script-good bytes commands short is) (did-first-sending _ _ _ _ _ (rw (← made) cut) idle)
+      rw (script-good bytes commands short is) (stopped-ends _ before now (did-first-sending _ _ _ _ _ (rw (← made) cut) idle))
 
   pub session-bad : (number : ℕ) (failure : Failure) → script_of bytes ≡ Err number
       → IsBadOrMemory (note_text name (cause_text (Script (script.BadCommand number)))) failure
       → HostEnds (session_outcome wired name parts bytes) before now (Err failure)
-  session-bad number (Bad note) is noted = rw (script-bad bytes number short is) (ap (refused 4) (sym noted))
+  session-bad number (Bad note) is noted = rw (script-bad bytes number short is) (record { done = tt; failed = ap (refused 4) (sym noted) })
   session-bad number (Absent note) is noted = absurd noted
   session-bad number Outside is noted = absurd noted
-  session-bad number NoMemory is noted = tt
+  session-bad number NoMemory is noted = record { done = tt; failed = tt }
+
+-- a script with a line of no form
+pub bad-keeps : (text : List ℕ) (before now : Seen) (failure : Failure) → IsBadOrMemory text failure → SameLoans before now → HostDidNothing before now
+    → NoFault before now → before.absences ≤ now.absences → Keeps before now (Err failure)
+bad-keeps text before now (Bad note) is loans nothing none later = record { loans = loans; quiet = nothing; faults = none; absences = later }
+bad-keeps text before now (Absent note) is loans nothing none later = absurd is
+bad-keeps text before now Outside is loans nothing none later = absurd is
+bad-keeps text before now NoMemory is loans nothing none later = record { loans = loans; quiet = nothing; faults = none; absences = later }
 
 -- a state that couldn't be had
 pub show-stopped : (told : Option Files) (name : List ℕ) (failure : Failure) (before now : Seen) → HostDidNothing before now
@@ -561,11 +586,11 @@ module _ (seed : ℕ) (image : List ℕ) (tape : TapeValue) (end : ℕ) (start :
 
   pub soak-done : now.taken ≡ grown before.taken (run_text tape.entries end first) → HostEnds (soak_outcome seed) before now (Ok Done)
   unfolding soak_outcome
-  soak-done took = (refl, refl, did-sending _ _ _ _ _ (took ∙ ap (grown before.taken) same-text) idle)
+  soak-done took = done-ends _ before now refl refl (did-sending _ _ _ _ _ (took ∙ ap (grown before.taken) same-text) idle)
 
   pub soak-cut : (k : ℕ) × (now.taken ≡ grown before.taken (take k (run_text tape.entries end first))) → HostEnds (soak_outcome seed) before now (Err Outside)
   unfolding soak_outcome
-  soak-cut (k, cut) = did-first-sending _ _ _ _ _ (k, cut ∙ ap (λ text. grown before.taken (take k text)) same-text) idle
+  soak-cut (k, cut) = stopped-ends _ before now (did-first-sending _ _ _ _ _ (k, cut ∙ ap (λ text. grown before.taken (take k text)) same-text) idle)
 
 -- an engine that is made for the parts of a run, with what the settings ask of it
 pub record IsMadeFor (said : SettingsValue) (parts : Parts) (limit : ℕ) (wanted : Wanted) (cuts : List ℕ) (before : ℕ) (first : Board) : Type 0 where
@@ -589,36 +614,33 @@ made-for kept said parts end limit cuts unused before first same last is listed 
     })
 
 -- the run of an engine is that of its parts
-module _ (said : SettingsValue) (parts : Parts) (limit : ℕ) (wanted : Wanted) (cuts : List ℕ) (before : ℕ) (first : Board)
-    (made : IsMadeFor said parts limit wanted cuts before first) (seen0 seen1 : Seen) where
-  pub run-done : (calls : ℕ) (ending : Ending) (cpu : CpuValue) (now : Board) → HostDid (run_events parts.tape.entries limit wanted calls cuts first) seen0 seen1
-      → FitsCalls parts.tape.entries limit (length cuts) first before calls
-      → ending ≡ ending_by cpu.jam → cpu ≡ now.cpu → now ≡ cleared (last_board parts.tape.entries limit cuts first)
-      → RunComes said parts (λ outcome. HostEnds outcome seen0 seen1 (Ok ending))
+module _ (said : SettingsValue) (parts : Parts) (limit : ℕ) (wanted : Wanted) (cuts : List ℕ) (calls0 : ℕ) (first : Board)
+    (made : IsMadeFor said parts limit wanted cuts calls0 first) (before now : Seen) where
+  pub run-done : (calls : ℕ) (ending : Ending) (cpu : CpuValue) (last : Board) → HostDid (run_events parts.tape.entries limit wanted calls cuts first) before now
+      → FitsCalls parts.tape.entries limit (length cuts) first calls0 calls
+      → ending ≡ ending_by cpu.jam → cpu ≡ last.cpu → last ≡ cleared (last_board parts.tape.entries limit cuts first)
+      → RunEnds said parts before now (Ok ending)
   unfolding run_outcome
-  run-done calls ending cpu now did fits by here there =
+  run-done calls ending cpu last did fits by here there =
       let is = by ∙ ap (λ (c : CpuValue). ending_by c.jam) here ∙ ap (λ (b : Board). ending_by b.cpu.jam) there in
       record {
         calls = calls;
         fits = rw (sym made.same_limit, sym made.same_cuts, sym made.same_first, sym made.five) fits;
-        of_outcome =
-            rw (sym made.same_limit, sym made.same_cuts, sym made.same_first, sym made.same_wanted) (
-              sym (ap status_of_ending is),
-              refl,
-              did,
-            );
+        ends =
+            rw (sym made.same_limit, sym made.same_cuts, sym made.same_first, sym made.same_wanted)
+            (record { done = (sym (ap status_of_ending is), refl, did); failed = tt });
       }
 
-  pub run-cut : StopsIn parts.tape.entries limit wanted before cuts first seen0.taken seen1.taken seen0.stores seen1.stores
-      → RunComes said parts (λ outcome. HostEnds outcome seen0 seen1 (Err Outside))
+  pub run-cut : StopsIn parts.tape.entries limit wanted calls0 cuts first before.taken now.taken before.stores now.stores
+      → RunEnds said parts before now (Err Outside)
   unfolding run_outcome
   run-cut stopped = record {
     calls = stopped.calls;
     fits = rw (sym made.same_limit, sym made.same_cuts, sym made.same_first, sym made.five) stopped.fits;
-    of_outcome = rw (sym made.same_limit, sym made.same_cuts, sym made.same_first, sym made.same_wanted) stopped.did;
+    ends = rw (sym made.same_limit, sym made.same_cuts, sym made.same_first, sym made.same_wanted) (record { done = tt; failed = stopped.did });
   }
 
 -- a run that has no memory
-pub run-unbegun : (said : SettingsValue) (parts : Parts) → RunComes said parts (λ outcome. Unit {0})
-run-unbegun said parts =
-    let some = some-calls said (Ok parts) in record { calls = some.0; fits = some.1; of_outcome = tt }
+pub run-unbegun : (said : SettingsValue) (parts : Parts) (before now : Seen) → RunEnds said parts before now (Err NoMemory)
+run-unbegun said parts before now =
+    let some = some-calls said (Ok parts) in record { calls = some.0; fits = some.1; ends = record { done = tt; failed = tt } }

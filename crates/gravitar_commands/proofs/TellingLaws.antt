@@ -46,9 +46,10 @@ written-faults before now (Err _) cause = cause
 module _ (before now : Seen) (idle : now.stores ≡ before.stores) where
   pub told-ends : (wired : Bool) (limit : ℕ) (text : List TapeEntry → ℕ → Board → List ℕ) (parts : Parts) (result : Result Ending Failure)
       → Told before.taken now.taken (text parts.tape.entries limit (first_board wired parts)) result → HostEnds (told_outcome wired limit text parts) before now result
-  told-ends wired limit text parts (Ok ending) told = (ap status_of_ending (sym told.0), refl, did-sending _ _ _ _ _ told.1 idle)
-  told-ends wired limit text parts (Err Outside) told = did-first-sending _ _ _ _ _ told idle
-  told-ends wired limit text parts (Err NoMemory) told = tt
+  told-ends wired limit text parts (Ok ending) told =
+      record { done = (ap status_of_ending (sym told.0), refl, did-sending _ _ _ _ _ told.1 idle); failed = tt }
+  told-ends wired limit text parts (Err Outside) told = record { done = tt; failed = did-first-sending _ _ _ _ _ told idle }
+  told-ends wired limit text parts (Err NoMemory) told = record { done = tt; failed = tt }
   told-ends wired limit text parts (Err (Bad note)) told = absurd told
   told-ends wired limit text parts (Err (Absent note)) told = absurd told
 

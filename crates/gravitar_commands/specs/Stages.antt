@@ -1,5 +1,5 @@
 -- What the stages of a command promise.
-use Rattle.std.specs.Prelude.{◌≡◌, ℕ, ◌≤◌, Bool, List, [], Option, Some, Result, Ok, Err, IfSome, take, string_bytes}
+use Rattle.std.specs.Prelude.{◌≡◌, ℕ, ◌≤◌, Bool, List, [], Option, Some, Result, Ok, Err, IfSome, IfOk, IfErr, take, string_bytes}
 use Rattle.outside_io.specs.Causes.{Rose, Raised}
 use Rattle.outside_io.specs.Known.{grown}
 use Rattle.outside_io.specs.declared.answers.SinkFault.{SinkFault}
@@ -68,13 +68,16 @@ abbrev pub StageAbsences : {A : Type 0} → ℕ → ℕ → Result A Failure →
 StageAbsences before now (Ok _) = before ≤ now
 StageAbsences before now (Err failure) = FailureAbsences before now failure
 
--- all that is defined was done, or a first part of it before an outside fault
-abbrev pub HostEnds : Outcome → Seen → Seen → Result Ending Failure → Type 0
-HostEnds outcome before now (Ok ending) =
-    (outcome.status ≡ status_of_ending ending) × (outcome.note ≡ []) × HostDid outcome.events before now
-HostEnds outcome before now (Err Outside) = HostDidFirst outcome.events before now
-HostEnds outcome before now (Err NoMemory) = Unit {0}
-HostEnds outcome before now (Err failure) = outcome ≡ refused (status_of failure) (note_of failure)
+-- what comes of an outcome by a failure: a first part of it was done before an outside fault
+abbrev pub FailureEnds : Outcome → Seen → Seen → Failure → Type 0
+FailureEnds outcome before now Outside = HostDidFirst outcome.events before now
+FailureEnds outcome before now NoMemory = Unit {0}
+FailureEnds outcome before now failure = outcome ≡ refused (status_of failure) (note_of failure)
+
+-- all that is defined was done, or it failed
+pub record HostEnds (outcome : Outcome) (before now : Seen) (result : Result Ending Failure) : Type 0 where
+  pub done : IfOk result (λ ending. (outcome.status ≡ status_of_ending ending) × (outcome.note ≡ []) × HostDid outcome.events before now)
+  pub failed : IfErr result (λ failure. FailureEnds outcome before now failure)
 
 -- the same of a command, whose outcome its words and files fix
 abbrev pub Performs : CommandValue → Seen → Seen → Result Ending Failure → Type 0
@@ -132,8 +135,8 @@ IsBadOrMemory text (Bad note) = string_bytes note ≡ text
 IsBadOrMemory text NoMemory = Unit {0}
 IsBadOrMemory text _ = ⊥
 
--- this holds of the outcome of a run of these parts, with some number of device calls that fits
-pub record RunComes (said : SettingsValue) (parts : Parts) (holds : Outcome → Type 0) : Type 0 where
+-- what comes of a run of these parts, with some number of device calls that fits
+pub record RunEnds (said : SettingsValue) (parts : Parts) (before now : Seen) (result : Result Ending Failure) : Type 0 where
   pub calls : ℕ
   pub fits : FitsRun said parts calls
-  pub of_outcome : holds (run_outcome said parts calls)
+  pub ends : HostEnds (run_outcome said parts calls) before now result

@@ -3,7 +3,6 @@ ghost use Rattle.gravitar_commands.specs.declared.failure.Failure.TheVariants.{N
 
 use board_base::OutOfMemory;
 use outside_io::{Failed, SinkFault};
-use sliced_run::OutsideFault;
 
 /// Why a command stopped before its end, with its note where that names a file.
 #[derive(Debug, Drop)]
@@ -38,14 +37,6 @@ impl From<Failed> for Failure {
     ghost from_gives = { λ _ failure. failure ≡ Outside };
 
     fn from(_failed: Failed) -> Failure {
-        Failure::Outside
-    }
-}
-
-impl From<OutsideFault> for Failure {
-    ghost from_gives = { λ _ failure. failure ≡ Outside };
-
-    fn from(_fault: OutsideFault) -> Failure {
         Failure::Outside
     }
 }

@@ -8,7 +8,7 @@ ghost use Rattle.outside_io.specs.Events.{Did, DidFirst};
 ghost use Rattle.outside_io.specs.Hosts.{seen};
 ghost use Rattle.gravitar_commands.specs.Endings.{ending_by};
 ghost use Rattle.gravitar_commands.specs.Outcome.{Comes, IsRun, usage_text, outside_text, memory_text};
-ghost use Rattle.gravitar_commands.specs.Stages.{HostEnds, Keeps, Noted, Performs, RunComes};
+ghost use Rattle.gravitar_commands.specs.Stages.{Keeps, Noted, Performs, RunEnds};
 
 use crate::answer::{ending_status, note, status};
 use crate::assembling::perform_asm;
@@ -51,7 +51,7 @@ fn run_parts<S: Shelf, O: Sink>(
     host: &mut Host<'_, S, O>,
 ) -> Result<Ending, Failure>
     requires place { IsProcessor parts.now.board.cpu }
-    ensures outcome { RunComes settings.now parts.now (λ outcome. HostEnds outcome (seen host.old) (seen host.new) result) }
+    ensures outcome { RunEnds settings.now parts.now (seen host.old) (seen host.new) result }
     ensures keeps { Keeps (seen host.old) (seen host.new) result }
 {
     let limit = run_limit(settings.until, parts.tape.end());
@@ -62,7 +62,7 @@ fn run_parts<S: Shelf, O: Sink>(
         Devices::fast(),
         settings.timers,
     )?;
-    run_slices(
+    match run_slices(
         &mut engine,
         &parts.tape,
         settings.cuts.as_slice(),
@@ -72,8 +72,10 @@ fn run_parts<S: Shelf, O: Sink>(
         settings.cost,
         host.shelf,
         host.out,
-    )?;
-    Ok(ending(engine.cpu()))
+    ) {
+        Ok(()) => Ok(ending(engine.cpu())),
+        Err(_) => Err(Failure::Outside),
+    }
 }
 
 /// Runs an image with a tape.

@@ -25,6 +25,8 @@ pub fn perform_soak<S: Shelf, O: Sink>(
     let (image, tape) = make(alloc, seed)?;
     let board = BoardState::power_on();
     let mut engine = Engine::new(alloc, &image, &board, Devices::fast(), false)?;
-    run_soak(&mut engine, &tape, tape.end(), host.out)?;
-    Ok(Ending::Done)
+    match run_soak(&mut engine, &tape, tape.end(), host.out) {
+        Ok(()) => Ok(Ending::Done),
+        Err(_) => Err(Failure::Outside),
+    }
 }

@@ -1,4 +1,4 @@
-use Rattle.std.proofs.Common.{ap, refl, subst}
+use Rattle.std.proofs.Common.{ap, refl, rules, subst}
 use Rattle.std.specs.Prelude.{Ok}
 use Rattle.gravitar_commands.specs.Outcome.{IsRun}
 use Rattle.command_line.specs.CommandWords.{command_value}
@@ -33,15 +33,17 @@ returns-in-Err-clause-memory_note g c = λ seven.
     (noted _ _ _ _ _ c.write-in-Err.result (rw c.note.ensures at c.write-in-Err.ensures.taken) c.write-in-Err.ensures.cause) seven
 
 pub returns-in-Err-clause-outcome : goal.returns-in-Err-clause-outcome
-returns-in-Err-clause-outcome g c =
-    failure-outcome (g.S.Shelf.files c.args.shelf.now) c.args.words.now (command_value c.in-Some.command) c.in-Err.failure c.status.result _ _ _ _
-    c.in-Some.ensures.command c.status.ensures c.in-Err.ensures.outcome c.in-Err.ensures.quiet
+returns-in-Err-clause-outcome g c = λ not6 not7.
+    let done = failure-outcome c.args.words.now (command_value c.in-Some.command) c.in-Err.failure c.status.result _ _
+    c.in-Some.ensures.command c.status.ensures c.in-Err.ensures.outcome c.in-Err.ensures.keeps.quiet not6 not7 in
+    search rules
 
 pub returns-in-Err-clause-note : goal.returns-in-Err-clause-note
-returns-in-Err-clause-note g c =
-    failure-note (g.S.Shelf.files c.args.shelf.now) c.args.words.now (command_value c.in-Some.command) c.in-Err.failure c.status.result _ _ _ _
+returns-in-Err-clause-note g c = λ not6 not7.
+    let done = failure-note c.args.words.now (command_value c.in-Some.command) c.in-Err.failure c.status.result _ _
     c.in-Some.ensures.command c.status.ensures c.in-Err.ensures.outcome _ _ _ _
-    (noted _ _ _ _ _ c.write-in-Err.result (rw c.note.ensures at c.write-in-Err.ensures.taken) c.write-in-Err.ensures.cause)
+    (noted _ _ _ _ _ c.write-in-Err.result (rw c.note.ensures at c.write-in-Err.ensures.taken) c.write-in-Err.ensures.cause) not6 not7 in
+    search rules
 
 pub returns-in-Ok-clause-statuses : goal.returns-in-Ok-clause-statuses
 returns-in-Ok-clause-statuses g c = ending-contained _ c.ending_status.result c.ending_status.ensures
@@ -56,15 +58,18 @@ returns-in-Ok-clause-jam g c = λ three.
 
 pub returns-in-Ok-clause-outcome : goal.returns-in-Ok-clause-outcome
 returns-in-Ok-clause-outcome g c = λ not6 not7.
-    done-outcome (g.S.Shelf.files c.args.shelf.now) c.args.words.now (command_value c.in-Some.command) c.in-Ok.ending c.ending_status.result _ _ _ _
-    c.in-Some.ensures.command c.ending_status.ensures c.in-Ok.ensures.outcome
+    let done = done-outcome c.args.words.now (command_value c.in-Some.command) c.in-Ok.ending c.ending_status.result _ _
+    c.in-Some.ensures.command c.ending_status.ensures c.in-Ok.ensures.outcome in
+    search rules
 
 pub returns-in-Ok-clause-note : goal.returns-in-Ok-clause-note
 returns-in-Ok-clause-note g c = λ not6 not7.
-    done-note (g.S.Shelf.files c.args.shelf.now) c.args.words.now (command_value c.in-Some.command) c.in-Ok.ending _ _ _ _ _ _
-    c.in-Some.ensures.command c.in-Ok.ensures.outcome
+    let done = done-note c.args.words.now (command_value c.in-Some.command) c.in-Ok.ending _ _ _ _
+    c.in-Some.ensures.command c.in-Ok.ensures.outcome in
+    search rules
 
 pub returns-in-Err-clause-stopped : goal.returns-in-Err-clause-stopped
 returns-in-Err-clause-stopped g c = λ six.
-    failure-stopped (g.S.Shelf.files c.args.shelf.now) c.args.words.now (command_value c.in-Some.command) c.in-Err.failure c.status.result _ _ _ _
-    c.in-Some.ensures.command c.status.ensures c.in-Err.ensures.outcome six
+    let part = failure-stopped c.args.words.now (command_value c.in-Some.command) c.in-Err.failure c.status.result _ _
+    c.in-Some.ensures.command c.status.ensures c.in-Err.ensures.outcome six in
+    search rules
