@@ -34,10 +34,10 @@ use Rattle.gravitar_commands.specs.declared.failure.Ending.{Ending}
 use Rattle.gravitar_commands.specs.declared.failure.Ending.TheVariants.{Done, Jammed}
 use Rattle.gravitar_commands.specs.declared.failure.Failure.{Failure}
 use Rattle.gravitar_commands.specs.declared.failure.Failure.TheVariants.{Bad, Absent, Outside, NoMemory}
-use Rattle.outside_io.specs.Events.{Did, Event, sending, stored, storing, text_of, stores_of}
+use Rattle.outside_io.specs.Events.{Did, DidFirst, Event, sending, stored, storing, text_of, stores_of}
 use Rattle.outside_io.specs.Seen.{Seen, SameLoans, HostDid, HostDidFirst, HostDidNothing, HostStores, HostWrites, NoFault}
 use Rattle.gravitar_commands.specs.Endings.{ending_by, status_of_ending}
-use Rattle.gravitar_commands.specs.Outcome.{Comes, ComesOf, ComesOver, asm_files, asm_outcome, CommandComes, FitsRun, ForReading, Outcome, and_then, command_outcome, debug_files, debug_outcome, outside_text, finished, first_board, limit_of, memory_text, refused, read_as, run_files, run_outcome, script_file, script_read, show_outcome, soak_outcome, state_file, usage_text, wanted_by, note_text, workload_of}
+use Rattle.gravitar_commands.specs.Outcome.{Comes, ComesOf, ComesOver, asm_files, asm_outcome, FitsRun, ForReading, Outcome, and_then, command_outcome, debug_files, debug_outcome, outside_text, finished, first_board, limit_of, memory_text, refused, read_as, run_files, run_outcome, script_file, script_read, show_outcome, soak_outcome, state_file, usage_text, wanted_by, note_text, workload_of}
 use Rattle.sliced_run.specs.Slices.{FitsCalls, StopsIn, Wanted, last_board, run_events}
 use Rattle.gravitar_commands.specs.Sources.{both_listings}
 use Rattle.gravitar_commands.specs.Stages.{status_of, note_of, HostEnds, HostFaults, HostQuiet, IsBadOrMemory, Keeps, Noted, Performs, Refuses, RunEnds, StageAbsences, session_outcome}
@@ -178,6 +178,22 @@ failure-stopped words command Outside status before now some is performs six =
     of-command (λ outcome. HostEnds outcome before now (Err Outside)) (λ outcome. HostDidFirst outcome.events before now)
     words command before.files some (λ outcome ends. ends.failed) performs
 failure-stopped words command NoMemory status before now some is performs six = absurd (omega arith)
+
+-- what a host did is what was done to the shelf and the output that it lends
+module _ (words : List (List ℕ)) (before first : Seen) (is : before ≡ first) where
+  pub note-lent : (holds : Outcome → Type 0) → Comes words before.files holds → Comes words first.files holds
+  note-lent holds comes = subst (λ (s : Seen). Comes words s.files holds) is comes
+
+  module _ (now : Seen) (out1 : Option (List ℕ)) (stores1 : Option (List Kept)) (took : out1 ≡ now.taken) (kept : stores1 ≡ now.stores) where
+    pub outcome-lent : (status : ℕ) → Comes words before.files (λ outcome. (status ≡ outcome.status) × HostDid outcome.events before now)
+        → Comes words first.files (λ outcome. (status ≡ outcome.status) × Did outcome.events first.taken out1 first.stores stores1)
+    outcome-lent status comes =
+        rw (took, kept)
+        (subst (λ (s : Seen). Comes words s.files (λ outcome. (status ≡ outcome.status) × HostDid outcome.events s now)) is comes)
+
+    pub stopped-lent : Comes words before.files (λ outcome. HostDidFirst outcome.events before now)
+        → Comes words first.files (λ outcome. DidFirst outcome.events first.taken out1 first.stores stores1)
+    stopped-lent comes = rw (took, kept) (subst (λ (s : Seen). Comes words s.files (λ outcome. HostDidFirst outcome.events s now)) is comes)
 
 pub fault-note : (failure : Failure) (status : ℕ) (notes0 notes1 : Option (List ℕ)) (faults0 faults1 : ℕ) → status ≡ status_of failure
     → Noted notes0 notes1 faults0 faults1 (note_of failure) → status ≡ 6 → Noted notes0 notes1 faults0 faults1 outside_text

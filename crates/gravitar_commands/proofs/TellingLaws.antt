@@ -9,7 +9,6 @@ use Rattle.command_line.specs.CommandValue.{PcmValue, RunValue, SeekValue, frame
 use Rattle.command_line.specs.SettingsValue.{SettingsValue}
 use Rattle.outside_io.specs.declared.answers.SinkFault.{SinkFault}
 use Rattle.outside_io.specs.Causes.{HasCause}
-use Rattle.outside_io.specs.Known.{grown}
 use Rattle.outside_io.specs.Seen.{Seen, SameLoans, HostDidNothing}
 use Rattle.outside_io.specs.Shelf.{Files}
 use Rattle.outside_io.specs.Sink.{Takes}

@@ -1,8 +1,9 @@
 use Rattle.std.proofs.Common.{ap, refl, rules, subst}
 use Rattle.std.specs.Prelude.{Ok}
+use Rattle.outside_io.specs.Hosts.{seen}
 use Rattle.gravitar_commands.specs.Outcome.{IsRun}
 use Rattle.command_line.specs.CommandWords.{command_value}
-use Rattle.gravitar_commands.proofs.StageLaws.{done-note, done-outcome, ending-contained, failure-stopped, fault-note, jam-ending, jam-failure, memory-note, noted, failure-note, failure-outcome, failure-status, usage-note, usage-outcome, usage-status}
+use Rattle.gravitar_commands.proofs.StageLaws.{done-note, done-outcome, ending-contained, failure-stopped, fault-note, jam-ending, jam-failure, memory-note, noted, failure-note, failure-outcome, failure-status, note-lent, outcome-lent, stopped-lent, usage-note, usage-outcome, usage-status}
 use Rattle.gravitar_commands.proofs.program.gravitar.Goals as goal
 
 pub returns-in_default-clause-outcome : goal.returns-in_default-clause-outcome
@@ -34,16 +35,16 @@ returns-in-Err-clause-memory_note g c = λ seven.
 
 pub returns-in-Err-clause-outcome : goal.returns-in-Err-clause-outcome
 returns-in-Err-clause-outcome g c = λ not6 not7.
-    let done = failure-outcome c.args.words.now (command_value c.in-Some.command) c.in-Err.failure c.status.result _ _
-    c.in-Some.ensures.command c.status.ensures c.in-Err.ensures.outcome c.in-Err.ensures.keeps.quiet not6 not7 in
-    search rules
+    outcome-lent c.args.words.now _ _ c.of.ensures (seen c.perform.new.host) _ _ (search rules) (search rules) c.status.result
+    (failure-outcome c.args.words.now (command_value c.in-Some.command) c.in-Err.failure c.status.result _ _
+    c.in-Some.ensures.command c.status.ensures c.in-Err.ensures.outcome c.in-Err.ensures.keeps.quiet not6 not7)
 
 pub returns-in-Err-clause-note : goal.returns-in-Err-clause-note
 returns-in-Err-clause-note g c = λ not6 not7.
-    let done = failure-note c.args.words.now (command_value c.in-Some.command) c.in-Err.failure c.status.result _ _
+    note-lent c.args.words.now _ _ c.of.ensures _
+    (failure-note c.args.words.now (command_value c.in-Some.command) c.in-Err.failure c.status.result _ _
     c.in-Some.ensures.command c.status.ensures c.in-Err.ensures.outcome _ _ _ _
-    (noted _ _ _ _ _ c.write-in-Err.result (rw c.note.ensures at c.write-in-Err.ensures.taken) c.write-in-Err.ensures.cause) not6 not7 in
-    search rules
+    (noted _ _ _ _ _ c.write-in-Err.result (rw c.note.ensures at c.write-in-Err.ensures.taken) c.write-in-Err.ensures.cause) not6 not7)
 
 pub returns-in-Ok-clause-statuses : goal.returns-in-Ok-clause-statuses
 returns-in-Ok-clause-statuses g c = ending-contained _ c.ending_status.result c.ending_status.ensures
@@ -58,18 +59,17 @@ returns-in-Ok-clause-jam g c = λ three.
 
 pub returns-in-Ok-clause-outcome : goal.returns-in-Ok-clause-outcome
 returns-in-Ok-clause-outcome g c = λ not6 not7.
-    let done = done-outcome c.args.words.now (command_value c.in-Some.command) c.in-Ok.ending c.ending_status.result _ _
-    c.in-Some.ensures.command c.ending_status.ensures c.in-Ok.ensures.outcome in
-    search rules
+    outcome-lent c.args.words.now _ _ c.of.ensures (seen c.perform.new.host) _ _ (search rules) (search rules) c.ending_status.result
+    (done-outcome c.args.words.now (command_value c.in-Some.command) c.in-Ok.ending c.ending_status.result _ _
+    c.in-Some.ensures.command c.ending_status.ensures c.in-Ok.ensures.outcome)
 
 pub returns-in-Ok-clause-note : goal.returns-in-Ok-clause-note
 returns-in-Ok-clause-note g c = λ not6 not7.
-    let done = done-note c.args.words.now (command_value c.in-Some.command) c.in-Ok.ending _ _ _ _
-    c.in-Some.ensures.command c.in-Ok.ensures.outcome in
-    search rules
+    note-lent c.args.words.now _ _ c.of.ensures _
+    (done-note c.args.words.now (command_value c.in-Some.command) c.in-Ok.ending _ _ _ _ c.in-Some.ensures.command c.in-Ok.ensures.outcome)
 
 pub returns-in-Err-clause-stopped : goal.returns-in-Err-clause-stopped
 returns-in-Err-clause-stopped g c = λ six.
-    let part = failure-stopped c.args.words.now (command_value c.in-Some.command) c.in-Err.failure c.status.result _ _
-    c.in-Some.ensures.command c.status.ensures c.in-Err.ensures.outcome six in
-    search rules
+    stopped-lent c.args.words.now _ _ c.of.ensures (seen c.perform.new.host) _ _ (search rules) (search rules)
+    (failure-stopped c.args.words.now (command_value c.in-Some.command) c.in-Err.failure c.status.result _ _
+    c.in-Some.ensures.command c.status.ensures c.in-Err.ensures.outcome six)
