@@ -1,5 +1,5 @@
 -- Laws of the answers of a command.
-use Rattle.std.proofs.Common.{◌≡◌, ◌≢◌, ℕ, ◌*◌, ◌≤◌, Bool, false, nat_lt, List, [], ◌∷◌, length, take, Option, Some, None, Result, Ok, Err, IfSome, IfOk, Contains, refl, sym, ap, ◌∙◌, subst, arith}
+use Rattle.std.proofs.Common.{◌≡◌, ◌≢◌, ℕ, ◌*◌, ◌≤◌, Bool, false, nat_lt, List, [], ◌∷◌, length, take, Option, Some, None, Result, Ok, Err, IfSome, IfOk, Contains, ◌⊎◌, inl, inr, refl, sym, ap, ◌∙◌, subst, arith}
 use Rattle.std.proofs.Math.Seq.{take-length}
 use Rattle.board_base.specs.Board.{BoardValue, board_at_power_on}
 use Rattle.board_base.specs.Cpu.{CpuValue}
@@ -7,7 +7,7 @@ use Rattle.save_state.specs.declared.fault.StateFault.{StateFault}
 use Rattle.command_line.specs.CommandLine.{command_of}
 use Rattle.command_line.specs.CommandValue.{AsmValue, CommandValue, DebugValue, RunValue, asm_of, debug_of, frames_of, pcm_of, profile_of, run_of, seek_of, show_of, soak_of}
 use Rattle.command_line.specs.SettingsValue.{SettingsValue}
-use Rattle.outside_io.specs.Causes.{HasCause}
+use Rattle.outside_io.specs.Causes.{HasCause, Rose}
 use Rattle.outside_io.specs.Known.{grown}
 use Rattle.outside_io.specs.Shelf.{Files, Kept}
 use Rattle.outside_io.specs.Sink.{Takes}
@@ -34,14 +34,15 @@ use Rattle.gravitar_commands.specs.declared.failure.Ending.{Ending}
 use Rattle.gravitar_commands.specs.declared.failure.Ending.TheVariants.{Done, Jammed}
 use Rattle.gravitar_commands.specs.declared.failure.Failure.{Failure}
 use Rattle.gravitar_commands.specs.declared.failure.Failure.TheVariants.{Bad, Absent, Outside, NoMemory}
-use Rattle.sliced_run.specs.Events.{Did, DidFirst, sending, text_of, stores_of}
+use Rattle.outside_io.specs.Events.{Did, DidFirst, Event, sending, stored, storing, text_of, stores_of}
+use Rattle.outside_io.specs.Seen.{Seen, SameLoans, HostDid, HostDidFirst, HostDidNothing, HostStores, HostWrites, NoFault}
 use Rattle.gravitar_commands.specs.Endings.{ending_by, status_of_ending}
-use Rattle.gravitar_commands.specs.Outcome.{Comes, ComesOf, ComesOver, asm_files, asm_outcome, CommandComes, FitsRun, ForReading, Outcome, and_then, command_outcome, debug_files, debug_outcome, outside_text, finished, first_board, limit_of, memory_text, refused, read_as, run_files, run_outcome, script_file, script_read, show_outcome, soak_outcome, state_file, usage_text, wanted_by, note_text, workload_of}
-use Rattle.sliced_run.specs.Slices.{FitsCalls, StopsIn, Wanted, last_board, run_events, storing}
+use Rattle.gravitar_commands.specs.Outcome.{Comes, ComesOf, ComesOver, asm_files, asm_outcome, FitsRun, ForReading, Outcome, and_then, command_outcome, debug_files, debug_outcome, outside_text, finished, first_board, limit_of, memory_text, refused, read_as, run_files, run_outcome, script_file, script_read, show_outcome, soak_outcome, state_file, usage_text, wanted_by, note_text, workload_of}
+use Rattle.sliced_run.specs.Slices.{FitsCalls, StopsIn, Wanted, last_board, run_events}
 use Rattle.gravitar_commands.specs.Sources.{both_listings}
-use Rattle.gravitar_commands.specs.Stages.{status_of, note_of, Ends, IsBadOrMemory, Noted, Refuses, RunComes, StageAbsences, FailureEnds, FailureWroteNothing, session_outcome}
+use Rattle.gravitar_commands.specs.Stages.{status_of, note_of, HostEnds, HostFaults, HostQuiet, IsBadOrMemory, Keeps, Noted, Performs, Refuses, RunEnds, StageAbsences, session_outcome}
 use Rattle.sliced_run.proofs.CutLaws.{fits-least}
-use Rattle.sliced_run.proofs.EventLaws.{did-first-of, did-first-sending, did-nothing, did-sending, did-storing, did-then, did-then-first}
+use Rattle.outside_io.proofs.EventLaws.{did-first-of, did-first-sending, did-nothing, did-sending, did-then, did-then-first}
 
 -- one write of a note
 pub noted : {T E : Type 0} (notes0 notes1 : Option (List ℕ)) (faults0 faults1 : ℕ) (text : List ℕ) (result : Result T E)
@@ -113,49 +114,44 @@ usage-note told words notes0 notes1 faults0 faults1 none h =
     of-usage (λ outcome. Noted notes0 notes1 faults0 faults1 outcome.note) words told none h
 
 -- a refusal that is the outcome
-refusal : (outcome : Outcome) (failure : Failure) (status : ℕ) (out0 out1 : Option (List ℕ)) (stores0 stores1 : Option (List Kept))
-    → status ≡ status_of failure → FailureEnds outcome out0 out1 stores0 stores1 failure → status ≢ 6 → status ≢ 7
-    → outcome ≡ refused (status_of failure) (note_of failure)
-refusal outcome (Bad note) status out0 out1 stores0 stores1 is ends not6 not7 = ends
-refusal outcome (Absent note) status out0 out1 stores0 stores1 is ends not6 not7 = ends
-refusal outcome Outside status out0 out1 stores0 stores1 is ends not6 not7 = absurd (not6 is)
-refusal outcome NoMemory status out0 out1 stores0 stores1 is ends not6 not7 = absurd (not7 is)
+refusal : (outcome : Outcome) (failure : Failure) (status : ℕ) (before now : Seen) → status ≡ status_of failure
+    → HostEnds outcome before now (Err failure) → status ≢ 6 → status ≢ 7 → outcome ≡ refused (status_of failure) (note_of failure)
+refusal outcome (Bad note) status before now is ends not6 not7 = ends.failed
+refusal outcome (Absent note) status before now is ends not6 not7 = ends.failed
+refusal outcome Outside status before now is ends not6 not7 = absurd (not6 is)
+refusal outcome NoMemory status before now is ends not6 not7 = absurd (not7 is)
 
-quiet-of : (failure : Failure) (status : ℕ) (out0 out1 : Option (List ℕ)) (stores0 stores1 : Option (List Kept)) → status ≡ status_of failure
-    → FailureWroteNothing out0 out1 stores0 stores1 failure → status ≢ 6 → (out1 ≡ out0) × (stores1 ≡ stores0)
-quiet-of (Bad note) status out0 out1 stores0 stores1 is quiet not6 = quiet
-quiet-of (Absent note) status out0 out1 stores0 stores1 is quiet not6 = quiet
-quiet-of Outside status out0 out1 stores0 stores1 is quiet not6 = absurd (not6 is)
-quiet-of NoMemory status out0 out1 stores0 stores1 is quiet not6 = quiet
+quiet-of : (failure : Failure) (status : ℕ) (before now : Seen) → status ≡ status_of failure → HostQuiet {A = Ending} before now (Err failure)
+    → status ≢ 6 → HostDidNothing before now
+quiet-of (Bad note) status before now is quiet not6 = quiet
+quiet-of (Absent note) status before now is quiet not6 = quiet
+quiet-of Outside status before now is quiet not6 = absurd (not6 is)
+quiet-of NoMemory status before now is quiet not6 = quiet
 
-module _ (told : Option Files) (words : List (List ℕ)) (command : CommandValue) (failure : Failure) (status : ℕ) (out0 out1 : Option (List ℕ))
-    (stores0 stores1 : Option (List Kept)) (some : Some command ≡ command_of words) (is : status ≡ status_of failure)
-    (comes : ComesOf (Some command) told (λ outcome. FailureEnds outcome out0 out1 stores0 stores1 failure)) where
-  pub failure-outcome : FailureWroteNothing out0 out1 stores0 stores1 failure → status ≢ 6 → status ≢ 7
-      → Comes words told (λ outcome. (status ≡ outcome.status) × Did outcome.events out0 out1 stores0 stores1)
+module _ (words : List (List ℕ)) (command : CommandValue) (failure : Failure) (status : ℕ) (before now : Seen)
+    (some : Some command ≡ command_of words) (is : status ≡ status_of failure) (performs : Performs command before now (Err failure)) where
+  pub failure-outcome : HostQuiet {A = Ending} before now (Err failure) → status ≢ 6 → status ≢ 7
+      → Comes words before.files (λ outcome. (status ≡ outcome.status) × HostDid outcome.events before now)
   failure-outcome quiet not6 not7 =
-      let nothing = quiet-of failure status out0 out1 stores0 stores1 is quiet not6 in
-      of-command (λ outcome. FailureEnds outcome out0 out1 stores0 stores1 failure)
-      (λ outcome. (status ≡ outcome.status) × Did outcome.events out0 out1 stores0 stores1) words command told some
+      let nothing = quiet-of failure status before now is quiet not6 in
+      of-command (λ outcome. HostEnds outcome before now (Err failure)) (λ outcome. (status ≡ outcome.status) × HostDid outcome.events before now)
+      words command before.files some
       (λ outcome ends.
-      rw (refusal outcome failure status out0 out1 stores0 stores1 is ends not6 not7)
-      (is, did-idle out0 out1 stores0 stores1 nothing.0 nothing.1)) comes
+      rw (refusal outcome failure status before now is ends not6 not7) (is, did-idle _ _ _ _ nothing.0 nothing.1)) performs
 
   pub failure-note : (notes0 notes1 : Option (List ℕ)) (faults0 faults1 : ℕ) → Noted notes0 notes1 faults0 faults1 (note_of failure) → status ≢ 6 → status ≢ 7
-      → Comes words told (λ outcome. Noted notes0 notes1 faults0 faults1 outcome.note)
+      → Comes words before.files (λ outcome. Noted notes0 notes1 faults0 faults1 outcome.note)
   failure-note notes0 notes1 faults0 faults1 h not6 not7 =
-      of-command (λ outcome. FailureEnds outcome out0 out1 stores0 stores1 failure) (λ outcome. Noted notes0 notes1 faults0 faults1 outcome.note) words command
-      told some (λ outcome ends. rw (refusal outcome failure status out0 out1 stores0 stores1 is ends not6 not7) h) comes
+      of-command (λ outcome. HostEnds outcome before now (Err failure)) (λ outcome. Noted notes0 notes1 faults0 faults1 outcome.note) words command
+      before.files some (λ outcome ends. rw (refusal outcome failure status before now is ends not6 not7) h) performs
 
 -- a command that was done
-pub done-outcome : (told : Option Files) (words : List (List ℕ)) (command : CommandValue) (ending : Ending) (status : ℕ) (out0 out1 : Option (List ℕ))
-    (stores0 stores1 : Option (List Kept)) → Some command ≡ command_of words → status ≡ status_of_ending ending
-    → ComesOf (Some command) told (λ outcome. Ends outcome out0 out1 stores0 stores1 (Ok ending))
-    → Comes words told (λ outcome. (status ≡ outcome.status) × Did outcome.events out0 out1 stores0 stores1)
-done-outcome told words command ending status out0 out1 stores0 stores1 some is comes =
-    of-command (λ outcome. Ends outcome out0 out1 stores0 stores1 (Ok ending))
-    (λ outcome. (status ≡ outcome.status) × Did outcome.events out0 out1 stores0 stores1) words command told some
-    (λ outcome ends. (is ∙ sym ends.0, ends.2)) comes
+pub done-outcome : (words : List (List ℕ)) (command : CommandValue) (ending : Ending) (status : ℕ) (before now : Seen)
+    → Some command ≡ command_of words → status ≡ status_of_ending ending → Performs command before now (Ok ending)
+    → Comes words before.files (λ outcome. (status ≡ outcome.status) × HostDid outcome.events before now)
+done-outcome words command ending status before now some is performs =
+    of-command (λ outcome. HostEnds outcome before now (Ok ending)) (λ outcome. (status ≡ outcome.status) × HostDid outcome.events before now)
+    words command before.files some (λ outcome ends. (is ∙ sym ends.done.0, ends.done.2)) performs
 
 -- nothing was noted
 noted-nothing : (notes : Option (List ℕ)) (faults : ℕ) → Noted notes notes faults faults []
@@ -165,25 +161,39 @@ noted-nothing notes faults = record {
   whole = λ _. sym (grown-nothing notes);
 }
 
-pub done-note : (told : Option Files) (words : List (List ℕ)) (command : CommandValue) (ending : Ending) (out0 out1 : Option (List ℕ))
-    (stores0 stores1 : Option (List Kept)) (notes : Option (List ℕ)) (faults : ℕ) → Some command ≡ command_of words
-    → ComesOf (Some command) told (λ outcome. Ends outcome out0 out1 stores0 stores1 (Ok ending))
-    → Comes words told (λ outcome. Noted notes notes faults faults outcome.note)
-done-note told words command ending out0 out1 stores0 stores1 notes faults some comes =
-    of-command (λ outcome. Ends outcome out0 out1 stores0 stores1 (Ok ending)) (λ outcome. Noted notes notes faults faults outcome.note) words command
-    told some (λ outcome ends. subst (λ text. Noted notes notes faults faults text) (sym ends.1) (noted-nothing notes faults)) comes
+pub done-note : (words : List (List ℕ)) (command : CommandValue) (ending : Ending) (before now : Seen) (notes : Option (List ℕ)) (faults : ℕ)
+    → Some command ≡ command_of words → Performs command before now (Ok ending)
+    → Comes words before.files (λ outcome. Noted notes notes faults faults outcome.note)
+done-note words command ending before now notes faults some performs =
+    of-command (λ outcome. HostEnds outcome before now (Ok ending)) (λ outcome. Noted notes notes faults faults outcome.note) words command
+    before.files some (λ outcome ends. subst (λ text. Noted notes notes faults faults text) (sym ends.done.1) (noted-nothing notes faults)) performs
 
 -- a fault outside has let the first part of what is defined be done
-pub failure-stopped : (told : Option Files) (words : List (List ℕ)) (command : CommandValue) (failure : Failure) (status : ℕ)
-    (out0 out1 : Option (List ℕ)) (stores0 stores1 : Option (List Kept)) → Some command ≡ command_of words → status ≡ status_of failure
-    → ComesOf (Some command) told (λ outcome. FailureEnds outcome out0 out1 stores0 stores1 failure) → status ≡ 6
-    → Comes words told (λ outcome. DidFirst outcome.events out0 out1 stores0 stores1)
-failure-stopped told words command (Bad note) status out0 out1 stores0 stores1 some is comes six = absurd (omega arith)
-failure-stopped told words command (Absent note) status out0 out1 stores0 stores1 some is comes six = absurd (omega arith)
-failure-stopped told words command Outside status out0 out1 stores0 stores1 some is comes six =
-    of-command (λ outcome. FailureEnds outcome out0 out1 stores0 stores1 Outside) (λ outcome. DidFirst outcome.events out0 out1 stores0 stores1)
-    words command told some (λ outcome ends. ends) comes
-failure-stopped told words command NoMemory status out0 out1 stores0 stores1 some is comes six = absurd (omega arith)
+pub failure-stopped : (words : List (List ℕ)) (command : CommandValue) (failure : Failure) (status : ℕ) (before now : Seen)
+    → Some command ≡ command_of words → status ≡ status_of failure → Performs command before now (Err failure) → status ≡ 6
+    → Comes words before.files (λ outcome. HostDidFirst outcome.events before now)
+failure-stopped words command (Bad note) status before now some is performs six = absurd (omega arith)
+failure-stopped words command (Absent note) status before now some is performs six = absurd (omega arith)
+failure-stopped words command Outside status before now some is performs six =
+    of-command (λ outcome. HostEnds outcome before now (Err Outside)) (λ outcome. HostDidFirst outcome.events before now)
+    words command before.files some (λ outcome ends. ends.failed) performs
+failure-stopped words command NoMemory status before now some is performs six = absurd (omega arith)
+
+-- what a host did is what was done to the shelf and the output that it lends
+module _ (words : List (List ℕ)) (before first : Seen) (is : before ≡ first) where
+  pub note-lent : (holds : Outcome → Type 0) → Comes words before.files holds → Comes words first.files holds
+  note-lent holds comes = subst (λ (s : Seen). Comes words s.files holds) is comes
+
+  module _ (now : Seen) (out1 : Option (List ℕ)) (stores1 : Option (List Kept)) (took : out1 ≡ now.taken) (kept : stores1 ≡ now.stores) where
+    pub outcome-lent : (status : ℕ) → Comes words before.files (λ outcome. (status ≡ outcome.status) × HostDid outcome.events before now)
+        → Comes words first.files (λ outcome. (status ≡ outcome.status) × Did outcome.events first.taken out1 first.stores stores1)
+    outcome-lent status comes =
+        rw (took, kept)
+        (subst (λ (s : Seen). Comes words s.files (λ outcome. (status ≡ outcome.status) × HostDid outcome.events s now)) is comes)
+
+    pub stopped-lent : Comes words before.files (λ outcome. HostDidFirst outcome.events before now)
+        → Comes words first.files (λ outcome. DidFirst outcome.events first.taken out1 first.stores stores1)
+    stopped-lent comes = rw (took, kept) (subst (λ (s : Seen). Comes words s.files (λ outcome. HostDidFirst outcome.events s now)) is comes)
 
 pub fault-note : (failure : Failure) (status : ℕ) (notes0 notes1 : Option (List ℕ)) (faults0 faults1 : ℕ) → status ≡ status_of failure
     → Noted notes0 notes1 faults0 faults1 (note_of failure) → status ≡ 6 → Noted notes0 notes1 faults0 faults1 outside_text
@@ -238,105 +248,176 @@ some-calls said (Ok parts) =
     )
 some-calls said (Err refusal) = (0, tt)
 
--- a stage that stopped before anything was done
-pub failure-ends : {A : Type 0} (files : Result A Outcome) (outcome : A → Outcome) (failure : Failure) (out0 out1 : Option (List ℕ)) (stores0 stores1 : Option (List Kept))
-    → Refuses files failure → out1 ≡ out0 → stores1 ≡ stores0 → FailureEnds (finished files outcome) out0 out1 stores0 stores1 failure
-failure-ends files outcome (Bad note) out0 out1 stores0 stores1 refuses took same = ap (λ r. finished r outcome) refuses
-failure-ends files outcome (Absent note) out0 out1 stores0 stores1 refuses took same = ap (λ r. finished r outcome) refuses
-failure-ends files outcome Outside out0 out1 stores0 stores1 refuses took same = did-nothing _ out0 out1 stores0 stores1 took same
-failure-ends files outcome NoMemory out0 out1 stores0 stores1 refuses took same = tt
+-- files were read, and nothing was done
+pub record Loaded (before now : Seen) : Type 0 where
+  pub loans : SameLoans before now
+  pub nothing : HostDidNothing before now
+  pub faults : NoFault before now
+  pub absences : before.absences ≤ now.absences
 
--- a run that stopped at its files
-pub run-stopped : (told : Option Files) (run : RunValue) (failure : Failure) (out0 out1 : Option (List ℕ)) (stores0 stores1 : Option (List Kept))
-    → IfSome told (λ files. ForReading run.settings.state files (λ reading. Refuses (run_files files run reading) failure)) → out1 ≡ out0 → stores1 ≡ stores0
-    → IfSome told (λ files. ForReading run.settings.state files (λ reading.
-    CommandComes (run_of run) files reading (λ outcome. FailureEnds outcome out0 out1 stores0 stores1 failure)))
-unfolding command_outcome
-run-stopped None run failure out0 out1 stores0 stores1 refuses took same = tt
-run-stopped (Some files) run failure out0 out1 stores0 stores1 refuses took same = λ reading is.
-    (let (calls, fits) = some-calls run.settings (run_files files run reading) in record {
-      calls = calls;
-      fits = fits;
-      of_outcome =
-          failure-ends (run_files files run reading) (λ parts. run_outcome run.settings parts calls) failure out0 out1 stores0 stores1 (refuses reading is) took same;
-    })
-
--- a run whose files were good
-pub run-comes : (told : Option Files) (run : RunValue) (said : SettingsValue) (parts : Parts) (out0 out1 : Option (List ℕ))
-    (stores0 held stores1 : Option (List Kept)) (result : Result Ending Failure) → said ≡ run.settings → held ≡ stores0
-    → IfSome told (λ files. ForReading run.settings.state files (λ reading. run_files files run reading ≡ Ok parts))
-    → RunComes said parts (λ outcome. Ends outcome out0 out1 held stores1 result)
-    → IfSome told (λ files. ForReading run.settings.state files (λ reading.
-    CommandComes (run_of run) files reading (λ outcome. Ends outcome out0 out1 stores0 stores1 result)))
-unfolding command_outcome
-run-comes None run said parts out0 out1 stores0 held stores1 result same kept good comes = tt
-run-comes (Some files) run said parts out0 out1 stores0 held stores1 result same kept good comes = λ reading is. record {
-  calls = comes.calls;
-  fits = rw (good reading is, sym same) comes.fits;
-  of_outcome = rw (good reading is, sym same, sym kept) comes.of_outcome;
+-- what was done after that was done from the beginning
+did-after : (events : List Event) (a b c : Seen) → HostDidNothing a b → HostDid events b c → HostDid events a c
+did-after events a b c nothing did = record {
+  text = did.text ∙ ap (λ (o : Option (List ℕ)). grown o (text_of events)) nothing.0;
+  stores = did.stores ∙ ap (λ (o : Option (List Kept)). grown o (stores_of events)) nothing.1;
 }
 
--- sources that couldn't be had
-pub asm-stopped : (told : Option Files) (words : AsmValue) (failure : Failure) (out0 out1 : Option (List ℕ)) (stores0 stores1 : Option (List Kept))
-    → IfSome told (λ files. Refuses (asm_files files words) failure) → out1 ≡ out0 → stores1 ≡ stores0
-    → IfSome told (λ files. ForReading None files (λ reading.
-    CommandComes (asm_of words) files reading (λ outcome. FailureEnds outcome out0 out1 stores0 stores1 failure)))
+first-after : (events : List Event) (a b c : Seen) → HostDidNothing a b → HostDidFirst events b c → HostDidFirst events a c
+first-after events a b c nothing part = record {
+  count = part.count;
+  did = did-after (take part.count events) a b c nothing part.did;
+}
+
+pub ends-after : (outcome : Outcome) (a b c : Seen) (result : Result Ending Failure) → HostDidNothing a b → HostEnds outcome b c result
+    → HostEnds outcome a c result
+ends-after outcome a b c (Ok ending) nothing ends =
+    record { done = (ends.done.0, ends.done.1, did-after outcome.events a b c nothing ends.done.2); failed = tt }
+ends-after outcome a b c (Err Outside) nothing ends = record { done = tt; failed = first-after outcome.events a b c nothing ends.failed }
+ends-after outcome a b c (Err NoMemory) nothing ends = record { done = tt; failed = tt }
+ends-after outcome a b c (Err (Bad note)) nothing ends = record { done = tt; failed = ends.failed }
+ends-after outcome a b c (Err (Absent note)) nothing ends = record { done = tt; failed = ends.failed }
+
+nothing-then : (a b c : Seen) → HostDidNothing a b → HostDidNothing b c → HostDidNothing a c
+nothing-then a b c first rest = (rest.0 ∙ first.0, rest.1 ∙ first.1)
+
+quiet-after : (a b c : Seen) (result : Result Ending Failure) → HostDidNothing a b → HostQuiet b c result → HostQuiet a c result
+quiet-after a b c (Ok ending) nothing quiet = tt
+quiet-after a b c (Err Outside) nothing quiet = tt
+quiet-after a b c (Err NoMemory) nothing quiet = nothing-then a b c nothing quiet
+quiet-after a b c (Err (Bad note)) nothing quiet = nothing-then a b c nothing quiet
+quiet-after a b c (Err (Absent note)) nothing quiet = nothing-then a b c nothing quiet
+
+rose-after : (a b c : Seen) → NoFault a b → Rose b.shelf_faults c.shelf_faults ⊎ Rose b.out_faults c.out_faults
+    → Rose a.shelf_faults c.shelf_faults ⊎ Rose a.out_faults c.out_faults
+rose-after a b c none (inl rose) = inl (subst (λ n. Rose n c.shelf_faults) none.0 rose)
+rose-after a b c none (inr rose) = inr (subst (λ n. Rose n c.out_faults) none.1 rose)
+
+no-fault-then : (a b c : Seen) → NoFault a b → NoFault b c → NoFault a c
+no-fault-then a b c first rest = (rest.0 ∙ first.0, rest.1 ∙ first.1)
+
+faults-after : (a b c : Seen) (result : Result Ending Failure) → NoFault a b → HostFaults b c result → HostFaults a c result
+faults-after a b c (Ok ending) none faults = no-fault-then a b c none faults
+faults-after a b c (Err Outside) none faults =
+    (omega (arith, none.0, faults.0), omega (arith, none.1, faults.1), rose-after a b c none faults.2)
+faults-after a b c (Err NoMemory) none faults = no-fault-then a b c none faults
+faults-after a b c (Err (Bad note)) none faults = no-fault-then a b c none faults
+faults-after a b c (Err (Absent note)) none faults = no-fault-then a b c none faults
+
+absences-then : (a b c : ℕ) (result : Result Ending Failure) → a ≤ b → StageAbsences b c result → StageAbsences a c result
+absences-then a b c (Ok ending) first rest = omega (arith, first, rest)
+absences-then a b c (Err (Bad note)) first rest = omega (arith, first, rest)
+absences-then a b c (Err (Absent note)) first rest =
+    (let later = rest.later in let rose = rest.rose in record { later = omega (arith, first, later); rose = omega (arith, first, rose); fits = rest.fits })
+absences-then a b c (Err Outside) first rest = omega (arith, first, rest)
+absences-then a b c (Err NoMemory) first rest = omega (arith, first, rest)
+
+pub keeps-after : (a b c : Seen) (result : Result Ending Failure) → Loaded a b → Keeps b c result → Keeps a c result
+keeps-after a b c result loaded keeps = record {
+  loans = record { shelf = keeps.loans.shelf ∙ loaded.loans.shelf; out = keeps.loans.out ∙ loaded.loans.out };
+  quiet = quiet-after a b c result loaded.nothing keeps.quiet;
+  faults = faults-after a b c result loaded.faults keeps.faults;
+  absences = absences-then a.absences b.absences c.absences result loaded.absences keeps.absences;
+}
+
+-- a stage that stopped before anything was done
+pub failure-ends : {A : Type 0} (files : Result A Outcome) (outcome : A → Outcome) (failure : Failure) (before now : Seen) → HostDidNothing before now
+    → Refuses files failure → HostEnds (finished files outcome) before now (Err failure)
+failure-ends files outcome (Bad note) before now nothing refuses = record { done = tt; failed = ap (λ r. finished r outcome) refuses }
+failure-ends files outcome (Absent note) before now nothing refuses = record { done = tt; failed = ap (λ r. finished r outcome) refuses }
+failure-ends files outcome Outside before now nothing refuses = record { done = tt; failed = did-nothing _ _ _ _ _ nothing.0 nothing.1 }
+failure-ends files outcome NoMemory before now nothing refuses = record { done = tt; failed = tt }
+
+-- a run that stopped at its files
+pub run-stopped : (run : RunValue) (failure : Failure) (before now : Seen) → HostDidNothing before now
+    → IfSome before.files (λ files. ForReading run.settings.state files (λ reading. Refuses (run_files files run reading) failure))
+    → Performs (run_of run) before now (Err failure)
 unfolding command_outcome
-asm-stopped None words failure out0 out1 stores0 stores1 refuses took same = tt
-asm-stopped (Some files) words failure out0 out1 stores0 stores1 refuses took same = λ reading is. record {
+run-stopped run failure before now nothing refuses = of before.files refuses
+  where
+    of : (told : Option Files) → IfSome told (λ files. ForReading run.settings.state files (λ reading. Refuses (run_files files run reading) failure))
+        → ComesOver (run_of run) told (λ outcome. HostEnds outcome before now (Err failure))
+    of None refuses = tt
+    of (Some files) refuses = λ reading is.
+        (let (calls, fits) = some-calls run.settings (run_files files run reading) in record {
+          calls = calls;
+          fits = fits;
+          of_outcome = failure-ends (run_files files run reading) (λ parts. run_outcome run.settings parts calls) failure before now nothing (refuses reading is);
+        })
+
+-- a run whose files were good
+pub run-comes : (run : RunValue) (said : SettingsValue) (parts : Parts) (before read now : Seen) (result : Result Ending Failure) → said ≡ run.settings
+    → HostDidNothing before read
+    → IfSome before.files (λ files. ForReading run.settings.state files (λ reading. run_files files run reading ≡ Ok parts))
+    → RunEnds said parts read now result → Performs (run_of run) before now result
+unfolding command_outcome
+run-comes run said parts before read now result same nothing good comes = of before.files good
+  where
+    of : (told : Option Files) → IfSome told (λ files. ForReading run.settings.state files (λ reading. run_files files run reading ≡ Ok parts))
+        → ComesOver (run_of run) told (λ outcome. HostEnds outcome before now result)
+    of None good = tt
+    of (Some files) good = λ reading is. record {
+      calls = comes.calls;
+      fits = rw (good reading is, sym same) comes.fits;
+      of_outcome = rw (good reading is, sym same) (ends-after (run_outcome said parts comes.calls) before read now result nothing comes.ends);
+    }
+
+-- all of an outcome was done, or a first part of it
+pub done-ends : (outcome : Outcome) (before now : Seen) → outcome.status ≡ 0 → outcome.note ≡ [] → HostDid outcome.events before now
+    → HostEnds outcome before now (Ok Done)
+done-ends outcome before now status note did = record { done = (status, note, did); failed = tt }
+
+pub stopped-ends : (outcome : Outcome) (before now : Seen) → HostDidFirst outcome.events before now → HostEnds outcome before now (Err Outside)
+stopped-ends outcome before now part = record { done = tt; failed = part }
+
+-- sources that couldn't be had
+pub asm-stopped : (told : Option Files) (words : AsmValue) (failure : Failure) (before now : Seen) → HostDidNothing before now
+    → IfSome told (λ files. Refuses (asm_files files words) failure)
+    → ComesOver (asm_of words) told (λ outcome. HostEnds outcome before now (Err failure))
+unfolding command_outcome
+asm-stopped None words failure before now nothing refuses = tt
+asm-stopped (Some files) words failure before now nothing refuses = λ reading is. record {
   calls = 0;
   fits = tt;
-  of_outcome = failure-ends (asm_files files words) (asm_outcome words.image) failure out0 out1 stores0 stores1 refuses took same;
+  of_outcome = failure-ends (asm_files files words) (asm_outcome words.image) failure before now nothing refuses;
 }
 
 -- sources that are good
 pub asm-comes : (told : Option Files) (words : AsmValue) (made : Assembled) (holds : Outcome → Type 0)
-    → IfSome told (λ files. asm_files files words ≡ Ok made) → holds (asm_outcome words.image made)
-    → IfSome told (λ files. ForReading None files (λ reading. CommandComes (asm_of words) files reading holds))
+    → IfSome told (λ files. asm_files files words ≡ Ok made) → holds (asm_outcome words.image made) → ComesOver (asm_of words) told holds
 unfolding command_outcome
 asm-comes None words made holds good comes = tt
 asm-comes (Some files) words made holds good comes = λ reading is. record { calls = 0; fits = tt; of_outcome = rw good comes }
 
 -- what was done of good sources: both listings and the store, the listings alone, or a first part of them
-module _ (told : Option Files) (words : AsmValue) (made : Assembled) (good : IfSome told (λ files. asm_files files words ≡ Ok made)) (out0 out1 : Option (List ℕ))
-    (stores0 stores1 : Option (List Kept)) (text : List ℕ) (listed : text ≡ both_listings made) where
-  pub asm-done : (held : Option (List Kept)) (name bytes : List ℕ) → name ≡ words.image → bytes ≡ made.image → held ≡ stores0 → out1 ≡ grown out0 text
-      → stores1 ≡ grown held (stores_of (storing (Some name) bytes))
-      → IfSome told (λ files. ForReading None files (λ reading. CommandComes (asm_of words) files reading (λ outcome. Ends outcome out0 out1 stores0 stores1 (Ok Done))))
+module _ (words : AsmValue) (made : Assembled) (before read now : Seen) (good : IfSome before.files (λ files. asm_files files words ≡ Ok made))
+    (nothing : HostDidNothing before read) (text : List ℕ) (listed : text ≡ both_listings made) where
+  pub asm-unwritten : {E : Type 0} (e : E) → HostWrites {T = Unit {0}} read now text (Err e) → Performs (asm_of words) before now (Err Outside)
   unfolding asm_outcome
-  asm-done held name bytes named whole kept took stored =
-      asm-comes told words made (λ outcome. Ends outcome out0 out1 stores0 stores1 (Ok Done)) good (
-        refl,
-        refl,
-        did-then (sending (both_listings made)) (storing (Some words.image) made.image) out0 out1 out1 stores0 held stores1
-            (did-sending (both_listings made) out0 out1 stores0 held (took ∙ ap (grown out0) listed) kept)
-            (did-storing (Some words.image) made.image bytes out1 out1 held stores1 whole refl (stored ∙ ap (λ n. grown held (stores_of (storing (Some n) bytes))) named)),
-      )
+  asm-unwritten e writes =
+      asm-comes before.files words made (λ outcome. HostEnds outcome before now (Err Outside)) good
+      (stopped-ends _ before now (did-first-of (sending (both_listings made)) (storing (Some words.image) made.image) _ _ _ _
+      (first-after (sending (both_listings made)) before read now nothing (subst (λ (t : List ℕ). HostDidFirst (sending t) read now) listed writes.part))))
 
-  pub asm-unstored : (held : Option (List Kept)) → held ≡ stores0 → out1 ≡ grown out0 text → stores1 ≡ held
-      → IfSome told (λ files. ForReading None files (λ reading. CommandComes (asm_of words) files reading (λ outcome. FailureEnds outcome out0 out1 stores0 stores1 Outside)))
-  unfolding asm_outcome
-  asm-unstored held kept took idle =
-      asm-comes told words made (λ outcome. FailureEnds outcome out0 out1 stores0 stores1 Outside) good
-      (did-then-first (sending (both_listings made)) (storing (Some words.image) made.image) out0 out1 out1 stores0 held stores1
-      (did-sending (both_listings made) out0 out1 stores0 held (took ∙ ap (grown out0) listed) kept)
-      (did-nothing (storing (Some words.image) made.image) out1 out1 held stores1 refl idle))
+  module _ {E : Type 0} (u : Unit {0}) (writes : HostWrites {E = E} read now text (Ok u)) (last : Seen) (name bytes : List ℕ) where
+    wrote : HostDid (sending (both_listings made)) before now
+    wrote = did-after (sending (both_listings made)) before read now nothing (subst (λ (t : List ℕ). HostDid (sending t) read now) listed writes.did)
 
-  pub asm-unwritten : (k : ℕ) × (out1 ≡ grown out0 (take k text)) → stores1 ≡ stores0
-      → IfSome told (λ files. ForReading None files (λ reading. CommandComes (asm_of words) files reading (λ outcome. FailureEnds outcome out0 out1 stores0 stores1 Outside)))
-  unfolding asm_outcome
-  asm-unwritten cut idle =
-      asm-comes told words made (λ outcome. FailureEnds outcome out0 out1 stores0 stores1 Outside) good
-      (did-first-of (sending (both_listings made)) (storing (Some words.image) made.image) out0 out1 stores0 stores1
-      (did-first-sending (both_listings made) out0 out1 stores0 stores1 (cut.0, cut.1 ∙ ap (λ t. grown out0 (take cut.0 t)) listed) idle))
+    pub asm-unstored : {F : Type 0} (f : F) → HostStores {T = Unit {0}} now last name bytes (Err f) → Performs (asm_of words) before last (Err Outside)
+    unfolding asm_outcome
+    asm-unstored f stores =
+        asm-comes before.files words made (λ outcome. HostEnds outcome before last (Err Outside)) good
+        (stopped-ends _ before last (did-then-first (sending (both_listings made)) (storing (Some words.image) made.image) _ _ _ _ _ _ wrote
+        (did-nothing (storing (Some words.image) made.image) _ _ _ _ stores.nothing.0 stores.nothing.1)))
 
--- a stage that knows no count of absences leaves the one before it
-pub absences-on : (before now : ℕ) (result : Result Ending Failure) → ((n : ℕ) → StageAbsences n n result) → before ≤ now → StageAbsences before now result
-absences-on before now (Ok ending) knows later = later
-absences-on before now (Err (Bad note)) knows later = later
-absences-on before now (Err (Absent note)) knows later = let none = (knows 0).rose in absurd (omega arith)
-absences-on before now (Err Outside) knows later = later
-absences-on before now (Err NoMemory) knows later = later
+    pub asm-done : {F : Type 0} (v : Unit {0}) → name ≡ words.image → bytes ≡ made.image → HostStores {E = F} now last name bytes (Ok v)
+        → Performs (asm_of words) before last (Ok Done)
+    unfolding asm_outcome
+    asm-done v named whole stores =
+        asm-comes before.files words made (λ outcome. HostEnds outcome before last (Ok Done)) good
+        (done-ends _ before last refl refl
+        (did-then (sending (both_listings made)) (storing (Some words.image) made.image) _ _ _ _ _ _ wrote
+        (subst (λ (n : List ℕ). HostDid (stored n made.image ∷ []) now last) named
+        (subst (λ (b : List ℕ). HostDid (stored name b ∷ []) now last) whole stores.did))))
 
 -- a session whose files couldn't be had
 refused-first : {A B : Type 0} (given : Result A Outcome) (next : A → Result B Outcome) (failure : Failure) → Refuses given failure → Refuses (and_then given next) failure
@@ -352,29 +433,26 @@ refused-then given a next (Absent note) is refuses = ap (λ r. and_then r next) 
 refused-then given a next Outside is refuses = tt
 refused-then given a next NoMemory is refuses = tt
 
-debug-refused : (told : Option Files) (words : DebugValue) (failure : Failure) (out0 out1 : Option (List ℕ)) (stores0 stores1 : Option (List Kept))
-    → IfSome told (λ files. ForReading words.run.settings.state files (λ reading. Refuses (debug_files files words reading) failure)) → out1 ≡ out0
-    → stores1 ≡ stores0
-    → IfSome told (λ files. ForReading words.run.settings.state files (λ reading.
-    CommandComes (debug_of words) files reading (λ outcome. FailureEnds outcome out0 out1 stores0 stores1 failure)))
+debug-refused : (told : Option Files) (words : DebugValue) (failure : Failure) (before now : Seen) → HostDidNothing before now
+    → IfSome told (λ files. ForReading words.run.settings.state files (λ reading. Refuses (debug_files files words reading) failure))
+    → ComesOver (debug_of words) told (λ outcome. HostEnds outcome before now (Err failure))
 unfolding command_outcome
-debug-refused None words failure out0 out1 stores0 stores1 refuses took same = tt
-debug-refused (Some files) words failure out0 out1 stores0 stores1 refuses took same = λ reading is. record {
+debug-refused None words failure before now nothing refuses = tt
+debug-refused (Some files) words failure before now nothing refuses = λ reading is. record {
   calls = 0;
   fits = tt;
   of_outcome =
-      failure-ends (debug_files files words reading) (λ session. debug_outcome words.run.settings.timers session.0 session.1) failure out0 out1 stores0 stores1
-      (refuses reading is) took same;
+      failure-ends (debug_files files words reading) (λ session. debug_outcome words.run.settings.timers session.0 session.1) failure before now nothing
+      (refuses reading is);
 }
 
-pub debug-stopped : (told : Option Files) (words : DebugValue) (run : RunValue) (failure : Failure) (out0 out1 : Option (List ℕ)) (stores0 stores1 : Option (List Kept))
-    → run ≡ words.run
-    → IfSome told (λ files. ForReading run.settings.state files (λ reading. Refuses (run_files files run reading) failure)) → out1 ≡ out0 → stores1 ≡ stores0
-    → IfSome told (λ files. ForReading words.run.settings.state files (λ reading.
-    CommandComes (debug_of words) files reading (λ outcome. FailureEnds outcome out0 out1 stores0 stores1 failure)))
+pub debug-stopped : (told : Option Files) (words : DebugValue) (run : RunValue) (failure : Failure) (before now : Seen) → run ≡ words.run
+    → HostDidNothing before now
+    → IfSome told (λ files. ForReading run.settings.state files (λ reading. Refuses (run_files files run reading) failure))
+    → ComesOver (debug_of words) told (λ outcome. HostEnds outcome before now (Err failure))
 unfolding debug_files
-debug-stopped told words run failure out0 out1 stores0 stores1 same refuses took kept =
-    debug-refused told words failure out0 out1 stores0 stores1 (by_told told (rw (← same) refuses)) took kept
+debug-stopped told words run failure before now same nothing refuses =
+    debug-refused told words failure before now nothing (by_told told (rw (← same) refuses))
   where
     first : (files : Files) (reading : Result BoardValue StateFault) → Refuses (run_files files words.run reading) failure → Refuses (debug_files files words reading) failure
     first files reading r = refused-first (run_files files words.run reading) _ failure r
@@ -385,15 +463,14 @@ debug-stopped told words run failure out0 out1 stores0 stores1 same refuses took
     by_told (Some files) r = λ reading is. first files reading (r reading is)
 
 -- a session whose script couldn't be had
-pub debug-unread : (told again : Option Files) (words : DebugValue) (run : RunValue) (name : List ℕ) (parts : Parts) (failure : Failure) (out0 out1 : Option (List ℕ))
-    (stores0 stores1 : Option (List Kept)) → run ≡ words.run → name ≡ words.script → again ≡ told
+pub debug-unread : (told again : Option Files) (words : DebugValue) (run : RunValue) (name : List ℕ) (parts : Parts) (failure : Failure) (before now : Seen)
+    → run ≡ words.run → name ≡ words.script → again ≡ told → HostDidNothing before now
     → IfSome told (λ files. ForReading run.settings.state files (λ reading. run_files files run reading ≡ Ok parts))
-    → IfSome again (λ files. Refuses (script_file files name) failure) → out1 ≡ out0 → stores1 ≡ stores0
-    → IfSome told (λ files. ForReading words.run.settings.state files (λ reading.
-    CommandComes (debug_of words) files reading (λ outcome. FailureEnds outcome out0 out1 stores0 stores1 failure)))
+    → IfSome again (λ files. Refuses (script_file files name) failure)
+    → ComesOver (debug_of words) told (λ outcome. HostEnds outcome before now (Err failure))
 unfolding debug_files
-debug-unread told again words run name parts failure out0 out1 stores0 stores1 same named kept good refuses took held =
-    debug-refused told words failure out0 out1 stores0 stores1 (by_told told (rw (← same) good) (rw (← kept, ← named) refuses)) took held
+debug-unread told again words run name parts failure before now same named kept nothing good refuses =
+    debug-refused told words failure before now nothing (by_told told (rw (← same) good) (rw (← kept, ← named) refuses))
   where
     then_ : (files : Files) (reading : Result BoardValue StateFault) → run_files files words.run reading ≡ Ok parts → Refuses (script_file files words.script) failure
         → Refuses (debug_files files words reading) failure
@@ -405,6 +482,11 @@ debug-unread told again words run name parts failure out0 out1 stores0 stores1 s
         → IfSome told (λ files. ForReading words.run.settings.state files (λ reading. Refuses (debug_files files words reading) failure))
     by_told None g r = tt
     by_told (Some files) g r = λ reading is. then_ files reading (g reading is) r
+
+-- the words as they lie in their type
+pub debug-same : (words inner : DebugValue) (before now : Seen) (result : Result Ending Failure) → inner ≡ words
+    → Performs (debug_of inner) before now result → Performs (debug_of words) before now result
+debug-same words inner before now result is performs = subst (λ (w : DebugValue). Performs (debug_of w) before now result) is performs
 
 finished-session : (wired : Bool) (parts : Parts) (read : Result (List Command) Outcome)
     → finished {A = Parts × List Command} (and_then read (λ commands. Ok (parts, commands))) (λ session. debug_outcome wired session.0 session.1)
@@ -424,7 +506,7 @@ session-told : (told : Option Files) (words : DebugValue) (bytes : List ℕ) (pa
     → IfSome told (λ files. ForReading words.run.settings.state files (λ reading. run_files files words.run reading ≡ Ok parts))
     → IfSome told (λ files. script_file files words.script ≡ read_as words.script (script_read bytes))
     → holds (session_outcome words.run.settings.timers words.script parts bytes)
-    → IfSome told (λ files. ForReading words.run.settings.state files (λ reading. CommandComes (debug_of words) files reading holds))
+    → ComesOver (debug_of words) told holds
 session-told None words bytes parts holds good read comes = tt
 session-told (Some files) words bytes parts holds good read comes = λ reading is. record {
   calls = 0;
@@ -437,7 +519,7 @@ pub debug-comes : (told again : Option Files) (words : DebugValue) (wired : Bool
     → IfSome told (λ files. ForReading run.settings.state files (λ reading. run_files files run reading ≡ Ok parts))
     → IfSome again (λ files. script_file files name ≡ read_as name (script_read bytes))
     → holds (session_outcome wired name parts bytes)
-    → IfSome told (λ files. ForReading words.run.settings.state files (λ reading. CommandComes (debug_of words) files reading holds))
+    → ComesOver (debug_of words) told holds
 debug-comes told again words wired run name bytes parts holds asked same named kept good read comes =
     session-told told words bytes parts holds (rw (← same) good) (rw (← kept, ← named) read) (rw (← asked, ← named) comes)
 
@@ -455,50 +537,53 @@ script-bad bytes number short is =
     rw (fits, is) refl
 
 -- what a session comes to, over the engine that was made for its parts
-module _ (wired : Bool) (name bytes : List ℕ) (parts : Parts) (out0 out1 : Option (List ℕ)) (short : length bytes ≤ SCRIPT_LIMIT) where
+module _ (wired : Bool) (name bytes : List ℕ) (parts : Parts) (before now : Seen) (short : length bytes ≤ SCRIPT_LIMIT) (idle : now.stores ≡ before.stores) where
   pub session-done : (commands : List Command) (first : Board) → first ≡ first_board wired parts → script_of bytes ≡ Ok commands
-      → out1 ≡ grown out0 (session_text parts.tape no_stops commands first) → (stores : Option (List Kept))
-      → Ends (session_outcome wired name parts bytes) out0 out1 stores stores (Ok Done)
+      → now.taken ≡ grown before.taken (session_text parts.tape no_stops commands first)
+      → HostEnds (session_outcome wired name parts bytes) before now (Ok Done)
   unfolding debug_outcome
-  session-done commands first made is took stores =
-      rw (script-good bytes commands short is) (
-        refl,
-        refl,
-        did-sending _ out0 out1 stores stores (rw (← made) took) refl,
-      )
+  session-done commands first made is took =
+      rw (script-good bytes commands short is) (done-ends _ before now refl refl (did-sending _ _ _ _ _ (rw (← made) took) idle))
 
   pub session-cut : (commands : List Command) (first : Board) → first ≡ first_board wired parts → script_of bytes ≡ Ok commands
-      → (k : ℕ) × (out1 ≡ grown out0 (take k (session_text parts.tape no_stops commands first))) → (stores : Option (List Kept))
-      → FailureEnds (session_outcome wired name parts bytes) out0 out1 stores stores Outside
+      → (k : ℕ) × (now.taken ≡ grown before.taken (take k (session_text parts.tape no_stops commands first)))
+      → HostEnds (session_outcome wired name parts bytes) before now (Err Outside)
   unfolding debug_outcome
-  session-cut commands first made is cut stores =
-      rw (script-good bytes commands short is) (did-first-sending _ out0 out1 stores stores (rw (← made) cut) refl)
+  session-cut commands first made is cut =
+      rw (script-good bytes commands short is) (stopped-ends _ before now (did-first-sending _ _ _ _ _ (rw (← made) cut) idle))
 
   pub session-bad : (number : ℕ) (failure : Failure) → script_of bytes ≡ Err number
-      → IsBadOrMemory (note_text name (cause_text (Script (script.BadCommand number)))) failure → (stores : Option (List Kept))
-      → FailureEnds (session_outcome wired name parts bytes) out0 out1 stores stores failure
-  session-bad number (Bad note) is noted stores = rw (script-bad bytes number short is) (ap (refused 4) (sym noted))
-  session-bad number (Absent note) is noted stores = absurd noted
-  session-bad number Outside is noted stores = absurd noted
-  session-bad number NoMemory is noted stores = tt
+      → IsBadOrMemory (note_text name (cause_text (Script (script.BadCommand number)))) failure
+      → HostEnds (session_outcome wired name parts bytes) before now (Err failure)
+  session-bad number (Bad note) is noted = rw (script-bad bytes number short is) (record { done = tt; failed = ap (refused 4) (sym noted) })
+  session-bad number (Absent note) is noted = absurd noted
+  session-bad number Outside is noted = absurd noted
+  session-bad number NoMemory is noted = record { done = tt; failed = tt }
+
+-- a script with a line of no form
+pub bad-keeps : (text : List ℕ) (before now : Seen) (failure : Failure) → IsBadOrMemory text failure → SameLoans before now → HostDidNothing before now
+    → NoFault before now → before.absences ≤ now.absences → Keeps before now (Err failure)
+bad-keeps text before now (Bad note) is loans nothing none later = record { loans = loans; quiet = nothing; faults = none; absences = later }
+bad-keeps text before now (Absent note) is loans nothing none later = absurd is
+bad-keeps text before now Outside is loans nothing none later = absurd is
+bad-keeps text before now NoMemory is loans nothing none later = record { loans = loans; quiet = nothing; faults = none; absences = later }
 
 -- a state that couldn't be had
-pub show-stopped : (told : Option Files) (name : List ℕ) (failure : Failure) (out0 out1 : Option (List ℕ)) (stores0 stores1 : Option (List Kept))
-    → IfSome told (λ files. ForReading (Some name) files (λ reading. Refuses (state_file files name reading) failure)) → out1 ≡ out0 → stores1 ≡ stores0
-    → IfSome told (λ files. ForReading (Some name) files (λ reading.
-    CommandComes (show_of name) files reading (λ outcome. FailureEnds outcome out0 out1 stores0 stores1 failure)))
+pub show-stopped : (told : Option Files) (name : List ℕ) (failure : Failure) (before now : Seen) → HostDidNothing before now
+    → IfSome told (λ files. ForReading (Some name) files (λ reading. Refuses (state_file files name reading) failure))
+    → ComesOver (show_of name) told (λ outcome. HostEnds outcome before now (Err failure))
 unfolding command_outcome
-show-stopped None name failure out0 out1 stores0 stores1 refuses took same = tt
-show-stopped (Some files) name failure out0 out1 stores0 stores1 refuses took same = λ reading is. record {
+show-stopped None name failure before now nothing refuses = tt
+show-stopped (Some files) name failure before now nothing refuses = λ reading is. record {
   calls = 0;
   fits = tt;
-  of_outcome = failure-ends (state_file files name reading) show_outcome failure out0 out1 stores0 stores1 (refuses reading is) took same;
+  of_outcome = failure-ends (state_file files name reading) show_outcome failure before now nothing (refuses reading is);
 }
 
 -- a state that is there
 pub show-comes : (told : Option Files) (name : List ℕ) (board : BoardValue) (holds : Outcome → Type 0)
     → IfSome told (λ files. ForReading (Some name) files (λ reading. state_file files name reading ≡ Ok board)) → holds (show_outcome board)
-    → IfSome told (λ files. ForReading (Some name) files (λ reading. CommandComes (show_of name) files reading holds))
+    → ComesOver (show_of name) told holds
 unfolding command_outcome
 show-comes None name board holds good comes = tt
 show-comes (Some files) name board holds good comes = λ reading is. record { calls = 0; fits = tt; of_outcome = rw (good reading is) comes }
@@ -506,7 +591,7 @@ show-comes (Some files) name board holds good comes = λ reading is. record { ca
 -- what a large run comes to, over the engine that was made for its workload
 module _ (seed : ℕ) (image : List ℕ) (tape : TapeValue) (end : ℕ) (start : BoardValue) (first : Board) (is_image : image ≡ image_of seed)
     (is_tape : tape ≡ tape_of seed) (ends : end ≡ tape.end) (begun : start ≡ board_at_power_on)
-    (made : first ≡ first_board false (record { image = image; tape = tape; board = start })) (out0 out1 : Option (List ℕ)) where
+    (made : first ≡ first_board false (record { image = image; tape = tape; board = start })) (before now : Seen) (idle : now.stores ≡ before.stores) where
   same-text : run_text tape.entries end first ≡ (let parts = workload_of seed in run_text parts.tape.entries parts.tape.end (first_board false parts))
   same-text =
       ap (λ e. run_text tape.entries e first) ends
@@ -515,16 +600,13 @@ module _ (seed : ℕ) (image : List ℕ) (tape : TapeValue) (end : ℕ) (start :
       ∙ ap (λ i. run_text tape.entries tape.end (first_board false (record { image = i; tape = tape; board = board_at_power_on }))) is_image
       ∙ ap (λ (t : TapeValue). run_text t.entries t.end (first_board false (record { image = image_of seed; tape = t; board = board_at_power_on }))) is_tape
 
-  pub soak-done : out1 ≡ grown out0 (run_text tape.entries end first) → (stores : Option (List Kept))
-      → Ends (soak_outcome seed) out0 out1 stores stores (Ok Done)
+  pub soak-done : now.taken ≡ grown before.taken (run_text tape.entries end first) → HostEnds (soak_outcome seed) before now (Ok Done)
   unfolding soak_outcome
-  soak-done took stores = (refl, refl, did-sending _ out0 out1 stores stores (took ∙ ap (grown out0) same-text) refl)
+  soak-done took = done-ends _ before now refl refl (did-sending _ _ _ _ _ (took ∙ ap (grown before.taken) same-text) idle)
 
-  pub soak-cut : (k : ℕ) × (out1 ≡ grown out0 (take k (run_text tape.entries end first))) → (stores : Option (List Kept))
-      → FailureEnds (soak_outcome seed) out0 out1 stores stores Outside
+  pub soak-cut : (k : ℕ) × (now.taken ≡ grown before.taken (take k (run_text tape.entries end first))) → HostEnds (soak_outcome seed) before now (Err Outside)
   unfolding soak_outcome
-  soak-cut (k, cut) stores =
-      did-first-sending _ out0 out1 stores stores (k, cut ∙ ap (λ text. grown out0 (take k text)) same-text) refl
+  soak-cut (k, cut) = stopped-ends _ before now (did-first-sending _ _ _ _ _ (k, cut ∙ ap (λ text. grown before.taken (take k text)) same-text) idle)
 
 -- an engine that is made for the parts of a run, with what the settings ask of it
 pub record IsMadeFor (said : SettingsValue) (parts : Parts) (limit : ℕ) (wanted : Wanted) (cuts : List ℕ) (before : ℕ) (first : Board) : Type 0 where
@@ -548,36 +630,33 @@ made-for kept said parts end limit cuts unused before first same last is listed 
     })
 
 -- the run of an engine is that of its parts
-module _ (said : SettingsValue) (parts : Parts) (limit : ℕ) (wanted : Wanted) (cuts : List ℕ) (before : ℕ) (first : Board)
-    (made : IsMadeFor said parts limit wanted cuts before first) (out0 out1 : Option (List ℕ)) (stores0 stores1 : Option (List Kept)) where
-  pub run-done : (calls : ℕ) (ending : Ending) (cpu : CpuValue) (now : Board) → Did (run_events parts.tape.entries limit wanted calls cuts first) out0 out1 stores0 stores1
-      → FitsCalls parts.tape.entries limit (length cuts) first before calls
-      → ending ≡ ending_by cpu.jam → cpu ≡ now.cpu → now ≡ cleared (last_board parts.tape.entries limit cuts first)
-      → RunComes said parts (λ outcome. Ends outcome out0 out1 stores0 stores1 (Ok ending))
+module _ (said : SettingsValue) (parts : Parts) (limit : ℕ) (wanted : Wanted) (cuts : List ℕ) (calls0 : ℕ) (first : Board)
+    (made : IsMadeFor said parts limit wanted cuts calls0 first) (before now : Seen) where
+  pub run-done : (calls : ℕ) (ending : Ending) (cpu : CpuValue) (last : Board) → HostDid (run_events parts.tape.entries limit wanted calls cuts first) before now
+      → FitsCalls parts.tape.entries limit (length cuts) first calls0 calls
+      → ending ≡ ending_by cpu.jam → cpu ≡ last.cpu → last ≡ cleared (last_board parts.tape.entries limit cuts first)
+      → RunEnds said parts before now (Ok ending)
   unfolding run_outcome
-  run-done calls ending cpu now did fits by here there =
+  run-done calls ending cpu last did fits by here there =
       let is = by ∙ ap (λ (c : CpuValue). ending_by c.jam) here ∙ ap (λ (b : Board). ending_by b.cpu.jam) there in
       record {
         calls = calls;
         fits = rw (sym made.same_limit, sym made.same_cuts, sym made.same_first, sym made.five) fits;
-        of_outcome =
-            rw (sym made.same_limit, sym made.same_cuts, sym made.same_first, sym made.same_wanted) (
-              sym (ap status_of_ending is),
-              refl,
-              did,
-            );
+        ends =
+            rw (sym made.same_limit, sym made.same_cuts, sym made.same_first, sym made.same_wanted)
+            (record { done = (sym (ap status_of_ending is), refl, did); failed = tt });
       }
 
-  pub run-cut : StopsIn parts.tape.entries limit wanted before cuts first out0 out1 stores0 stores1
-      → RunComes said parts (λ outcome. FailureEnds outcome out0 out1 stores0 stores1 Outside)
+  pub run-cut : StopsIn parts.tape.entries limit wanted calls0 cuts first before.taken now.taken before.stores now.stores
+      → RunEnds said parts before now (Err Outside)
   unfolding run_outcome
   run-cut stopped = record {
     calls = stopped.calls;
     fits = rw (sym made.same_limit, sym made.same_cuts, sym made.same_first, sym made.five) stopped.fits;
-    of_outcome = rw (sym made.same_limit, sym made.same_cuts, sym made.same_first, sym made.same_wanted) stopped.did;
+    ends = rw (sym made.same_limit, sym made.same_cuts, sym made.same_first, sym made.same_wanted) (record { done = tt; failed = stopped.did });
   }
 
 -- a run that has no memory
-pub run-unbegun : (said : SettingsValue) (parts : Parts) → RunComes said parts (λ outcome. Unit {0})
-run-unbegun said parts =
-    let some = some-calls said (Ok parts) in record { calls = some.0; fits = some.1; of_outcome = tt }
+pub run-unbegun : (said : SettingsValue) (parts : Parts) (before now : Seen) → RunEnds said parts before now (Err NoMemory)
+run-unbegun said parts before now =
+    let some = some-calls said (Ok parts) in record { calls = some.0; fits = some.1; ends = record { done = tt; failed = tt } }

@@ -9,8 +9,8 @@ use Rattle.command_line.specs.CommandValue.{PcmValue, RunValue, SeekValue, frame
 use Rattle.command_line.specs.SettingsValue.{SettingsValue}
 use Rattle.outside_io.specs.declared.answers.SinkFault.{SinkFault}
 use Rattle.outside_io.specs.Causes.{HasCause}
-use Rattle.outside_io.specs.Known.{grown}
-use Rattle.outside_io.specs.Shelf.{Files, Kept}
+use Rattle.outside_io.specs.Seen.{Seen, SameLoans, HostDidNothing}
+use Rattle.outside_io.specs.Shelf.{Files}
 use Rattle.outside_io.specs.Sink.{Takes}
 use Rattle.tape_ports.specs.declared.entry.TapeEntry.{TapeEntry}
 use Rattle.lockstep_board.specs.Lockstep.{Board}
@@ -18,7 +18,7 @@ use Rattle.lockstep_board.specs.Wires.{wires_of}
 use Rattle.keyframes.specs.Seeking.{over_image}
 use Rattle.keyframes.proofs.AlongLaws.{rom-after}
 use Rattle.board_base.specs.declared.vector_memory.TheConstants.{VECTOR_RAM_LEN, VECTOR_ROM_LEN}
-use Rattle.sliced_run.proofs.EventLaws.{did-first-sending, did-sending}
+use Rattle.outside_io.proofs.EventLaws.{did-first-sending, did-sending}
 use Rattle.gravitar_commands.specs.declared.failure.Failure.{Failure}
 use Rattle.gravitar_commands.specs.declared.failure.Failure.TheVariants.{Absent, Bad, NoMemory, Outside}
 use Rattle.gravitar_commands.specs.declared.failure.Ending.{Ending}
@@ -26,8 +26,8 @@ use Rattle.gravitar_commands.specs.declared.failure.Ending.TheVariants.{Done}
 use Rattle.gravitar_commands.specs.declared.parts.Parts.{Parts}
 use Rattle.gravitar_commands.specs.declared.telling.Telling.TheVariants.{Frames, Profile, Samples}
 use Rattle.gravitar_commands.specs.Endings.{status_of_ending}
-use Rattle.gravitar_commands.specs.Outcome.{CommandComes, ForReading, Outcome, command_outcome, finished, first_board, limit_of, run_files, telling_outcome, told_outcome}
-use Rattle.gravitar_commands.specs.Stages.{EndFaults, Ends, FailureEnds, Refuses, StageAbsences, StageFaults, Told, WroteNothing, written_as}
+use Rattle.gravitar_commands.specs.Outcome.{ComesOver, ForReading, Outcome, command_outcome, finished, first_board, limit_of, run_files, telling_outcome, told_outcome}
+use Rattle.gravitar_commands.specs.Stages.{HostEnds, Keeps, Refuses, Reports, StageFaults, Told, written_as}
 use Rattle.board_debug.specs.BoardsText.{boards_text}
 use Rattle.gravitar_commands.specs.Telling.{sought_text, telling_text}
 use Rattle.gravitar_commands.proofs.StageLaws.{failure-ends}
@@ -41,43 +41,29 @@ pub written-faults : (before now : ℕ) (took : Result (Unit {0}) SinkFault) →
 written-faults before now (Ok _) cause = cause
 written-faults before now (Err _) cause = cause
 
--- what it comes to, over the engine that was made for its parts
-module _ (wired : Bool) (limit : ℕ) (text : List TapeEntry → ℕ → Board → List ℕ) (parts : Parts) (first : Board) (made : first ≡ first_board wired parts) (out0 out1 : Option (List ℕ)) where
-  pub told-ends : (result : Result Ending Failure) → Told out0 out1 (text parts.tape.entries limit first) result → (stores : Option (List Kept))
-      → Ends (told_outcome wired limit text parts) out0 out1 stores stores result
-  told-ends (Ok ending) told stores =
-      (ap status_of_ending (sym told.0), refl, did-sending _ out0 out1 stores stores (told.1 ∙ ap (λ b. grown out0 (text parts.tape.entries limit b)) made) refl)
-  told-ends (Err Outside) (k, cut) stores =
-      did-first-sending _ out0 out1 stores stores (k, cut ∙ ap (λ b. grown out0 (take k (text parts.tape.entries limit b))) made) refl
-  told-ends (Err NoMemory) told stores = tt
-  told-ends (Err (Bad note)) told stores = absurd told
-  told-ends (Err (Absent note)) told stores = absurd told
+-- what it comes to on a host, of whose shelf it knows nothing
+module _ (before now : Seen) (idle : now.stores ≡ before.stores) where
+  pub told-ends : (wired : Bool) (limit : ℕ) (text : List TapeEntry → ℕ → Board → List ℕ) (parts : Parts) (result : Result Ending Failure)
+      → Told before.taken now.taken (text parts.tape.entries limit (first_board wired parts)) result → HostEnds (told_outcome wired limit text parts) before now result
+  told-ends wired limit text parts (Ok ending) told =
+      record { done = (ap status_of_ending (sym told.0), refl, did-sending _ _ _ _ _ told.1 idle); failed = tt }
+  told-ends wired limit text parts (Err Outside) told = record { done = tt; failed = did-first-sending _ _ _ _ _ told idle }
+  told-ends wired limit text parts (Err NoMemory) told = record { done = tt; failed = tt }
+  told-ends wired limit text parts (Err (Bad note)) told = absurd told
+  told-ends wired limit text parts (Err (Absent note)) told = absurd told
+
+  pub told-keeps : (text : List ℕ) (result : Result Ending Failure) → SameLoans before now → now.shelf_faults ≡ before.shelf_faults
+      → before.absences ≤ now.absences → Told before.taken now.taken text result → StageFaults before.out_faults now.out_faults result → Keeps before now result
+  told-keeps text (Ok ending) loans shelf later told faults = record { loans = loans; quiet = tt; faults = (shelf, faults); absences = later }
+  told-keeps text (Err Outside) loans shelf later told faults =
+      record { loans = loans; quiet = tt; faults = (omega (arith, shelf), faults.later, inr faults.rose); absences = later }
+  told-keeps text (Err NoMemory) loans shelf later told faults = record { loans = loans; quiet = (told, idle); faults = (shelf, faults); absences = later }
+  told-keeps text (Err (Bad note)) loans shelf later told faults = absurd told
+  told-keeps text (Err (Absent note)) loans shelf later told faults = absurd told
 
 pub told-done : (out0 out1 : Option (List ℕ)) (text : List ℕ) (result : Result Ending Failure) → Told out0 out1 text result → IfOk result (λ ending. ending ≡ Done)
 told-done out0 out1 text (Ok ending) told = told.0
 told-done out0 out1 text (Err failure) told = tt
-
-pub told-quiet : (out0 out1 : Option (List ℕ)) (text : List ℕ) (result : Result Ending Failure) → Told out0 out1 text result → (stores : Option (List Kept))
-    → WroteNothing out0 out1 stores stores result
-told-quiet out0 out1 text (Ok ending) told stores = tt
-told-quiet out0 out1 text (Err Outside) told stores = tt
-told-quiet out0 out1 text (Err NoMemory) told stores = (told, refl)
-told-quiet out0 out1 text (Err (Bad note)) told stores = absurd told
-told-quiet out0 out1 text (Err (Absent note)) told stores = absurd told
-
-pub told-faults : (before now : ℕ) (result : Result Ending Failure) → StageFaults before now result → (n : ℕ) → EndFaults n n before now result
-told-faults before now (Ok ending) faults n = (refl, faults)
-told-faults before now (Err Outside) faults n = (omega arith, faults.later, inr faults.rose)
-told-faults before now (Err NoMemory) faults n = (refl, faults)
-told-faults before now (Err (Bad note)) faults n = (refl, faults)
-told-faults before now (Err (Absent note)) faults n = (refl, faults)
-
-pub told-absences : (out0 out1 : Option (List ℕ)) (text : List ℕ) (result : Result Ending Failure) → Told out0 out1 text result → (n : ℕ) → StageAbsences n n result
-told-absences out0 out1 text (Ok ending) told n = omega arith
-told-absences out0 out1 text (Err Outside) told n = omega arith
-told-absences out0 out1 text (Err NoMemory) told n = omega arith
-told-absences out0 out1 text (Err (Bad note)) told n = absurd told
-told-absences out0 out1 text (Err (Absent note)) told n = absurd told
 
 -- by the settings of a run
 pub told-asked : (said : SettingsValue) (wired : Bool) (limit end : ℕ) (text : List TapeEntry → ℕ → Board → List ℕ) (parts : Parts) → wired ≡ said.timers → limit ≡ limit_of said.until end
@@ -87,60 +73,56 @@ told-asked said wired limit end text parts asked lowered ends =
     ap (λ (w : Bool). told_outcome w limit text parts) asked
     ∙ ap (λ (n : ℕ). told_outcome said.timers n text parts) (lowered ∙ ap (limit_of said.until) ends)
 
-module _ (told : Option Files) (run : RunValue) (text : List TapeEntry → ℕ → Board → List ℕ) (out0 out1 : Option (List ℕ)) (stores0 stores1 : Option (List Kept)) where
-  -- it stopped at its files
-  pub told-stopped : (failure : Failure) → IfSome told (λ files. ForReading run.settings.state files (λ reading. Refuses (run_files files run reading) failure))
-      → out1 ≡ out0 → stores1 ≡ stores0
-      → IfSome told (λ files. ForReading run.settings.state files (λ reading.
-      FailureEnds (finished (run_files files run reading) (telling_outcome run.settings text)) out0 out1 stores0 stores1 failure))
-  told-stopped failure refuses took same = of told refuses
-    where
-      of : (some : Option Files) → IfSome some (λ files. ForReading run.settings.state files (λ reading. Refuses (run_files files run reading) failure))
-          → IfSome some (λ files. ForReading run.settings.state files (λ reading.
-          FailureEnds (finished (run_files files run reading) (telling_outcome run.settings text)) out0 out1 stores0 stores1 failure))
-      of None refuses = tt
-      of (Some files) refuses = λ reading is.
-          failure-ends (run_files files run reading) (telling_outcome run.settings text) failure out0 out1 stores0 stores1 (refuses reading is) took same
+-- it stopped at its files
+pub told-stopped : (run : RunValue) (text : List TapeEntry → ℕ → Board → List ℕ) (failure : Failure) (before now : Seen) → HostDidNothing before now
+    → IfSome before.files (λ files. ForReading run.settings.state files (λ reading. Refuses (run_files files run reading) failure))
+    → Reports run text before now (Err failure)
+told-stopped run text failure before now nothing refuses = of before.files refuses
+  where
+    of : (told : Option Files) → IfSome told (λ files. ForReading run.settings.state files (λ reading. Refuses (run_files files run reading) failure))
+        → IfSome told (λ files. ForReading run.settings.state files (λ reading.
+        HostEnds (finished (run_files files run reading) (telling_outcome run.settings text)) before now (Err failure)))
+    of None refuses = tt
+    of (Some files) refuses = λ reading is.
+        failure-ends (run_files files run reading) (telling_outcome run.settings text) failure before now nothing (refuses reading is)
 
-  -- its files were good
-  pub told-comes : (parts : Parts) (result : Result Ending Failure)
-      → IfSome told (λ files. ForReading run.settings.state files (λ reading. run_files files run reading ≡ Ok parts))
-      → Ends (telling_outcome run.settings text parts) out0 out1 stores0 stores1 result
-      → IfSome told (λ files. ForReading run.settings.state files (λ reading.
-      Ends (finished (run_files files run reading) (telling_outcome run.settings text)) out0 out1 stores0 stores1 result))
-  told-comes parts result good ends = of told good
-    where
-      of : (some : Option Files) → IfSome some (λ files. ForReading run.settings.state files (λ reading. run_files files run reading ≡ Ok parts))
-          → IfSome some (λ files. ForReading run.settings.state files (λ reading.
-          Ends (finished (run_files files run reading) (telling_outcome run.settings text)) out0 out1 stores0 stores1 result))
-      of None good = tt
-      of (Some files) good = λ reading is. rw (good reading is) ends
+-- its files were good
+pub told-comes : (run : RunValue) (text : List TapeEntry → ℕ → Board → List ℕ) (parts : Parts) (before now : Seen) (result : Result Ending Failure)
+    → IfSome before.files (λ files. ForReading run.settings.state files (λ reading. run_files files run reading ≡ Ok parts))
+    → HostEnds (telling_outcome run.settings text parts) before now result → Reports run text before now result
+told-comes run text parts before now result good ends = of before.files good
+  where
+    of : (told : Option Files) → IfSome told (λ files. ForReading run.settings.state files (λ reading. run_files files run reading ≡ Ok parts))
+        → IfSome told (λ files. ForReading run.settings.state files (λ reading.
+        HostEnds (finished (run_files files run reading) (telling_outcome run.settings text)) before now result))
+    of None good = tt
+    of (Some files) good = λ reading is. rw (good reading is) ends
 
 -- each of the three commands comes to that
 pub pcm-told : (told : Option Files) (holds : Outcome → Type 0) (pcm : PcmValue)
     → IfSome told (λ files. ForReading pcm.run.settings.state files (λ reading. holds (finished (run_files files pcm.run reading) (telling_outcome pcm.run.settings (telling_text (Samples pcm.per))))))
-    → IfSome told (λ files. ForReading pcm.run.settings.state files (λ reading. CommandComes (pcm_of pcm) files reading holds))
+    → ComesOver (pcm_of pcm) told holds
 unfolding command_outcome
 pcm-told None holds pcm comes = tt
 pcm-told (Some files) holds pcm comes = λ reading is. record { calls = 0; fits = tt; of_outcome = comes reading is }
 
 pub frames-told : (told : Option Files) (holds : Outcome → Type 0) (run : RunValue)
     → IfSome told (λ files. ForReading run.settings.state files (λ reading. holds (finished (run_files files run reading) (telling_outcome run.settings (telling_text Frames)))))
-    → IfSome told (λ files. ForReading run.settings.state files (λ reading. CommandComes (frames_of run) files reading holds))
+    → ComesOver (frames_of run) told holds
 unfolding command_outcome
 frames-told None holds run comes = tt
 frames-told (Some files) holds run comes = λ reading is. record { calls = 0; fits = tt; of_outcome = comes reading is }
 
 pub profile-told : (told : Option Files) (holds : Outcome → Type 0) (run : RunValue)
     → IfSome told (λ files. ForReading run.settings.state files (λ reading. holds (finished (run_files files run reading) (telling_outcome run.settings (telling_text Profile)))))
-    → IfSome told (λ files. ForReading run.settings.state files (λ reading. CommandComes (profile_of run) files reading holds))
+    → ComesOver (profile_of run) told holds
 unfolding command_outcome
 profile-told None holds run comes = tt
 profile-told (Some files) holds run comes = λ reading is. record { calls = 0; fits = tt; of_outcome = comes reading is }
 
 pub seek-told : (told : Option Files) (holds : Outcome → Type 0) (seek : SeekValue)
     → IfSome told (λ files. ForReading seek.run.settings.state files (λ reading. holds (finished (run_files files seek.run reading) (telling_outcome seek.run.settings (sought_text seek.clocks)))))
-    → IfSome told (λ files. ForReading seek.run.settings.state files (λ reading. CommandComes (seek_of seek) files reading holds))
+    → ComesOver (seek_of seek) told holds
 unfolding command_outcome
 seek-told None holds seek comes = tt
 seek-told (Some files) holds seek comes = λ reading is. record { calls = 0; fits = tt; of_outcome = comes reading is }
@@ -177,16 +159,16 @@ lowered-few limit most (clock ∷ clocks) low =
 -- the words as they lie in their type
 pub pcm-told-as : (told : Option Files) (holds : Outcome → Type 0) (pcm inner : PcmValue) → inner ≡ pcm
     → IfSome told (λ files. ForReading inner.run.settings.state files (λ reading. holds (finished (run_files files inner.run reading) (telling_outcome inner.run.settings (telling_text (Samples inner.per))))))
-    → IfSome told (λ files. ForReading pcm.run.settings.state files (λ reading. CommandComes (pcm_of pcm) files reading holds))
+    → ComesOver (pcm_of pcm) told holds
 pcm-told-as told holds pcm inner is comes =
-    subst (λ (w : PcmValue). IfSome told (λ files. ForReading w.run.settings.state files (λ reading. CommandComes (pcm_of w) files reading holds))) is
+    subst (λ (w : PcmValue). ComesOver (pcm_of w) told holds) is
     (pcm-told told holds inner comes)
 
 pub seek-told-as : (told : Option Files) (holds : Outcome → Type 0) (seek inner : SeekValue) → inner ≡ seek
     → IfSome told (λ files. ForReading inner.run.settings.state files (λ reading. holds (finished (run_files files inner.run reading) (telling_outcome inner.run.settings (sought_text inner.clocks)))))
-    → IfSome told (λ files. ForReading seek.run.settings.state files (λ reading. CommandComes (seek_of seek) files reading holds))
+    → ComesOver (seek_of seek) told holds
 seek-told-as told holds seek inner is comes =
-    subst (λ (w : SeekValue). IfSome told (λ files. ForReading w.run.settings.state files (λ reading. CommandComes (seek_of w) files reading holds))) is
+    subst (λ (w : SeekValue). ComesOver (seek_of w) told holds) is
     (seek-told told holds inner comes)
 
 -- the boards were written, or a part of them, of a run that begins at the engine's board

@@ -39,9 +39,9 @@ use Rattle.gravitar_commands.specs.declared.cause.Cause.{Cause}
 use Rattle.gravitar_commands.specs.declared.cause.Cause.TheVariants.{Absent, Image, Tape, State, Cells, Script}
 use Rattle.gravitar_commands.specs.declared.telling.Telling.TheVariants.{Samples, Frames, Profile}
 use Rattle.gravitar_commands.specs.Causes.{cause_text}
-use Rattle.sliced_run.specs.Events.{Event, sending}
+use Rattle.outside_io.specs.Events.{Event, sending, storing}
 use Rattle.gravitar_commands.specs.Endings.{ending_by, status_of_ending}
-use Rattle.sliced_run.specs.Slices.{FitsCalls, Wanted, last_board, run_events, storing}
+use Rattle.sliced_run.specs.Slices.{FitsCalls, Wanted, last_board, run_events}
 use Rattle.gravitar_commands.specs.Sources.{assembled_in, both_listings, source_read}
 use Rattle.gravitar_commands.specs.Telling.{sought_text, telling_text}
 

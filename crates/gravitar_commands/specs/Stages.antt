@@ -1,18 +1,21 @@
 -- What the stages of a command promise.
-use Rattle.std.specs.Prelude.{◌≡◌, ℕ, ◌≤◌, Bool, List, [], Option, Result, Ok, Err, take, string_bytes, ◌⊎◌}
+use Rattle.std.specs.Prelude.{◌≡◌, ℕ, ◌≤◌, Bool, List, [], Option, Some, Result, Ok, Err, IfSome, IfOk, IfErr, take, string_bytes}
 use Rattle.outside_io.specs.Causes.{Rose, Raised}
 use Rattle.outside_io.specs.Known.{grown}
 use Rattle.outside_io.specs.declared.answers.SinkFault.{SinkFault}
-use Rattle.outside_io.specs.Shelf.{Files, Kept}
+use Rattle.outside_io.specs.Seen.{Seen, SameLoans, HostDid, HostDidFirst, HostDidNothing, NoFault, Faulted}
+use Rattle.outside_io.specs.Shelf.{Files}
+use Rattle.tape_ports.specs.declared.entry.TapeEntry.{TapeEntry}
+use Rattle.lockstep_board.specs.Lockstep.{Board}
+use Rattle.command_line.specs.CommandValue.{CommandValue, RunValue}
 use Rattle.command_line.specs.SettingsValue.{SettingsValue}
 use Rattle.gravitar_commands.specs.declared.parts.Parts.{Parts}
 use Rattle.gravitar_commands.specs.declared.failure.Failure.{Failure}
 use Rattle.gravitar_commands.specs.declared.failure.Failure.TheVariants.{Bad, Absent, Outside, NoMemory}
 use Rattle.gravitar_commands.specs.declared.failure.Ending.{Ending}
 use Rattle.gravitar_commands.specs.declared.failure.Ending.TheVariants.{Done}
-use Rattle.sliced_run.specs.Events.{Did, DidFirst}
 use Rattle.gravitar_commands.specs.Endings.{status_of_ending}
-use Rattle.gravitar_commands.specs.Outcome.{Outcome, FitsRun, debug_outcome, outside_text, finished, memory_text, read_as, refused, run_outcome, script_file, script_read}
+use Rattle.gravitar_commands.specs.Outcome.{ComesOf, ForReading, Outcome, FitsRun, debug_outcome, outside_text, finished, memory_text, read_as, refused, run_files, run_outcome, script_file, script_read, telling_outcome}
 
 -- the status of a command that stopped
 abbrev pub status_of : Failure → ℕ
@@ -65,17 +68,26 @@ abbrev pub StageAbsences : {A : Type 0} → ℕ → ℕ → Result A Failure →
 StageAbsences before now (Ok _) = before ≤ now
 StageAbsences before now (Err failure) = FailureAbsences before now failure
 
--- what is defined, or a prefix of it before an outside fault
-abbrev pub FailureEnds : Outcome → Option (List ℕ) → Option (List ℕ) → Option (List Kept) → Option (List Kept) → Failure → Type 0
-FailureEnds outcome out0 out1 stores0 stores1 Outside = DidFirst outcome.events out0 out1 stores0 stores1
-FailureEnds outcome out0 out1 stores0 stores1 NoMemory = Unit {0}
-FailureEnds outcome out0 out1 stores0 stores1 failure = outcome ≡ refused (status_of failure) (note_of failure)
+-- what comes of an outcome by a failure: a first part of it was done before an outside fault
+abbrev pub FailureEnds : Outcome → Seen → Seen → Failure → Type 0
+FailureEnds outcome before now Outside = HostDidFirst outcome.events before now
+FailureEnds outcome before now NoMemory = Unit {0}
+FailureEnds outcome before now failure = outcome ≡ refused (status_of failure) (note_of failure)
 
--- the whole of a command
-abbrev pub Ends : Outcome → Option (List ℕ) → Option (List ℕ) → Option (List Kept) → Option (List Kept) → Result Ending Failure → Type 0
-Ends outcome out0 out1 stores0 stores1 (Ok ending) =
-    (outcome.status ≡ status_of_ending ending) × (outcome.note ≡ []) × Did outcome.events out0 out1 stores0 stores1
-Ends outcome out0 out1 stores0 stores1 (Err failure) = FailureEnds outcome out0 out1 stores0 stores1 failure
+-- all that is defined was done, or it failed
+pub record HostEnds (outcome : Outcome) (before now : Seen) (result : Result Ending Failure) : Type 0 where
+  pub done : IfOk result (λ ending. (outcome.status ≡ status_of_ending ending) × (outcome.note ≡ []) × HostDid outcome.events before now)
+  pub failed : IfErr result (λ failure. FailureEnds outcome before now failure)
+
+-- the same of a command, whose outcome its words and files fix
+abbrev pub Performs : CommandValue → Seen → Seen → Result Ending Failure → Type 0
+Performs command before now result = ComesOf (Some command) before.files (λ outcome. HostEnds outcome before now result)
+
+-- the same of a run whose bytes are told in another way
+abbrev pub Reports : RunValue → (List TapeEntry → ℕ → Board → List ℕ) → Seen → Seen → Result Ending Failure → Type 0
+Reports run text before now result =
+    IfSome before.files (λ files. ForReading run.settings.state files (λ reading.
+    HostEnds (finished (run_files files run reading) (telling_outcome run.settings text)) before now result))
 
 -- what becomes of a command whose text went out, or didn't
 abbrev pub written_as : Result (Unit {0}) SinkFault → Result Ending Failure
@@ -90,19 +102,26 @@ Told out0 out1 text (Err NoMemory) = out1 ≡ out0
 Told out0 out1 text (Err _) = ⊥
 
 -- nothing was written or stored, but for a success and an outside fault
-abbrev pub FailureWroteNothing : Option (List ℕ) → Option (List ℕ) → Option (List Kept) → Option (List Kept) → Failure → Type 0
-FailureWroteNothing out0 out1 stores0 stores1 Outside = Unit {0}
-FailureWroteNothing out0 out1 stores0 stores1 _ = (out1 ≡ out0) × (stores1 ≡ stores0)
-
-abbrev pub WroteNothing : {A : Type 0} → Option (List ℕ) → Option (List ℕ) → Option (List Kept) → Option (List Kept) → Result A Failure → Type 0
-WroteNothing out0 out1 stores0 stores1 (Ok _) = Unit {0}
-WroteNothing out0 out1 stores0 stores1 (Err failure) = FailureWroteNothing out0 out1 stores0 stores1 failure
+abbrev pub HostQuiet : {A : Type 0} → Seen → Seen → Result A Failure → Type 0
+HostQuiet before now (Ok _) = Unit {0}
+HostQuiet before now (Err Outside) = Unit {0}
+HostQuiet before now (Err failure) = HostDidNothing before now
 
 -- an outside fault is one of the shelf or of the output, and nothing else has raised their counts
-abbrev pub EndFaults : {A : Type 0} → ℕ → ℕ → ℕ → ℕ → Result A Failure → Type 0
-EndFaults shelf0 shelf1 out0 out1 (Ok _) = (shelf1 ≡ shelf0) × (out1 ≡ out0)
-EndFaults shelf0 shelf1 out0 out1 (Err Outside) = (shelf0 ≤ shelf1) × (out0 ≤ out1) × (Rose shelf0 shelf1 ⊎ Rose out0 out1)
-EndFaults shelf0 shelf1 out0 out1 (Err _) = (shelf1 ≡ shelf0) × (out1 ≡ out0)
+abbrev pub FailureHostFaults : Seen → Seen → Failure → Type 0
+FailureHostFaults before now Outside = Faulted before now
+FailureHostFaults before now _ = NoFault before now
+
+abbrev pub HostFaults : {A : Type 0} → Seen → Seen → Result A Failure → Type 0
+HostFaults before now (Ok _) = NoFault before now
+HostFaults before now (Err failure) = FailureHostFaults before now failure
+
+-- what holds of a host after a command, whatever its files are
+pub record Keeps (before now : Seen) (result : Result Ending Failure) : Type 0 where
+  pub loans : SameLoans before now
+  pub quiet : HostQuiet before now result
+  pub faults : HostFaults before now result
+  pub absences : StageAbsences before.absences now.absences result
 
 -- the notes took all of a text, or a prefix of it where a write failed
 pub record Noted (notes0 notes1 : Option (List ℕ)) (faults0 faults1 : ℕ) (text : List ℕ) : Type 0 where
@@ -116,8 +135,8 @@ IsBadOrMemory text (Bad note) = string_bytes note ≡ text
 IsBadOrMemory text NoMemory = Unit {0}
 IsBadOrMemory text _ = ⊥
 
--- this holds of the outcome of a run of these parts, with some number of device calls that fits
-pub record RunComes (said : SettingsValue) (parts : Parts) (holds : Outcome → Type 0) : Type 0 where
+-- what comes of a run of these parts, with some number of device calls that fits
+pub record RunEnds (said : SettingsValue) (parts : Parts) (before now : Seen) (result : Result Ending Failure) : Type 0 where
   pub calls : ℕ
   pub fits : FitsRun said parts calls
-  pub of_outcome : holds (run_outcome said parts calls)
+  pub ends : HostEnds (run_outcome said parts calls) before now result

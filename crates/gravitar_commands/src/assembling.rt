@@ -1,8 +1,9 @@
-ghost use Rattle.std.specs.Prelude.{◌≡◌, ℕ, IfOk, IfSome, None};
+ghost use Rattle.std.specs.Prelude.{◌≡◌, ℕ, IfOk, IfSome};
 ghost use Rattle.command_line.specs.CommandValue.{asm_of};
-ghost use Rattle.gravitar_commands.specs.Outcome.{CommandComes, ForReading, asm_files, read_as, source_file};
+ghost use Rattle.outside_io.specs.Hosts.{seen};
+ghost use Rattle.gravitar_commands.specs.Outcome.{asm_files, read_as, source_file};
 ghost use Rattle.gravitar_commands.specs.Sources.{assembled_in, both_listings, source_read};
-ghost use Rattle.gravitar_commands.specs.Stages.{Ends, EndFaults, Gives, WroteNothing, StageAbsences, StageFaults};
+ghost use Rattle.gravitar_commands.specs.Stages.{Gives, Keeps, Performs, StageAbsences, StageFaults};
 
 use crate::assembled::{Assembled, Language, assemble};
 use crate::cause::Cause;
@@ -13,9 +14,8 @@ use asm_listing::{Text, push_listing};
 use asm_text::{AsmFault, TEXT_LIMIT};
 use board_base::OutOfMemory;
 use command_line::AsmWords;
-use outside_io::{Shelf, Sink};
+use outside_io::{Host, Shelf, Sink};
 use rom_image::Image;
-use sliced_run::store_under;
 use std::alloc::Global;
 
 /// What these bytes give as a source, put into an image.
@@ -118,29 +118,15 @@ fn list_both(alloc: Global, made: &Assembled) -> Result<Text, OutOfMemory>
 pub fn perform_asm<S: Shelf, O: Sink>(
     alloc: Global,
     words: &AsmWords<'_>,
-    shelf: &mut S,
-    out: &mut O,
+    host: &mut Host<'_, S, O>,
 ) -> Result<Ending, Failure>
-    ensures outcome { IfSome (S.files shelf.old) (λ files. ForReading None files (λ reading.
-        CommandComes (asm_of words.now) files reading (λ outcome.
-        Ends outcome (O.taken out.old) (O.taken out.new) (S.stores shelf.old) (S.stores shelf.new) result))) }
+    ensures outcome { Performs (asm_of words.now) (seen host.old) (seen host.new) result }
     ensures done { IfOk result (λ ending. ending ≡ Ending.Done) }
-    ensures quiet { WroteNothing (O.taken out.old) (O.taken out.new) (S.stores shelf.old) (S.stores shelf.new) result }
-    ensures faults { EndFaults (S.faults shelf.old) (S.faults shelf.new) (O.faults out.old) (O.faults out.new) result }
-    ensures absences { StageAbsences (S.absences shelf.old) (S.absences shelf.new) result }
+    ensures keeps { Keeps (seen host.old) (seen host.new) result }
 {
-    let made = match load_asm(alloc, words, shelf) {
-        Ok(made) => made,
-        Err(failure) => return Err(failure),
-    };
-    let Ok(text) = list_both(alloc, &made) else {
-        return Err(Failure::NoMemory);
-    };
-    let Ok(()) = out.write(text.bytes()) else {
-        return Err(Failure::Outside);
-    };
-    let Ok(()) = store_under(Some(words.image), made.image.bytes(), shelf) else {
-        return Err(Failure::Outside);
-    };
+    let made = load_asm(alloc, words, host.shelf)?;
+    let text = list_both(alloc, &made)?;
+    host.write(text.bytes())?;
+    host.store(words.image, made.image.bytes())?;
     Ok(Ending::Done)
 }

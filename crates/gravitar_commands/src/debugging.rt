@@ -1,10 +1,9 @@
-ghost use Rattle.std.specs.Prelude.{◌≡◌, ◌≤◌, ℕ, IfOk, IfSome, List, Option, length};
+ghost use Rattle.std.specs.Prelude.{◌≡◌, ◌≤◌, IfOk, IfSome, length};
 ghost use Rattle.command_line.specs.CommandValue.{debug_of};
 ghost use Rattle.cpu_core.specs.Places.{IsProcessor};
 ghost use Rattle.debug_script.specs.declared.script.TheConstants.{SCRIPT_LIMIT};
-ghost use Rattle.outside_io.specs.Shelf.{Kept};
-ghost use Rattle.gravitar_commands.specs.Outcome.{CommandComes, ForReading};
-ghost use Rattle.gravitar_commands.specs.Stages.{Ends, EndFaults, GivesScript, WroteNothing, StageAbsences, StageFaults, session_outcome};
+ghost use Rattle.outside_io.specs.Hosts.{seen};
+ghost use Rattle.gravitar_commands.specs.Stages.{GivesScript, HostEnds, Keeps, Performs, StageAbsences, StageFaults, session_outcome};
 
 use crate::cause::Cause;
 use crate::failure::{Ending, Failure};
@@ -15,7 +14,7 @@ use board_debug::{DebugFault, run_script};
 use catchup_engine::{Devices, Engine};
 use command_line::{DebugWords, RunWords};
 use debug_script::{SCRIPT_LIMIT, ScriptFault};
-use outside_io::{Shelf, Sink};
+use outside_io::{Host, Shelf, Sink};
 use std::alloc::Global;
 
 /// The bytes of a script, which are read as commands when they are run.
@@ -35,28 +34,22 @@ fn load_script<S: Shelf>(alloc: Global, name: &str, shelf: &mut S) -> Result<Vec
 }
 
 /// Takes the memory of a session, and then runs its script.
-fn run_session<O: Sink>(
+fn run_session<S: Shelf, O: Sink>(
     alloc: Global,
     wired: bool,
     name: &str,
     parts: &Parts,
     script: &[u8],
-    out: &mut O,
+    host: &mut Host<'_, S, O>,
 ) -> Result<Ending, Failure>
     requires length { length script.now ≤ SCRIPT_LIMIT }
     requires place { IsProcessor parts.now.board.cpu }
-    ensures outcome { (stores : Option (List Kept)) → Ends (session_outcome wired name.now parts.now script.now)
-        (O.taken out.old) (O.taken out.new) stores stores result }
+    ensures outcome { HostEnds (session_outcome wired name.now parts.now script.now) (seen host.old) (seen host.new) result }
     ensures done { IfOk result (λ ending. ending ≡ Ending.Done) }
-    ensures quiet { (stores : Option (List Kept)) → WroteNothing (O.taken out.old) (O.taken out.new) stores stores result }
-    ensures faults { (n : ℕ) → EndFaults n n (O.faults out.old) (O.faults out.new) result }
-    ensures absences { (n : ℕ) → StageAbsences n n result }
+    ensures keeps { Keeps (seen host.old) (seen host.new) result }
 {
-    let Ok(mut engine) = Engine::new(alloc, &parts.image, &parts.board, Devices::fast(), wired)
-    else {
-        return Err(Failure::NoMemory);
-    };
-    match run_script(alloc, &mut engine, &parts.tape, script, out) {
+    let mut engine = Engine::new(alloc, &parts.image, &parts.board, Devices::fast(), wired)?;
+    match run_script(alloc, &mut engine, &parts.tape, script, host.out) {
         Ok(()) => Ok(Ending::Done),
         Err(DebugFault::BadCommand(line)) => Err(bad(
             alloc,
@@ -73,43 +66,27 @@ fn debug_run<S: Shelf, O: Sink>(
     alloc: Global,
     run: &RunWords<'_>,
     name: &str,
-    shelf: &mut S,
-    out: &mut O,
+    host: &mut Host<'_, S, O>,
 ) -> Result<Ending, Failure>
-    ensures outcome { IfSome (S.files shelf.old) (λ files. ForReading run.now.settings.state files (λ reading.
-        CommandComes (debug_of (record { run = run.now; script = name.now })) files reading (λ outcome.
-        Ends outcome (O.taken out.old) (O.taken out.new) (S.stores shelf.old) (S.stores shelf.new) result))) }
+    ensures outcome { Performs (debug_of (record { run = run.now; script = name.now })) (seen host.old) (seen host.new) result }
     ensures done { IfOk result (λ ending. ending ≡ Ending.Done) }
-    ensures quiet { WroteNothing (O.taken out.old) (O.taken out.new) (S.stores shelf.old) (S.stores shelf.new) result }
-    ensures faults { EndFaults (S.faults shelf.old) (S.faults shelf.new) (O.faults out.old) (O.faults out.new) result }
-    ensures absences { StageAbsences (S.absences shelf.old) (S.absences shelf.new) result }
+    ensures keeps { Keeps (seen host.old) (seen host.new) result }
 {
-    let parts = match load_run(alloc, run, shelf) {
-        Ok(parts) => parts,
-        Err(failure) => return Err(failure),
-    };
-    let script = match load_script(alloc, name, shelf) {
-        Ok(script) => script,
-        Err(failure) => return Err(failure),
-    };
+    let parts = load_run(alloc, run, host.shelf)?;
+    let script = load_script(alloc, name, host.shelf)?;
     let wired = has_timers(&run.settings);
-    run_session(alloc, wired, name, &parts, &script, out)
+    run_session(alloc, wired, name, &parts, &script, host)
 }
 
 /// Debugs an image with a tape by a script.
 pub fn perform_debug<S: Shelf, O: Sink>(
     alloc: Global,
     words: &DebugWords<'_>,
-    shelf: &mut S,
-    out: &mut O,
+    host: &mut Host<'_, S, O>,
 ) -> Result<Ending, Failure>
-    ensures outcome { IfSome (S.files shelf.old) (λ files. ForReading words.now.run.settings.state files (λ reading.
-        CommandComes (debug_of words.now) files reading (λ outcome.
-        Ends outcome (O.taken out.old) (O.taken out.new) (S.stores shelf.old) (S.stores shelf.new) result))) }
+    ensures outcome { Performs (debug_of words.now) (seen host.old) (seen host.new) result }
     ensures done { IfOk result (λ ending. ending ≡ Ending.Done) }
-    ensures quiet { WroteNothing (O.taken out.old) (O.taken out.new) (S.stores shelf.old) (S.stores shelf.new) result }
-    ensures faults { EndFaults (S.faults shelf.old) (S.faults shelf.new) (O.faults out.old) (O.faults out.new) result }
-    ensures absences { StageAbsences (S.absences shelf.old) (S.absences shelf.new) result }
+    ensures keeps { Keeps (seen host.old) (seen host.new) result }
 {
-    debug_run(alloc, &words.run, words.script, shelf, out)
+    debug_run(alloc, &words.run, words.script, host)
 }

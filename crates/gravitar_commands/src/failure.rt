@@ -1,3 +1,9 @@
+ghost use Rattle.std.specs.Prelude.{◌≡◌};
+ghost use Rattle.gravitar_commands.specs.declared.failure.Failure.TheVariants.{NoMemory, Outside};
+
+use board_base::OutOfMemory;
+use outside_io::{Failed, SinkFault};
+
 /// Why a command stopped before its end, with its note where that names a file.
 #[derive(Debug, Drop)]
 pub enum Failure {
@@ -9,6 +15,30 @@ pub enum Failure {
     Outside,
     /// No memory.
     NoMemory,
+}
+
+impl From<OutOfMemory> for Failure {
+    ghost from_gives = { λ _ failure. failure ≡ NoMemory };
+
+    fn from(_error: OutOfMemory) -> Failure {
+        Failure::NoMemory
+    }
+}
+
+impl From<SinkFault> for Failure {
+    ghost from_gives = { λ _ failure. failure ≡ Outside };
+
+    fn from(_fault: SinkFault) -> Failure {
+        Failure::Outside
+    }
+}
+
+impl From<Failed> for Failure {
+    ghost from_gives = { λ _ failure. failure ≡ Outside };
+
+    fn from(_failed: Failed) -> Failure {
+        Failure::Outside
+    }
 }
 
 /// How a run ended: at its limit, or at an undocumented opcode.

@@ -1,13 +1,14 @@
-ghost use Rattle.std.specs.Prelude.{◌≡◌, ◌≢◌, ◌≤◌, ◌<◌, ◌↔◌, ◌⊎◌, [], ◌∷◌, IfSome, IfOk, Contains, None, Some, Ok};
+ghost use Rattle.std.specs.Prelude.{◌≡◌, ◌≢◌, ◌≤◌, ◌<◌, ◌↔◌, ◌⊎◌, [], ◌∷◌, IfOk, Contains, None, Some, Ok};
 ghost use Rattle.command_line.specs.CommandLine.{command_of};
 ghost use Rattle.command_line.specs.CommandValue.{run_of, show_of};
 ghost use Rattle.command_line.specs.CommandWords.{command_value};
 ghost use Rattle.cpu_core.specs.Places.{IsProcessor};
 ghost use Rattle.outside_io.specs.Causes.{Rose};
-ghost use Rattle.sliced_run.specs.Events.{Did, DidFirst};
+ghost use Rattle.outside_io.specs.Events.{Did, DidFirst};
+ghost use Rattle.outside_io.specs.Hosts.{seen};
 ghost use Rattle.gravitar_commands.specs.Endings.{ending_by};
-ghost use Rattle.gravitar_commands.specs.Outcome.{Comes, ComesOf, CommandComes, ForReading, IsRun, usage_text, outside_text, memory_text};
-ghost use Rattle.gravitar_commands.specs.Stages.{Ends, EndFaults, WroteNothing, Noted, RunComes, StageAbsences};
+ghost use Rattle.gravitar_commands.specs.Outcome.{Comes, IsRun, usage_text, outside_text, memory_text};
+ghost use Rattle.gravitar_commands.specs.Stages.{Keeps, Noted, Performs, RunEnds};
 
 use crate::answer::{ending_status, note, status};
 use crate::assembling::perform_asm;
@@ -24,7 +25,7 @@ use board_base::CpuState;
 use board_debug::write_board;
 use catchup_engine::{Devices, Engine};
 use command_line::{Command, RunWords, Settings};
-use outside_io::{Shelf, Sink};
+use outside_io::{Host, Shelf, Sink};
 use sliced_run::run_slices;
 use std::alloc::Global;
 
@@ -47,39 +48,33 @@ fn run_parts<S: Shelf, O: Sink>(
     alloc: Global,
     settings: &Settings<'_>,
     parts: &Parts,
-    shelf: &mut S,
-    out: &mut O,
+    host: &mut Host<'_, S, O>,
 ) -> Result<Ending, Failure>
     requires place { IsProcessor parts.now.board.cpu }
-    ensures outcome { RunComes settings.now parts.now (λ outcome.
-        Ends outcome (O.taken out.old) (O.taken out.new) (S.stores shelf.old) (S.stores shelf.new) result) }
-    ensures quiet { WroteNothing (O.taken out.old) (O.taken out.new) (S.stores shelf.old) (S.stores shelf.new) result }
-    ensures faults { EndFaults (S.faults shelf.old) (S.faults shelf.new) (O.faults out.old) (O.faults out.new) result }
-    ensures absences { StageAbsences (S.absences shelf.old) (S.absences shelf.new) result }
+    ensures outcome { RunEnds settings.now parts.now (seen host.old) (seen host.new) result }
+    ensures keeps { Keeps (seen host.old) (seen host.new) result }
 {
     let limit = run_limit(settings.until, parts.tape.end());
-    match Engine::new(
+    let mut engine = Engine::new(
         alloc,
         &parts.image,
         &parts.board,
         Devices::fast(),
         settings.timers,
+    )?;
+    match run_slices(
+        &mut engine,
+        &parts.tape,
+        settings.cuts.as_slice(),
+        limit,
+        settings.save,
+        settings.earom,
+        settings.cost,
+        host.shelf,
+        host.out,
     ) {
-        Err(_) => Err(Failure::NoMemory),
-        Ok(mut engine) => match run_slices(
-            &mut engine,
-            &parts.tape,
-            settings.cuts.as_slice(),
-            limit,
-            settings.save,
-            settings.earom,
-            settings.cost,
-            shelf,
-            out,
-        ) {
-            Ok(()) => Ok(ending(engine.cpu())),
-            Err(_) => Err(Failure::Outside),
-        },
+        Ok(()) => Ok(ending(engine.cpu())),
+        Err(_) => Err(Failure::Outside),
     }
 }
 
@@ -87,74 +82,52 @@ fn run_parts<S: Shelf, O: Sink>(
 fn perform_run<S: Shelf, O: Sink>(
     alloc: Global,
     words: &RunWords<'_>,
-    shelf: &mut S,
-    out: &mut O,
+    host: &mut Host<'_, S, O>,
 ) -> Result<Ending, Failure>
-    ensures outcome { IfSome (S.files shelf.old) (λ files. ForReading words.now.settings.state files (λ reading.
-        CommandComes (run_of words.now) files reading (λ outcome.
-        Ends outcome (O.taken out.old) (O.taken out.new) (S.stores shelf.old) (S.stores shelf.new) result))) }
-    ensures quiet { WroteNothing (O.taken out.old) (O.taken out.new) (S.stores shelf.old) (S.stores shelf.new) result }
-    ensures faults { EndFaults (S.faults shelf.old) (S.faults shelf.new) (O.faults out.old) (O.faults out.new) result }
-    ensures absences { StageAbsences (S.absences shelf.old) (S.absences shelf.new) result }
+    ensures outcome { Performs (run_of words.now) (seen host.old) (seen host.new) result }
+    ensures keeps { Keeps (seen host.old) (seen host.new) result }
 {
-    match load_run(alloc, words, shelf) {
-        Err(failure) => Err(failure),
-        Ok(parts) => run_parts(alloc, &words.settings, &parts, shelf, out),
-    }
+    let parts = load_run(alloc, words, host.shelf)?;
+    run_parts(alloc, &words.settings, &parts, host)
 }
 
 /// Writes the text of a saved board.
 fn perform_show<S: Shelf, O: Sink>(
     alloc: Global,
     name: &str,
-    shelf: &mut S,
-    out: &mut O,
+    host: &mut Host<'_, S, O>,
 ) -> Result<Ending, Failure>
-    ensures outcome { IfSome (S.files shelf.old) (λ files. ForReading (Some name.now) files (λ reading.
-        CommandComes (show_of name.now) files reading (λ outcome.
-        Ends outcome (O.taken out.old) (O.taken out.new) (S.stores shelf.old) (S.stores shelf.new) result))) }
+    ensures outcome { Performs (show_of name.now) (seen host.old) (seen host.new) result }
     ensures done { IfOk result (λ ending. ending ≡ Ending.Done) }
-    ensures quiet { WroteNothing (O.taken out.old) (O.taken out.new) (S.stores shelf.old) (S.stores shelf.new) result }
-    ensures faults { EndFaults (S.faults shelf.old) (S.faults shelf.new) (O.faults out.old) (O.faults out.new) result }
-    ensures absences { StageAbsences (S.absences shelf.old) (S.absences shelf.new) result }
+    ensures keeps { Keeps (seen host.old) (seen host.new) result }
 {
-    match load_state(alloc, name, shelf) {
-        Err(failure) => Err(failure),
-        Ok(board) => match write_board(&board, out) {
-            Ok(()) => Ok(Ending::Done),
-            Err(_) => Err(Failure::Outside),
-        },
-    }
+    let board = load_state(alloc, name, host.shelf)?;
+    write_board(&board, host.out)?;
+    Ok(Ending::Done)
 }
 
 /// Does a command.
 fn perform<S: Shelf, O: Sink>(
     alloc: Global,
     command: &Command<'_>,
-    shelf: &mut S,
-    out: &mut O,
+    host: &mut Host<'_, S, O>,
 ) -> Result<Ending, Failure>
-    ensures outcome { ComesOf (Some (command_value command.now)) (S.files shelf.old) (λ outcome.
-        Ends outcome (O.taken out.old) (O.taken out.new) (S.stores shelf.old) (S.stores shelf.new) result) }
+    ensures outcome { Performs (command_value command.now) (seen host.old) (seen host.new) result }
     ensures jam { result ≡ Ok Ending.Jammed → IsRun (Some (command_value command.now)) }
-    ensures quiet { WroteNothing (O.taken out.old) (O.taken out.new) (S.stores shelf.old) (S.stores shelf.new) result }
-    ensures faults { EndFaults (S.faults shelf.old) (S.faults shelf.new) (O.faults out.old) (O.faults out.new) result }
-    ensures absences { StageAbsences (S.absences shelf.old) (S.absences shelf.new) result }
+    ensures keeps { Keeps (seen host.old) (seen host.new) result }
 {
     match command {
-        Command::Run(words) => perform_run(alloc, words, shelf, out),
-        Command::Asm(words) => perform_asm(alloc, words, shelf, out),
-        Command::Debug(words) => perform_debug(alloc, words, shelf, out),
-        Command::Show(name) => perform_show(alloc, name, shelf, out),
-        Command::Soak(seed) => perform_soak(alloc, *seed, out),
+        Command::Run(words) => perform_run(alloc, words, host),
+        Command::Asm(words) => perform_asm(alloc, words, host),
+        Command::Debug(words) => perform_debug(alloc, words, host),
+        Command::Show(name) => perform_show(alloc, name, host),
+        Command::Soak(seed) => perform_soak(alloc, *seed, host),
         Command::Pcm(words) => {
-            perform_telling(alloc, &words.run, Telling::Samples(words.per), shelf, out)
+            perform_telling(alloc, &words.run, Telling::Samples(words.per), host)
         }
-        Command::Frames(words) => perform_telling(alloc, words, Telling::Frames, shelf, out),
-        Command::Seek(words) => {
-            perform_seek(alloc, &words.run, words.clocks.as_slice(), shelf, out)
-        }
-        Command::Profile(words) => perform_telling(alloc, words, Telling::Profile, shelf, out),
+        Command::Frames(words) => perform_telling(alloc, words, Telling::Frames, host),
+        Command::Seek(words) => perform_seek(alloc, &words.run, words.clocks.as_slice(), host),
+        Command::Profile(words) => perform_telling(alloc, words, Telling::Profile, host),
     }
 }
 
@@ -202,7 +175,7 @@ pub fn gravitar<S: Shelf, O: Sink, N: Sink>(
         let _ = notes.write(USAGE);
         return 2;
     };
-    match perform(alloc, &command, shelf, out) {
+    match perform(alloc, &command, &mut Host::of(shelf, out)) {
         Ok(ending) => ending_status(ending),
         Err(failure) => {
             let _ = notes.write(note(&failure));

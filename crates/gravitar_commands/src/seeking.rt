@@ -1,12 +1,12 @@
 //! Boards of a run at clocks that are asked for.
-ghost use Rattle.std.specs.Prelude.{◌≡◌, ◌≤◌, ℕ, All, IfOk, IfSome, List, Option, length, map, min};
+ghost use Rattle.std.specs.Prelude.{◌≡◌, ◌≤◌, IfOk, length, map, min};
 ghost use Rattle.board_base.specs.declared.board.TheConstants.{CLOCK_LIMIT};
 ghost use Rattle.board_base.specs.Board.{IsBoard};
 ghost use Rattle.cpu_core.specs.Places.{IsProcessor};
 ghost use Rattle.command_line.specs.declared.number.TheConstants.{CUTS};
-ghost use Rattle.outside_io.specs.Shelf.{Kept};
-ghost use Rattle.gravitar_commands.specs.Outcome.{ForReading, finished, run_files, told_outcome, telling_outcome};
-ghost use Rattle.gravitar_commands.specs.Stages.{Ends, EndFaults, WroteNothing, StageAbsences};
+ghost use Rattle.outside_io.specs.Hosts.{seen};
+ghost use Rattle.gravitar_commands.specs.Outcome.{first_board};
+ghost use Rattle.gravitar_commands.specs.Stages.{Keeps, Reports, StageFaults, Told};
 ghost use Rattle.gravitar_commands.specs.Telling.{sought_text};
 
 use crate::failure::{Ending, Failure};
@@ -20,7 +20,7 @@ use board_debug::write_boards;
 use catchup_engine::{Devices, Engine};
 use command_line::{CUTS, Cuts, RunWords};
 use keyframes::{Keyframes, keep_start};
-use outside_io::{Shelf, Sink};
+use outside_io::{Host, Shelf, Sink};
 use std::alloc::Global;
 
 /// The pages of 256 bytes for the boards that are kept: those of the start and of 1,000 asked clocks.
@@ -67,19 +67,12 @@ fn seek_parts<O: Sink>(
     requires place { IsProcessor parts.now.board.cpu }
     requires limit { limit ≤ CLOCK_LIMIT }
     requires few { length clocks.now ≤ CUTS }
-    ensures outcome { (stores : Option (List Kept)) → Ends (told_outcome wired limit (sought_text clocks.now) parts.now) (O.taken out.old) (O.taken out.new) stores stores result }
-    ensures done { IfOk result (λ ending. ending ≡ Ending.Done) }
-    ensures quiet { (stores : Option (List Kept)) → WroteNothing (O.taken out.old) (O.taken out.new) stores stores result }
-    ensures faults { (n : ℕ) → EndFaults n n (O.faults out.old) (O.faults out.new) result }
-    ensures absences { (n : ℕ) → StageAbsences n n result }
+    ensures taken { Told (O.taken out.old) (O.taken out.new)
+        (sought_text clocks.now parts.now.tape.entries limit (first_board wired parts.now)) result }
+    ensures faults { StageFaults (O.faults out.old) (O.faults out.new) result }
 {
-    let Ok(mut keys) = Keyframes::new(alloc, SEEK_PAGES, SEEK_FRAMES) else {
-        return Err(Failure::NoMemory);
-    };
-    let Ok(mut engine) = Engine::new(alloc, &parts.image, &parts.board, Devices::fast(), wired)
-    else {
-        return Err(Failure::NoMemory);
-    };
+    let mut keys = Keyframes::new(alloc, SEEK_PAGES, SEEK_FRAMES)?;
+    let mut engine = Engine::new(alloc, &parts.image, &parts.board, Devices::fast(), wired)?;
     look_at(&parts.board);
     keep_start(&mut keys, &parts.board);
     let clocks = lowered(clocks, limit);
@@ -93,23 +86,15 @@ pub fn perform_seek<S: Shelf, O: Sink>(
     alloc: Global,
     run: &RunWords<'_>,
     clocks: &[u64],
-    shelf: &mut S,
-    out: &mut O,
+    host: &mut Host<'_, S, O>,
 ) -> Result<Ending, Failure>
     requires few { length clocks.now ≤ CUTS }
-    ensures outcome { IfSome (S.files shelf.old) (λ files. ForReading run.now.settings.state files (λ reading.
-        Ends (finished (run_files files run.now reading) (telling_outcome run.now.settings (sought_text clocks.now))) (O.taken out.old) (O.taken out.new)
-        (S.stores shelf.old) (S.stores shelf.new) result)) }
+    ensures outcome { Reports run.now (sought_text clocks.now) (seen host.old) (seen host.new) result }
     ensures done { IfOk result (λ ending. ending ≡ Ending.Done) }
-    ensures quiet { WroteNothing (O.taken out.old) (O.taken out.new) (S.stores shelf.old) (S.stores shelf.new) result }
-    ensures faults { EndFaults (S.faults shelf.old) (S.faults shelf.new) (O.faults out.old) (O.faults out.new) result }
-    ensures absences { StageAbsences (S.absences shelf.old) (S.absences shelf.new) result }
+    ensures keeps { Keeps (seen host.old) (seen host.new) result }
 {
-    let parts = match load_run(alloc, run, shelf) {
-        Ok(parts) => parts,
-        Err(failure) => return Err(failure),
-    };
+    let parts = load_run(alloc, run, host.shelf)?;
     let limit = limit_by(&run.settings, parts.tape.end());
     let wired = has_timers(&run.settings);
-    seek_parts(alloc, wired, limit, clocks, &parts, out)
+    seek_parts(alloc, wired, limit, clocks, &parts, host.out)
 }

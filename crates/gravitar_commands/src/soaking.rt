@@ -1,34 +1,32 @@
-ghost use Rattle.std.specs.Prelude.{◌≡◌, ℕ, IfOk, List, Option};
-ghost use Rattle.outside_io.specs.Shelf.{Kept};
-ghost use Rattle.gravitar_commands.specs.Outcome.{soak_outcome};
-ghost use Rattle.gravitar_commands.specs.Stages.{Ends, EndFaults, WroteNothing, StageAbsences};
+ghost use Rattle.std.specs.Prelude.{◌≡◌, IfOk};
+ghost use Rattle.command_line.specs.CommandValue.{soak_of};
+ghost use Rattle.outside_io.specs.Hosts.{seen};
+ghost use Rattle.gravitar_commands.specs.Stages.{Keeps, Performs};
 
 use crate::failure::{Ending, Failure};
 use board_base::BoardState;
 use board_watch::SyncedMachine;
 use catchup_engine::{Devices, Engine};
-use outside_io::Sink;
+use outside_io::{Host, Shelf, Sink};
 use soak_run::run_soak;
 use std::alloc::Global;
 use workload_gen::make;
 
 /// Makes the workload of a number, runs it to the end of its tape, and writes its summary. All memory
 /// is taken before the first clock.
-pub fn perform_soak<O: Sink>(alloc: Global, seed: u64, out: &mut O) -> Result<Ending, Failure>
-    ensures outcome { (stores : Option (List Kept)) → Ends (soak_outcome seed) (O.taken out.old) (O.taken out.new) stores stores result }
+pub fn perform_soak<S: Shelf, O: Sink>(
+    alloc: Global,
+    seed: u64,
+    host: &mut Host<'_, S, O>,
+) -> Result<Ending, Failure>
+    ensures outcome { Performs (soak_of seed) (seen host.old) (seen host.new) result }
     ensures done { IfOk result (λ ending. ending ≡ Ending.Done) }
-    ensures quiet { (stores : Option (List Kept)) → WroteNothing (O.taken out.old) (O.taken out.new) stores stores result }
-    ensures faults { (n : ℕ) → EndFaults n n (O.faults out.old) (O.faults out.new) result }
-    ensures absences { (n : ℕ) → StageAbsences n n result }
+    ensures keeps { Keeps (seen host.old) (seen host.new) result }
 {
-    let Ok((image, tape)) = make(alloc, seed) else {
-        return Err(Failure::NoMemory);
-    };
+    let (image, tape) = make(alloc, seed)?;
     let board = BoardState::power_on();
-    let Ok(mut engine) = Engine::new(alloc, &image, &board, Devices::fast(), false) else {
-        return Err(Failure::NoMemory);
-    };
-    match run_soak(&mut SyncedMachine::of(&mut engine), &tape, tape.end(), out) {
+    let mut engine = Engine::new(alloc, &image, &board, Devices::fast(), false)?;
+    match run_soak(&mut SyncedMachine::of(&mut engine), &tape, tape.end(), host.out) {
         Ok(()) => Ok(Ending::Done),
         Err(_) => Err(Failure::Outside),
     }

@@ -1,11 +1,11 @@
 //! Runs that are told otherwise than by their log.
-ghost use Rattle.std.specs.Prelude.{◌≡◌, ◌≤◌, ℕ, IfOk, IfSome, List, Option};
+ghost use Rattle.std.specs.Prelude.{◌≡◌, ◌≤◌, IfOk};
 ghost use Rattle.board_base.specs.declared.board.TheConstants.{CLOCK_LIMIT};
 ghost use Rattle.board_watch.specs.SyncedMachine.{value_of};
 ghost use Rattle.cpu_core.specs.Places.{IsProcessor};
-ghost use Rattle.outside_io.specs.Shelf.{Kept};
-ghost use Rattle.gravitar_commands.specs.Outcome.{ForReading, finished, run_files, told_outcome, telling_outcome};
-ghost use Rattle.gravitar_commands.specs.Stages.{Ends, EndFaults, WroteNothing, StageAbsences, StageFaults, Told, written_as};
+ghost use Rattle.outside_io.specs.Hosts.{seen};
+ghost use Rattle.gravitar_commands.specs.Outcome.{first_board};
+ghost use Rattle.gravitar_commands.specs.Stages.{Keeps, Reports, StageFaults, Told, written_as};
 ghost use Rattle.gravitar_commands.specs.Telling.{CanTell, telling_text};
 
 use crate::failure::{Ending, Failure};
@@ -16,7 +16,7 @@ use board_watch::SyncedMachine;
 use catchup_engine::{Devices, Engine, Machine};
 use command_line::{PER_LIMIT, RunWords};
 use cycle_profile::Profile;
-use outside_io::{Shelf, Sink, SinkFault};
+use outside_io::{Host, Shelf, Sink, SinkFault};
 use sampled_run::run_sampled;
 use sound_pcm::MAX_PER;
 use std::alloc::Global;
@@ -87,16 +87,11 @@ fn tell_parts<O: Sink>(
     requires place { IsProcessor parts.now.board.cpu }
     requires limit { limit ≤ CLOCK_LIMIT }
     requires told { CanTell telling }
-    ensures outcome { (stores : Option (List Kept)) → Ends (told_outcome wired limit (telling_text telling) parts.now) (O.taken out.old) (O.taken out.new) stores stores result }
-    ensures done { IfOk result (λ ending. ending ≡ Ending.Done) }
-    ensures quiet { (stores : Option (List Kept)) → WroteNothing (O.taken out.old) (O.taken out.new) stores stores result }
-    ensures faults { (n : ℕ) → EndFaults n n (O.faults out.old) (O.faults out.new) result }
-    ensures absences { (n : ℕ) → StageAbsences n n result }
+    ensures taken { Told (O.taken out.old) (O.taken out.new)
+        (telling_text telling parts.now.tape.entries limit (first_board wired parts.now)) result }
+    ensures faults { StageFaults (O.faults out.old) (O.faults out.new) result }
 {
-    let Ok(mut engine) = Engine::new(alloc, &parts.image, &parts.board, Devices::fast(), wired)
-    else {
-        return Err(Failure::NoMemory);
-    };
+    let mut engine = Engine::new(alloc, &parts.image, &parts.board, Devices::fast(), wired)?;
     tell(
         alloc,
         &mut SyncedMachine::of(&mut engine),
@@ -113,23 +108,15 @@ pub fn perform_telling<S: Shelf, O: Sink>(
     alloc: Global,
     run: &RunWords<'_>,
     telling: Telling,
-    shelf: &mut S,
-    out: &mut O,
+    host: &mut Host<'_, S, O>,
 ) -> Result<Ending, Failure>
     requires told { CanTell telling }
-    ensures outcome { IfSome (S.files shelf.old) (λ files. ForReading run.now.settings.state files (λ reading.
-        Ends (finished (run_files files run.now reading) (telling_outcome run.now.settings (telling_text telling))) (O.taken out.old) (O.taken out.new)
-        (S.stores shelf.old) (S.stores shelf.new) result)) }
+    ensures outcome { Reports run.now (telling_text telling) (seen host.old) (seen host.new) result }
     ensures done { IfOk result (λ ending. ending ≡ Ending.Done) }
-    ensures quiet { WroteNothing (O.taken out.old) (O.taken out.new) (S.stores shelf.old) (S.stores shelf.new) result }
-    ensures faults { EndFaults (S.faults shelf.old) (S.faults shelf.new) (O.faults out.old) (O.faults out.new) result }
-    ensures absences { StageAbsences (S.absences shelf.old) (S.absences shelf.new) result }
+    ensures keeps { Keeps (seen host.old) (seen host.new) result }
 {
-    let parts = match load_run(alloc, run, shelf) {
-        Ok(parts) => parts,
-        Err(failure) => return Err(failure),
-    };
+    let parts = load_run(alloc, run, host.shelf)?;
     let limit = limit_by(&run.settings, parts.tape.end());
     let wired = has_timers(&run.settings);
-    tell_parts(alloc, wired, limit, telling, &parts, out)
+    tell_parts(alloc, wired, limit, telling, &parts, host.out)
 }

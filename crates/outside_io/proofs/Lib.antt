@@ -2,3 +2,5 @@ pub mod ContentLaws
 pub mod KnownLaws
 pub mod PieceLaws
 pub mod TakesLaws
+pub mod EventLaws
+pub mod HostLaws

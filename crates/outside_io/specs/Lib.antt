@@ -6,3 +6,6 @@ pub mod Content
 pub mod Memory
 pub mod Steady
 pub mod FileCounts
+pub mod Events
+pub mod Seen
+pub mod Hosts

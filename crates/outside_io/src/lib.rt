@@ -1,5 +1,6 @@
 //! What stands between the program and the world outside: a shelf of files and a sink for bytes,
-//! with fakes of both in memory and adapters over real files and streams.
+//! with fakes of both in memory and adapters over real files and streams, and a host that lends a
+//! shelf and an output together.
 #![tactic(auto)]
 
 pub mod answers;
@@ -7,6 +8,7 @@ mod append;
 mod file_list;
 pub mod file_shelf;
 mod first_bytes;
+pub mod host;
 pub mod memory_shelf;
 pub mod memory_sink;
 pub mod outside;
@@ -16,9 +18,11 @@ pub mod steady_shelf;
 pub mod steady_sink;
 pub mod stored;
 pub mod text_sink;
+mod under_name;
 
 pub use answers::{Failed, Loaded, ShelfFault, SinkFault};
 pub use file_shelf::FileShelf;
+pub use host::Host;
 pub use memory_shelf::MemoryShelf;
 pub use memory_sink::MemorySink;
 pub use outside::{Shelf, Sink};
@@ -26,3 +30,4 @@ pub use steady_shelf::SteadyShelf;
 pub use steady_sink::SteadySink;
 pub use stored::Stored;
 pub use text_sink::TextSink;
+pub use under_name::store_under;

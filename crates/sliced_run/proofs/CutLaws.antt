@@ -14,12 +14,12 @@ use Rattle.lockstep_board.proofs.Ends.{boundary-clock-steps}
 use Rattle.lockstep_board.proofs.Places.{stepped-placed}
 use Rattle.lockstep_board.proofs.Runs.{stepped-add}
 use Rattle.board_watch.specs.declared.until.Until.TheVariants.{Clock, Boundary}
-use Rattle.sliced_run.specs.Events.{Event, Did, DidFirst, sending}
+use Rattle.outside_io.specs.Events.{Event, Did, DidFirst, sending, storing}
 use Rattle.board_watch.specs.Synced.{IsSynced}
 use Rattle.board_watch.specs.Windows.{steps_to, window_price}
 use Rattle.sliced_run.specs.Slice.{slice_text, text_of_steps}
-use Rattle.sliced_run.specs.Slices.{FitsCalls, StopsIn, Wanted, cut_events, ending_text, last_board, last_events, run_budget, run_events, saved_bytes, storing}
-use Rattle.sliced_run.proofs.EventLaws.{did-none, did-first-of, did-then, did-then-first}
+use Rattle.sliced_run.specs.Slices.{FitsCalls, StopsIn, Wanted, cut_events, ending_text, last_board, last_events, run_budget, run_events, saved_bytes}
+use Rattle.outside_io.proofs.EventLaws.{did-none, did-first-of, did-then, did-then-first}
 use Rattle.board_watch.proofs.WatchLaws.{from-behind, price-add, price-cleared, steps-cleared}
 use Rattle.sliced_run.proofs.SliceLaws.{same-of, text-cleared}
 use Rattle.sliced_run.proofs.SlicesLaws.{ending-behind}

@@ -1,5 +1,4 @@
 pub mod CutLaws
-pub mod EventLaws
 pub mod OneListLaws
 pub mod SliceLaws
 pub mod SlicesLaws

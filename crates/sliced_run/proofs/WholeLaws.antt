@@ -6,10 +6,10 @@ use Rattle.lockstep_board.specs.Run.{IsPlaced, boundary_steps, clock_steps, to_c
 use Rattle.lockstep_board.proofs.Ends.{boundary-clock, boundary-clock-steps}
 use Rattle.lockstep_board.proofs.Places.{to_clock-placed}
 use Rattle.board_watch.specs.declared.until.Until.TheVariants.{Clock, Boundary}
-use Rattle.sliced_run.specs.Events.{sending, text_of}
+use Rattle.outside_io.specs.Events.{sending, text_of, storing}
 use Rattle.sliced_run.specs.Slice.{slice_text, text_of_steps}
-use Rattle.sliced_run.specs.Slices.{Wanted, cut_events, ending_text, last_board, last_events, run_events, saved_bytes, storing}
-use Rattle.sliced_run.proofs.EventLaws.{text_of-append, text_of-sending}
+use Rattle.sliced_run.specs.Slices.{Wanted, cut_events, ending_text, last_board, last_events, run_events, saved_bytes}
+use Rattle.outside_io.proofs.EventLaws.{text_of-append, text_of-sending}
 use Rattle.sliced_run.proofs.SliceLaws.{text-add}
 
 -- a store sends nothing

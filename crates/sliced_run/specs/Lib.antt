@@ -1,4 +1,3 @@
-pub mod Events
 pub mod Faults
 pub mod LastLine
 pub mod LogParts

@@ -12,7 +12,7 @@ use Rattle.lockstep_board.specs.Run.{boundary_steps, to_clock, to_boundary}
 use Rattle.lockstep_board.specs.Wires.{board_of}
 use Rattle.board_watch.specs.declared.until.Until.TheVariants.{Clock, Boundary}
 use Rattle.outside_io.specs.Shelf.{Kept}
-use Rattle.sliced_run.specs.Events.{Event, DidFirst, sending, stored}
+use Rattle.outside_io.specs.Events.{Event, DidFirst, sending, storing}
 use Rattle.sliced_run.specs.LastLine.{last_text}
 use Rattle.sliced_run.specs.Slice.{slice_text}
 
@@ -29,11 +29,6 @@ pub record Wanted : Type 0 where
 
 abbrev pub wanted_of : Option (Bor (List ℕ)) → Option (Bor (List ℕ)) → Bool → Wanted
 wanted_of save earom cost = record { save = option_map (λ name. name.now) save; earom = option_map (λ name. name.now) earom; cost = cost }
-
--- a store under a name, where one is given
-abbrev pub storing : Option (List ℕ) → List ℕ → List Event
-storing None bytes = []
-storing (Some name) bytes = stored name bytes ∷ []
 
 -- a slice up to a cut: its lines, and then its board
 unfoldable pub cut_events : List TapeEntry → ℕ → Option (List ℕ) → Board → List Event

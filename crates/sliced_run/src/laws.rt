@@ -4,7 +4,7 @@ ghost use Rattle.log_text.specs.LogText.{log_text};
 ghost use Rattle.lockstep_board.specs.Lockstep.{Board};
 ghost use Rattle.lockstep_board.specs.Order.{HasNoRecords};
 ghost use Rattle.lockstep_board.specs.Run.{IsPlaced, to_boundary};
-ghost use Rattle.sliced_run.specs.Events.{text_of};
+ghost use Rattle.outside_io.specs.Events.{text_of};
 ghost use Rattle.sliced_run.specs.Slices.{Wanted, last_board, run_events};
 ghost use Rattle.sliced_run.specs.OneList.{run_list, text_of_lists};
 

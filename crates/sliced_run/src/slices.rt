@@ -1,16 +1,15 @@
 ghost use Rattle.std.specs.Prelude.{◌≡◌, ◌+◌, ◌≤◌, OnOk, OnErr, length};
 ghost use Rattle.std.specs.Option.{option_map};
 ghost use Rattle.outside_io.specs.Causes.{HasCause};
-ghost use Rattle.outside_io.specs.Known.{grown};
 ghost use Rattle.outside_io.specs.Sink.{Takes};
 ghost use Rattle.catchup_engine.specs.EngineValue.{counted_on};
 ghost use Rattle.lockstep_board.specs.Order.{HasNoRecords, cleared};
 ghost use Rattle.lockstep_board.specs.Run.{boundary_steps, clock_steps, to_clock, to_boundary};
 ghost use Rattle.board_watch.specs.SyncedMachine.{loan_of, value_of};
-ghost use Rattle.sliced_run.specs.Events.{Did, DidFirst, stores_of};
+ghost use Rattle.outside_io.specs.Events.{Did, DidFirst};
 ghost use Rattle.sliced_run.specs.LastLine.{last_text};
 ghost use Rattle.board_watch.specs.Windows.{window_price};
-ghost use Rattle.sliced_run.specs.Slices.{FitsCalls, StopsIn, cost_line, cut_events, ending_text, last_board, last_events, run_events, storing, wanted_of};
+ghost use Rattle.sliced_run.specs.Slices.{FitsCalls, StopsIn, cost_line, cut_events, ending_text, last_board, last_events, run_events, wanted_of};
 ghost use Rattle.sliced_run.specs.Faults.{SliceFaults};
 
 use crate::board_bytes::{Saved, load_saved};
@@ -23,24 +22,9 @@ use catchup_engine::{Engine, Machine};
 use earom_cells::CellUnit;
 use irq_watchdog::DividerUnit;
 use log_text::{write_cost, write_end, write_jam};
-use outside_io::{Failed, Shelf, Sink, SinkFault};
+use outside_io::{Shelf, Sink, SinkFault, store_under};
 use pokey_chip::SoundUnit;
 use tape_ports::Tape;
-
-/// Stores bytes under a name, where one is given.
-#[tactic(auto, unfolding(crate::specs::Events::stores_of))]
-pub fn store_under<S: Shelf>(name: Option<&str>, bytes: &[u8], shelf: &mut S) -> Result<(), Failed>
-    ensures stored { OnOk result (S.stores shelf.new
-        ≡ grown (S.stores shelf.old) (stores_of (storing (option_map (λ name. name.now) name.entry) bytes.now))) }
-    ensures not_stored { OnErr result (S.stores shelf.new ≡ S.stores shelf.old) }
-    ensures cause { HasCause (S.faults shelf.old) (S.faults shelf.new) result }
-    ensures absences { S.absences shelf.old ≤ S.absences shelf.new }
-{
-    match name {
-        Some(name) => shelf.store(name, bytes),
-        None => Ok(()),
-    }
-}
 
 /// Runs to a cut, writes its lines, stores its board under a name where one is given, and goes on
 /// from the board that is read back. `saved` had the board of the cut before.

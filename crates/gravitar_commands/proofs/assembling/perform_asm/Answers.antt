@@ -1,24 +1,28 @@
 use Rattle.std.proofs.Common.{◌∙◌, refl, ap}
+use Rattle.std.proofs.lemmas.Result.{err_from_is_err_and}
 use Rattle.command_line.specs.CommandValue.{AsmValue}
 use Rattle.gravitar_commands.proofs.StageLaws.{asm-done, asm-stopped, asm-unstored, asm-unwritten}
 use Rattle.gravitar_commands.proofs.assembling.perform_asm.Goals as goal
 
-pub returns-in-Err-clause-outcome : goal.returns-in-Err-clause-outcome
-returns-in-Err-clause-outcome g c =
-    asm-stopped (g.S.Shelf.files c.args.shelf.now) c.args.words.now c.in-Err.failure _ _ _ _ c.in-Err.ensures.content refl c.load_asm.ensures.stores
+pub returns-in_err-made-clause-outcome : goal.returns-in_err-made-clause-outcome
+returns-in_err-made-clause-outcome g c =
+    let p = err_from_is_err_and c.from_residual.result c.from_residual.ensures.1 in
+    rw (p.1, p.2) (asm-stopped (g.S.Shelf.files c.args.host.now.shelf.now) c.args.words.now _ _ _ (refl, c.load_asm.ensures.stores) c.in_err-made.ensures.content)
 
-pub returns-in_default-write-clause-outcome : goal.returns-in_default-write-clause-outcome
-returns-in_default-write-clause-outcome g c =
-    asm-unwritten (g.S.Shelf.files c.args.shelf.now) c.args.words.now c.in-Ok.made c.in-Ok.ensures.content _ _ _ _ c.bytes.result.now
-    (c.bytes.ensures ∙ c.in-Ok-list_both.ensures) c.in_default-write.ensures.taken c.load_asm.ensures.stores
+pub returns-in_err-write-clause-outcome : goal.returns-in_err-write-clause-outcome
+returns-in_err-write-clause-outcome g c =
+    let p = err_from_is_err_and c.from_residual-in_err-write.result c.from_residual-in_err-write.ensures.1 in
+    rw (p.1, p.2) (asm-unwritten c.args.words.now c.in_ok-made.made _ _ _ c.in_ok-made.ensures.content (refl, c.load_asm.ensures.stores) c.bytes.result.now
+    (c.bytes.ensures ∙ c.in_ok-text.ensures) _ c.in_err-write.ensures)
 
-pub returns-in_default-store_under-clause-outcome : goal.returns-in_default-store_under-clause-outcome
-returns-in_default-store_under-clause-outcome g c =
-    asm-unstored (g.S.Shelf.files c.args.shelf.now) c.args.words.now c.in-Ok.made c.in-Ok.ensures.content _ _ _ _ c.bytes.result.now
-    (c.bytes.ensures ∙ c.in-Ok-list_both.ensures) _ c.load_asm.ensures.stores c.in-Ok-write.ensures.taken c.in_default-store_under.ensures.not_stored
+pub returns-in_err-store-clause-outcome : goal.returns-in_err-store-clause-outcome
+returns-in_err-store-clause-outcome g c =
+    let p = err_from_is_err_and c.from_residual-in_err-store.result c.from_residual-in_err-store.ensures.1 in
+    rw (p.1, p.2) (asm-unstored c.args.words.now c.in_ok-made.made _ _ _ c.in_ok-made.ensures.content (refl, c.load_asm.ensures.stores) c.bytes.result.now
+    (c.bytes.ensures ∙ c.in_ok-text.ensures) _ c.in_ok-write.ensures _ _ _ _ c.in_err-store.ensures)
 
 pub returns-clause-outcome : goal.returns-clause-outcome
 returns-clause-outcome g c =
-    asm-done (g.S.Shelf.files c.args.shelf.now) c.args.words.now c.in-Ok.made c.in-Ok.ensures.content _ _ _ _ c.bytes.result.now
-    (c.bytes.ensures ∙ c.in-Ok-list_both.ensures) _ c.words.inside.image.now c.bytes-2.result.now (ap (λ (w : AsmValue). w.image) c.words.view_is) c.bytes-2.ensures.bytes
-    c.load_asm.ensures.stores c.in-Ok-write.ensures.taken c.in-Ok-store_under.ensures.stored
+    asm-done c.args.words.now c.in_ok-made.made _ _ _ c.in_ok-made.ensures.content (refl, c.load_asm.ensures.stores) c.bytes.result.now
+    (c.bytes.ensures ∙ c.in_ok-text.ensures) _ c.in_ok-write.ensures _ _ _ _ (ap (λ (w : AsmValue). w.image) c.words.view_is)
+    c.bytes-2.ensures.bytes c.in_ok-store.ensures

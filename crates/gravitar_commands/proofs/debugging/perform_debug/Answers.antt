@@ -1,16 +1,5 @@
-use Rattle.std.proofs.Common.{subst}
-use Rattle.std.specs.Prelude.{IfSome}
-use Rattle.command_line.specs.CommandValue.{DebugValue, debug_of}
-use Rattle.gravitar_commands.specs.Outcome.{CommandComes, ForReading}
-use Rattle.gravitar_commands.specs.Stages.{Ends}
+use Rattle.gravitar_commands.proofs.StageLaws.{debug-same}
 use Rattle.gravitar_commands.proofs.debugging.perform_debug.Goals as goal
 
 pub returns-clause-outcome : goal.returns-clause-outcome
-returns-clause-outcome g c =
-    let P : DebugValue → Type 0 =
-    λ w.
-    IfSome (g.S.Shelf.files c.args.shelf.now) (λ files. ForReading w.run.settings.state files (λ reading.
-    CommandComes (debug_of w) files reading (λ outcome.
-    Ends outcome (g.O.Sink.taken c.args.out.now) (g.O.Sink.taken c.debug_run.new.out) (g.S.Shelf.stores c.args.shelf.now)
-    (g.S.Shelf.stores c.debug_run.new.shelf) c.debug_run.result))) in
-    subst P c.words.view_is c.debug_run.ensures.outcome
+returns-clause-outcome g c = debug-same c.args.words.now _ _ _ c.debug_run.result c.words.view_is c.debug_run.ensures.outcome

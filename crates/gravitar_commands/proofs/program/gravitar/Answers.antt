@@ -1,8 +1,9 @@
-use Rattle.std.proofs.Common.{ap, refl, subst}
+use Rattle.std.proofs.Common.{ap, refl, rules, subst}
 use Rattle.std.specs.Prelude.{Ok}
+use Rattle.outside_io.specs.Hosts.{seen}
 use Rattle.gravitar_commands.specs.Outcome.{IsRun}
 use Rattle.command_line.specs.CommandWords.{command_value}
-use Rattle.gravitar_commands.proofs.StageLaws.{done-note, done-outcome, ending-contained, failure-stopped, fault-note, jam-ending, jam-failure, memory-note, noted, failure-note, failure-outcome, failure-status, usage-note, usage-outcome, usage-status}
+use Rattle.gravitar_commands.proofs.StageLaws.{done-note, done-outcome, ending-contained, failure-stopped, fault-note, jam-ending, jam-failure, memory-note, noted, failure-note, failure-outcome, failure-status, note-lent, outcome-lent, stopped-lent, usage-note, usage-outcome, usage-status}
 use Rattle.gravitar_commands.proofs.program.gravitar.Goals as goal
 
 pub returns-in_default-clause-outcome : goal.returns-in_default-clause-outcome
@@ -33,15 +34,17 @@ returns-in-Err-clause-memory_note g c = λ seven.
     (noted _ _ _ _ _ c.write-in-Err.result (rw c.note.ensures at c.write-in-Err.ensures.taken) c.write-in-Err.ensures.cause) seven
 
 pub returns-in-Err-clause-outcome : goal.returns-in-Err-clause-outcome
-returns-in-Err-clause-outcome g c =
-    failure-outcome (g.S.Shelf.files c.args.shelf.now) c.args.words.now (command_value c.in-Some.command) c.in-Err.failure c.status.result _ _ _ _
-    c.in-Some.ensures.command c.status.ensures c.in-Err.ensures.outcome c.in-Err.ensures.quiet
+returns-in-Err-clause-outcome g c = λ not6 not7.
+    outcome-lent c.args.words.now _ _ c.of.ensures (seen c.perform.new.host) _ _ (search rules) (search rules) c.status.result
+    (failure-outcome c.args.words.now (command_value c.in-Some.command) c.in-Err.failure c.status.result _ _
+    c.in-Some.ensures.command c.status.ensures c.in-Err.ensures.outcome c.in-Err.ensures.keeps.quiet not6 not7)
 
 pub returns-in-Err-clause-note : goal.returns-in-Err-clause-note
-returns-in-Err-clause-note g c =
-    failure-note (g.S.Shelf.files c.args.shelf.now) c.args.words.now (command_value c.in-Some.command) c.in-Err.failure c.status.result _ _ _ _
+returns-in-Err-clause-note g c = λ not6 not7.
+    note-lent c.args.words.now _ _ c.of.ensures _
+    (failure-note c.args.words.now (command_value c.in-Some.command) c.in-Err.failure c.status.result _ _
     c.in-Some.ensures.command c.status.ensures c.in-Err.ensures.outcome _ _ _ _
-    (noted _ _ _ _ _ c.write-in-Err.result (rw c.note.ensures at c.write-in-Err.ensures.taken) c.write-in-Err.ensures.cause)
+    (noted _ _ _ _ _ c.write-in-Err.result (rw c.note.ensures at c.write-in-Err.ensures.taken) c.write-in-Err.ensures.cause) not6 not7)
 
 pub returns-in-Ok-clause-statuses : goal.returns-in-Ok-clause-statuses
 returns-in-Ok-clause-statuses g c = ending-contained _ c.ending_status.result c.ending_status.ensures
@@ -56,15 +59,17 @@ returns-in-Ok-clause-jam g c = λ three.
 
 pub returns-in-Ok-clause-outcome : goal.returns-in-Ok-clause-outcome
 returns-in-Ok-clause-outcome g c = λ not6 not7.
-    done-outcome (g.S.Shelf.files c.args.shelf.now) c.args.words.now (command_value c.in-Some.command) c.in-Ok.ending c.ending_status.result _ _ _ _
-    c.in-Some.ensures.command c.ending_status.ensures c.in-Ok.ensures.outcome
+    outcome-lent c.args.words.now _ _ c.of.ensures (seen c.perform.new.host) _ _ (search rules) (search rules) c.ending_status.result
+    (done-outcome c.args.words.now (command_value c.in-Some.command) c.in-Ok.ending c.ending_status.result _ _
+    c.in-Some.ensures.command c.ending_status.ensures c.in-Ok.ensures.outcome)
 
 pub returns-in-Ok-clause-note : goal.returns-in-Ok-clause-note
 returns-in-Ok-clause-note g c = λ not6 not7.
-    done-note (g.S.Shelf.files c.args.shelf.now) c.args.words.now (command_value c.in-Some.command) c.in-Ok.ending _ _ _ _ _ _
-    c.in-Some.ensures.command c.in-Ok.ensures.outcome
+    note-lent c.args.words.now _ _ c.of.ensures _
+    (done-note c.args.words.now (command_value c.in-Some.command) c.in-Ok.ending _ _ _ _ c.in-Some.ensures.command c.in-Ok.ensures.outcome)
 
 pub returns-in-Err-clause-stopped : goal.returns-in-Err-clause-stopped
 returns-in-Err-clause-stopped g c = λ six.
-    failure-stopped (g.S.Shelf.files c.args.shelf.now) c.args.words.now (command_value c.in-Some.command) c.in-Err.failure c.status.result _ _ _ _
-    c.in-Some.ensures.command c.status.ensures c.in-Err.ensures.outcome six
+    stopped-lent c.args.words.now _ _ c.of.ensures (seen c.perform.new.host) _ _ (search rules) (search rules)
+    (failure-stopped c.args.words.now (command_value c.in-Some.command) c.in-Err.failure c.status.result _ _
+    c.in-Some.ensures.command c.status.ensures c.in-Err.ensures.outcome six)

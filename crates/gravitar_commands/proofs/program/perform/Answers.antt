@@ -7,32 +7,23 @@ use Rattle.gravitar_commands.proofs.program.perform.Goals as goal
 
 pub returns-in-Run-clause-outcome : goal.returns-in-Run-clause-outcome
 returns-in-Run-clause-outcome g c =
-    of-same _ (g.S.Shelf.files c.args.shelf.now) (run_of c.in-Run.words) (command_value c.args.command.now) (ap command_value c.in-Run.is)
+    of-same _ (g.S.Shelf.files c.args.host.now.shelf.now) (run_of c.in-Run.words) (command_value c.args.command.now) (ap command_value c.in-Run.is)
     c.perform_run.ensures.outcome
 
 pub returns-in-Asm-clause-outcome : goal.returns-in-Asm-clause-outcome
 returns-in-Asm-clause-outcome g c =
-    of-same _ (g.S.Shelf.files c.args.shelf.now) (asm_of c.in-Asm.words) (command_value c.args.command.now) (ap command_value c.in-Asm.is)
+    of-same _ (g.S.Shelf.files c.args.host.now.shelf.now) (asm_of c.in-Asm.words) (command_value c.args.command.now) (ap command_value c.in-Asm.is)
     c.perform_asm.ensures.outcome
 
 pub returns-in-Debug-clause-outcome : goal.returns-in-Debug-clause-outcome
 returns-in-Debug-clause-outcome g c =
-    of-same _ (g.S.Shelf.files c.args.shelf.now) (debug_of c.in-Debug.words) (command_value c.args.command.now) (ap command_value c.in-Debug.is)
+    of-same _ (g.S.Shelf.files c.args.host.now.shelf.now) (debug_of c.in-Debug.words) (command_value c.args.command.now) (ap command_value c.in-Debug.is)
     c.perform_debug.ensures.outcome
 
 pub returns-in-Soak-clause-outcome : goal.returns-in-Soak-clause-outcome
 returns-in-Soak-clause-outcome g c =
-    of-same _ (g.S.Shelf.files c.args.shelf.now) (soak_of c.in-Soak.seed) (command_value c.args.command.now) (ap command_value c.in-Soak.is)
-    (c.perform_soak.ensures.outcome _)
-
-pub returns-in-Soak-clause-quiet : goal.returns-in-Soak-clause-quiet
-returns-in-Soak-clause-quiet g c = c.perform_soak.ensures.quiet _
-
-pub returns-in-Soak-clause-faults : goal.returns-in-Soak-clause-faults
-returns-in-Soak-clause-faults g c = c.perform_soak.ensures.faults _
-
-pub returns-in-Soak-clause-absences : goal.returns-in-Soak-clause-absences
-returns-in-Soak-clause-absences g c = c.perform_soak.ensures.absences _
+    of-same _ (g.S.Shelf.files c.args.host.now.shelf.now) (soak_of c.in-Soak.seed) (command_value c.args.command.now) (ap command_value c.in-Soak.is)
+    c.perform_soak.ensures.outcome
 
 pub returns-in-Run-clause-jam : goal.returns-in-Run-clause-jam
 returns-in-Run-clause-jam g c = λ _. rw c.in-Run.is tt
@@ -51,24 +42,24 @@ returns-in-Soak-clause-jam g c = λ jam. absurd (not-jammed _ c.perform_soak.ens
 
 pub returns-in-Pcm-clause-outcome : goal.returns-in-Pcm-clause-outcome
 returns-in-Pcm-clause-outcome g c =
-    of-same _ (g.S.Shelf.files c.args.shelf.now) (pcm_of c.in-Pcm.words) (command_value c.args.command.now) (ap command_value c.in-Pcm.is)
-    (pcm-told-as (g.S.Shelf.files c.args.shelf.now) _ c.in-Pcm.words _ c.words.view_is c.perform_telling.ensures.outcome)
+    of-same _ (g.S.Shelf.files c.args.host.now.shelf.now) (pcm_of c.in-Pcm.words) (command_value c.args.command.now) (ap command_value c.in-Pcm.is)
+    (pcm-told-as (g.S.Shelf.files c.args.host.now.shelf.now) _ c.in-Pcm.words _ c.words.view_is c.perform_telling.ensures.outcome)
 
 pub returns-in-Pcm-clause-jam : goal.returns-in-Pcm-clause-jam
 returns-in-Pcm-clause-jam g c = λ jam. absurd (not-jammed _ c.perform_telling.ensures.done jam)
 
 pub returns-in-Frames-clause-outcome : goal.returns-in-Frames-clause-outcome
 returns-in-Frames-clause-outcome g c =
-    of-same _ (g.S.Shelf.files c.args.shelf.now) (frames_of c.in-Frames.words) (command_value c.args.command.now) (ap command_value c.in-Frames.is)
-    (frames-told (g.S.Shelf.files c.args.shelf.now) _ c.in-Frames.words c.perform_telling-in-Frames.ensures.outcome)
+    of-same _ (g.S.Shelf.files c.args.host.now.shelf.now) (frames_of c.in-Frames.words) (command_value c.args.command.now) (ap command_value c.in-Frames.is)
+    (frames-told (g.S.Shelf.files c.args.host.now.shelf.now) _ c.in-Frames.words c.perform_telling-in-Frames.ensures.outcome)
 
 pub returns-in-Frames-clause-jam : goal.returns-in-Frames-clause-jam
 returns-in-Frames-clause-jam g c = λ jam. absurd (not-jammed _ c.perform_telling-in-Frames.ensures.done jam)
 
 pub returns-in-Profile-clause-outcome : goal.returns-in-Profile-clause-outcome
 returns-in-Profile-clause-outcome g c =
-    of-same _ (g.S.Shelf.files c.args.shelf.now) (profile_of c.in-Profile.words) (command_value c.args.command.now) (ap command_value c.in-Profile.is)
-    (profile-told (g.S.Shelf.files c.args.shelf.now) _ c.in-Profile.words c.perform_telling-in-Profile.ensures.outcome)
+    of-same _ (g.S.Shelf.files c.args.host.now.shelf.now) (profile_of c.in-Profile.words) (command_value c.args.command.now) (ap command_value c.in-Profile.is)
+    (profile-told (g.S.Shelf.files c.args.host.now.shelf.now) _ c.in-Profile.words c.perform_telling-in-Profile.ensures.outcome)
 
 pub returns-in-Profile-clause-jam : goal.returns-in-Profile-clause-jam
 returns-in-Profile-clause-jam g c = λ jam. absurd (not-jammed _ c.perform_telling-in-Profile.ensures.done jam)
@@ -78,5 +69,5 @@ returns-in-Seek-clause-jam g c = λ jam. absurd (not-jammed _ c.perform_seek.ens
 
 pub returns-in-Seek-clause-outcome : goal.returns-in-Seek-clause-outcome
 returns-in-Seek-clause-outcome g c =
-    of-same _ (g.S.Shelf.files c.args.shelf.now) (seek_of c.in-Seek.words) (command_value c.args.command.now) (ap command_value c.in-Seek.is)
-    (seek-told-as (g.S.Shelf.files c.args.shelf.now) _ c.in-Seek.words _ c.words-in-Seek.view_is (rw c.as_slice.ensures.value at c.perform_seek.ensures.outcome))
+    of-same _ (g.S.Shelf.files c.args.host.now.shelf.now) (seek_of c.in-Seek.words) (command_value c.args.command.now) (ap command_value c.in-Seek.is)
+    (seek-told-as (g.S.Shelf.files c.args.host.now.shelf.now) _ c.in-Seek.words _ c.words-in-Seek.view_is (rw c.as_slice.ensures.value at c.perform_seek.ensures.outcome))

@@ -1,30 +1,29 @@
 use Rattle.std.proofs.Common.{ap, refl, sym, ◌∙◌}
+use Rattle.std.proofs.lemmas.Result.{err_from_is_err_and}
 use Rattle.command_line.specs.CommandValue.{RunValue}
 use Rattle.gravitar_commands.specs.Outcome.{limit_of}
 use Rattle.gravitar_commands.specs.Telling.{sought_text}
-use Rattle.gravitar_commands.proofs.StageLaws.{absences-on}
-use Rattle.gravitar_commands.proofs.TellingLaws.{told-asked, told-comes, told-stopped}
+use Rattle.gravitar_commands.proofs.TellingLaws.{told-asked, told-comes, told-done, told-ends, told-keeps, told-stopped}
 use Rattle.gravitar_commands.proofs.seeking.perform_seek.Goals as goal
 
-pub returns-in-Err-clause-outcome : goal.returns-in-Err-clause-outcome
-returns-in-Err-clause-outcome g c =
-    told-stopped (g.S.Shelf.files c.args.shelf.now) c.args.run.now (sought_text c.args.clocks.now) _ _ _ _ c.in-Err.failure c.in-Err.ensures.content refl c.load_run.ensures.stores
+pub returns-in_err-parts-clause-outcome : goal.returns-in_err-parts-clause-outcome
+returns-in_err-parts-clause-outcome g c =
+    let p = err_from_is_err_and c.from_residual.result c.from_residual.ensures.1 in
+    rw (p.1, p.2) (told-stopped c.args.run.now (sought_text c.args.clocks.now) _ _ _ (refl, c.load_run.ensures.stores) c.in_err-parts.ensures.content)
 
 pub returns-clause-outcome : goal.returns-clause-outcome
 returns-clause-outcome g c =
-    let kept = c.load_run.ensures.stores in
     let asked = c.has_timers-wired.ensures ∙ ap (λ (r : RunValue). r.settings.timers) c.run.view_is in
     let lowered = c.limit_by-limit.ensures.limit ∙ ap (λ (r : RunValue). limit_of r.settings.until c.end.result) c.run.view_is in
-    let same = told-asked c.args.run.now.settings c.has_timers-wired.result c.limit_by-limit.result c.end.result (sought_text c.args.clocks.now) c.in-Ok.parts asked lowered c.end.ensures.end in
-    rw kept
-    (told-comes (g.S.Shelf.files c.args.shelf.now) c.args.run.now (sought_text c.args.clocks.now) _ _ _ _ c.in-Ok.parts _ c.in-Ok.ensures.content
-    (rw (sym same) (c.seek_parts.ensures.outcome _)))
+    let same = told-asked c.args.run.now.settings c.has_timers-wired.result c.limit_by-limit.result c.end.result (sought_text c.args.clocks.now) c.in_ok-parts.parts asked lowered c.end.ensures.end in
+    told-comes c.args.run.now (sought_text c.args.clocks.now) c.in_ok-parts.parts _ _ _ c.in_ok-parts.ensures.content
+    (rw (sym same) (told-ends _ _ c.load_run.ensures.stores c.has_timers-wired.result c.limit_by-limit.result (sought_text c.args.clocks.now) c.in_ok-parts.parts _
+    c.seek_parts.ensures.taken))
 
-pub returns-clause-quiet : goal.returns-clause-quiet
-returns-clause-quiet g c = rw c.load_run.ensures.stores (c.seek_parts.ensures.quiet _)
+pub returns-clause-done : goal.returns-clause-done
+returns-clause-done g c = told-done _ _ _ c.seek_parts.result c.seek_parts.ensures.taken
 
-pub returns-clause-faults : goal.returns-clause-faults
-returns-clause-faults g c = rw c.in-Ok.ensures.faults (c.seek_parts.ensures.faults _)
-
-pub returns-clause-absences : goal.returns-clause-absences
-returns-clause-absences g c = absences-on _ _ c.seek_parts.result c.seek_parts.ensures.absences c.in-Ok.ensures.absences
+pub returns-clause-keeps : goal.returns-clause-keeps
+returns-clause-keeps g c =
+    told-keeps _ _ c.load_run.ensures.stores _ c.seek_parts.result (record { shelf = refl; out = refl }) c.in_ok-parts.ensures.faults
+    c.in_ok-parts.ensures.absences c.seek_parts.ensures.taken c.seek_parts.ensures.faults

@@ -3,10 +3,10 @@ use Rattle.std.specs.Option.{option_map}
 use Rattle.catchup_engine.specs.EngineValue.{EngineValue}
 use Rattle.lockstep_board.specs.Run.{to_clock}
 use Rattle.board_watch.specs.declared.until.Until.TheVariants.{Clock}
-use Rattle.sliced_run.specs.Events.{sending}
+use Rattle.outside_io.specs.Events.{sending, storing}
 use Rattle.sliced_run.specs.Slice.{slice_text}
-use Rattle.sliced_run.specs.Slices.{cut_events, saved_bytes, storing}
-use Rattle.sliced_run.proofs.EventLaws.{did-sending, did-first-sending, did-first-of, did-nothing, did-storing, did-then, did-then-first}
+use Rattle.sliced_run.specs.Slices.{cut_events, saved_bytes}
+use Rattle.outside_io.proofs.EventLaws.{did-sending, did-first-sending, did-first-of, did-nothing, did-storing, did-then, did-then-first}
 use Rattle.sliced_run.proofs.SlicesLaws.{at-cut, saved-cleared}
 use Rattle.sliced_run.proofs.slices.cut_slice.Goals as goal
 

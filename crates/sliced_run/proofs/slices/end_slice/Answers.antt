@@ -2,10 +2,10 @@ use Rattle.std.proofs.Common.{◌++◌, refl}
 use Rattle.std.specs.Option.{option_map}
 use Rattle.lockstep_board.specs.Run.{to_boundary}
 use Rattle.board_watch.specs.declared.until.Until.TheVariants.{Boundary}
-use Rattle.sliced_run.specs.Events.{sending}
+use Rattle.outside_io.specs.Events.{sending, storing}
 use Rattle.sliced_run.specs.Slice.{slice_text}
-use Rattle.sliced_run.specs.Slices.{ending_text, last_events, saved_bytes, storing}
-use Rattle.sliced_run.proofs.EventLaws.{did-sending, did-first-sending, did-first-of, did-nothing, did-storing, did-then, did-then-first}
+use Rattle.sliced_run.specs.Slices.{ending_text, last_events, saved_bytes}
+use Rattle.outside_io.proofs.EventLaws.{did-sending, did-first-sending, did-first-of, did-nothing, did-storing, did-then, did-then-first}
 use Rattle.sliced_run.proofs.SlicesLaws.{at-end, ending-cleared, saved-cleared, cells-cleared}
 use Rattle.sliced_run.proofs.slices.end_slice.Goals as goal
 

@@ -1,7 +1,7 @@
 use Rattle.std.proofs.Common.{◌≡◌, length, arith, refl, ◌∙◌}
 use Rattle.sliced_run.specs.Slices.{wanted_of}
 use Rattle.sliced_run.proofs.CutLaws.{cuts-start, cuts-on, cuts-stopped, cuts-ended, cuts-board, cuts-calls, cuts-cut}
-use Rattle.sliced_run.proofs.EventLaws.{always_on_ok, on_ok, on_err}
+use Rattle.outside_io.proofs.EventLaws.{always_on_ok, on_ok, on_err}
 use Rattle.sliced_run.proofs.slices.run_synced.Goals as goal
 
 pub loop-cut-init : goal.loop-cut-init

@@ -1,5 +1,5 @@
 -- What a command does to the outside, one byte or one store at a time, in order.
-use Rattle.std.specs.Prelude.{◌≡◌, ℕ, List, [], ◌∷◌, Option, take}
+use Rattle.std.specs.Prelude.{◌≡◌, ℕ, List, [], ◌∷◌, Option, Some, None, take}
 use Rattle.outside_io.specs.Known.{grown}
 use Rattle.outside_io.specs.Shelf.{Kept}
 
@@ -23,6 +23,11 @@ stores_of (stored name bytes ∷ events) = (name, bytes) ∷ stores_of events
 unfoldable pub sending : List ℕ → List Event
 sending [] = []
 sending (b ∷ text) = sent b ∷ sending text
+
+-- a store under a name, where one is given
+abbrev pub storing : Option (List ℕ) → List ℕ → List Event
+storing None bytes = []
+storing (Some name) bytes = stored name bytes ∷ []
 
 -- what the output took and the stores that were made are these, where they are told
 pub record Did (events : List Event) (out0 out1 : Option (List ℕ)) (stores0 stores1 : Option (List Kept)) : Type 0 where

@@ -5,8 +5,7 @@ use Rattle.outside_io.specs.Shelf.{Kept}
 use Rattle.std.proofs.Math.Seq.{take-append-add}
 use Rattle.outside_io.proofs.KnownLaws.{grown-nothing, grown-twice}
 use Rattle.outside_io.proofs.TakesLaws.{take-longer}
-use Rattle.sliced_run.specs.Events.{Event, sent, stored, text_of, stores_of, sending, Did, DidFirst}
-use Rattle.sliced_run.specs.Slices.{storing}
+use Rattle.outside_io.specs.Events.{Event, sent, stored, storing, text_of, stores_of, sending, Did, DidFirst}
 
 -- what comes of an answer's clause
 pub on_ok : {T E P Q : Type 0} (result : Result T E) → (P → Q) → OnOk result P → OnOk result Q
