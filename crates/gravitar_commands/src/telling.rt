@@ -72,9 +72,7 @@ fn tell<V: VectorUnit, P: SoundUnit, C: CellUnit, D: DividerUnit, O: Sink>(
         Telling::Samples(per) => written(run_sampled(engine, tape, limit, per, out)),
         Telling::Frames => written(run_framed(engine, tape, limit, out)),
         Telling::Profile => {
-            let Ok(profile) = Profile::new(alloc, engine.cpu().pc) else {
-                return Err(Failure::NoMemory);
-            };
+            let profile = Profile::new(alloc, engine.cpu().pc)?;
             written(run_profiled(engine, tape, limit, profile, out))
         }
     }
