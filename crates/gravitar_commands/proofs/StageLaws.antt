@@ -121,7 +121,7 @@ refusal outcome (Absent note) status before now is ends not6 not7 = ends.failed
 refusal outcome Outside status before now is ends not6 not7 = absurd (not6 is)
 refusal outcome NoMemory status before now is ends not6 not7 = absurd (not7 is)
 
-quiet-of : (failure : Failure) (status : ℕ) (before now : Seen) → status ≡ status_of failure → HostQuiet {A = Ending} before now (Err failure)
+quiet-of : (failure : Failure) (status : ℕ) (before now : Seen) → status ≡ status_of failure → HostQuiet before now (Err failure)
     → status ≢ 6 → HostDidNothing before now
 quiet-of (Bad note) status before now is quiet not6 = quiet
 quiet-of (Absent note) status before now is quiet not6 = quiet
@@ -130,7 +130,7 @@ quiet-of NoMemory status before now is quiet not6 = quiet
 
 module _ (words : List (List ℕ)) (command : CommandValue) (failure : Failure) (status : ℕ) (before now : Seen)
     (some : Some command ≡ command_of words) (is : status ≡ status_of failure) (performs : Performs command before now (Err failure)) where
-  pub failure-outcome : HostQuiet {A = Ending} before now (Err failure) → status ≢ 6 → status ≢ 7
+  pub failure-outcome : HostQuiet before now (Err failure) → status ≢ 6 → status ≢ 7
       → Comes words before.files (λ outcome. (status ≡ outcome.status) × HostDid outcome.events before now)
   failure-outcome quiet not6 not7 =
       let nothing = quiet-of failure status before now is quiet not6 in

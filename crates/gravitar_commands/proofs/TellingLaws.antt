@@ -68,7 +68,6 @@ told-done out0 out1 text (Err failure) told = tt
 -- by the settings of a run
 pub told-asked : (said : SettingsValue) (wired : Bool) (limit end : ℕ) (text : List TapeEntry → ℕ → Board → List ℕ) (parts : Parts) → wired ≡ said.timers → limit ≡ limit_of said.until end
     → end ≡ parts.tape.end → told_outcome wired limit text parts ≡ telling_outcome said text parts
-unfolding telling_outcome
 told-asked said wired limit end text parts asked lowered ends =
     ap (λ (w : Bool). told_outcome w limit text parts) asked
     ∙ ap (λ (n : ℕ). told_outcome said.timers n text parts) (lowered ∙ ap (limit_of said.until) ends)

@@ -102,19 +102,16 @@ Told out0 out1 text (Err NoMemory) = out1 ≡ out0
 Told out0 out1 text (Err _) = ⊥
 
 -- nothing was written or stored, but for a success and an outside fault
-abbrev pub HostQuiet : {A : Type 0} → Seen → Seen → Result A Failure → Type 0
+abbrev pub HostQuiet : Seen → Seen → Result Ending Failure → Type 0
 HostQuiet before now (Ok _) = Unit {0}
 HostQuiet before now (Err Outside) = Unit {0}
 HostQuiet before now (Err failure) = HostDidNothing before now
 
 -- an outside fault is one of the shelf or of the output, and nothing else has raised their counts
-abbrev pub FailureHostFaults : Seen → Seen → Failure → Type 0
-FailureHostFaults before now Outside = Faulted before now
-FailureHostFaults before now _ = NoFault before now
-
-abbrev pub HostFaults : {A : Type 0} → Seen → Seen → Result A Failure → Type 0
+abbrev pub HostFaults : Seen → Seen → Result Ending Failure → Type 0
 HostFaults before now (Ok _) = NoFault before now
-HostFaults before now (Err failure) = FailureHostFaults before now failure
+HostFaults before now (Err Outside) = Faulted before now
+HostFaults before now (Err _) = NoFault before now
 
 -- what holds of a host after a command, whatever its files are
 pub record Keeps (before now : Seen) (result : Result Ending Failure) : Type 0 where

@@ -73,34 +73,26 @@ fn load_asm<S: Shelf>(
     ensures faults { StageFaults (S.faults shelf.old) (S.faults shelf.new) result }
     ensures absences { StageAbsences (S.absences shelf.old) (S.absences shelf.new) result }
 {
-    let Ok(mut image) = Image::blank(alloc) else {
-        return Err(Failure::NoMemory);
-    };
-    match load_source(
+    let mut image = Image::blank(alloc)?;
+    let processor = load_source(
         alloc,
         Language::Processor,
         words.processor,
         &mut image,
         shelf,
-    ) {
-        Err(failure) => Err(failure),
-        Ok(processor) => {
-            match load_source(
-                alloc,
-                Language::Generator,
-                words.generator,
-                &mut image,
-                shelf,
-            ) {
-                Err(failure) => Err(failure),
-                Ok(generator) => Ok(Assembled {
-                    image,
-                    processor,
-                    generator,
-                }),
-            }
-        }
-    }
+    )?;
+    let generator = load_source(
+        alloc,
+        Language::Generator,
+        words.generator,
+        &mut image,
+        shelf,
+    )?;
+    Ok(Assembled {
+        image,
+        processor,
+        generator,
+    })
 }
 
 /// The listing of the processor's source, and then that of the generator's.

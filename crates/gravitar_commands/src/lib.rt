@@ -13,6 +13,7 @@ mod limit;
 mod load;
 mod parts;
 mod program;
+mod reporting;
 mod seeking;
 mod soaking;
 mod steady;

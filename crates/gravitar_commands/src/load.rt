@@ -57,10 +57,7 @@ pub fn fetch<S: Shelf>(
     let mut bytes = Vec::new(alloc);
     match shelf.load(name, limit, &mut bytes) {
         Ok(Loaded::Found) => Ok(bytes),
-        Ok(Loaded::Absent) => match note_on(alloc, name, Cause::Absent) {
-            Ok(note) => Err(Failure::Absent(note)),
-            Err(failure) => Err(failure),
-        },
+        Ok(Loaded::Absent) => Err(Failure::Absent(note_on(alloc, name, Cause::Absent)?)),
         Err(ShelfFault::Failed) => Err(Failure::Outside),
         Err(ShelfFault::OutOfMemory) => Err(Failure::NoMemory),
     }
@@ -148,10 +145,8 @@ pub fn load_state<S: Shelf>(alloc: Global, name: &str, shelf: &mut S) -> Result<
     ensures faults { StageFaults (S.faults shelf.old) (S.faults shelf.new) result }
     ensures absences { StageAbsences (S.absences shelf.old) (S.absences shelf.new) result }
 {
-    match fetch(alloc, name, STATE_LEN, shelf) {
-        Ok(bytes) => read_state(alloc, name, &bytes),
-        Err(failure) => Err(failure),
-    }
+    let bytes = fetch(alloc, name, STATE_LEN, shelf)?;
+    read_state(alloc, name, &bytes)
 }
 
 /// The board that a run begins with: that of a state file, or the one at power-on.
@@ -214,10 +209,8 @@ fn load_cells<S: Shelf>(
     let Some(name) = name else {
         return Ok(());
     };
-    match fetch(alloc, name, CELLS, shelf) {
-        Ok(bytes) => read_cells(alloc, name, &bytes, board),
-        Err(failure) => Err(failure),
-    }
+    let bytes = fetch(alloc, name, CELLS, shelf)?;
+    read_cells(alloc, name, &bytes, board)
 }
 
 /// The board that a run begins with, its state and then its cells.
@@ -235,13 +228,9 @@ fn load_start<S: Shelf>(
     ensures faults { StageFaults (S.faults shelf.old) (S.faults shelf.new) result }
     ensures absences { StageAbsences (S.absences shelf.old) (S.absences shelf.new) result }
 {
-    match load_board(alloc, settings.state, shelf) {
-        Err(failure) => Err(failure),
-        Ok(mut board) => match load_cells(alloc, settings.earom, &mut board, shelf) {
-            Err(failure) => Err(failure),
-            Ok(()) => Ok(board),
-        },
-    }
+    let mut board = load_board(alloc, settings.state, shelf)?;
+    load_cells(alloc, settings.earom, &mut board, shelf)?;
+    Ok(board)
 }
 
 /// The image and the tape.
@@ -257,13 +246,9 @@ fn load_both<S: Shelf>(
     ensures faults { StageFaults (S.faults shelf.old) (S.faults shelf.new) result }
     ensures absences { StageAbsences (S.absences shelf.old) (S.absences shelf.new) result }
 {
-    match load_image(alloc, words.image, shelf) {
-        Err(failure) => Err(failure),
-        Ok(image) => match load_tape(alloc, words.tape, shelf) {
-            Err(failure) => Err(failure),
-            Ok(tape) => Ok((image, tape)),
-        },
-    }
+    let image = load_image(alloc, words.image, shelf)?;
+    let tape = load_tape(alloc, words.tape, shelf)?;
+    Ok((image, tape))
 }
 
 /// The files of a run, each read wholly before the next: image, tape, state, EAROM.
@@ -281,11 +266,7 @@ pub fn load_run<S: Shelf>(
     ensures faults { StageFaults (S.faults shelf.old) (S.faults shelf.new) result }
     ensures absences { StageAbsences (S.absences shelf.old) (S.absences shelf.new) result }
 {
-    match load_both(alloc, words, shelf) {
-        Err(failure) => Err(failure),
-        Ok((image, tape)) => match load_start(alloc, &words.settings, shelf) {
-            Err(failure) => Err(failure),
-            Ok(board) => Ok(Parts { image, tape, board }),
-        },
-    }
+    let (image, tape) = load_both(alloc, words, shelf)?;
+    let board = load_start(alloc, &words.settings, shelf)?;
+    Ok(Parts { image, tape, board })
 }

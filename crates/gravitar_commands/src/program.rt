@@ -17,9 +17,10 @@ use crate::failure::{Ending, Failure};
 use crate::limit::run_limit;
 use crate::load::{load_run, load_state};
 use crate::parts::Parts;
-use crate::seeking::perform_seek;
+use crate::reporting::perform_report;
+use crate::seeking::Boards;
 use crate::soaking::perform_soak;
-use crate::telling::{Telling, perform_telling};
+use crate::telling::Telling;
 use crate::words::Words;
 use board_base::CpuState;
 use board_debug::write_board;
@@ -123,11 +124,14 @@ fn perform<S: Shelf, O: Sink>(
         Command::Show(name) => perform_show(alloc, name, host),
         Command::Soak(seed) => perform_soak(alloc, *seed, host),
         Command::Pcm(words) => {
-            perform_telling(alloc, &words.run, Telling::Samples(words.per), host)
+            perform_report(alloc, &words.run, &Telling::Samples(words.per), host)
         }
-        Command::Frames(words) => perform_telling(alloc, words, Telling::Frames, host),
-        Command::Seek(words) => perform_seek(alloc, &words.run, words.clocks.as_slice(), host),
-        Command::Profile(words) => perform_telling(alloc, words, Telling::Profile, host),
+        Command::Frames(words) => perform_report(alloc, words, &Telling::Frames, host),
+        Command::Seek(words) => {
+            let clocks = words.clocks.as_slice();
+            perform_report(alloc, &words.run, &Boards { clocks }, host)
+        }
+        Command::Profile(words) => perform_report(alloc, words, &Telling::Profile, host),
     }
 }
 

@@ -1,22 +1,18 @@
-//! Runs that are told otherwise than by their log.
-ghost use Rattle.std.specs.Prelude.{◌≡◌, ◌≤◌, IfOk};
+//! The samples, the frames and the profile of a run.
+ghost use Rattle.std.specs.Prelude.{◌≡◌, ◌≤◌};
 ghost use Rattle.board_base.specs.declared.board.TheConstants.{CLOCK_LIMIT};
 ghost use Rattle.board_watch.specs.SyncedMachine.{value_of};
-ghost use Rattle.cpu_core.specs.Places.{IsProcessor};
-ghost use Rattle.outside_io.specs.Hosts.{seen};
-ghost use Rattle.gravitar_commands.specs.Outcome.{first_board};
-ghost use Rattle.gravitar_commands.specs.Stages.{Keeps, Reports, StageFaults, Told, written_as};
+ghost use Rattle.gravitar_commands.specs.Stages.{StageFaults, Told, written_as};
 ghost use Rattle.gravitar_commands.specs.Telling.{CanTell, telling_text};
 
 use crate::failure::{Ending, Failure};
-use crate::limit::{has_timers, limit_by};
-use crate::load::load_run;
 use crate::parts::Parts;
+use crate::reporting::Report;
 use board_watch::SyncedMachine;
 use catchup_engine::{Devices, Engine, Machine};
-use command_line::{PER_LIMIT, RunWords};
+use command_line::PER_LIMIT;
 use cycle_profile::Profile;
-use outside_io::{Host, Shelf, Sink, SinkFault};
+use outside_io::{Sink, SinkFault};
 use sampled_run::run_sampled;
 use sound_pcm::MAX_PER;
 use std::alloc::Global;
@@ -67,56 +63,27 @@ fn tell<M: Machine, O: Sink>(
         Telling::Samples(per) => written(run_sampled(synced, tape, limit, per, out)),
         Telling::Frames => written(run_framed(synced, tape, limit, out)),
         Telling::Profile => {
-            let Ok(profile) = Profile::new(alloc, synced.machine().cpu().pc) else {
-                return Err(Failure::NoMemory);
-            };
+            let profile = Profile::new(alloc, synced.machine().cpu().pc)?;
             written(run_profiled(synced, tape, limit, profile, out))
         }
     }
 }
 
-/// Takes the memory of a run, and then tells it.
-fn tell_parts<O: Sink>(
-    alloc: Global,
-    wired: bool,
-    limit: u64,
-    telling: Telling,
-    parts: &Parts,
-    out: &mut O,
-) -> Result<Ending, Failure>
-    requires place { IsProcessor parts.now.board.cpu }
-    requires limit { limit ≤ CLOCK_LIMIT }
-    requires told { CanTell telling }
-    ensures taken { Told (O.taken out.old) (O.taken out.new)
-        (telling_text telling parts.now.tape.entries limit (first_board wired parts.now)) result }
-    ensures faults { StageFaults (O.faults out.old) (O.faults out.new) result }
-{
-    let mut engine = Engine::new(alloc, &parts.image, &parts.board, Devices::fast(), wired)?;
-    tell(
-        alloc,
-        &mut SyncedMachine::of(&mut engine),
-        &parts.tape,
-        limit,
-        telling,
-        out,
-    )
-}
+impl Report for Telling {
+    ghost text = { telling_text };
 
-/// Runs an image with a tape, and tells the run. Nothing is stored, and a board that jams ends it as
-/// any other end does. All memory is taken before the first clock.
-pub fn perform_telling<S: Shelf, O: Sink>(
-    alloc: Global,
-    run: &RunWords<'_>,
-    telling: Telling,
-    host: &mut Host<'_, S, O>,
-) -> Result<Ending, Failure>
-    requires told { CanTell telling }
-    ensures outcome { Reports run.now (telling_text telling) (seen host.old) (seen host.new) result }
-    ensures done { IfOk result (λ ending. ending ≡ Ending.Done) }
-    ensures keeps { Keeps (seen host.old) (seen host.new) result }
-{
-    let parts = load_run(alloc, run, host.shelf)?;
-    let limit = limit_by(&run.settings, parts.tape.end());
-    let wired = has_timers(&run.settings);
-    tell_parts(alloc, wired, limit, telling, &parts, host.out)
+    ghost can_tell = { CanTell };
+
+    fn report<O: Sink>(
+        &self,
+        alloc: Global,
+        wired: bool,
+        limit: u64,
+        parts: &Parts,
+        out: &mut O,
+    ) -> Result<Ending, Failure> {
+        let mut engine = Engine::new(alloc, &parts.image, &parts.board, Devices::fast(), wired)?;
+        let mut synced = SyncedMachine::of(&mut engine);
+        tell(alloc, &mut synced, &parts.tape, limit, *self, out)
+    }
 }
