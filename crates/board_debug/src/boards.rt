@@ -3,6 +3,7 @@ ghost use Rattle.std.specs.Prelude.{◌≡◌, ℕ, ◌+◌, ◌-◌, ◌≤◌,
 ghost use Rattle.outside_io.specs.Causes.{HasCause};
 ghost use Rattle.outside_io.specs.Sink.{Takes};
 ghost use Rattle.lockstep_board.specs.Order.{HasNoRecords};
+ghost use Rattle.board_watch.specs.SyncedMachine.{loan_of, value_of};
 ghost use Rattle.keyframes.specs.Seeking.{Along, run_start};
 ghost use Rattle.board_debug.specs.BoardsText.{boards_text};
 ghost use Rattle.board_debug.specs.OneRun.{HasRoom, IsNextOf, IsReached, lesser};
@@ -10,6 +11,7 @@ ghost use Rattle.board_debug.specs.OneRun.{HasRoom, IsNextOf, IsReached, lesser}
 use crate::board_text::write_board;
 use avg_device::VectorUnit;
 use board_base::{BoardState, CLOCK_LIMIT};
+use board_watch::SyncedMachine;
 use catchup_engine::{Engine, Machine};
 use earom_cells::CellUnit;
 use irq_watchdog::DividerUnit;
@@ -41,26 +43,59 @@ fn next_above(clocks: &[u64], last: u64) -> Option<u64>
 }
 
 /// Keeps the boards of a run at some clocks, from the least to the greatest.
-fn keep_each<M: Machine>(machine: &mut M, keys: &mut Keyframes, tape: &Tape, clocks: &[u64])
-    requires settled { (M.value machine.old).lagging ≡ 0 }
-    requires empty { HasNoRecords (M.value machine.old).board }
-    requires along { Along keys.old.kept tape.now.entries (run_start keys.old.kept (M.value machine.old).board) }
+fn keep_each<M: Machine>(
+    synced: &mut SyncedMachine<'_, M>,
+    keys: &mut Keyframes,
+    tape: &Tape,
+    clocks: &[u64],
+)
+    requires along { Along keys.old.kept tape.now.entries (run_start keys.old.kept (value_of synced.old).board) }
     requires limit { All (λ clock. clock ≤ CLOCK_LIMIT) clocks.now }
-    ensures settled { (M.value machine.new).lagging ≡ 0 }
-    ensures empty { HasNoRecords (M.value machine.new).board }
-    ensures same { run_start keys.new.kept (M.value machine.new).board ≡ run_start keys.old.kept (M.value machine.old).board }
-    ensures along { Along keys.new.kept tape.now.entries (run_start keys.new.kept (M.value machine.new).board) }
+    ensures loan { loan_of synced.new ≡ loan_of synced.old }
+    ensures same { run_start keys.new.kept (value_of synced.new).board ≡ run_start keys.old.kept (value_of synced.old).board }
+    ensures along { Along keys.new.kept tape.now.entries (run_start keys.new.kept (value_of synced.new).board) }
     ensures done { HasRoom keys.old (length clocks.now) → (most : ℕ) → All (λ clock. clock ≤ most) clocks.now
-        → (M.value machine.new).done ≤ (M.value machine.old).done + (most - (run_start keys.old.kept (M.value machine.old).board).wires.clock) }
+        → (value_of synced.new).done ≤ (value_of synced.old).done + (most - (run_start keys.old.kept (value_of synced.old).board).wires.clock) }
     ensures reached { HasRoom keys.old (length clocks.now)
-        → All (λ clock. let b = run_start keys.old.kept (M.value machine.old).board in b.wires.clock ≤ clock → IsReached tape.now.entries b keys.new.kept clock) clocks.now }
+        → All (λ clock. let b = run_start keys.old.kept (value_of synced.old).board in b.wires.clock ≤ clock → IsReached tape.now.entries b keys.new.kept clock) clocks.now }
 {
     let mut last = keys.clock_of(0);
     while let Some(next) = next_above(clocks, last) {
-        go_to(machine, keys, tape, next);
-        keep_board(machine, keys);
+        go_to(synced, keys, tape, next);
+        keep_board(synced, keys);
         last = next;
     }
+}
+
+/// Keeps the boards of a run at some clocks, and writes their texts in the order of the clocks.
+fn write_each<M: Machine, O: Sink>(
+    synced: &mut SyncedMachine<'_, M>,
+    keys: &mut Keyframes,
+    tape: &Tape,
+    clocks: &[u64],
+    out: &mut O,
+) -> Result<(), SinkFault>
+    requires along { Along keys.old.kept tape.now.entries (run_start keys.old.kept (value_of synced.old).board) }
+    requires limit { All (λ clock. clock ≤ CLOCK_LIMIT) clocks.now }
+    ensures taken { Takes (O.taken out.old) (O.taken out.new) (boards_text tape.now.entries clocks.now (run_start keys.old.kept (value_of synced.old).board)) result }
+    ensures cause { HasCause (O.faults out.old) (O.faults out.new) result }
+    ensures loan { loan_of synced.new ≡ loan_of synced.old }
+    ensures same { run_start keys.new.kept (value_of synced.new).board ≡ run_start keys.old.kept (value_of synced.old).board }
+    ensures along { Along keys.new.kept tape.now.entries (run_start keys.new.kept (value_of synced.new).board) }
+    // where there is room for all of them, no more clocks than from the start to the last, in whatever order they are asked for
+    ensures done { HasRoom keys.old (length clocks.now) → (most : ℕ) → All (λ clock. clock ≤ most) clocks.now
+        → (value_of synced.new).done ≤ (value_of synced.old).done + (most - (run_start keys.old.kept (value_of synced.old).board).wires.clock) }
+{
+    keep_each(synced, keys, tape, clocks);
+    let mut state = BoardState::power_on();
+    for clock in clocks {
+        go_to(synced, keys, tape, *clock);
+        synced.machine().state(&mut state);
+        let Ok(()) = write_board(&state, out) else {
+            return Err(SinkFault);
+        };
+    }
+    Ok(())
 }
 
 /// Writes the texts of the boards of a run at some clocks, in the order in which they are asked for.
@@ -90,14 +125,5 @@ pub fn write_boards<V: VectorUnit, P: SoundUnit, C: CellUnit, D: DividerUnit, O:
     ensures done { HasRoom keys.old (length clocks.now) → (most : ℕ) → All (λ clock. clock ≤ most) clocks.now
         → engine.new.done ≤ engine.old.done + (most - (run_start keys.old.kept engine.old.board).wires.clock) }
 {
-    keep_each(engine, keys, tape, clocks);
-    let mut state = BoardState::power_on();
-    for clock in clocks {
-        go_to(engine, keys, tape, *clock);
-        engine.state(&mut state);
-        let Ok(()) = write_board(&state, out) else {
-            return Err(SinkFault);
-        };
-    }
-    Ok(())
+    write_each(&mut SyncedMachine::of(engine), keys, tape, clocks, out)
 }

@@ -40,27 +40,29 @@ fn make_turns<M: Machine>(
 }
 
 /// The board that an engine stands for.
-fn state_of<M: Machine>(machine: &M) -> BoardState
-    requires settled { (M.value machine.now).lagging ≡ 0 }
-    ensures { result ≡ board_of (M.value machine.now).board.cpu (M.value machine.now).board.wires }
+fn state_of<M: Machine>(synced: &SyncedMachine<'_, M>) -> BoardState
+    ensures { result ≡ board_of (value_of synced.now).board.cpu (value_of synced.now).board.wires }
 {
     let mut state = BoardState::power_on();
-    machine.state(&mut state);
+    synced.machine().state(&mut state);
     state
 }
 
 /// Shows what a command asks for that makes no turn.
-fn show<M: Machine, O: Sink>(machine: &M, command: Command, out: &mut O) -> Result<(), SinkFault>
-    requires settled { (M.value machine.now).lagging ≡ 0 }
-    ensures taken { Takes (O.taken out.old) (O.taken out.new) (shown_text command (M.value machine.now).board) result }
+fn show<M: Machine, O: Sink>(
+    synced: &SyncedMachine<'_, M>,
+    command: Command,
+    out: &mut O,
+) -> Result<(), SinkFault>
+    ensures taken { Takes (O.taken out.old) (O.taken out.new) (shown_text command (value_of synced.now).board) result }
     ensures cause { HasCause (O.faults out.old) (O.faults out.new) result }
 {
     match command {
-        Command::Regs => write_registers(&state_of(machine), out),
-        Command::Dev => write_devices(&state_of(machine), out),
-        Command::Mem(span) => write_mem(machine, span, out),
-        Command::Dis(span) => write_dis(machine, span, out),
-        Command::Vdis(span) => write_vdis(machine, span, out),
+        Command::Regs => write_registers(&state_of(synced), out),
+        Command::Dev => write_devices(&state_of(synced), out),
+        Command::Mem(span) => write_mem(synced.machine(), span, out),
+        Command::Dis(span) => write_dis(synced.machine(), span, out),
+        Command::Vdis(span) => write_vdis(synced.machine(), span, out),
         _ => Ok(()),
     }
 }
@@ -80,7 +82,7 @@ fn perform<M: Machine, O: Sink>(
 {
     match make_turns(synced, tape, stops, command) {
         Some(found) => write_stop(synced.machine(), found, out),
-        None => show(synced.machine(), command, out),
+        None => show(synced, command, out),
     }
 }
 

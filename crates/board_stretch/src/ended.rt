@@ -1,9 +1,11 @@
 ghost use Rattle.std.specs.Prelude.{◌≡◌, ℕ, List};
+ghost use Rattle.board_watch.specs.SyncedMachine.{value_of};
 ghost use Rattle.board_stretch.specs.Kept.{IsKept};
 ghost use Rattle.board_stretch.specs.Stretches.{EndsAt};
 
 use crate::told::Told;
 use board_base::BoardState;
+use board_watch::SyncedMachine;
 use catchup_engine::Machine;
 use save_state::STATE_LEN;
 
@@ -22,11 +24,11 @@ pub struct Stretch {
     pub jammed: bool,
 }
 
-/// A stretch of which this is kept, and which ended where a machine stands.
-pub(crate) fn ended<M: Machine>(machine: &M, told: Told) -> Stretch
-    requires settled { (M.value machine.now).lagging ≡ 0 }
-    ensures { (room : ℕ) → (text : List ℕ) → IsKept room text told → EndsAt room text (M.value machine.now).board result }
+/// A stretch of which this is kept, and which ended where a synchronised machine stands.
+pub(crate) fn ended<M: Machine>(synced: &SyncedMachine<'_, M>, told: Told) -> Stretch
+    ensures { (room : ℕ) → (text : List ℕ) → IsKept room text told → EndsAt room text (value_of synced.now).board result }
 {
+    let machine = synced.machine();
     let mut state = BoardState::power_on();
     machine.state(&mut state);
     let mut board = [0; STATE_LEN];

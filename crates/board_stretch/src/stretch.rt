@@ -48,7 +48,7 @@ fn advance_parts(
     };
     let mut synced = SyncedMachine::of(&mut engine);
     match watch_within(alloc, &mut synced, &parts.tape, until, &mut LogWriter, room) {
-        Ok(told) => Ok(ended(synced.machine(), told)),
+        Ok(told) => Ok(ended(&synced, told)),
         Err(_) => Err(StretchFault::NoMemory),
     }
 }
@@ -103,7 +103,7 @@ fn record_parts(
         &mut RecordWriter,
         room,
     ) {
-        Ok(told) => Ok(ended(synced.machine(), told)),
+        Ok(told) => Ok(ended(&synced, told)),
         Err(_) => Err(StretchFault::NoMemory),
     }
 }
@@ -152,7 +152,7 @@ fn sample_parts(
     let mut sampler = Sampler::of(&synced, per);
     let until = Until::Boundary(limit);
     match watch_within(alloc, &mut synced, &parts.tape, until, &mut sampler, room) {
-        Ok(told) => Ok(ended(synced.machine(), told)),
+        Ok(told) => Ok(ended(&synced, told)),
         Err(_) => Err(StretchFault::NoMemory),
     }
 }

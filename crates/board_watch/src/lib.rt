@@ -3,6 +3,7 @@
 
 mod follow;
 mod laws;
+mod nothing;
 mod nowhere;
 mod synced;
 mod until;
@@ -10,6 +11,7 @@ mod watch;
 
 pub use follow::Follow;
 pub use laws::windows_are_the_run;
+pub use nothing::Nothing;
 pub use nowhere::Nowhere;
 pub use synced::SyncedMachine;
 pub use until::Until;

@@ -1,5 +1,5 @@
 //! A lent machine that is synchronised, and its runs.
-ghost use Rattle.std.specs.Prelude.{◌≡◌, ◌+◌, ◌≤◌, ◌<◌, None, IfOk, IfSome, OnOk, Ok};
+ghost use Rattle.std.specs.Prelude.{◌≡◌, ◌+◌, ◌-◌, ◌≤◌, ◌<◌, None, IfOk, IfSome, OnOk, Ok};
 ghost use Rattle.std.proofs.Props.{props};
 ghost use Rattle.outside_io.specs.Causes.{HasCause};
 ghost use Rattle.outside_io.specs.Sink.{Takes};
@@ -72,6 +72,7 @@ fn advance<M: Machine>(machine: &mut M, tape: &Tape, until: Until) -> Stop
     ensures before { result ≡ Stop.Window → (M.value machine.new).board.wires.clock < clock_in until }
     ensures calls { (M.value machine.new).calls ≤ (M.value machine.old).calls + budget tape.now.entries (window_steps tape.now.entries until (M.value machine.old).board) (M.value machine.old).board }
     ensures more { (M.value machine.old).calls ≤ (M.value machine.new).calls }
+    ensures done { (M.value machine.new).done ≡ counted_on (M.value machine.old).done ((M.value machine.new).board.wires.clock - (M.value machine.old).board.wires.clock) }
 {
     match until {
         Until::Clock(cut) => machine.run_to(tape, cut),
@@ -142,6 +143,8 @@ impl<'a, M: Machine> SyncedMachine<'a, M> {
         ensures calls { (value_of self.new).calls ≤ (value_of self.old).calls
             + budget tape.now.entries (window_steps tape.now.entries until (value_of self.old).board) (value_of self.old).board + 5 }
         ensures more { (value_of self.old).calls ≤ (value_of self.new).calls }
+        ensures done { (value_of self.new).done
+            ≡ counted_on (value_of self.old).done ((value_of self.new).board.wires.clock - (value_of self.old).board.wires.clock) }
     {
         let stop = advance(self.machine, tape, until);
         self.machine.settle();

@@ -6,12 +6,14 @@ ghost use Rattle.tape_ports.specs.declared.entry.TapeEntry.{TapeEntry};
 ghost use Rattle.lockstep_board.specs.Order.{HasNoRecords, cleared};
 ghost use Rattle.lockstep_board.specs.Lockstep.{Board};
 ghost use Rattle.lockstep_board.specs.Run.{cause_of, to_clock, to_cut, wrap_of};
+ghost use Rattle.board_watch.specs.SyncedMachine.{loan_of, value_of};
 ghost use Rattle.keyframes.specs.Keys.{HaveRisingClocks, IsNearest, Keyframe, is_crowded, last_of};
 ghost use Rattle.keyframes.specs.Seeking.{AddsBoard, Along, CanBeLoaded, IsOnRun, over_image, run_start};
 
 use crate::keyframes::Keyframes;
 use avg_device::VectorUnit;
 use board_base::{BoardState, CLOCK_LIMIT};
+use board_watch::{Nothing, Nowhere, SyncedMachine, Until};
 use catchup_engine::{Engine, Machine, Stop};
 use earom_cells::CellUnit;
 use irq_watchdog::DividerUnit;
@@ -46,54 +48,45 @@ fn start_index(keys: &Keyframes, clock: u64) -> u32
 }
 
 /// Takes on a kept board.
-fn load_kept<M: Machine>(machine: &mut M, keys: &Keyframes, index: u32)
-    requires settled { (M.value machine.old).lagging ≡ 0 }
-    requires empty { HasNoRecords (M.value machine.old).board }
+fn load_kept<M: Machine>(synced: &mut SyncedMachine<'_, M>, keys: &Keyframes, index: u32)
     requires within { index < length keys.now.kept }
     requires loadable { All (λ keyframe. CanBeLoaded keyframe.board) keys.now.kept }
-    ensures board { (d : Keyframe) → (M.value machine.new).board ≡ over_image (M.value machine.old).board (get_or keys.now.kept index d).board }
-    ensures settled { (M.value machine.new).lagging ≡ 0 }
-    ensures empty { HasNoRecords (M.value machine.new).board }
-    ensures done { (M.value machine.new).done ≡ (M.value machine.old).done }
+    ensures loan { loan_of synced.new ≡ loan_of synced.old }
+    ensures board { (d : Keyframe) → (value_of synced.new).board ≡ over_image (value_of synced.old).board (get_or keys.now.kept index d).board }
+    ensures done { (value_of synced.new).done ≡ (value_of synced.old).done }
 {
     let mut state = BoardState::power_on();
     keys.board(index, &mut state);
-    machine.load(&state);
+    synced.load(&state);
 }
 
 /// Runs to a clock, or to the end of a window where that comes first, and forgets the records.
-fn run_window<M: Machine>(machine: &mut M, tape: &Tape, clock: u64) -> Stop
+fn run_window<M: Machine>(synced: &mut SyncedMachine<'_, M>, tape: &Tape, clock: u64) -> Stop
     requires limit { clock ≤ CLOCK_LIMIT }
-    requires settled { (M.value machine.old).lagging ≡ 0 }
-    requires empty { HasNoRecords (M.value machine.old).board }
-    ensures settled { (M.value machine.new).lagging ≡ 0 }
-    ensures empty { HasNoRecords (M.value machine.new).board }
-    ensures board { (M.value machine.new).board ≡ cleared (to_cut tape.now.entries clock (wrap_of (M.value machine.old).board) (M.value machine.old).board) }
-    ensures stop { result ≡ cause_of clock (M.value machine.new).board }
-    ensures later { result ≡ Stop.Window → (M.value machine.old).board.wires.clock < (M.value machine.new).board.wires.clock }
-    ensures before { result ≡ Stop.Window → (M.value machine.new).board.wires.clock < clock }
-    ensures done { (M.value machine.new).done + (M.value machine.old).board.wires.clock ≤ (M.value machine.old).done + (M.value machine.new).board.wires.clock }
+    ensures loan { loan_of synced.new ≡ loan_of synced.old }
+    ensures board { (value_of synced.new).board ≡ cleared (to_cut tape.now.entries clock (wrap_of (value_of synced.old).board) (value_of synced.old).board) }
+    ensures stop { result ≡ cause_of clock (value_of synced.new).board }
+    ensures later { result ≡ Stop.Window → (value_of synced.old).board.wires.clock < (value_of synced.new).board.wires.clock }
+    ensures before { result ≡ Stop.Window → (value_of synced.new).board.wires.clock < clock }
+    ensures done { (value_of synced.new).done + (value_of synced.old).board.wires.clock ≤ (value_of synced.old).done + (value_of synced.new).board.wires.clock }
 {
-    let stop = machine.run_to(tape, clock);
-    machine.settle();
-    machine.clear_trails();
+    let Ok(stop) = synced.window(tape, Until::Clock(clock), &mut Nothing, &mut Nowhere) else {
+        unreachable!();
+    };
     stop
 }
 
 /// Runs to a clock, window by window.
-fn run_on<M: Machine>(machine: &mut M, tape: &Tape, clock: u64)
+fn run_on<M: Machine>(synced: &mut SyncedMachine<'_, M>, tape: &Tape, clock: u64)
     requires limit { clock ≤ CLOCK_LIMIT }
-    requires settled { (M.value machine.old).lagging ≡ 0 }
-    requires empty { HasNoRecords (M.value machine.old).board }
-    ensures settled { (M.value machine.new).lagging ≡ 0 }
-    ensures empty { HasNoRecords (M.value machine.new).board }
-    ensures board { (M.value machine.new).board ≡ cleared (to_clock tape.now.entries clock (M.value machine.old).board) }
-    ensures on_run { (b : Board) → IsOnRun tape.now.entries b (M.value machine.old).board → IsOnRun tape.now.entries b (M.value machine.new).board }
-    ensures same { (kept : List Keyframe) → 0 < length kept → run_start kept (M.value machine.new).board ≡ run_start kept (M.value machine.old).board }
-    ensures done { (M.value machine.new).done + (M.value machine.old).board.wires.clock ≤ (M.value machine.old).done + (M.value machine.new).board.wires.clock }
+    ensures loan { loan_of synced.new ≡ loan_of synced.old }
+    ensures board { (value_of synced.new).board ≡ cleared (to_clock tape.now.entries clock (value_of synced.old).board) }
+    ensures on_run { (b : Board) → IsOnRun tape.now.entries b (value_of synced.old).board → IsOnRun tape.now.entries b (value_of synced.new).board }
+    ensures same { (kept : List Keyframe) → 0 < length kept → run_start kept (value_of synced.new).board ≡ run_start kept (value_of synced.old).board }
+    ensures done { (value_of synced.new).done + (value_of synced.old).board.wires.clock ≤ (value_of synced.old).done + (value_of synced.new).board.wires.clock }
 {
     'windows: loop {
-        match run_window(machine, tape, clock) {
+        match run_window(synced, tape, clock) {
             Stop::Window => {}
             _ => return,
         }
@@ -101,14 +94,14 @@ fn run_on<M: Machine>(machine: &mut M, tape: &Tape, clock: u64)
 }
 
 /// Keeps the board of a machine that stands `stride` clocks or more after the last kept one.
-fn keep_if_due<M: Machine>(machine: &M, keys: &mut Keyframes, stride: u64)
-    requires settled { (M.value machine.now).lagging ≡ 0 }
+fn keep_if_due<M: Machine>(synced: &SyncedMachine<'_, M>, keys: &mut Keyframes, stride: u64)
     requires some { 0 < length keys.old.kept }
     requires stride { 1 ≤ stride }
     ensures first { (e : Board) → run_start keys.new.kept e ≡ run_start keys.old.kept e }
-    ensures along { (entries : List TapeEntry) → (b : Board) → Along keys.old.kept entries b → IsOnRun entries b (M.value machine.now).board → Along keys.new.kept entries b }
-    ensures near { IfSome (last_of keys.new.kept) (λ last. (M.value machine.now).board.wires.clock < last.board.clock + stride) }
+    ensures along { (entries : List TapeEntry) → (b : Board) → Along keys.old.kept entries b → IsOnRun entries b (value_of synced.now).board → Along keys.new.kept entries b }
+    ensures near { IfSome (last_of keys.new.kept) (λ last. (value_of synced.now).board.wires.clock < last.board.clock + stride) }
 {
+    let machine = synced.machine();
     let last = keys.clock_of(keys.len() - 1);
     if machine.clock().saturating_sub(last) >= stride {
         let mut state = BoardState::power_on();
@@ -120,29 +113,26 @@ fn keep_if_due<M: Machine>(machine: &M, keys: &mut Keyframes, stride: u64)
 /// Runs to a clock, window by window, and keeps a board after each window that ends `stride` clocks or
 /// more after the last kept one.
 fn run_keeping<M: Machine>(
-    machine: &mut M,
+    synced: &mut SyncedMachine<'_, M>,
     keys: &mut Keyframes,
     tape: &Tape,
     clock: u64,
     stride: u64,
 )
-    requires settled { (M.value machine.old).lagging ≡ 0 }
-    requires empty { HasNoRecords (M.value machine.old).board }
-    requires along { Along keys.old.kept tape.now.entries (run_start keys.old.kept (M.value machine.old).board) }
-    requires on_run { IsOnRun tape.now.entries (run_start keys.old.kept (M.value machine.old).board) (M.value machine.old).board }
+    requires along { Along keys.old.kept tape.now.entries (run_start keys.old.kept (value_of synced.old).board) }
+    requires on_run { IsOnRun tape.now.entries (run_start keys.old.kept (value_of synced.old).board) (value_of synced.old).board }
     requires limit { clock ≤ CLOCK_LIMIT }
     requires stride { 1 ≤ stride }
-    ensures settled { (M.value machine.new).lagging ≡ 0 }
-    ensures empty { HasNoRecords (M.value machine.new).board }
-    ensures board { (M.value machine.new).board ≡ cleared (to_clock tape.now.entries clock (M.value machine.old).board) }
-    ensures same { run_start keys.new.kept (M.value machine.new).board ≡ run_start keys.old.kept (M.value machine.old).board }
-    ensures along { Along keys.new.kept tape.now.entries (run_start keys.old.kept (M.value machine.old).board) }
-    ensures done { (M.value machine.new).done + (M.value machine.old).board.wires.clock ≤ (M.value machine.old).done + (M.value machine.new).board.wires.clock }
-    ensures near { IfSome (last_of keys.new.kept) (λ last. (M.value machine.new).board.wires.clock < last.board.clock + stride) }
+    ensures loan { loan_of synced.new ≡ loan_of synced.old }
+    ensures board { (value_of synced.new).board ≡ cleared (to_clock tape.now.entries clock (value_of synced.old).board) }
+    ensures same { run_start keys.new.kept (value_of synced.new).board ≡ run_start keys.old.kept (value_of synced.old).board }
+    ensures along { Along keys.new.kept tape.now.entries (run_start keys.old.kept (value_of synced.old).board) }
+    ensures done { (value_of synced.new).done + (value_of synced.old).board.wires.clock ≤ (value_of synced.old).done + (value_of synced.new).board.wires.clock }
+    ensures near { IfSome (last_of keys.new.kept) (λ last. (value_of synced.new).board.wires.clock < last.board.clock + stride) }
 {
     'windows: loop {
-        let stop = run_window(machine, tape, clock);
-        keep_if_due(machine, keys, stride);
+        let stop = run_window(synced, tape, clock);
+        keep_if_due(synced, keys, stride);
         match stop {
             Stop::Window => {}
             _ => return,
@@ -155,41 +145,68 @@ fn run_keeping<M: Machine>(
 /// The run begins at the first kept board, and all kept boards lie along it. Below the clock of the
 /// first one it is that board; from a jam on it is the jammed board. The machine goes on from the last
 /// kept board at or below the clock. It takes no memory.
-pub fn go_to<M: Machine>(machine: &mut M, keys: &Keyframes, tape: &Tape, clock: u64)
-    requires settled { (M.value machine.old).lagging ≡ 0 }
-    requires empty { HasNoRecords (M.value machine.old).board }
-    requires along { Along keys.now.kept tape.now.entries (run_start keys.now.kept (M.value machine.old).board) }
+pub fn go_to<M: Machine>(
+    synced: &mut SyncedMachine<'_, M>,
+    keys: &Keyframes,
+    tape: &Tape,
+    clock: u64,
+)
+    requires along { Along keys.now.kept tape.now.entries (run_start keys.now.kept (value_of synced.old).board) }
     requires limit { clock ≤ CLOCK_LIMIT }
-    ensures settled { (M.value machine.new).lagging ≡ 0 }
-    ensures empty { HasNoRecords (M.value machine.new).board }
-    ensures board { (M.value machine.new).board ≡ cleared (to_clock tape.now.entries clock (run_start keys.now.kept (M.value machine.old).board)) }
-    ensures on_run { IsOnRun tape.now.entries (run_start keys.now.kept (M.value machine.old).board) (M.value machine.new).board }
-    ensures same { run_start keys.now.kept (M.value machine.new).board ≡ run_start keys.now.kept (M.value machine.old).board }
-    ensures along { Along keys.now.kept tape.now.entries (run_start keys.now.kept (M.value machine.new).board) }
+    ensures loan { loan_of synced.new ≡ loan_of synced.old }
+    ensures board { (value_of synced.new).board ≡ cleared (to_clock tape.now.entries clock (run_start keys.now.kept (value_of synced.old).board)) }
+    ensures on_run { IsOnRun tape.now.entries (run_start keys.now.kept (value_of synced.old).board) (value_of synced.new).board }
+    ensures same { run_start keys.now.kept (value_of synced.new).board ≡ run_start keys.now.kept (value_of synced.old).board }
+    ensures along { Along keys.now.kept tape.now.entries (run_start keys.now.kept (value_of synced.new).board) }
     ensures done { All (λ keyframe. keyframe.board.clock ≤ clock
-        → (M.value machine.new).done + keyframe.board.clock ≤ (M.value machine.old).done + (M.value machine.new).board.wires.clock) keys.now.kept }
-    ensures before { clock < (run_start keys.now.kept (M.value machine.old).board).wires.clock → (M.value machine.new).done ≤ (M.value machine.old).done }
+        → (value_of synced.new).done + keyframe.board.clock ≤ (value_of synced.old).done + (value_of synced.new).board.wires.clock) keys.now.kept }
+    ensures before { clock < (run_start keys.now.kept (value_of synced.old).board).wires.clock → (value_of synced.new).done ≤ (value_of synced.old).done }
 {
     let nearest = start_index(keys, clock);
-    load_kept(machine, keys, nearest);
-    run_on(machine, tape, clock);
+    load_kept(synced, keys, nearest);
+    run_on(synced, tape, clock);
 }
 
 /// Keeps the board of a machine where its clock is past that of the last kept one. Where there is no room
 /// more, every second kept board is dropped before.
-pub fn keep_board<M: Machine>(machine: &M, keys: &mut Keyframes)
-    requires settled { (M.value machine.now).lagging ≡ 0 }
+pub fn keep_board<M: Machine>(synced: &SyncedMachine<'_, M>, keys: &mut Keyframes)
     requires some { 0 < length keys.old.kept }
     ensures first { (e : Board) → run_start keys.new.kept e ≡ run_start keys.old.kept e }
-    ensures along { (entries : List TapeEntry) → (b : Board) → Along keys.old.kept entries b → IsOnRun entries b (M.value machine.now).board → Along keys.new.kept entries b }
-    ensures roomy { is_crowded keys.old ≡ false → AddsBoard keys.old keys.new (M.value machine.now).board }
+    ensures along { (entries : List TapeEntry) → (b : Board) → Along keys.old.kept entries b → IsOnRun entries b (value_of synced.now).board → Along keys.new.kept entries b }
+    ensures roomy { is_crowded keys.old ≡ false → AddsBoard keys.old keys.new (value_of synced.now).board }
 {
+    let machine = synced.machine();
     let last = keys.clock_of(keys.len() - 1);
     if last < machine.clock() {
         let mut board = BoardState::power_on();
         machine.state(&mut board);
         keys.keep(&board);
     }
+}
+
+/// Brings a synchronised machine to the board of a run at a clock, and keeps boards on the way.
+fn seek_synced<M: Machine>(
+    synced: &mut SyncedMachine<'_, M>,
+    keys: &mut Keyframes,
+    tape: &Tape,
+    clock: u64,
+    stride: u64,
+)
+    requires along { Along keys.old.kept tape.now.entries (run_start keys.old.kept (value_of synced.old).board) }
+    requires limit { clock ≤ CLOCK_LIMIT }
+    requires stride { 1 ≤ stride }
+    ensures loan { loan_of synced.new ≡ loan_of synced.old }
+    ensures board { (value_of synced.new).board ≡ cleared (to_clock tape.now.entries clock (run_start keys.old.kept (value_of synced.old).board)) }
+    ensures same { run_start keys.new.kept (value_of synced.new).board ≡ run_start keys.old.kept (value_of synced.old).board }
+    ensures along { Along keys.new.kept tape.now.entries (run_start keys.new.kept (value_of synced.new).board) }
+    ensures done { All (λ keyframe. keyframe.board.clock ≤ clock
+        → (value_of synced.new).done + keyframe.board.clock ≤ (value_of synced.old).done + (value_of synced.new).board.wires.clock) keys.old.kept }
+    ensures before { clock < (run_start keys.old.kept (value_of synced.old).board).wires.clock → (value_of synced.new).done ≤ (value_of synced.old).done }
+    ensures near { IfSome (last_of keys.new.kept) (λ last. (value_of synced.new).board.wires.clock < last.board.clock + stride) }
+{
+    let index = start_index(keys, clock);
+    load_kept(synced, keys, index);
+    run_keeping(synced, keys, tape, clock, stride);
 }
 
 /// Brings an engine to the board of a run at a clock, which may be inside a sequence, and keeps boards
@@ -222,7 +239,5 @@ pub fn seek<V: VectorUnit, P: SoundUnit, C: CellUnit, D: DividerUnit>(
     ensures before { clock < (run_start keys.old.kept engine.old.board).wires.clock → engine.new.done ≤ engine.old.done }
     ensures near { IfSome (last_of keys.new.kept) (λ last. engine.new.board.wires.clock < last.board.clock + stride) }
 {
-    let index = start_index(keys, clock);
-    load_kept(engine, keys, index);
-    run_keeping(engine, keys, tape, clock, stride);
+    seek_synced(&mut SyncedMachine::of(engine), keys, tape, clock, stride);
 }

@@ -15,4 +15,4 @@ returns-in-None-clause-taken g c =
     subst (λ (text : List ℕ). Takes (g.O.Sink.taken c.args.out.now) (g.O.Sink.taken c.show.new.out) text c.show.result)
     (shown-text c.args.tape.now c.args.stops.now c.args.command (g.M.Machine.value c.args.synced.now.machine.now).board (g.M.Machine.value c.make_turns.new.synced.machine.now).board c.make_turns.result c.in-None.is
     c.make_turns.ensures.reached c.make_turns.ensures.board)
-    (rw c.machine-in-None.ensures.value at c.show.ensures.taken)
+    c.show.ensures.taken

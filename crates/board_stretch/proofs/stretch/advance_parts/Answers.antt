@@ -23,10 +23,7 @@ returns-in-Ok-watch_within-clause-done c =
     let kept : IsKept c.args.room (slice_text entries until first) c.in-Ok-watch_within.told =
     subst (λ (l : List ℕ). IsKept c.args.room l c.in-Ok-watch_within.told)
     (run-text entries until before c.of-synced.result.is_synced.empty ∙ ap (slice_text entries until) begins) c.in-Ok-watch_within.ensures.told in
-    let there : c.machine.result.now.board ≡ cleared (end_of entries until first) =
-    ap (λ (e : EngineValue). e.board) c.machine.ensures.value
-    ∙ c.in-Ok-watch_within.ensures.board
-    ∙ ap (λ b. cleared (end_of entries until b)) begins in
+    let there = c.in-Ok-watch_within.ensures.board ∙ ap (λ b. cleared (end_of entries until b)) begins in
     ends-behind _ _ _ _ c.ended.result (c.ended.ensures c.args.room _ kept) there
 
 pub returns-in-Ok-watch_within-clause-fits : goal.returns-in-Ok-watch_within-clause-fits

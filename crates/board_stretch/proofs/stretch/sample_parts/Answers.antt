@@ -29,10 +29,7 @@ returns-in-Ok-watch_within-clause-done c =
     subst (λ (l : List ℕ). IsKept c.args.room l c.in-Ok-watch_within.told)
     (run-sampled entries before c.of-synced.result.is_synced.empty limit c.args.per c.of-sampler.result.mixer c.requires.some c.of-sampler.ensures.begins
     ∙ ap (sampled_bytes entries limit c.args.per) begins) c.in-Ok-watch_within.ensures.told in
-    let there : c.machine.result.now.board ≡ cleared (end_of entries (Boundary limit) first) =
-    ap (λ (e : EngineValue). e.board) c.machine.ensures.value
-    ∙ c.in-Ok-watch_within.ensures.board
-    ∙ ap (λ b. cleared (end_of entries (Boundary limit) b)) begins in
+    let there = c.in-Ok-watch_within.ensures.board ∙ ap (λ b. cleared (end_of entries (Boundary limit) b)) begins in
     ends-behind _ _ _ _ c.ended.result (c.ended.ensures c.args.room _ kept) there
 
 pub returns-in-Ok-watch_within-clause-fits : goal.returns-in-Ok-watch_within-clause-fits

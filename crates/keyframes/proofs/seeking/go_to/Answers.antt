@@ -10,20 +10,20 @@ returns-clause-board g c =
     let found = c.start_index-nearest.ensures in
     c.run_on.ensures.board
     ∙ seek-board c.args.keys.now.kept c.args.clock c.start_index-nearest.result found.rising found.within found.nearest found.first
-    c.args.tape.now.entries (g.M.Machine.value c.args.machine.now).board (g.M.Machine.value c.load_kept.new.machine).board c.requires.along c.load_kept.ensures.board
+    c.args.tape.now.entries (g.M.Machine.value c.args.synced.now.machine.now).board (g.M.Machine.value c.load_kept.new.synced.machine.now).board c.requires.along c.load_kept.ensures.board
 
 pub returns-clause-on_run : goal.returns-clause-on_run
 returns-clause-on_run g c =
     let begun =
-    begins c.args.keys.now.kept c.args.tape.now.entries (g.M.Machine.value c.args.machine.now).board (g.M.Machine.value c.load_kept.new.machine).board c.start_index-nearest.result
+    begins c.args.keys.now.kept c.args.tape.now.entries (g.M.Machine.value c.args.synced.now.machine.now).board (g.M.Machine.value c.load_kept.new.synced.machine.now).board c.start_index-nearest.result
     c.requires.along c.start_index-nearest.ensures.within c.load_kept.ensures.board in
-    subst (λ (b : Board). IsOnRun c.args.tape.now.entries b (g.M.Machine.value c.run_on.new.machine).board) begun.start
-    (c.run_on.ensures.on_run (run_start c.args.keys.now.kept (g.M.Machine.value c.load_kept.new.machine).board) begun.on_run)
+    subst (λ (b : Board). IsOnRun c.args.tape.now.entries b (g.M.Machine.value c.run_on.new.synced.machine.now).board) begun.start
+    (c.run_on.ensures.on_run (run_start c.args.keys.now.kept (g.M.Machine.value c.load_kept.new.synced.machine.now).board) begun.on_run)
 
 pub returns-clause-same : goal.returns-clause-same
 returns-clause-same g c =
     c.run_on.ensures.same c.args.keys.now.kept c.requires.along.some
-    ∙ (begins c.args.keys.now.kept c.args.tape.now.entries (g.M.Machine.value c.args.machine.now).board (g.M.Machine.value c.load_kept.new.machine).board c.start_index-nearest.result
+    ∙ (begins c.args.keys.now.kept c.args.tape.now.entries (g.M.Machine.value c.args.synced.now.machine.now).board (g.M.Machine.value c.load_kept.new.synced.machine.now).board c.start_index-nearest.result
     c.requires.along c.start_index-nearest.ensures.within c.load_kept.ensures.board).start
 
 pub returns-clause-along : goal.returns-clause-along
@@ -41,12 +41,12 @@ returns-clause-done g c = λ k d h low.
 
 pub returns-clause-before : goal.returns-clause-before
 returns-clause-before g c = λ before.
-    let e = (g.M.Machine.value c.args.machine.now).board in
+    let e = (g.M.Machine.value c.args.synced.now.machine.now).board in
     let kept = c.args.keys.now.kept in
     let d : Keyframe = record { board = state_of e; pages = [] } in
     let found = c.start_index-nearest.ensures in
     let later = not-before-first kept c.args.clock c.start_index-nearest.result found.rising found.within found.nearest found.first d in
-    let stays = before-first kept c.args.tape.now.entries (run_start kept e) (g.M.Machine.value c.run_on.new.machine).board c.args.clock d c.requires.along
+    let stays = before-first kept c.args.tape.now.entries (run_start kept e) (g.M.Machine.value c.run_on.new.synced.machine.now).board c.args.clock d c.requires.along
     (returns-clause-board g c) before in
     let from = ap (λ (b : Board). b.wires.clock) (c.load_kept.ensures.board d) in
     let same = c.load_kept.ensures.done in

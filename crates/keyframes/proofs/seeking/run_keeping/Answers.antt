@@ -6,8 +6,7 @@ use Rattle.keyframes.proofs.seeking.run_keeping.Goals as goal
 
 pub windows-init : goal.windows-init
 windows-init g c = record {
-  settled = c.requires.settled;
-  empty = c.requires.empty;
+  loan = refl;
   along = c.requires.along;
   on_run = c.requires.on_run;
   same = refl;
@@ -18,17 +17,16 @@ windows-init g c = record {
 pub windows-preserved : goal.windows-preserved
 windows-preserved g c =
     let entries = c.args.tape.now.entries in
-    let now = (g.M.Machine.value c.windows.machine).board in
-    let next = (g.M.Machine.value c.run_window-stop.new.machine).board in
-    let b = run_start c.args.keys.now.kept (g.M.Machine.value c.args.machine.now).board in
+    let now = (g.M.Machine.value c.windows.synced.machine.now).board in
+    let next = (g.M.Machine.value c.run_window-stop.new.synced.machine.now).board in
+    let b = run_start c.args.keys.now.kept (g.M.Machine.value c.args.synced.now.machine.now).board in
     let is = c.run_window-stop.ensures.board in
     let inv = c.windows.invariant in
     let before = inv.done in
     let more = c.run_window-stop.ensures.done in
     let on_run = window-on_run entries b now next c.args.clock (wrap_of now) is inv.on_run in
     record {
-      settled = c.run_window-stop.ensures.settled;
-      empty = c.run_window-stop.ensures.empty;
+      loan = c.run_window-stop.ensures.loan ∙ inv.loan;
       along = c.keep_if_due.ensures.along entries b inv.along on_run;
       on_run = on_run;
       same =
@@ -42,19 +40,18 @@ windows-preserved g c =
 pub returns-in_default : goal.returns-in_default
 returns-in_default g c =
     let entries = c.args.tape.now.entries in
-    let now = (g.M.Machine.value c.windows.machine).board in
-    let next = (g.M.Machine.value c.run_window-stop.new.machine).board in
-    let b = run_start c.args.keys.now.kept (g.M.Machine.value c.args.machine.now).board in
+    let now = (g.M.Machine.value c.windows.synced.machine.now).board in
+    let next = (g.M.Machine.value c.run_window-stop.new.synced.machine.now).board in
+    let b = run_start c.args.keys.now.kept (g.M.Machine.value c.args.synced.now.machine.now).board in
     let is = c.run_window-stop.ensures.board in
     let inv = c.windows.invariant in
     let before = inv.done in
     let more = c.run_window-stop.ensures.done in
     let on_run = window-on_run entries b now next c.args.clock (wrap_of now) is inv.on_run in
     record {
-      settled = c.run_window-stop.ensures.settled;
-      empty = c.run_window-stop.ensures.empty;
+      loan = c.run_window-stop.ensures.loan ∙ inv.loan;
       board =
-          window-last entries b now next c.args.clock (wrap_of now) is (g.M.Machine.value c.args.machine.now).board
+          window-last entries b now next c.args.clock (wrap_of now) is (g.M.Machine.value c.args.synced.now.machine.now).board
           (λ w. c.in_default.not-Window (◌∙◌ {b = cause_of c.args.clock next} c.run_window-stop.ensures.stop w)) inv.rest;
       same =
           c.keep_if_due.ensures.first next

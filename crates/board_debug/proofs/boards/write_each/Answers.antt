@@ -2,18 +2,19 @@ use Rattle.std.proofs.Common.{refl, ap, ◌∙◌, get_or, arith}
 use Rattle.lockstep_board.specs.Order.{cleared}
 use Rattle.lockstep_board.specs.Lockstep.{Board}
 use Rattle.lockstep_board.specs.Run.{to_clock}
+use Rattle.lockstep_board.specs.Wires.{board_of}
+use Rattle.catchup_engine.specs.EngineValue.{EngineValue}
 use Rattle.keyframes.specs.Seeking.{run_start}
 use Rattle.board_debug.proofs.BoardsLaws.{board-last, board-on}
 use Rattle.board_debug.proofs.OneRunLaws.{reached-free}
 use Rattle.board_debug.proofs.ListingLaws.{none-taken, piece-cut, piece-taken, whole-taken}
-use Rattle.board_debug.proofs.boards.write_boards.Goals as goal
+use Rattle.board_debug.proofs.boards.write_each.Goals as goal
 
 pub loop-clock-init : goal.loop-clock-init
 loop-clock-init g c = record {
   text = none-taken _ _ _ refl;
   faults = refl;
-  settled = c.keep_each.ensures.settled;
-  empty = c.keep_each.ensures.empty;
+  loan = c.keep_each.ensures.loan;
   same = c.keep_each.ensures.same;
   along = c.keep_each.ensures.along;
   reached = c.keep_each.ensures.reached;
@@ -23,33 +24,34 @@ loop-clock-init g c = record {
 pub returns-in_default-clause-taken : goal.returns-in_default-clause-taken
 returns-in_default-clause-taken g c =
     piece-cut _ _ _ _ _ _ _
-    (board-on c.args.tape.now.entries c.args.clocks.now c.loop-clock.clock-index 0 (run_start c.args.keys.now.kept c.args.engine.now.board)
-    (run_start c.keep_each.new.keys.kept c.loop-clock.engine.board) c.go_to.new.machine.board c.state.new.into c.loop-clock-test.true c.go_to.ensures.board
-    c.loop-clock.invariant.same c.state.ensures.board)
+    (board-on c.args.tape.now.entries c.args.clocks.now c.loop-clock.clock-index 0 (run_start c.args.keys.now.kept (g.M.Machine.value c.args.synced.now.machine.now).board)
+    (run_start c.keep_each.new.keys.kept (g.M.Machine.value c.loop-clock.synced.machine.now).board) (g.M.Machine.value c.go_to.new.synced.machine.now).board c.state.new.into c.loop-clock-test.true c.go_to.ensures.board
+    c.loop-clock.invariant.same
+    (c.state.ensures.board ∙ ap (λ (e : EngineValue). board_of e.board.cpu e.board.wires) c.machine.ensures.value))
     c.in_default.ensures.taken c.loop-clock.invariant.text
 
 pub loop-clock-preserved : goal.loop-clock-preserved
 loop-clock-preserved g c = record {
   text = piece-taken _ _ _ _ _ _ _
-      (board-on c.args.tape.now.entries c.args.clocks.now c.loop-clock.clock-index 0 (run_start c.args.keys.now.kept c.args.engine.now.board)
-      (run_start c.keep_each.new.keys.kept c.loop-clock.engine.board) c.go_to.new.machine.board c.state.new.into c.loop-clock-test.true c.go_to.ensures.board
-      c.loop-clock.invariant.same c.state.ensures.board)
+      (board-on c.args.tape.now.entries c.args.clocks.now c.loop-clock.clock-index 0 (run_start c.args.keys.now.kept (g.M.Machine.value c.args.synced.now.machine.now).board)
+      (run_start c.keep_each.new.keys.kept (g.M.Machine.value c.loop-clock.synced.machine.now).board) (g.M.Machine.value c.go_to.new.synced.machine.now).board c.state.new.into c.loop-clock-test.true c.go_to.ensures.board
+      c.loop-clock.invariant.same
+    (c.state.ensures.board ∙ ap (λ (e : EngineValue). board_of e.board.cpu e.board.wires) c.machine.ensures.value))
       c.in-Ok.ensures.taken c.loop-clock.invariant.text;
   faults = c.in-Ok.ensures.cause ∙ c.loop-clock.invariant.faults;
-  settled = c.go_to.ensures.settled;
-  empty = c.go_to.ensures.empty;
+  loan = c.go_to.ensures.loan ∙ c.loop-clock.invariant.loan;
   same = c.go_to.ensures.same ∙ c.loop-clock.invariant.same;
   along = c.go_to.ensures.along;
   reached = c.loop-clock.invariant.reached;
   done = λ room most all.
       let entries = c.args.tape.now.entries in
-      let b = run_start c.args.keys.now.kept c.args.engine.now.board in
+      let b = run_start c.args.keys.now.kept (g.M.Machine.value c.args.synced.now.machine.now).board in
       let clock = get_or c.args.clocks.now c.loop-clock.clock-index 0 in
       let inv = c.loop-clock.invariant in
       let board = c.go_to.ensures.board ∙ ap (λ (from : Board). cleared (to_clock entries clock from)) inv.same in
       let start = ap (λ (from : Board). from.wires.clock) inv.same in
       let free =
-      reached-free entries b c.go_to.new.machine.board c.keep_each.new.keys.kept clock c.loop-clock.engine.done c.go_to.new.machine.done
+      reached-free entries b (g.M.Machine.value c.go_to.new.synced.machine.now).board c.keep_each.new.keys.kept clock (g.M.Machine.value c.loop-clock.synced.machine.now).done (g.M.Machine.value c.go_to.new.synced.machine.now).done
       (inv.reached room c.loop-clock.clock-index 0 c.loop-clock-test.true) board c.go_to.ensures.done
       (λ below. c.go_to.ensures.before (omega (arith, below, start))) in
       let old = inv.done room most all in
@@ -58,19 +60,19 @@ loop-clock-preserved g c = record {
 
 pub returns-clause-taken : goal.returns-clause-taken
 returns-clause-taken g c =
-    whole-taken _ _ _ _ (board-last c.args.tape.now.entries c.args.clocks.now c.loop-clock.clock-index (run_start c.args.keys.now.kept c.args.engine.now.board)
+    whole-taken _ _ _ _ (board-last c.args.tape.now.entries c.args.clocks.now c.loop-clock.clock-index (run_start c.args.keys.now.kept (g.M.Machine.value c.args.synced.now.machine.now).board)
     c.loop-clock-test.false) c.loop-clock.invariant.text
 
 pub returns-in_default-clause-done : goal.returns-in_default-clause-done
 returns-in_default-clause-done g c = λ room most all.
     let entries = c.args.tape.now.entries in
-    let b = run_start c.args.keys.now.kept c.args.engine.now.board in
+    let b = run_start c.args.keys.now.kept (g.M.Machine.value c.args.synced.now.machine.now).board in
     let clock = get_or c.args.clocks.now c.loop-clock.clock-index 0 in
     let inv = c.loop-clock.invariant in
     let board = c.go_to.ensures.board ∙ ap (λ (from : Board). cleared (to_clock entries clock from)) inv.same in
     let start = ap (λ (from : Board). from.wires.clock) inv.same in
     let free =
-    reached-free entries b c.go_to.new.machine.board c.keep_each.new.keys.kept clock c.loop-clock.engine.done c.go_to.new.machine.done
+    reached-free entries b (g.M.Machine.value c.go_to.new.synced.machine.now).board c.keep_each.new.keys.kept clock (g.M.Machine.value c.loop-clock.synced.machine.now).done (g.M.Machine.value c.go_to.new.synced.machine.now).done
     (inv.reached room c.loop-clock.clock-index 0 c.loop-clock-test.true) board c.go_to.ensures.done
     (λ below. c.go_to.ensures.before (omega (arith, below, start))) in
     let old = inv.done room most all in

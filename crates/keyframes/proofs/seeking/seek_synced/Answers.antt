@@ -3,16 +3,16 @@ use Rattle.lockstep_board.specs.Lockstep.{Board}
 use Rattle.keyframes.specs.Keys.{Keyframe}
 use Rattle.keyframes.specs.Seeking.{Along, run_start, state_of}
 use Rattle.keyframes.proofs.SeekLaws.{before-first, begins, greatest, not-before-first, seek-board}
-use Rattle.keyframes.proofs.seeking.seek.Goals as goal
+use Rattle.keyframes.proofs.seeking.seek_synced.Goals as goal
 
 pub run_keeping-requires-clause-along : goal.run_keeping-requires-clause-along
 run_keeping-requires-clause-along g c =
-    (begins c.args.keys.now.kept c.args.tape.now.entries c.args.engine.now.board c.load_kept.new.machine.board c.start_index-index.result
+    (begins c.args.keys.now.kept c.args.tape.now.entries (g.M.Machine.value c.args.synced.now.machine.now).board (g.M.Machine.value c.load_kept.new.synced.machine.now).board c.start_index-index.result
     c.requires.along c.start_index-index.ensures.within c.load_kept.ensures.board).along
 
 pub run_keeping-requires-clause-on_run : goal.run_keeping-requires-clause-on_run
 run_keeping-requires-clause-on_run g c =
-    (begins c.args.keys.now.kept c.args.tape.now.entries c.args.engine.now.board c.load_kept.new.machine.board c.start_index-index.result
+    (begins c.args.keys.now.kept c.args.tape.now.entries (g.M.Machine.value c.args.synced.now.machine.now).board (g.M.Machine.value c.load_kept.new.synced.machine.now).board c.start_index-index.result
     c.requires.along c.start_index-index.ensures.within c.load_kept.ensures.board).on_run
 
 pub returns-clause-board : goal.returns-clause-board
@@ -20,12 +20,12 @@ returns-clause-board g c =
     let found = c.start_index-index.ensures in
     c.run_keeping.ensures.board
     ∙ seek-board c.args.keys.now.kept c.args.clock c.start_index-index.result found.rising found.within found.nearest found.first
-    c.args.tape.now.entries c.args.engine.now.board c.load_kept.new.machine.board c.requires.along c.load_kept.ensures.board
+    c.args.tape.now.entries (g.M.Machine.value c.args.synced.now.machine.now).board (g.M.Machine.value c.load_kept.new.synced.machine.now).board c.requires.along c.load_kept.ensures.board
 
 pub returns-clause-same : goal.returns-clause-same
 returns-clause-same g c =
     c.run_keeping.ensures.same
-    ∙ (begins c.args.keys.now.kept c.args.tape.now.entries c.args.engine.now.board c.load_kept.new.machine.board c.start_index-index.result
+    ∙ (begins c.args.keys.now.kept c.args.tape.now.entries (g.M.Machine.value c.args.synced.now.machine.now).board (g.M.Machine.value c.load_kept.new.synced.machine.now).board c.start_index-index.result
     c.requires.along c.start_index-index.ensures.within c.load_kept.ensures.board).start
 
 pub returns-clause-along : goal.returns-clause-along
@@ -42,12 +42,12 @@ returns-clause-done g c = λ k d h low.
 
 pub returns-clause-before : goal.returns-clause-before
 returns-clause-before g c = λ before.
-    let e = c.args.engine.now.board in
+    let e = (g.M.Machine.value c.args.synced.now.machine.now).board in
     let kept = c.args.keys.now.kept in
     let d : Keyframe = record { board = state_of e; pages = [] } in
     let found = c.start_index-index.ensures in
     let later = not-before-first kept c.args.clock c.start_index-index.result found.rising found.within found.nearest found.first d in
-    let stays = before-first kept c.args.tape.now.entries (run_start kept e) c.run_keeping.new.machine.board c.args.clock d c.requires.along
+    let stays = before-first kept c.args.tape.now.entries (run_start kept e) (g.M.Machine.value c.run_keeping.new.synced.machine.now).board c.args.clock d c.requires.along
     (returns-clause-board g c) before in
     let from = ap (λ (b : Board). b.wires.clock) (c.load_kept.ensures.board d) in
     let same = c.load_kept.ensures.done in

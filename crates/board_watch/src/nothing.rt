@@ -1,0 +1,28 @@
+ghost use Rattle.std.specs.Prelude.{[], ⊤, refl};
+
+use crate::watch::Watch;
+use board_base::Trails;
+use outside_io::{Sink, SinkFault};
+
+/// A watcher that tells nothing and keeps nothing: for a run of which only the board is wanted.
+#[derive(Clone, Copy, Debug, PartialEq, Eq)]
+pub struct Nothing;
+
+impl Watch for Nothing {
+    ghost can_take = { λ _ _ _ _. ⊤ };
+
+    ghost tells = { λ _ _ _. [] };
+
+    ghost next = { λ w _ _. w };
+
+    ghost in_parts = { λ w from first at rest upto parts room. record { room_first = tt; room_rest = tt; text = refl; state = refl } };
+
+    fn take<O: Sink>(
+        &mut self,
+        _trails: &Trails<'_>,
+        _upto: u64,
+        _out: &mut O,
+    ) -> Result<(), SinkFault> {
+        Ok(())
+    }
+}
