@@ -2,7 +2,6 @@
 use Rattle.std.proofs.Common.{◌≡◌, ℕ, ◌+◌, ◌-◌, ◌*◌, ◌≤◌, ◌<◌, false, List, ◌++◌, length, refl, sym, ap, ◌∙◌, append_assoc, append-nil, add-zero, arith, slice_index, slice_set, ◌==◌, zero, suc, if◌then◌else◌}
 use Rattle.std.proofs.lemmas.Bool.Decides.{nat_tests}
 use Rattle.std.specs.Int.{from_bool}
-use Rattle.board_base.specs.declared.board.TheConstants.{CLOCK_END}
 use Rattle.board_base.specs.declared.cpu.Sequence.{Sequence}
 use Rattle.board_base.specs.declared.record.Record.{Record}
 use Rattle.board_base.specs.Cpu.{CpuValue}
@@ -220,9 +219,6 @@ room-near n s t clock written rooms until event =
     let e : t.rooms.board ≡ s.rooms.board = ap (λ r. r.board) rooms in
     let f : length t.wires.written ≡ length s.wires.written = ap (λ (l : List Record). length l) written in
     omega arith
-
-pub counted-below : (tape : TapeValue) (n : ℕ) (s : BusValue) → IsCounted tape n s → 1 ≤ quiet_room n s → n < CLOCK_END
-counted-below tape n s c room = let last = (counted-more tape n s c room).last in omega (arith, last)
 
 pub ram-reads : (tape : TapeValue) (n a v : ℕ) (s : BusValue) → IsCounted tape n s → 1 ≤ quiet_room n s → a < 2048
     → v ≡ slice_index s.wires.ram a → IsStep tape (read_of a v) n s (n + 1) s

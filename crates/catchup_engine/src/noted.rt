@@ -159,9 +159,13 @@ impl<'a, V: VectorUnit, P: SoundUnit, C: CellUnit, D: DividerUnit, T: Tracer> Bu
     #[inline(always)]
     fn read(&mut self, tape: &Tape, addr: u16) -> u8 {
         if addr >= PROGRAM_START {
-            self.quiet.read_program(addr)
+            self.quiet.made += 1;
+            let bus = &mut *self.quiet.bus;
+            bus.program_at(addr)
         } else if addr < RAM_LEN as u16 {
-            self.quiet.read_ram(addr)
+            self.quiet.made += 1;
+            let bus = &mut *self.quiet.bus;
+            bus.ram_byte(addr)
         } else {
             let made = self.quiet.made;
             self.quiet.made = 0;
@@ -172,7 +176,8 @@ impl<'a, V: VectorUnit, P: SoundUnit, C: CellUnit, D: DividerUnit, T: Tracer> Bu
     #[inline(always)]
     fn write(&mut self, tape: &Tape, addr: u16, value: u8) {
         if addr < RAM_LEN as u16 {
-            self.quiet.write_ram(addr, value);
+            self.quiet.made += 1;
+            self.quiet.bus.put_ram(addr, value);
         } else {
             let made = self.quiet.made;
             self.quiet.made = 0;

@@ -1,5 +1,5 @@
 //! Instructions in whose clocks nothing comes of itself.
-ghost use Rattle.std.specs.Prelude.{◌≡◌, ◌+◌, ◌-◌, ◌≤◌, ◌<◌, ◌&&◌, ◌||◌, false, is_none, nat_lt, slice_index, slice_set};
+ghost use Rattle.std.specs.Prelude.{◌≡◌, ◌+◌, ◌-◌, ◌≤◌, ◌<◌, ◌&&◌, ◌||◌, false, is_none, nat_lt};
 ghost use Rattle.board_base.specs.declared.divider.TheConstants.{DIVIDER_PERIOD};
 ghost use Rattle.cpu_alu.specs.Flags.{is_masked};
 ghost use Rattle.catchup_engine.specs.Bus.{Fits};
@@ -71,43 +71,6 @@ impl<'a, V: VectorUnit, P: SoundUnit, C: CellUnit, D: DividerUnit, U> QuietBus<'
         self.bus.clock_after(self.made)
     }
 
-    /// Counts a clock, and reads a byte of the program ROM in it.
-    #[inline(always)]
-    pub(crate) fn read_program(&mut self, addr: u16) -> u8
-        requires program { PROGRAM_START ≤ addr }
-        requires clock { self.old.made < CLOCK_END }
-        ensures same { self.new ≡ record self.old { made = self.old.made + 1 } }
-        ensures byte { result ≡ slice_index self.old.bus.now.wires.program (addr - PROGRAM_START) }
-    {
-        self.made += 1;
-        self.bus.program_at(addr)
-    }
-
-    /// Counts a clock, and reads a byte of the RAM in it.
-    #[inline(always)]
-    pub(crate) fn read_ram(&mut self, addr: u16) -> u8
-        requires ram { addr < RAM_LEN }
-        requires clock { self.old.made < CLOCK_END }
-        ensures same { self.new ≡ record self.old { made = self.old.made + 1 } }
-        ensures byte { result ≡ slice_index self.old.bus.now.wires.ram addr }
-    {
-        self.made += 1;
-        self.bus.ram_byte(addr)
-    }
-
-    /// Counts a clock, and changes a byte of the RAM in it.
-    #[inline(always)]
-    pub(crate) fn write_ram(&mut self, addr: u16, value: u8)
-        requires ram { addr < RAM_LEN }
-        requires clock { self.old.made < CLOCK_END }
-        ensures same_reference { self.new.bus.ghost_name ≡ self.old.bus.ghost_name }
-        ensures made { self.new.made ≡ self.old.made + 1 }
-        ensures ram { self.new.bus.now ≡ record self.old.bus.now { wires = record self.old.bus.now.wires { ram = slice_set self.old.bus.now.wires.ram addr value } } }
-    {
-        self.made += 1;
-        self.bus.put_ram(addr, value);
-    }
-
     /// Whether the fetch at this boundary surely reads an opcode.
     #[inline(always)]
     pub(crate) fn lasts(&self, calm: &Calm, cpu: &Cpu) -> bool
@@ -138,12 +101,12 @@ impl<'a, V: VectorUnit, P: SoundUnit, C: CellUnit, D: DividerUnit, U> Bus
 
     #[inline(always)]
     fn read(&mut self, _tape: &Tape, addr: u16) -> u8 {
+        self.made += 1;
         if addr >= PROGRAM_START {
-            self.read_program(addr)
+            self.bus.program_at(addr)
         } else if addr < RAM_LEN as u16 {
-            self.read_ram(addr)
+            self.bus.ram_byte(addr)
         } else {
-            self.made += 1;
             self.tell();
             self.bus.byte(addr)
         }
@@ -151,10 +114,10 @@ impl<'a, V: VectorUnit, P: SoundUnit, C: CellUnit, D: DividerUnit, U> Bus
 
     #[inline(always)]
     fn write(&mut self, _tape: &Tape, addr: u16, value: u8) {
+        self.made += 1;
         if addr < RAM_LEN as u16 {
-            self.write_ram(addr, value);
+            self.bus.put_ram(addr, value);
         } else {
-            self.made += 1;
             self.tell();
             self.bus.put(addr, value);
         }

@@ -26,7 +26,12 @@ pub fn perform_soak<S: Shelf, O: Sink>(
     let (image, tape) = make(alloc, seed)?;
     let board = BoardState::power_on();
     let mut engine = Engine::new(alloc, &image, &board, Devices::fast(), false)?;
-    match run_soak(&mut SyncedMachine::of(&mut engine), &tape, tape.end(), host.out) {
+    match run_soak(
+        &mut SyncedMachine::of(&mut engine),
+        &tape,
+        tape.end(),
+        host.out,
+    ) {
         Ok(()) => Ok(Ending::Done),
         Err(_) => Err(Failure::Outside),
     }

@@ -4,16 +4,8 @@ use Rattle.catchup_engine.specs.Quiet.{passed}
 use Rattle.catchup_engine.specs.Trace.{access_at}
 use Rattle.catchup_engine.proofs.CalmLaws.{keeps-refl}
 use Rattle.catchup_engine.proofs.NotedSteps.{plain-reached, program-plain, ram-plain, reached-most}
-use Rattle.catchup_engine.proofs.QuietLaws.{counted-below, program-reads, ram-reads}
+use Rattle.catchup_engine.proofs.QuietLaws.{program-reads, ram-reads}
 use Rattle.catchup_engine.proofs.noted.NotedBusBus.read.Goals as goal
-
-pub read_program-requires-clause-clock : goal.read_program-requires-clause-clock
-read_program-requires-clause-clock g c =
-    let room = c.requires.room in counted-below c.args.tape.now c.args.self.now.quiet.made c.args.self.now.quiet.bus.now c.requires.fits.0 (omega (arith, room))
-
-pub read_ram-requires-clause-clock : goal.read_ram-requires-clause-clock
-read_ram-requires-clause-clock g c =
-    let room = c.requires.room in counted-below c.args.tape.now c.args.self.now.quiet.made c.args.self.now.quiet.bus.now c.requires.fits.0 (omega (arith, room))
 
 pub returns-then-addr-ge-PROGRAM_START : goal.returns-then-addr-ge-PROGRAM_START
 returns-then-addr-ge-PROGRAM_START g c =
@@ -21,17 +13,17 @@ returns-then-addr-ge-PROGRAM_START g c =
     let room = c.requires.room in
     let few = c.requires.fits.1 in
     let is =
-    program-reads c.args.tape.now q.made c.args.addr c.read_program.result q.bus.now c.requires.fits.0 (omega (arith, room)) c.if-addr-ge-PROGRAM_START.true
-    c.ranges.addr.fits c.read_program.ensures.byte in
+    program-reads c.args.tape.now q.made c.args.addr c.program_at.result q.bus.now c.requires.fits.0 (omega (arith, room)) c.if-addr-ge-PROGRAM_START.true
+    c.ranges.addr.fits c.program_at.ensures in
     let left = is.room in
     let reached =
-    plain-reached c.args.self.now.reached.now ((passed (q.made + 1) q.bus.now).wires.clock - 1) (read_of c.args.addr c.read_program.result)
-    (program-plain c.args.addr c.read_program.result c.if-addr-ge-PROGRAM_START.true c.ranges.addr.fits) in
-    rw c.read_program.ensures.same (record {
+    plain-reached c.args.self.now.reached.now ((passed (q.made + 1) q.bus.now).wires.clock - 1) (read_of c.args.addr c.program_at.result)
+    (program-plain c.args.addr c.program_at.result c.if-addr-ge-PROGRAM_START.true c.ranges.addr.fits) in
+    record {
       step = (refl, refl, keeps-refl q.bus.now, record { step = is.step; reached = reached });
       fits = (is.fits, few);
       room = omega (arith, left);
-    })
+    }
 
 pub returns-then-addr : goal.returns-then-addr
 returns-then-addr g c =
@@ -39,16 +31,16 @@ returns-then-addr g c =
     let room = c.requires.room in
     let few = c.requires.fits.1 in
     let is =
-    ram-reads c.args.tape.now q.made c.args.addr c.read_ram.result q.bus.now c.requires.fits.0 (omega (arith, room)) c.if-addr.true c.read_ram.ensures.byte in
+    ram-reads c.args.tape.now q.made c.args.addr c.ram_byte.result q.bus.now c.requires.fits.0 (omega (arith, room)) c.if-addr.true c.ram_byte.ensures in
     let left = is.room in
     let reached =
-    plain-reached c.args.self.now.reached.now ((passed (q.made + 1) q.bus.now).wires.clock - 1) (read_of c.args.addr c.read_ram.result)
-    (ram-plain c.args.addr c.read_ram.result c.if-addr.true) in
-    rw c.read_ram.ensures.same (record {
+    plain-reached c.args.self.now.reached.now ((passed (q.made + 1) q.bus.now).wires.clock - 1) (read_of c.args.addr c.ram_byte.result)
+    (ram-plain c.args.addr c.ram_byte.result c.if-addr.true) in
+    record {
       step = (refl, refl, keeps-refl q.bus.now, record { step = is.step; reached = reached });
       fits = (is.fits, few);
       room = omega (arith, left);
-    })
+    }
 
 pub returns-else-addr-clause-room : goal.returns-else-addr-clause-room
 returns-else-addr-clause-room g c =

@@ -4,30 +4,26 @@ use Rattle.catchup_engine.specs.Quiet.{passed}
 use Rattle.catchup_engine.specs.Trace.{access_at}
 use Rattle.catchup_engine.proofs.CalmLaws.{ram-keeps}
 use Rattle.catchup_engine.proofs.NotedSteps.{plain-reached, ram-put-plain, reached-most}
-use Rattle.catchup_engine.proofs.QuietLaws.{counted-below, ram-writes}
+use Rattle.catchup_engine.proofs.QuietLaws.{ram-writes}
 use Rattle.catchup_engine.proofs.noted.NotedBusBus.write.Goals as goal
-
-pub write_ram-requires-clause-clock : goal.write_ram-requires-clause-clock
-write_ram-requires-clause-clock g c =
-    let room = c.requires.room in counted-below c.args.tape.now c.args.self.now.quiet.made c.args.self.now.quiet.bus.now c.requires.fits.0 (omega (arith, room))
 
 pub returns-then-addr : goal.returns-then-addr
 returns-then-addr g c =
     let q = c.args.self.now.quiet in
     let room = c.requires.room in
     let few = c.requires.fits.1 in
-    let t = c.write_ram.new.self.bus.now in
+    let t = c.put_ram.new.self in
     let is =
-    ram-writes c.args.tape.now q.made c.args.addr c.args.value q.bus.now t c.requires.fits.0 (omega (arith, room)) c.if-addr.true c.write_ram.ensures.ram in
+    ram-writes c.args.tape.now q.made c.args.addr c.args.value q.bus.now t c.requires.fits.0 (omega (arith, room)) c.if-addr.true c.put_ram.ensures in
     let left = is.room in
     let reached =
     plain-reached c.args.self.now.reached.now ((passed (q.made + 1) t).wires.clock - 1) (write_of c.args.addr c.args.value)
     (ram-put-plain c.args.addr c.args.value c.if-addr.true) in
-    rw c.write_ram.ensures.made (record {
-      step = (c.write_ram.ensures.same_reference, refl, ram-keeps q.bus.now t c.args.addr c.args.value c.write_ram.ensures.ram, record { step = is.step; reached = reached });
+    record {
+      step = (refl, refl, ram-keeps q.bus.now t c.args.addr c.args.value c.put_ram.ensures, record { step = is.step; reached = reached });
       fits = (is.fits, few);
       room = omega (arith, left);
-    })
+    }
 
 pub returns-else-addr-clause-room : goal.returns-else-addr-clause-room
 returns-else-addr-clause-room g c =

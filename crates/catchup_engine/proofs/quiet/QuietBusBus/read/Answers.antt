@@ -3,14 +3,8 @@ use Rattle.std.specs.Int.{from_bool}
 use Rattle.cpu_core.specs.Course.{read_of}
 use Rattle.lockstep_board.specs.Budget.{reaches_device}
 use Rattle.catchup_engine.proofs.CalmLaws.{keeps-refl, keeps-then, read-keeps}
-use Rattle.catchup_engine.proofs.QuietLaws.{counted-below, counted-more, device-reads, program-reads, ram-reads}
+use Rattle.catchup_engine.proofs.QuietLaws.{counted-more, device-reads, program-reads, ram-reads}
 use Rattle.catchup_engine.proofs.quiet.QuietBusBus.read.Goals as goal
-
-pub read_program-requires-clause-clock : goal.read_program-requires-clause-clock
-read_program-requires-clause-clock g c = counted-below c.args._tape.now c.args.self.now.made c.args.self.now.bus.now c.requires.fits c.requires.room
-
-pub read_ram-requires-clause-clock : goal.read_ram-requires-clause-clock
-read_ram-requires-clause-clock g c = counted-below c.args._tape.now c.args.self.now.made c.args.self.now.bus.now c.requires.fits c.requires.room
 
 pub tell-requires-clause-clock : goal.tell-requires-clause-clock
 tell-requires-clause-clock g c = (counted-more c.args._tape.now c.args.self.now.made c.args.self.now.bus.now c.requires.fits c.requires.room).last
@@ -21,16 +15,16 @@ tell-requires-clause-room g c = (counted-more c.args._tape.now c.args.self.now.m
 pub returns-then-addr-ge-PROGRAM_START : goal.returns-then-addr-ge-PROGRAM_START
 returns-then-addr-ge-PROGRAM_START g c =
     let is =
-    program-reads c.args._tape.now c.args.self.now.made c.args.addr c.read_program.result c.args.self.now.bus.now c.requires.fits c.requires.room
-    c.if-addr-ge-PROGRAM_START.true c.ranges.addr.fits c.read_program.ensures.byte in
-    rw c.read_program.ensures.same (record { step = (refl, keeps-refl c.args.self.now.bus.now, is.step); fits = is.fits; room = is.room })
+    program-reads c.args._tape.now c.args.self.now.made c.args.addr c.program_at.result c.args.self.now.bus.now c.requires.fits c.requires.room
+    c.if-addr-ge-PROGRAM_START.true c.ranges.addr.fits c.program_at.ensures in
+    record { step = (refl, keeps-refl c.args.self.now.bus.now, is.step); fits = is.fits; room = is.room }
 
 pub returns-then-addr : goal.returns-then-addr
 returns-then-addr g c =
     let is =
-    ram-reads c.args._tape.now c.args.self.now.made c.args.addr c.read_ram.result c.args.self.now.bus.now c.requires.fits c.requires.room
-    c.if-addr.true c.read_ram.ensures.byte in
-    rw c.read_ram.ensures.same (record { step = (refl, keeps-refl c.args.self.now.bus.now, is.step); fits = is.fits; room = is.room })
+    ram-reads c.args._tape.now c.args.self.now.made c.args.addr c.ram_byte.result c.args.self.now.bus.now c.requires.fits c.requires.room
+    c.if-addr.true c.ram_byte.ensures in
+    record { step = (refl, keeps-refl c.args.self.now.bus.now, is.step); fits = is.fits; room = is.room }
 
 pub returns-else-addr : goal.returns-else-addr
 returns-else-addr g c =

@@ -3,11 +3,8 @@ use Rattle.std.specs.Int.{from_bool}
 use Rattle.cpu_core.specs.Course.{write_of}
 use Rattle.lockstep_board.specs.Budget.{reaches_device}
 use Rattle.catchup_engine.proofs.CalmLaws.{keeps-then, put-keeps, ram-keeps}
-use Rattle.catchup_engine.proofs.QuietLaws.{counted-below, counted-more, device-writes, ram-writes, told-begun, told-room}
+use Rattle.catchup_engine.proofs.QuietLaws.{counted-more, device-writes, ram-writes, told-begun, told-room}
 use Rattle.catchup_engine.proofs.quiet.QuietBusBus.write.Goals as goal
-
-pub write_ram-requires-clause-clock : goal.write_ram-requires-clause-clock
-write_ram-requires-clause-clock g c = counted-below c.args._tape.now c.args.self.now.made c.args.self.now.bus.now c.requires.fits c.requires.room
 
 pub tell-requires-clause-clock : goal.tell-requires-clause-clock
 tell-requires-clause-clock g c = (counted-more c.args._tape.now c.args.self.now.made c.args.self.now.bus.now c.requires.fits c.requires.room).last
@@ -24,9 +21,9 @@ put-requires-clause-begun g c = told-begun c.args.self.now.made c.args.self.now.
 pub returns-then-addr : goal.returns-then-addr
 returns-then-addr g c =
     let is =
-    ram-writes c.args._tape.now c.args.self.now.made c.args.addr c.args.value c.args.self.now.bus.now c.write_ram.new.self.bus.now c.requires.fits c.requires.room
-    c.if-addr.true c.write_ram.ensures.ram in
-    rw c.write_ram.ensures.made (record { step = (c.write_ram.ensures.same_reference, ram-keeps c.args.self.now.bus.now c.write_ram.new.self.bus.now c.args.addr c.args.value c.write_ram.ensures.ram, is.step); fits = is.fits; room = is.room })
+    ram-writes c.args._tape.now c.args.self.now.made c.args.addr c.args.value c.args.self.now.bus.now c.put_ram.new.self c.requires.fits c.requires.room
+    c.if-addr.true c.put_ram.ensures in
+    record { step = (refl, ram-keeps c.args.self.now.bus.now c.put_ram.new.self c.args.addr c.args.value c.put_ram.ensures, is.step); fits = is.fits; room = is.room }
 
 pub returns-else-addr : goal.returns-else-addr
 returns-else-addr g c =
