@@ -36,7 +36,7 @@ loop-clock-preserved g c = record {
       (board-on c.args.tape.now.entries c.args.clocks.now c.loop-clock.clock-index 0 (run_start c.args.keys.now.kept (g.M.Machine.value c.args.synced.now.machine.now).board)
       (run_start c.keep_each.new.keys.kept (g.M.Machine.value c.loop-clock.synced.machine.now).board) (g.M.Machine.value c.go_to.new.synced.machine.now).board c.state.new.into c.loop-clock-test.true c.go_to.ensures.board
       c.loop-clock.invariant.same
-    (c.state.ensures.board ∙ ap (λ (e : EngineValue). board_of e.board.cpu e.board.wires) c.machine.ensures.value))
+      (c.state.ensures.board ∙ ap (λ (e : EngineValue). board_of e.board.cpu e.board.wires) c.machine.ensures.value))
       c.in-Ok.ensures.taken c.loop-clock.invariant.text;
   faults = c.in-Ok.ensures.cause ∙ c.loop-clock.invariant.faults;
   loan = c.go_to.ensures.loan ∙ c.loop-clock.invariant.loan;
