@@ -5,7 +5,7 @@ use board_base::VgState;
 use board_base::phase::LOW_BYTE;
 
 /// Forgets the word and the vector under way.
-fn abandon(state: &mut VgState)
+fn clear_word(state: &mut VgState)
     ensures { state.new ≡ record state.old { phase = LOW_BYTE; bytes = replicate 4 0; dx = pos 0; dy = pos 0; pen = 0; left = 0 } }
 {
     *state = VgState {
@@ -24,7 +24,7 @@ fn abandon(state: &mut VgState)
 pub(crate) fn go(state: &mut VgState)
     ensures { state.new ≡ vg_go state.old }
 {
-    abandon(state);
+    clear_word(state);
     state.halted = false;
     state.pc = 0;
     state.sp = 0;
@@ -35,6 +35,6 @@ pub(crate) fn go(state: &mut VgState)
 pub(crate) fn reset(state: &mut VgState)
     ensures { state.new ≡ vg_reset state.old }
 {
-    abandon(state);
+    clear_word(state);
     state.halted = true;
 }

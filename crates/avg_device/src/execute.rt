@@ -57,7 +57,7 @@ fn rtsl(state: &mut VgState)
 /// Does what a word says. A long vector has its `dx` and its `z` in `second`.
 #[tactic(auto, unfolding(crate::specs::Tick::obeyed))]
 #[inline(always)]
-pub(crate) fn obey(state: &mut VgState, word: VgWord, second: (i16, u8))
+pub(crate) fn execute_word(state: &mut VgState, word: VgWord, second: (i16, u8))
     requires phase { state.old.phase ≡ LOW_BYTE }
     requires word { IsInRange word }
     requires dx { IsLong second.0 }
@@ -97,5 +97,5 @@ pub(crate) fn execute(state: &mut VgState)
     let second = second(u16::from_le_bytes([second_low, second_high]));
     state.bytes = [0; 4];
     state.phase = LOW_BYTE;
-    obey(state, word, second);
+    execute_word(state, word, second);
 }

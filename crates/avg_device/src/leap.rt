@@ -5,7 +5,7 @@ ghost use Rattle.avg_device.specs.Leap.{drawn_for, long_done, memory_word, short
 ghost use Rattle.avg_device.specs.Tick.{high_byte, next_word, vg_gives, vg_tick};
 
 use crate::draw::end;
-use crate::execute::obey;
+use crate::execute::execute_word;
 use crate::fetch::{LONG_HIGH_BELOW, following};
 use crate::tick::tick;
 use avg_decode::{second, word_kind};
@@ -38,7 +38,7 @@ fn do_short(state: &mut VgState, word: u16)
 {
     state.pc = following(state.pc);
     state.bytes = [0; 4];
-    obey(state, word_kind(word), (0, 0));
+    execute_word(state, word_kind(word), (0, 0));
 }
 
 /// Does a word with its second one.
@@ -51,7 +51,7 @@ fn do_long(state: &mut VgState, memory: &VectorMemory, word: u16)
     let second = second(word_at(memory, second_pc));
     state.pc = following(second_pc);
     state.bytes = [0; 4];
-    obey(state, word_kind(word), second);
+    execute_word(state, word_kind(word), second);
 }
 
 /// Reads a word and does it, where its clocks are there, and else does one clock of it. Gives the

@@ -7,7 +7,7 @@ ghost use Rattle.bench_work.specs.BoardLaws.{tallied_in_parts};
 
 use crate::tally::Tally;
 use board_base::{CLOCK_LIMIT, Trails};
-use board_watch::{Nowhere, SyncedMachine, Until, Watch};
+use board_watch::{Nowhere, RecordObserver, SyncedMachine, Until};
 use catchup_engine::Machine;
 use outside_io::{Sink, SinkFault};
 use tape_ports::Tape;
@@ -36,7 +36,7 @@ impl BoardTally {
     }
 }
 
-impl Watch for BoardTally {
+impl RecordObserver for BoardTally {
     ghost can_take = { λ _ _ _ _. ⊤ };
 
     ghost tells = { λ _ _ _. [] };

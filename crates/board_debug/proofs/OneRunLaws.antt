@@ -143,14 +143,14 @@ last-get P (a ∷ b ∷ kept) holds some d =
     subst (λ (n : ℕ). P (get_or (a ∷ b ∷ kept) n d)) place (last-get P (b ∷ kept) holds (omega arith) d)
 
 -- the clock of a run to a clock
-clock-of : (entries : List TapeEntry) (cut : ℕ) (b : Board) → (to_clock entries cut b).wires.clock ≡ b.wires.clock + clock_steps entries cut b
+clock-of : (entries : List TapeEntry) (cut : ℕ) (b : Board) → (to_clock entries cut b).peripherals.clock ≡ b.peripherals.clock + clock_steps entries cut b
 unfolding to_clock
 clock-of entries cut b = stepped-clock entries (clock_steps entries cut b) b
 
-clock-later : (entries : List TapeEntry) (cut : ℕ) (b : Board) → b.wires.clock ≤ (to_clock entries cut b).wires.clock
+clock-later : (entries : List TapeEntry) (cut : ℕ) (b : Board) → b.peripherals.clock ≤ (to_clock entries cut b).peripherals.clock
 clock-later entries cut b = let e = clock-of entries cut b in omega (arith, e)
 
-clock-most : (entries : List TapeEntry) (cut : ℕ) (b : Board) → b.wires.clock ≤ cut → (to_clock entries cut b).wires.clock ≤ cut
+clock-most : (entries : List TapeEntry) (cut : ℕ) (b : Board) → b.peripherals.clock ≤ cut → (to_clock entries cut b).peripherals.clock ≤ cut
 clock-most entries cut b h = let e = clock-of entries cut b in let f = clock_steps-few entries cut b in omega (arith, e, f, h)
 
 -- the clock of the last kept board
@@ -162,23 +162,23 @@ pub record Way (entries : List TapeEntry) (clocks : List ℕ) (b : Board) (befor
   pub some : 0 < length keys.kept
   pub pages : live_of keys + 16 * above clocks last ≤ keys.capacity
   pub frames : length keys.kept + above clocks last ≤ keys.limit
-  pub start : b.wires.clock ≤ last
-  pub least : (d : Keyframe) → b.wires.clock ≤ last_clock keys.kept d
+  pub start : b.peripherals.clock ≤ last
+  pub least : (d : Keyframe) → b.peripherals.clock ≤ last_clock keys.kept d
   pub most : (d : Keyframe) → last_clock keys.kept d ≤ last
-  pub cost : (d : Keyframe) → done + b.wires.clock ≤ before + last_clock keys.kept d
-  pub within : (most : ℕ) → b.wires.clock ≤ most → All (λ clock. clock ≤ most) clocks → last ≤ most
-  pub reached : (k d : ℕ) → k < length clocks → b.wires.clock ≤ get_or clocks k d → get_or clocks k d ≤ last → IsReached entries b keys.kept (get_or clocks k d)
+  pub cost : (d : Keyframe) → done + b.peripherals.clock ≤ before + last_clock keys.kept d
+  pub within : (most : ℕ) → b.peripherals.clock ≤ most → All (λ clock. clock ≤ most) clocks → last ≤ most
+  pub reached : (k d : ℕ) → k < length clocks → b.peripherals.clock ≤ get_or clocks k d → get_or clocks k d ≤ last → IsReached entries b keys.kept (get_or clocks k d)
 
 pub way-begins : (entries : List TapeEntry) (clocks : List ℕ) (b : Board) (before : ℕ) (keys : KeyframesValue) (last : ℕ) → HasRoom keys (length clocks)
     → Along keys.kept entries b → ((d : Keyframe) → last ≡ (get_or keys.kept 0 d).board.clock) → Way entries clocks b before keys before last
 way-begins entries clocks b before keys last room along at =
     let alone = room.alone in
-    let first : (d : Keyframe) → (get_or keys.kept 0 d).board.clock ≡ b.wires.clock = λ d. ap (λ (s : BoardValue). s.clock) (along.first d) in
+    let first : (d : Keyframe) → (get_or keys.kept 0 d).board.clock ≡ b.peripherals.clock = λ d. ap (λ (s : BoardValue). s.clock) (along.first d) in
     let place : length keys.kept - 1 ≡ 0 = omega (arith, alone) in
-    let ends : (d : Keyframe) → last_clock keys.kept d ≡ b.wires.clock =
+    let ends : (d : Keyframe) → last_clock keys.kept d ≡ b.peripherals.clock =
     λ d. ap (λ n. (get_or keys.kept n d).board.clock) place ∙ first d in
     let d0 : Keyframe = record { board = state_of b; pages = [] } in
-    let is : last ≡ b.wires.clock = at d0 ∙ first d0 in
+    let is : last ≡ b.peripherals.clock = at d0 ∙ first d0 in
     let few = count_by-le-length (nat_lt last) clocks in
     let pages = room.pages in
     let frames = room.frames in
@@ -196,7 +196,7 @@ way-begins entries clocks b before keys last room along at =
         omega (arith, alone),
         (λ d. let e = first d in omega (arith, e, low)),
         (λ e.
-            let same = ap (λ (c : Board). c.wires.clock) (clock-past entries (get_or clocks k d) b (omega (arith, high, is))) in
+            let same = ap (λ (c : Board). c.peripherals.clock) (clock-past entries (get_or clocks k d) b (omega (arith, high, is))) in
             let f = first e in
             omega (arith, same, f)),
       );
@@ -218,14 +218,14 @@ reached-more entries b kept one clock r =
 module _ (entries : List TapeEntry) (clocks : List ℕ) (b now : Board) (before done done' last next : ℕ) (keys keys' : KeyframesValue)
     (way : Way entries clocks b before keys done last) (found : IsNextOf clocks (length clocks) last (Some next))
     (board : now ≡ cleared (to_clock entries next b))
-    (cost : All (λ keyframe. keyframe.board.clock ≤ next → done' + keyframe.board.clock ≤ done + now.wires.clock) keys.kept) where
-  clock : now.wires.clock ≡ (to_clock entries next b).wires.clock
-  clock = ap (λ (c : Board). c.wires.clock) board
+    (cost : All (λ keyframe. keyframe.board.clock ≤ next → done' + keyframe.board.clock ≤ done + now.peripherals.clock) keys.kept) where
+  clock : now.peripherals.clock ≡ (to_clock entries next b).peripherals.clock
+  clock = ap (λ (c : Board). c.peripherals.clock) board
 
-  later : b.wires.clock ≤ now.wires.clock
+  later : b.peripherals.clock ≤ now.peripherals.clock
   later = let e = clock in let f = clock-later entries next b in omega (arith, e, f)
 
-  upto : now.wires.clock ≤ next
+  upto : now.peripherals.clock ≤ next
   upto =
       let e = clock in
       let s = way.start in
@@ -244,19 +244,19 @@ module _ (entries : List TapeEntry) (clocks : List ℕ) (b now : Board) (before 
       not-crowded keys (omega (arith, f, pages)) (omega (arith, f, frames))
 
   -- the way to the next clock from the last kept board
-  spent : (d : Keyframe) → done' + last_clock keys.kept d ≤ done + now.wires.clock
+  spent : (d : Keyframe) → done' + last_clock keys.kept d ≤ done + now.peripherals.clock
   spent d =
       let some = way.some in
       let most = way.most d in
       let up = found.0 in
       cost (length keys.kept - 1) d (omega (arith, some)) (omega (arith, most, up))
 
-  within-next : (most : ℕ) → b.wires.clock ≤ most → All (λ clock. clock ≤ most) clocks → next ≤ most
+  within-next : (most : ℕ) → b.peripherals.clock ≤ most → All (λ clock. clock ≤ most) clocks → next ≤ most
   within-next most h all = let e = all found.1.0 0 found.1.1 in let is = found.1.2 0 in omega (arith, e, is)
 
   -- a clock up to the next one was reached before, or is the next one
   upto-next : (kept : List Keyframe) → ((clock : ℕ) → IsReached entries b keys.kept clock → IsReached entries b kept clock) → IsReached entries b kept next
-      → (k d : ℕ) → k < length clocks → b.wires.clock ≤ get_or clocks k d → get_or clocks k d ≤ next → IsReached entries b kept (get_or clocks k d)
+      → (k d : ℕ) → k < length clocks → b.peripherals.clock ≤ get_or clocks k d → get_or clocks k d ≤ next → IsReached entries b kept (get_or clocks k d)
   upto-next kept more reached k d h low high = elim (cases_lt last (get_or clocks k d)) [
     | inl past ↦
         let least = found.2 k d h past in
@@ -273,7 +273,7 @@ module _ (entries : List TapeEntry) (clocks : List ℕ) (b now : Board) (before 
       let capacity : keys'.capacity ≡ keys.capacity = ap (λ (k : KeyframesValue). k.capacity) is in
       let limit : keys'.limit ≡ keys.limit = ap (λ (k : KeyframesValue). k.limit) is in
       let len : length keys'.kept ≡ length keys.kept + 1 = ap (λ (l : List Keyframe). length l) joined ∙ length-append keys.kept (one ∷ []) in
-      let end : (d : Keyframe) → last_clock keys'.kept d ≡ now.wires.clock =
+      let end : (d : Keyframe) → last_clock keys'.kept d ≡ now.peripherals.clock =
       λ d.
       let place : length keys'.kept - 1 ≡ length keys.kept = omega (arith, len) in
       ap (λ n. (get_or keys'.kept n d).board.clock) place
@@ -296,7 +296,7 @@ module _ (entries : List TapeEntry) (clocks : List ℕ) (b now : Board) (before 
         cost = λ d. let e = end d in let old = way.cost d in let s = spent d in omega (arith, e, old, s);
         within = within-next;
         reached =
-            subst (λ (l : List Keyframe). (k d : ℕ) → k < length clocks → b.wires.clock ≤ get_or clocks k d → get_or clocks k d ≤ next
+            subst (λ (l : List Keyframe). (k d : ℕ) → k < length clocks → b.peripherals.clock ≤ get_or clocks k d → get_or clocks k d ≤ next
             → IsReached entries b l (get_or clocks k d)) (sym joined)
             (upto-next (keys.kept ++ one ∷ []) (reached-more entries b keys.kept one) (
               length keys.kept,
@@ -309,13 +309,13 @@ module _ (entries : List TapeEntry) (clocks : List ℕ) (b now : Board) (before 
             ));
       }
 
-  way-same : keys' ≡ keys → IfSome (last_of keys.kept) (λ keyframe. now.wires.clock ≤ keyframe.board.clock) → Way entries clocks b before keys' done' next
+  way-same : keys' ≡ keys → IfSome (last_of keys.kept) (λ keyframe. now.peripherals.clock ≤ keyframe.board.clock) → Way entries clocks b before keys' done' next
   way-same is ended =
       subst (λ (k : KeyframesValue). Way entries clocks b before k done' next) (sym is)
       (
       let some = way.some in
-      let end : (d : Keyframe) → now.wires.clock ≤ last_clock keys.kept d =
-      last-get (λ keyframe. now.wires.clock ≤ keyframe.board.clock) keys.kept ended some in
+      let end : (d : Keyframe) → now.peripherals.clock ≤ last_clock keys.kept d =
+      last-get (λ keyframe. now.peripherals.clock ≤ keyframe.board.clock) keys.kept ended some in
       let f = fewer in
       let old_pages = way.pages in
       let old_frames = way.frames in
@@ -348,34 +348,34 @@ module _ (entries : List TapeEntry) (clocks : List ℕ) (b now : Board) (before 
 -- at the end of the way all clocks are reached, in no more clocks than lie between the start and the last of them
 module _ (entries : List TapeEntry) (clocks : List ℕ) (b : Board) (before done last : ℕ) (keys : KeyframesValue)
     (way : Way entries clocks b before keys done last) where
-  pub way-cost : (most : ℕ) → All (λ clock. clock ≤ most) clocks → done ≤ before + (most - b.wires.clock)
+  pub way-cost : (most : ℕ) → All (λ clock. clock ≤ most) clocks → done ≤ before + (most - b.peripherals.clock)
   way-cost most all =
       let d0 : Keyframe = record { board = state_of b; pages = [] } in
       let cost = way.cost d0 in
       let upto = way.most d0 in
-      elim (cases_lt most b.wires.clock) [
+      elim (cases_lt most b.peripherals.clock) [
         | inl below ↦
-            let low = way.within b.wires.clock (omega arith) (λ k d h. let e = all k d h in omega (arith, e, below)) in
+            let low = way.within b.peripherals.clock (omega arith) (λ k d h. let e = all k d h in omega (arith, e, below)) in
             omega (arith, cost, upto, low)
         | inr up ↦ let high = way.within most up all in omega (arith, cost, upto, high)
       ]
 
-  pub way-reached : IsNextOf clocks (length clocks) last None → All (λ clock. b.wires.clock ≤ clock → IsReached entries b keys.kept clock) clocks
+  pub way-reached : IsNextOf clocks (length clocks) last None → All (λ clock. b.peripherals.clock ≤ clock → IsReached entries b keys.kept clock) clocks
   way-reached none = λ k d h low. way.reached k d h low (none k d h)
 
 -- to go to a clock that is reached takes no clock
 pub reached-free : (entries : List TapeEntry) (b now : Board) (kept : List Keyframe) (clock done done' : ℕ)
-    → (b.wires.clock ≤ clock → IsReached entries b kept clock) → now ≡ cleared (to_clock entries clock b)
-    → All (λ keyframe. keyframe.board.clock ≤ clock → done' + keyframe.board.clock ≤ done + now.wires.clock) kept
-    → (clock < b.wires.clock → done' ≤ done) → done' ≤ done
-reached-free entries b now kept clock done done' reached board cost early = elim (cases_lt clock b.wires.clock) [
+    → (b.peripherals.clock ≤ clock → IsReached entries b kept clock) → now ≡ cleared (to_clock entries clock b)
+    → All (λ keyframe. keyframe.board.clock ≤ clock → done' + keyframe.board.clock ≤ done + now.peripherals.clock) kept
+    → (clock < b.peripherals.clock → done' ≤ done) → done' ≤ done
+reached-free entries b now kept clock done done' reached board cost early = elim (cases_lt clock b.peripherals.clock) [
   | inl below ↦ early below
   | inr up ↦
       let d0 : Keyframe = record { board = state_of b; pages = [] } in
       let r = reached up in
       let low = r.2 d0 in
       let high = r.3 d0 in
-      let is : now.wires.clock ≡ (to_clock entries clock b).wires.clock = ap (λ (c : Board). c.wires.clock) board in
+      let is : now.peripherals.clock ≡ (to_clock entries clock b).peripherals.clock = ap (λ (c : Board). c.peripherals.clock) board in
       let e = cost r.0 d0 r.1 low in
       omega (arith, low, high, is, e)
 ]

@@ -6,23 +6,23 @@ use Rattle.std.proofs.lemmas.List.{drop_all}
 use Rattle.tape_ports.specs.Tape.{TapeValue}
 use Rattle.lockstep_board.specs.Lockstep.{Board}
 use Rattle.debug_script.specs.declared.command.Command.{Command}
-use Rattle.debug_script.specs.Stops.{Fit, StopsValue, are_few, stops_after}
-use Rattle.board_debug.specs.declared.found.Found.{Found}
+use Rattle.debug_script.specs.Breakpoints.{Fit, StopsValue, are_few, stops_after}
+use Rattle.board_debug.specs.declared.found.StopReason.{StopReason}
 use Rattle.board_debug.specs.Looks.{stop_text}
 use Rattle.board_debug.specs.Session.{Reached, board_after, board_at, command_text, reached_by, session_board, session_text, shown_text, text_at}
 
 -- where a command has made turns
-abbrev pub reached_at : Board → Option Found → Option Reached
+abbrev pub reached_at : Board → Option StopReason → Option Reached
 reached_at b found = option_map (λ found. record { found = found; board = b }) found
 
 -- what a command prints that has made turns
-pub turned-text : (tape : TapeValue) (stops : StopsValue) (command : Command) (b after : Board) (found : Found) (result : Option Found)
+pub turned-text : (tape : TapeValue) (stops : StopsValue) (command : Command) (b after : Board) (found : StopReason) (result : Option StopReason)
     → result ≡ Some found → reached_at after result ≡ reached_by tape stops command b → stop_text found after ≡ command_text tape stops command b
 turned-text tape stops command b after found result is reached =
     ap (λ (r : Option Reached). text_at r (shown_text command b)) (ap (reached_at after) (sym is) ∙ reached)
 
 -- what one prints that has made none
-pub shown-text : (tape : TapeValue) (stops : StopsValue) (command : Command) (b after : Board) (result : Option Found)
+pub shown-text : (tape : TapeValue) (stops : StopsValue) (command : Command) (b after : Board) (result : Option StopReason)
     → result ≡ None → reached_at after result ≡ reached_by tape stops command b → after ≡ board_after tape stops command b
     → shown_text command after ≡ command_text tape stops command b
 shown-text tape stops command b after result is reached board =

@@ -13,16 +13,16 @@ use Rattle.lockstep_board.proofs.Behind.{behind-cleared}
 use Rattle.lockstep_board.proofs.Ended.{cleared-empty}
 use Rattle.catchup_engine.proofs.RunsOn.{open-before}
 use Rattle.lockstep_board.proofs.TurnLaws.{turn-behind, turn-boundary, turn-later, turned-next, turned-placed, turns-to}
-use Rattle.debug_script.specs.Stops.{StopsValue}
-use Rattle.board_debug.specs.declared.found.Found.{Found}
-use Rattle.board_debug.specs.declared.found.Found.TheVariants.{Jam, End, Step, Until}
+use Rattle.debug_script.specs.Breakpoints.{StopsValue}
+use Rattle.board_debug.specs.declared.found.StopReason.{StopReason}
+use Rattle.board_debug.specs.declared.found.StopReason.TheVariants.{Jam, End, Step, Until}
 use Rattle.board_debug.specs.Looks.{break_look, first_of, jam_look, look_after, look_before, look_until}
 use Rattle.board_debug.specs.Session.{Reached, go_from, turn_done, step_from, turning, unless_found, until_from}
 
 -- a look that finds nothing stands before its limit, and isn't jammed
 pub record Opens (limit : ℕ) (b : Board) : Type 0 where
   pub running : b.cpu.jam ≡ None
-  pub clock : b.wires.clock < limit
+  pub clock : b.peripherals.clock < limit
 
 before-parts : (jam : Option ℕ) (ended : Bool) → first_of (option_map Jam jam ∷ cond ended (Some End) None ∷ []) ≡ None → (jam ≡ None) × (ended ≡ false)
 before-parts (Some opcode) ended none = cc
@@ -31,8 +31,8 @@ before-parts None false none = (refl, refl)
 
 pub before-opens : (end : ℕ) (b : Board) → look_before end b ≡ None → Opens end b
 before-opens end b none =
-    let parts = before-parts b.cpu.jam (nat_le end b.wires.clock) none in
-    record { running = parts.0; clock = leb-false end b.wires.clock parts.1 }
+    let parts = before-parts b.cpu.jam (nat_le end b.peripherals.clock) none in
+    record { running = parts.0; clock = leb-false end b.peripherals.clock parts.1 }
 
 until-parts : (jam : Option ℕ) (ended come : Bool) → first_of (option_map Jam jam ∷ cond ended (Some End) None ∷ cond come (Some Until) None ∷ []) ≡ None
     → (jam ≡ None) × (ended ≡ false) × (come ≡ false)
@@ -43,15 +43,15 @@ until-parts None false false none = (refl, refl, refl)
 
 until-opens : (end clock : ℕ) (b : Board) → look_until end clock b ≡ None → Opens clock b
 until-opens end clock b none =
-    let parts = until-parts b.cpu.jam (nat_le end b.wires.clock) (nat_le clock b.wires.clock) none in
-    record { running = parts.0; clock = leb-false clock b.wires.clock parts.2 }
+    let parts = until-parts b.cpu.jam (nat_le end b.peripherals.clock) (nat_le clock b.peripherals.clock) none in
+    record { running = parts.0; clock = leb-false clock b.peripherals.clock parts.2 }
 
 -- looks at a board before their limits that isn't jammed find nothing
-before-none : (end : ℕ) (b : Board) → b.cpu.jam ≡ None → b.wires.clock < end → look_before end b ≡ None
-before-none end b running early = rw (running, lt-leb end b.wires.clock early) refl
+before-none : (end : ℕ) (b : Board) → b.cpu.jam ≡ None → b.peripherals.clock < end → look_before end b ≡ None
+before-none end b running early = rw (running, lt-leb end b.peripherals.clock early) refl
 
-until-none : (end clock : ℕ) (b : Board) → b.cpu.jam ≡ None → b.wires.clock < end → b.wires.clock < clock → look_until end clock b ≡ None
-until-none end clock b running early before = rw (running, lt-leb end b.wires.clock early, lt-leb clock b.wires.clock before) refl
+until-none : (end clock : ℕ) (b : Board) → b.cpu.jam ≡ None → b.peripherals.clock < end → b.peripherals.clock < clock → look_until end clock b ≡ None
+until-none end clock b running early before = rw (running, lt-leb end b.peripherals.clock early, lt-leb clock b.peripherals.clock before) refl
 
 find-none : (test : ℕ → Bool) (xs : List ℕ) → list_any test xs ≡ false → find test xs ≡ None
 find-none test [] none = refl
@@ -66,17 +66,17 @@ find-none test (x ∷ xs) none = by_test (test x) refl none (find-none test xs)
 abbrev pub breaks_alone : List ℕ → StopsValue
 breaks_alone breaks = record { breaks = breaks; watches = []; vg = false }
 
-breaks-none : (end : ℕ) (breaks : List ℕ) (before b : Board) → b.cpu.jam ≡ None → b.wires.clock < end → is_at_any breaks b ≡ false
+breaks-none : (end : ℕ) (breaks : List ℕ) (before b : Board) → b.cpu.jam ≡ None → b.peripherals.clock < end → is_at_any breaks b ≡ false
     → look_after end (breaks_alone breaks) before b ≡ None
 breaks-none end breaks before b running early apart =
-    rw (running, lt-leb end b.wires.clock early, find-none (λ address. address == b.cpu.pc) breaks apart) refl
+    rw (running, lt-leb end b.peripherals.clock early, find-none (λ address. address == b.cpu.pc) breaks apart) refl
 
 and-false : (x : Bool) → x && false ≡ false
 and-false true = refl
 and-false false = refl
 
-before-open : (end : ℕ) (b : Board) → b.cpu.jam ≡ None → b.wires.clock < end → is_over end b ≡ false
-before-open end b running early = rw (running, lt-leb end b.wires.clock early) (and-false (is_none b.cpu.mid))
+before-open : (end : ℕ) (b : Board) → b.cpu.jam ≡ None → b.peripherals.clock < end → is_over end b ≡ false
+before-open end b running early = rw (running, lt-leb end b.peripherals.clock early) (and-false (is_none b.cpu.mid))
 
 module _ (entries : List TapeEntry) where
   turn-cleared : (b : Board) → cleared (turn entries (cleared b)) ≡ cleared (turn entries b)
@@ -96,7 +96,7 @@ module _ (entries : List TapeEntry) where
   pub moves-are : (n : ℕ) (b c : Board) → HasNoRecords b → c ≡ cleared (turned entries n b) → c ≡ moves n b
   moves-are n b c none is = is ∙ cleared-turned n b ∙ ap (moves n) (cleared-empty b none)
 
-  pub moved-later : (b : Board) → b.cpu.jam ≡ None → b.wires.clock < (turn_done entries b).wires.clock
+  pub moved-later : (b : Board) → b.cpu.jam ≡ None → b.peripherals.clock < (turn_done entries b).peripherals.clock
   unfolding turn_done
   moved-later b running = turn-later entries b running
 
@@ -105,7 +105,7 @@ module _ (entries : List TapeEntry) where
   moves-next zero b = refl
   moves-next (suc n) b = moves-next n (turn_done entries b)
 
-  module _ (before : Board → Option Found) (after : Board → Board → Option Found) where
+  module _ (before : Board → Option StopReason) (after : Board → Board → Option StopReason) where
     -- a turn between its looks, and what comes of it
     abbrev then_on : Board → Reached → Reached
     then_on b more = unless_found (before b) b (unless_found (after b (turn_done entries b)) (turn_done entries b) more)
@@ -117,7 +117,7 @@ module _ (entries : List TapeEntry) where
     then_on-same : (b : Board) (r s : Reached) → (before b ≡ None → r ≡ s) → then_on b r ≡ then_on b s
     then_on-same b r s same = by_look (before b) refl
       where
-        by_look : (look : Option Found) → before b ≡ look → then_on b r ≡ then_on b s
+        by_look : (look : Option StopReason) → before b ≡ look → then_on b r ≡ then_on b s
         by_look (Some found) is = rw is refl
         by_look None is = ap (then_on b) (same is)
 
@@ -140,7 +140,7 @@ module _ (entries : List TapeEntry) where
 
     module _ (limit : ℕ) (opens : (b : Board) → before b ≡ None → Opens limit b) where
       -- more turns than there are clocks up to the limit make no difference
-      pub enough : (f g : ℕ) (b : Board) → limit < b.wires.clock + suc f → limit < b.wires.clock + suc g
+      pub enough : (f g : ℕ) (b : Board) → limit < b.peripherals.clock + suc f → limit < b.peripherals.clock + suc g
           → turning entries before after (suc f) b ≡ turning entries before after (suc g) b
       enough zero zero b more_f more_g = refl
       enough zero (suc g) b more_f more_g =
@@ -161,24 +161,24 @@ module _ (entries : List TapeEntry) where
       -- and so many turns that no look finds anything at come to the same
       pub passes-on : (n : ℕ) (b : Board)
           → ((k : ℕ) → k < n → (before (moves k b) ≡ None) × (after (moves k b) (moves (suc k) b) ≡ None))
-          → turning entries before after (suc (limit - b.wires.clock)) b
-          ≡ turning entries before after (suc (limit - (moves n b).wires.clock)) (moves n b)
+          → turning entries before after (suc (limit - b.peripherals.clock)) b
+          ≡ turning entries before after (suc (limit - (moves n b).peripherals.clock)) (moves n b)
       passes-on n b quiet =
-          enough (limit - b.wires.clock) (n + limit) b (omega arith) (omega arith)
+          enough (limit - b.peripherals.clock) (n + limit) b (omega arith) (omega arith)
           ∙ passes n (suc limit) (suc (n + limit)) b (omega arith) quiet
-          ∙ enough limit (limit - (moves n b).wires.clock) (moves n b) (omega arith) (omega arith)
+          ∙ enough limit (limit - (moves n b).peripherals.clock) (moves n b) (omega arith) (omega arith)
 
       -- one turn, and then the looks after it
       pub turns-on : (b : Board) → before b ≡ None
-          → turning entries before after (suc (limit - b.wires.clock)) b
+          → turning entries before after (suc (limit - b.peripherals.clock)) b
           ≡ unless_found (after b (turn_done entries b)) (turn_done entries b)
-          (turning entries before after (suc (limit - (turn_done entries b).wires.clock)) (turn_done entries b))
+          (turning entries before after (suc (limit - (turn_done entries b).peripherals.clock)) (turn_done entries b))
       turns-on b none =
           let next = turn_done entries b in
-          enough (limit - b.wires.clock) (suc limit) b (omega arith) (omega arith)
+          enough (limit - b.peripherals.clock) (suc limit) b (omega arith) (omega arith)
           ∙ turning-next (suc limit) b
           ∙ ap (λ look. unless_found look b (unless_found (after b next) next (turning entries before after (suc limit) next))) none
-          ∙ ap (unless_found (after b next) next) (enough limit (limit - next.wires.clock) next (omega arith) (omega arith))
+          ∙ ap (unless_found (after b next) next) (enough limit (limit - next.peripherals.clock) next (omega arith) (omega arith))
 
 -- a board from which a session goes on
 pub record Stands (b : Board) : Type 0 where
@@ -212,7 +212,7 @@ module _ (entries : List TapeEntry) (b : Board) (stands : Stands b) where
       let n = runs.count in
       let there : c ≡ moves entries n b = moves-are entries n b c stands.empty (is ∙ ap cleared runs.board) in
       let same = passes-on entries (look_until tape.end clock) (λ _ _. None) clock (until-opens tape.end clock) n b (λ k inside. (quiet runs k inside, refl)) in
-      rw these (same ∙ ap (λ (d : Board). turning entries (look_until tape.end clock) (λ _ _. None) (suc (clock - d.wires.clock)) d) (sym there))
+      rw these (same ∙ ap (λ (d : Board). turning entries (look_until tape.end clock) (λ _ _. None) (suc (clock - d.peripherals.clock)) d) (sym there))
     where
       none : look_until tape.end clock b ≡ None
       none = rw (← last) (sym found)
@@ -253,7 +253,7 @@ module _ (entries : List TapeEntry) (b : Board) (stands : Stands b) where
         → go_from tape (breaks_alone breaks) b ≡ unless_found (look_after end (breaks_alone breaks) b c) c (go_from tape (breaks_alone breaks) c)
     go-breaks tape c these last is = by_count run.count refl
       where
-        after : Board → Board → Option Found
+        after : Board → Board → Option StopReason
         after before d = look_after end (breaks_alone breaks) before d
 
         by_count : (count : ℕ) → run.count ≡ count
@@ -267,20 +267,20 @@ module _ (entries : List TapeEntry) (b : Board) (stands : Stands b) where
             let on = turns-on entries (look_before end) after end (before-opens end) d (still m (omega arith)) in
             rw (these, last)
             (up ∙ on
-            ∙ ap (λ (x : Board). unless_found (after b x) x (turning entries (look_before end) after (suc (end - x.wires.clock)) x)) there)
+            ∙ ap (λ (x : Board). unless_found (after b x) x (turning entries (look_before end) after (suc (end - x.peripherals.clock)) x)) there)
 
-turning-found : (entries : List TapeEntry) (before : Board → Option Found) (after : Board → Board → Option Found) (most : ℕ) (b : Board) (found : Found)
+turning-found : (entries : List TapeEntry) (before : Board → Option StopReason) (after : Board → Board → Option StopReason) (most : ℕ) (b : Board) (found : StopReason)
     → before b ≡ Some found → turning entries before after (suc most) b ≡ record { found = found; board = b }
 unfolding turning
 turning-found entries before after most b found is = rw is refl
 
-pub until-found : (tape : TapeValue) (end clock : ℕ) (b : Board) (found : Found) → end ≡ tape.end → Some found ≡ look_until end clock b
+pub until-found : (tape : TapeValue) (end clock : ℕ) (b : Board) (found : StopReason) → end ≡ tape.end → Some found ≡ look_until end clock b
     → record { found = found; board = b } ≡ until_from tape clock b
 until-found tape end clock b found last is =
     let at : look_until tape.end clock b ≡ Some found = rw (← last) (sym is) in
     sym (turning-found tape.entries _ _ _ b found at)
 
-pub go-found : (tape : TapeValue) (stops : StopsValue) (end : ℕ) (b : Board) (found : Found) → end ≡ tape.end → Some found ≡ look_before end b
+pub go-found : (tape : TapeValue) (stops : StopsValue) (end : ℕ) (b : Board) (found : StopReason) → end ≡ tape.end → Some found ≡ look_before end b
     → record { found = found; board = b } ≡ go_from tape stops b
 go-found tape stops end b found last is =
     let at : look_before tape.end b ≡ Some found = rw (← last) (sym is) in
@@ -289,58 +289,58 @@ go-found tape stops end b found last is =
 -- what `until` looks at before a turn
 pub record Waits (end clock : ℕ) (b : Board) : Type 0 where
   pub running : b.cpu.jam ≡ None
-  pub early : b.wires.clock < end
-  pub before : b.wires.clock < clock
+  pub early : b.peripherals.clock < end
+  pub before : b.peripherals.clock < clock
 
 pub until-waits : (end clock : ℕ) (b : Board) → None ≡ look_until end clock b → Waits end clock b
 until-waits end clock b none =
-    let parts = until-parts b.cpu.jam (nat_le end b.wires.clock) (nat_le clock b.wires.clock) (sym none) in
-    record { running = parts.0; early = leb-false end b.wires.clock parts.1; before = leb-false clock b.wires.clock parts.2 }
+    let parts = until-parts b.cpu.jam (nat_le end b.peripherals.clock) (nat_le clock b.peripherals.clock) (sym none) in
+    record { running = parts.0; early = leb-false end b.peripherals.clock parts.1; before = leb-false clock b.peripherals.clock parts.2 }
 
 -- the clocks that are left to a command that isn't over at a jam
 abbrev pub left : ℕ → Board → ℕ
-left clock b = cond (is_some b.cpu.jam) 0 (suc (clock - b.wires.clock))
+left clock b = cond (is_some b.cpu.jam) 0 (suc (clock - b.peripherals.clock))
 
-pub left-less : (end clock : ℕ) (b c : Board) → Waits end clock b → (c.cpu.jam ≡ None → b.wires.clock < c.wires.clock) → left clock c < left clock b
+pub left-less : (end clock : ℕ) (b c : Board) → Waits end clock b → (c.cpu.jam ≡ None → b.peripherals.clock < c.peripherals.clock) → left clock c < left clock b
 left-less end clock b c waits later = rw waits.running (by_jam c.cpu.jam refl)
   where
-    by_jam : (jam : Option ℕ) → c.cpu.jam ≡ jam → cond (is_some jam) 0 (suc (clock - c.wires.clock)) < suc (clock - b.wires.clock)
+    by_jam : (jam : Option ℕ) → c.cpu.jam ≡ jam → cond (is_some jam) 0 (suc (clock - c.peripherals.clock)) < suc (clock - b.peripherals.clock)
     by_jam None is = let on = later is in let before = waits.before in omega arith
     by_jam (Some opcode) is = omega arith
 
 -- the looks after a turn begin with those before one
-after-first : (jam : Option ℕ) (ended : Bool) (looks : List (Option Found)) (found : Found) → Some found ≡ first_of (option_map Jam jam ∷ cond ended (Some End) None ∷ [])
+after-first : (jam : Option ℕ) (ended : Bool) (looks : List (Option StopReason)) (found : StopReason) → Some found ≡ first_of (option_map Jam jam ∷ cond ended (Some End) None ∷ [])
     → first_of (option_map Jam jam ∷ cond ended (Some End) None ∷ looks) ≡ Some found
 after-first (Some opcode) ended looks found is = sym is
 after-first None true looks found is = sym is
 after-first None false looks found is = cc
 
-pub after-before : (end : ℕ) (stops : StopsValue) (before b : Board) (found : Found) → Some found ≡ look_before end b → look_after end stops before b ≡ Some found
-after-before end stops before b found is = after-first b.cpu.jam (nat_le end b.wires.clock) _ found is
+pub after-before : (end : ℕ) (stops : StopsValue) (before b : Board) (found : StopReason) → Some found ≡ look_before end b → look_after end stops before b ≡ Some found
+after-before end stops before b found is = after-first b.cpu.jam (nat_le end b.peripherals.clock) _ found is
 
 -- and then come the breaks
-pub after-break : (end : ℕ) (stops : StopsValue) (before b : Board) (found : Found) → None ≡ look_before end b → Some found ≡ break_look stops.breaks b
+pub after-break : (end : ℕ) (stops : StopsValue) (before b : Board) (found : StopReason) → None ≡ look_before end b → Some found ≡ break_look stops.breaks b
     → look_after end stops before b ≡ Some found
 after-break end stops before b found none is =
     let opens = before-opens end b (sym none) in
-    rw (opens.running, lt-leb end b.wires.clock opens.clock, ← is) refl
+    rw (opens.running, lt-leb end b.peripherals.clock opens.clock, ← is) refl
 
 pub after-none : (end : ℕ) (breaks : List ℕ) (before b : Board) → None ≡ look_before end b → None ≡ break_look breaks b
     → look_after end (breaks_alone breaks) before b ≡ None
 after-none end breaks before b none apart =
     let opens = before-opens end b (sym none) in
-    rw (opens.running, lt-leb end b.wires.clock opens.clock, ← apart) refl
+    rw (opens.running, lt-leb end b.peripherals.clock opens.clock, ← apart) refl
 
 -- a command stops where a look after a turn finds something, and else goes on
-pub stops-at : (look : Option Found) (b : Board) (found : Found) (more whole : Reached) → whole ≡ unless_found look b more → look ≡ Some found
+pub stops-at : (look : Option StopReason) (b : Board) (found : StopReason) (more whole : Reached) → whole ≡ unless_found look b more → look ≡ Some found
     → record { found = found; board = b } ≡ whole
 stops-at look b found more whole is at = sym (is ∙ ap (λ l. unless_found l b more) at)
 
-pub goes-on : (look : Option Found) (b : Board) (more whole : Reached) → whole ≡ unless_found look b more → look ≡ None → whole ≡ more
+pub goes-on : (look : Option StopReason) (b : Board) (more whole : Reached) → whole ≡ unless_found look b more → look ≡ None → whole ≡ more
 goes-on look b more whole is at = is ∙ ap (λ l. unless_found l b more) at
 
 -- so many turns
-pub step-found : (tape : TapeValue) (n end : ℕ) (b : Board) (found : Found) → 0 < n → end ≡ tape.end → Some found ≡ look_before end b
+pub step-found : (tape : TapeValue) (n end : ℕ) (b : Board) (found : StopReason) → 0 < n → end ≡ tape.end → Some found ≡ look_before end b
     → record { found = found; board = b } ≡ step_from tape n b
 unfolding step_from
 step-found tape zero end b found some last is = absurd (omega arith)
@@ -362,7 +362,7 @@ pub step-last : (tape : TapeValue) (n : ℕ) (b : Board) → n ≡ 0 → record 
 unfolding step_from
 step-last tape n b is = rw is (by_jam (jam_look b))
   where
-    by_jam : (look : Option Found) → record { found = unwrap_or look Step; board = b } ≡ unless_found look b (record { found = Step; board = b })
+    by_jam : (look : Option StopReason) → record { found = unwrap_or look Step; board = b } ≡ unless_found look b (record { found = Step; board = b })
     by_jam None = refl
     by_jam (Some found) = refl
 

@@ -6,7 +6,7 @@ use Rattle.tape_ports.specs.Tape.{TapeValue}
 use Rattle.catchup_engine.specs.EngineValue.{EngineValue}
 use Rattle.debug_script.specs.declared.command.Command.{Command}
 use Rattle.debug_script.specs.Script.{script_of}
-use Rattle.debug_script.specs.Stops.{no_stops}
+use Rattle.debug_script.specs.Breakpoints.{no_stops}
 use Rattle.board_debug.specs.declared.fault.DebugFault.{DebugFault}
 use Rattle.board_debug.specs.declared.fault.DebugFault.TheVariants.{BadCommand, SinkFault, OutOfMemory}
 use Rattle.board_watch.specs.Synced.{IsSynced}

@@ -4,60 +4,60 @@ use Rattle.std.specs.Option.{option_map}
 use Rattle.text_line.specs.Words.{line, hex_byte, hex_word}
 use Rattle.lockstep_board.specs.Lockstep.{Board}
 use Rattle.lockstep_board.specs.Memory.{memory_byte}
-use Rattle.debug_script.specs.Stops.{StopsValue}
-use Rattle.board_debug.specs.declared.found.Found.{Found}
+use Rattle.debug_script.specs.Breakpoints.{StopsValue}
+use Rattle.board_debug.specs.declared.found.StopReason.{StopReason}
 use Rattle.board_debug.specs.declared.looks.Before.{Before}
-use Rattle.board_debug.specs.declared.found.Found.TheVariants.{Jam, End, Break, Watch, Vg, Step, Until}
+use Rattle.board_debug.specs.declared.found.StopReason.TheVariants.{Jam, End, Break, Watch, Vg, Step, Until}
 
 -- the first of some looks that found something
-abbrev pub first_of : List (Option Found) → Option Found
+abbrev pub first_of : List (Option StopReason) → Option StopReason
 first_of [] = None
 first_of (None ∷ looks) = first_of looks
 first_of (Some found ∷ looks) = Some found
 
 -- a jammed board
-abbrev pub jam_look : Board → Option Found
+abbrev pub jam_look : Board → Option StopReason
 jam_look b = option_map Jam b.cpu.jam
 
 -- a clock at the tape's END or after it
-abbrev pub end_look : ℕ → Board → Option Found
-end_look end b = if nat_le end b.wires.clock then Some End else None
+abbrev pub end_look : ℕ → Board → Option StopReason
+end_look end b = if nat_le end b.peripherals.clock then Some End else None
 
 -- pc at one of these addresses
-abbrev pub break_look : List ℕ → Board → Option Found
+abbrev pub break_look : List ℕ → Board → Option StopReason
 break_look breaks b = option_map Break (find (λ address. address == b.cpu.pc) breaks)
 
 -- the byte at an address of the RAM or of the vector RAM
 abbrev pub watched_byte : Board → ℕ → ℕ
-watched_byte b address = unwrap_or (memory_byte address b.wires) 0
+watched_byte b address = unwrap_or (memory_byte address b.peripherals) 0
 
 -- one of these bytes has changed since the boundary before
-abbrev pub watch_look : List ℕ → Board → Board → Option Found
+abbrev pub watch_look : List ℕ → Board → Board → Option StopReason
 watch_look watches before b = option_map Watch (find (λ address. not (watched_byte before address == watched_byte b address)) watches)
 
 -- the generator is halted, and wasn't at the boundary before
-abbrev pub vg_look : Bool → Board → Board → Option Found
-vg_look asked before b = if asked && (b.wires.vg.halted && not before.wires.vg.halted) then Some Vg else None
+abbrev pub vg_look : Bool → Board → Board → Option StopReason
+vg_look asked before b = if asked && (b.peripherals.vg.halted && not before.peripherals.vg.halted) then Some Vg else None
 
 -- a clock at this one or after it
-abbrev pub until_look : ℕ → Board → Option Found
-until_look clock b = if nat_le clock b.wires.clock then Some Until else None
+abbrev pub until_look : ℕ → Board → Option StopReason
+until_look clock b = if nat_le clock b.peripherals.clock then Some Until else None
 
 -- before each turn: a jam, and then the tape's END
-abbrev pub look_before : ℕ → Board → Option Found
+abbrev pub look_before : ℕ → Board → Option StopReason
 look_before end b = first_of (jam_look b ∷ end_look end b ∷ [])
 
 -- and of `until`, whether its clock has come
-abbrev pub look_until : ℕ → ℕ → Board → Option Found
+abbrev pub look_until : ℕ → ℕ → Board → Option StopReason
 look_until end clock b = first_of (jam_look b ∷ end_look end b ∷ until_look clock b ∷ [])
 
 -- after a turn of `go`: a jam, the tape's END, the breaks and the watches in their order, and then the generator
-abbrev pub look_after : ℕ → StopsValue → Board → Board → Option Found
+abbrev pub look_after : ℕ → StopsValue → Board → Board → Option StopReason
 look_after end stops before b =
     first_of (jam_look b ∷ end_look end b ∷ break_look stops.breaks b ∷ watch_look stops.watches before b ∷ vg_look stops.vg before b ∷ [])
 
 -- stop, what was found, and the clock
-abbrev pub found_words : Found → Board → List (List ℕ)
+abbrev pub found_words : StopReason → Board → List (List ℕ)
 found_words (Jam opcode) b = codes "jam" ∷ hex_word b.cpu.pc ∷ hex_byte opcode ∷ []
 found_words End b = codes "end" ∷ []
 found_words (Break address) b = codes "break" ∷ hex_word address ∷ []
@@ -66,10 +66,10 @@ found_words Vg b = codes "vg" ∷ []
 found_words Step b = codes "step" ∷ []
 found_words Until b = codes "until" ∷ []
 
-unfoldable pub stop_text : Found → Board → List ℕ
-stop_text found b = line (codes "stop" ∷ (found_words found b ++ codes "at" ∷ decimal b.wires.clock ∷ []))
+unfoldable pub stop_text : StopReason → Board → List ℕ
+stop_text found b = line (codes "stop" ∷ (found_words found b ++ codes "at" ∷ decimal b.peripherals.clock ∷ []))
 
 -- what was seen of a board before a turn: the watched bytes, and whether the generator was halted
 pub record IsBefore (stops : StopsValue) (b : Board) (before : Before) : Type 0 where
   pub bytes : before.bytes.items ≡ map (watched_byte b) stops.watches
-  pub halted : before.halted ≡ b.wires.vg.halted
+  pub halted : before.halted ≡ b.peripherals.vg.halted

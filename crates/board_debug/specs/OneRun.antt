@@ -15,7 +15,7 @@ pub record HasRoom (keys : KeyframesValue) (boards : ℕ) : Type 0 where
 -- a board is kept at or below a clock, from which the run to that clock comes to no later one
 abbrev pub IsReached : List TapeEntry → Board → List Keyframe → ℕ → Type 0
 IsReached entries b kept clock = (k : ℕ) × (k < length kept) × ((d : Keyframe) → (get_or kept k d).board.clock ≤ clock)
-    × ((d : Keyframe) → (to_clock entries clock b).wires.clock ≤ (get_or kept k d).board.clock)
+    × ((d : Keyframe) → (to_clock entries clock b).peripherals.clock ≤ (get_or kept k d).board.clock)
 
 -- the clock where it is chosen, and else what was found before
 abbrev pub chosen : Bool → Option ℕ → ℕ → Option ℕ

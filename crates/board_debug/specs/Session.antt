@@ -6,15 +6,15 @@ use Rattle.lockstep_board.specs.Breaks.{turn}
 use Rattle.lockstep_board.specs.Order.{cleared}
 use Rattle.lockstep_board.specs.Lockstep.{Board}
 use Rattle.lockstep_board.specs.Memory.{memory_byte}
-use Rattle.lockstep_board.specs.Wires.{board_of}
+use Rattle.lockstep_board.specs.Peripherals.{board_of}
 use Rattle.debug_lines.specs.Bytes.{Seen, mem_text}
 use Rattle.debug_lines.specs.Instructions.{dis_text}
 use Rattle.debug_lines.specs.Statements.{vdis_text}
 use Rattle.debug_script.specs.declared.command.Command.{Command}
 use Rattle.debug_script.specs.declared.command.Command.TheVariants as command
-use Rattle.debug_script.specs.Stops.{StopsValue, stops_after}
-use Rattle.board_debug.specs.declared.found.Found.{Found}
-use Rattle.board_debug.specs.declared.found.Found.TheVariants.{End, Step}
+use Rattle.debug_script.specs.Breakpoints.{StopsValue, stops_after}
+use Rattle.board_debug.specs.declared.found.StopReason.{StopReason}
+use Rattle.board_debug.specs.declared.found.StopReason.TheVariants.{End, Step}
 use Rattle.board_debug.specs.BoardText.{devices_text, registers_text}
 use Rattle.board_debug.specs.Looks.{jam_look, look_after, look_before, look_until, stop_text}
 
@@ -25,16 +25,16 @@ turn_done entries b = cleared (turn entries b)
 
 -- where a command stopped, and why
 pub record Reached : Type 0 where
-  pub found : Found
+  pub found : StopReason
   pub board : Board
 
 -- a command stops where a look found something, and else goes on
-abbrev pub unless_found : Option Found → Board → Reached → Reached
+abbrev pub unless_found : Option StopReason → Board → Reached → Reached
 unless_found (Some found) b more = record { found = found; board = b }
 unless_found None b more = more
 
 -- so many turns at most, up to where a look before a turn or one after a turn finds something
-unfoldable pub turning : List TapeEntry → (Board → Option Found) → (Board → Board → Option Found) → ℕ → Board → Reached
+unfoldable pub turning : List TapeEntry → (Board → Option StopReason) → (Board → Board → Option StopReason) → ℕ → Board → Reached
 turning entries before after zero b = record { found = End; board = b }
 turning entries before after (suc most) b =
     let next = turn_done entries b in
@@ -42,10 +42,10 @@ turning entries before after (suc most) b =
 
 -- each turn takes a clock, so that there are no more of them than clocks up to the last
 abbrev pub go_from : TapeValue → StopsValue → Board → Reached
-go_from tape stops b = turning tape.entries (look_before tape.end) (look_after tape.end stops) (suc (tape.end - b.wires.clock)) b
+go_from tape stops b = turning tape.entries (look_before tape.end) (look_after tape.end stops) (suc (tape.end - b.peripherals.clock)) b
 
 abbrev pub until_from : TapeValue → ℕ → Board → Reached
-until_from tape clock b = turning tape.entries (look_until tape.end clock) (λ before b. None) (suc (clock - b.wires.clock)) b
+until_from tape clock b = turning tape.entries (look_until tape.end clock) (λ before b. None) (suc (clock - b.peripherals.clock)) b
 
 -- so many turns, and then a look at a jam alone
 unfoldable pub step_from : TapeValue → ℕ → Board → Reached
@@ -69,15 +69,15 @@ board_after tape stops command b = board_at (reached_by tape stops command b) b
 
 -- the bytes of a board that can be seen: those of its memories
 abbrev pub seen_in : Board → Seen
-seen_in b address = memory_byte address b.wires
+seen_in b address = memory_byte address b.peripherals
 
 abbrev pub reached_text : Reached → List ℕ
 reached_text reached = stop_text reached.found reached.board
 
 -- what a command that makes no turn shows of a board
 abbrev pub shown_text : Command → Board → List ℕ
-shown_text command.Regs b = registers_text (board_of b.cpu b.wires)
-shown_text command.Dev b = devices_text (board_of b.cpu b.wires)
+shown_text command.Regs b = registers_text (board_of b.cpu b.peripherals)
+shown_text command.Dev b = devices_text (board_of b.cpu b.peripherals)
 shown_text (command.Mem span) b = mem_text (seen_in b) span.from span.count
 shown_text (command.Dis span) b = dis_text (seen_in b) span.from span.count
 shown_text (command.Vdis span) b = vdis_text (seen_in b) span.from span.count

@@ -55,9 +55,9 @@ fn keep_each<M: Machine>(
     ensures same { run_start keys.new.kept (value_of synced.new).board ≡ run_start keys.old.kept (value_of synced.old).board }
     ensures along { Along keys.new.kept tape.now.entries (run_start keys.new.kept (value_of synced.new).board) }
     ensures done { HasRoom keys.old (length clocks.now) → (most : ℕ) → All (λ clock. clock ≤ most) clocks.now
-        → (value_of synced.new).done ≤ (value_of synced.old).done + (most - (run_start keys.old.kept (value_of synced.old).board).wires.clock) }
+        → (value_of synced.new).done ≤ (value_of synced.old).done + (most - (run_start keys.old.kept (value_of synced.old).board).peripherals.clock) }
     ensures reached { HasRoom keys.old (length clocks.now)
-        → All (λ clock. let b = run_start keys.old.kept (value_of synced.old).board in b.wires.clock ≤ clock → IsReached tape.now.entries b keys.new.kept clock) clocks.now }
+        → All (λ clock. let b = run_start keys.old.kept (value_of synced.old).board in b.peripherals.clock ≤ clock → IsReached tape.now.entries b keys.new.kept clock) clocks.now }
 {
     let mut last = keys.clock_of(0);
     while let Some(next) = next_above(clocks, last) {
@@ -84,7 +84,7 @@ fn write_each<M: Machine, O: Sink>(
     ensures along { Along keys.new.kept tape.now.entries (run_start keys.new.kept (value_of synced.new).board) }
     // where there is room for all of them, no more clocks than from the start to the last, in whatever order they are asked for
     ensures done { HasRoom keys.old (length clocks.now) → (most : ℕ) → All (λ clock. clock ≤ most) clocks.now
-        → (value_of synced.new).done ≤ (value_of synced.old).done + (most - (run_start keys.old.kept (value_of synced.old).board).wires.clock) }
+        → (value_of synced.new).done ≤ (value_of synced.old).done + (most - (run_start keys.old.kept (value_of synced.old).board).peripherals.clock) }
 {
     keep_each(synced, keys, tape, clocks);
     let mut state = BoardState::power_on();
@@ -123,7 +123,7 @@ pub fn write_boards<V: VectorUnit, P: SoundUnit, C: CellUnit, D: DividerUnit, O:
     ensures along { Along keys.new.kept tape.now.entries (run_start keys.new.kept engine.new.board) }
     // where there is room for all of them, no more clocks than from the start to the last, in whatever order they are asked for
     ensures done { HasRoom keys.old (length clocks.now) → (most : ℕ) → All (λ clock. clock ≤ most) clocks.now
-        → engine.new.done ≤ engine.old.done + (most - (run_start keys.old.kept engine.old.board).wires.clock) }
+        → engine.new.done ≤ engine.old.done + (most - (run_start keys.old.kept engine.old.board).peripherals.clock) }
 {
     write_each(&mut SyncedMachine::of(engine), keys, tape, clocks, out)
 }

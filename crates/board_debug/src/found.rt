@@ -1,6 +1,6 @@
 /// Why a command of a session has stopped.
 #[derive(Clone, Copy, Debug, PartialEq, Eq)]
-pub enum Found {
+pub enum StopReason {
     /// An undocumented opcode has stopped the processor.
     Jam(u8),
     /// The tape has ended.

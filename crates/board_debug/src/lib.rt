@@ -19,5 +19,5 @@ mod write_lines;
 pub use board_text::write_board;
 pub use boards::write_boards;
 pub use fault::DebugFault;
-pub use found::Found;
+pub use found::StopReason;
 pub use script::run_script;

@@ -4,49 +4,53 @@ ghost use Rattle.lockstep_board.specs.Lockstep as lockstep;
 ghost use Rattle.board_watch.specs.SyncedMachine.{value_of};
 ghost use Rattle.board_debug.specs.Looks.{IsBefore, break_look, jam_look, look_after, look_before, look_until, vg_look, watch_look, watched_byte};
 
-use crate::found::Found;
+use crate::found::StopReason;
 use arrayvec::ArrayVec;
 use board_watch::SyncedMachine;
 use catchup_engine::Machine;
-use debug_script::{STOPS, Stops};
+use debug_script::{Breakpoints, STOPS};
 
 /// Whether the board is jammed.
-fn look_at_jam<M: Machine>(synced: &SyncedMachine<'_, M>) -> Option<Found>
+fn look_at_jam<M: Machine>(synced: &SyncedMachine<'_, M>) -> Option<StopReason>
     ensures { result ≡ jam_look (value_of synced.now).board }
 {
     match synced.machine().cpu().jam {
-        Some(opcode) => Some(Found::Jam(opcode)),
+        Some(opcode) => Some(StopReason::Jam(opcode)),
         None => None,
     }
 }
 
 /// Whether the board is jammed, or else the tape has ended.
-pub fn look_before<M: Machine>(synced: &SyncedMachine<'_, M>, end: u64) -> Option<Found>
+pub fn look_before<M: Machine>(synced: &SyncedMachine<'_, M>, end: u64) -> Option<StopReason>
     ensures { result ≡ look_before end (value_of synced.now).board }
 {
     match look_at_jam(synced) {
         Some(found) => Some(found),
-        None if end <= synced.machine().clock() => Some(Found::End),
+        None if end <= synced.machine().clock() => Some(StopReason::End),
         None => None,
     }
 }
 
 /// The same, and then whether a clock has come.
-pub fn look_until<M: Machine>(synced: &SyncedMachine<'_, M>, end: u64, clock: u64) -> Option<Found>
+pub fn look_until<M: Machine>(
+    synced: &SyncedMachine<'_, M>,
+    end: u64,
+    clock: u64,
+) -> Option<StopReason>
     ensures { result ≡ look_until end clock (value_of synced.now).board }
 {
     match look_before(synced, end) {
         Some(found) => Some(found),
-        None if clock <= synced.machine().clock() => Some(Found::Until),
+        None if clock <= synced.machine().clock() => Some(StopReason::Until),
         None => None,
     }
 }
 
 /// How turns that are all made have ended: with a jam, or else as asked.
-pub fn look_at_last<M: Machine>(synced: &SyncedMachine<'_, M>) -> Found
-    ensures { result ≡ unwrap_or (jam_look (value_of synced.now).board) Found.Step }
+pub fn look_at_last<M: Machine>(synced: &SyncedMachine<'_, M>) -> StopReason
+    ensures { result ≡ unwrap_or (jam_look (value_of synced.now).board) StopReason.Step }
 {
-    look_at_jam(synced).unwrap_or(Found::Step)
+    look_at_jam(synced).unwrap_or(StopReason::Step)
 }
 
 /// The first of some addresses that is this one.
@@ -57,11 +61,14 @@ fn first_at(addresses: &[u16], pc: u16) -> Option<u16>
 }
 
 /// Whether pc is one of these.
-pub fn look_at_breaks<M: Machine>(synced: &SyncedMachine<'_, M>, breaks: &[u16]) -> Option<Found>
+pub fn look_at_breaks<M: Machine>(
+    synced: &SyncedMachine<'_, M>,
+    breaks: &[u16],
+) -> Option<StopReason>
     ensures { result ≡ break_look breaks.now (value_of synced.now).board }
 {
     match first_at(breaks, synced.machine().cpu().pc) {
-        Some(address) => Some(Found::Break(address)),
+        Some(address) => Some(StopReason::Break(address)),
         None => None,
     }
 }
@@ -83,7 +90,7 @@ pub struct Before {
 
 impl Before {
     /// Looks at a board before a turn.
-    pub fn of<M: Machine>(synced: &SyncedMachine<'_, M>, stops: &Stops) -> Before
+    pub fn of<M: Machine>(synced: &SyncedMachine<'_, M>, stops: &Breakpoints) -> Before
         ensures { IsBefore stops.now (value_of synced.now).board result }
     {
         let mut bytes = ArrayVec::new();
@@ -101,25 +108,25 @@ impl Before {
         &self,
         synced: &SyncedMachine<'_, M>,
         watches: &[u16],
-    ) -> Option<Found>
+    ) -> Option<StopReason>
         requires { length watches.now ≡ length self.now.bytes.items }
         ensures { (before : lockstep.Board) → self.now.bytes.items ≡ map (watched_byte before) watches.now
             → result ≡ watch_look watches.now before (value_of synced.now).board }
     {
         'watches: for i in 0..watches.len() {
             if watched_byte(synced, watches[i]) != self.bytes[i] {
-                return Some(Found::Watch(watches[i]));
+                return Some(StopReason::Watch(watches[i]));
             }
         }
         None
     }
 
     /// Whether the generator has halted since.
-    fn look_at_vg<M: Machine>(&self, synced: &SyncedMachine<'_, M>) -> Option<Found>
-        ensures { (before : lockstep.Board) → self.now.halted ≡ before.wires.vg.halted → result ≡ vg_look true before (value_of synced.now).board }
+    fn look_at_vg<M: Machine>(&self, synced: &SyncedMachine<'_, M>) -> Option<StopReason>
+        ensures { (before : lockstep.Board) → self.now.halted ≡ before.peripherals.vg.halted → result ≡ vg_look true before (value_of synced.now).board }
     {
         if synced.machine().is_halted() && !self.halted {
-            Some(Found::Vg)
+            Some(StopReason::Vg)
         } else {
             None
         }
@@ -131,9 +138,9 @@ impl Before {
 pub fn look_after<M: Machine>(
     synced: &SyncedMachine<'_, M>,
     end: u64,
-    stops: &Stops,
+    stops: &Breakpoints,
     before: &Before,
-) -> Option<Found>
+) -> Option<StopReason>
     requires watched { length before.now.bytes.items ≡ length stops.now.watches }
     ensures { (b : lockstep.Board) → IsBefore stops.now b before.now → result ≡ look_after end stops.now b (value_of synced.now).board }
 {

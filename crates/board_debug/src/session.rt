@@ -3,20 +3,20 @@ ghost use Rattle.std.specs.Prelude.{◌≡◌, OnOk};
 ghost use Rattle.std.specs.Option.{option_map};
 ghost use Rattle.outside_io.specs.Causes.{HasCause};
 ghost use Rattle.outside_io.specs.Sink.{Takes};
-ghost use Rattle.lockstep_board.specs.Wires.{board_of};
-ghost use Rattle.debug_script.specs.Stops.{Fit, no_stops};
+ghost use Rattle.lockstep_board.specs.Peripherals.{board_of};
+ghost use Rattle.debug_script.specs.Breakpoints.{Fit, no_stops};
 ghost use Rattle.board_watch.specs.SyncedMachine.{loan_of, value_of};
 ghost use Rattle.board_debug.specs.Session.{board_after, command_text, reached_by, session_board, session_text, shown_text};
 
 use crate::board_text::{write_devices, write_registers};
-use crate::found::Found;
+use crate::found::StopReason;
 use crate::listings::{write_dis, write_mem, write_vdis};
 use crate::stop_line::write_stop;
 use crate::turns::{go, step, until};
 use board_base::BoardState;
 use board_watch::SyncedMachine;
 use catchup_engine::Machine;
-use debug_script::{Command, Stops};
+use debug_script::{Breakpoints, Command};
 use outside_io::{Sink, SinkFault};
 use tape_ports::Tape;
 
@@ -24,9 +24,9 @@ use tape_ports::Tape;
 fn make_turns<M: Machine>(
     synced: &mut SyncedMachine<'_, M>,
     tape: &Tape,
-    stops: &Stops,
+    stops: &Breakpoints,
     command: Command,
-) -> Option<Found>
+) -> Option<StopReason>
     ensures same { loan_of synced.new ≡ loan_of synced.old }
     ensures reached { option_map (λ found. record { found = found; board = (value_of synced.new).board }) result ≡ reached_by tape.now stops.now command (value_of synced.old).board }
     ensures board { (value_of synced.new).board ≡ board_after tape.now stops.now command (value_of synced.old).board }
@@ -41,7 +41,7 @@ fn make_turns<M: Machine>(
 
 /// The board that an engine stands for.
 fn state_of<M: Machine>(synced: &SyncedMachine<'_, M>) -> BoardState
-    ensures { result ≡ board_of (value_of synced.now).board.cpu (value_of synced.now).board.wires }
+    ensures { result ≡ board_of (value_of synced.now).board.cpu (value_of synced.now).board.peripherals }
 {
     let mut state = BoardState::power_on();
     synced.machine().state(&mut state);
@@ -71,7 +71,7 @@ fn show<M: Machine, O: Sink>(
 fn perform<M: Machine, O: Sink>(
     synced: &mut SyncedMachine<'_, M>,
     tape: &Tape,
-    stops: &Stops,
+    stops: &Breakpoints,
     command: Command,
     out: &mut O,
 ) -> Result<(), SinkFault>
@@ -99,7 +99,7 @@ pub fn run_commands<M: Machine, O: Sink>(
     ensures cause { HasCause (O.faults out.old) (O.faults out.new) result }
     ensures board { OnOk result ((value_of synced.new).board ≡ session_board tape.now no_stops commands.now (value_of synced.old).board) }
 {
-    let mut stops = Stops::new();
+    let mut stops = Breakpoints::new();
     for command in commands {
         let Ok(()) = perform(synced, tape, &stops, *command, out) else {
             return Err(SinkFault);

@@ -3,15 +3,15 @@ ghost use Rattle.std.specs.Prelude.{◌≡◌, [], false};
 ghost use Rattle.board_watch.specs.SyncedMachine.{loan_of, value_of};
 ghost use Rattle.board_debug.specs.Session.{go_from, step_from, until_from};
 
-use crate::found::Found;
+use crate::found::StopReason;
 use crate::looks::{Before, look_after, look_at_breaks, look_at_last, look_before, look_until};
 use board_watch::SyncedMachine;
 use catchup_engine::Machine;
-use debug_script::Stops;
+use debug_script::Breakpoints;
 use tape_ports::Tape;
 
 /// Makes so many turns.
-pub fn step<M: Machine>(synced: &mut SyncedMachine<'_, M>, tape: &Tape, count: u64) -> Found
+pub fn step<M: Machine>(synced: &mut SyncedMachine<'_, M>, tape: &Tape, count: u64) -> StopReason
     ensures same { loan_of synced.new ≡ loan_of synced.old }
     ensures reached { record { found = result; board = (value_of synced.new).board } ≡ step_from tape.now count (value_of synced.old).board }
 {
@@ -25,7 +25,7 @@ pub fn step<M: Machine>(synced: &mut SyncedMachine<'_, M>, tape: &Tape, count: u
 }
 
 /// Makes the turns up to a clock.
-pub fn until<M: Machine>(synced: &mut SyncedMachine<'_, M>, tape: &Tape, clock: u64) -> Found
+pub fn until<M: Machine>(synced: &mut SyncedMachine<'_, M>, tape: &Tape, clock: u64) -> StopReason
     ensures same { loan_of synced.new ≡ loan_of synced.old }
     ensures reached { record { found = result; board = (value_of synced.new).board } ≡ until_from tape.now clock (value_of synced.old).board }
 {
@@ -38,7 +38,11 @@ pub fn until<M: Machine>(synced: &mut SyncedMachine<'_, M>, tape: &Tape, clock: 
 }
 
 /// Makes turns up to a break, or to the end of the run.
-fn go_to_break<M: Machine>(synced: &mut SyncedMachine<'_, M>, tape: &Tape, breaks: &[u16]) -> Found
+fn go_to_break<M: Machine>(
+    synced: &mut SyncedMachine<'_, M>,
+    tape: &Tape,
+    breaks: &[u16],
+) -> StopReason
     ensures same { loan_of synced.new ≡ loan_of synced.old }
     ensures reached { record { found = result; board = (value_of synced.new).board }
         ≡ go_from tape.now (record { breaks = breaks.now; watches = []; vg = false }) (value_of synced.old).board }
@@ -59,7 +63,11 @@ fn go_to_break<M: Machine>(synced: &mut SyncedMachine<'_, M>, tape: &Tape, break
 }
 
 /// Makes turns up to any stop, each by itself.
-fn go_by_turns<M: Machine>(synced: &mut SyncedMachine<'_, M>, tape: &Tape, stops: &Stops) -> Found
+fn go_by_turns<M: Machine>(
+    synced: &mut SyncedMachine<'_, M>,
+    tape: &Tape,
+    stops: &Breakpoints,
+) -> StopReason
     ensures same { loan_of synced.new ≡ loan_of synced.old }
     ensures reached { record { found = result; board = (value_of synced.new).board } ≡ go_from tape.now stops.now (value_of synced.old).board }
 {
@@ -77,7 +85,11 @@ fn go_by_turns<M: Machine>(synced: &mut SyncedMachine<'_, M>, tape: &Tape, stops
 }
 
 /// Makes turns up to a stop.
-pub fn go<M: Machine>(synced: &mut SyncedMachine<'_, M>, tape: &Tape, stops: &Stops) -> Found
+pub fn go<M: Machine>(
+    synced: &mut SyncedMachine<'_, M>,
+    tape: &Tape,
+    stops: &Breakpoints,
+) -> StopReason
     ensures same { loan_of synced.new ≡ loan_of synced.old }
     ensures reached { record { found = result; board = (value_of synced.new).board } ≡ go_from tape.now stops.now (value_of synced.old).board }
 {

@@ -83,7 +83,7 @@ module _ (entries : List TapeEntry) where
           let of_whole = e3.wanted in
           omega arith;
       board = e3.board ∙ ap saved_bytes end-whole ∙ sym (e2.board ∙ end-cleared saved_bytes saved-behind other half);
-      clock = e3.clock ∙ ap (λ (x : Board). x.wires.clock) end-whole ∙ sym (e2.clock ∙ end-cleared (λ x. x.wires.clock) (λ l x. refl) other half);
+      clock = e3.clock ∙ ap (λ (x : Board). x.peripherals.clock) end-whole ∙ sym (e2.clock ∙ end-cleared (λ x. x.peripherals.clock) (λ l x. refl) other half);
       jammed = e3.jammed ∙ ap (λ (x : Board). is_some x.cpu.jam) end-whole ∙ sym (e2.jammed ∙ end-cleared (λ x. is_some x.cpu.jam) (λ l x. refl) other half);
     }
 

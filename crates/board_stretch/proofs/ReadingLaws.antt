@@ -7,7 +7,7 @@ use Rattle.board_base.specs.Cpu.{IsMid, MidValue}
 use Rattle.lockstep_board.specs.Order.{cleared}
 use Rattle.lockstep_board.specs.Lockstep.{Board}
 use Rattle.lockstep_board.specs.Run.{IsPlaced}
-use Rattle.lockstep_board.specs.Wires.{board_of}
+use Rattle.lockstep_board.specs.Peripherals.{board_of}
 use Rattle.cpu_core.specs.Places.{IsPlace, given_by}
 use Rattle.cpu_core.specs.Registers.{RegistersValue, registers_of}
 use Rattle.keyframes.proofs.AlongLaws.{rom-after}
@@ -49,16 +49,16 @@ entries-same image board other tape p q r s = ap (λ (t : TapeValue). t.entries)
 laid : Board → Image → Board
 laid b image = record {
   cpu = b.cpu;
-  wires = record (cleared b).wires {
+  peripherals = record (cleared b).peripherals {
     wired = image.wired;
-    memory = take VECTOR_RAM_LEN b.wires.memory ++ image.rom;
+    memory = take VECTOR_RAM_LEN b.peripherals.memory ++ image.rom;
     program = image.program;
   };
 }
 
 -- the image of a first board is that of its parts
 first-image : (timers : Bool) (p : Parts) → IsWhole p.board
-    → image_of (first_board timers p).wires
+    → image_of (first_board timers p).peripherals
     ≡ (let i : Image = record { wired = timers; program = drop VECTOR_ROM_LEN p.image; rom = take VECTOR_ROM_LEN p.image } in i)
 first-image timers p whole =
     let rom = take VECTOR_ROM_LEN p.image in
@@ -67,11 +67,11 @@ first-image timers p whole =
 
 -- a board over the image of some parts, saved and read again over the same image, is the board without its records
 pub begins-again : (image board bytes tape : List ℕ) (timers : Bool) (p q : Parts) (half : Board)
-    → ReadsParts image board tape (Ok p) → ReadsParts image bytes tape (Ok q) → bytes ≡ saved_bytes half → IsWhole (board_of half.cpu half.wires)
-    → image_of half.wires ≡ image_of (first_board timers p).wires → first_board timers q ≡ cleared half
+    → ReadsParts image board tape (Ok p) → ReadsParts image bytes tape (Ok q) → bytes ≡ saved_bytes half → IsWhole (board_of half.cpu half.peripherals)
+    → image_of half.peripherals ≡ image_of (first_board timers p).peripherals → first_board timers q ≡ cleared half
 unfolding saved_bytes laid
 begins-again image board bytes tape timers p q half r s saved whole over =
-    let again = board_of half.cpu half.wires in
+    let again = board_of half.cpu half.peripherals in
     let boards : q.board ≡ again = one_board bytes q.board again s.1.2 whole s.1.1 (inl saved) in
     let same = image-same image board bytes tape p q r s in
     ap (λ (b : BoardValue). let parts : Parts = record { image = q.image; board = b; tape = q.tape } in first_board timers parts) boards

@@ -2,7 +2,7 @@
 use Rattle.std.proofs.Common.{◌≡◌, ℕ, ◌≤◌, List, [], length, Some, sym, ap, subst, ◌∙◌, arith, is_some}
 use Rattle.lockstep_board.specs.Order.{cleared}
 use Rattle.lockstep_board.specs.Lockstep.{Board}
-use Rattle.lockstep_board.specs.Wires.{board_of}
+use Rattle.lockstep_board.specs.Peripherals.{board_of}
 use Rattle.save_state.specs.Reading.{IsWhole}
 use Rattle.outside_io.specs.Known.{grown}
 use Rattle.sliced_run.proofs.SlicesLaws.{saved-cleared}
@@ -17,8 +17,8 @@ ends-behind room told now last s ends is = record {
   bytes = ends.bytes;
   wanted = ends.wanted;
   board = saved-cleared last now s.board is ends.board;
-  whole = subst (λ (b : Board). IsWhole (board_of b.cpu b.wires)) is ends.whole;
-  clock = ends.clock ∙ ap (λ (b : Board). b.wires.clock) is;
+  whole = subst (λ (b : Board). IsWhole (board_of b.cpu b.peripherals)) is ends.whole;
+  clock = ends.clock ∙ ap (λ (b : Board). b.peripherals.clock) is;
   jammed = ends.jammed ∙ ap (λ (b : Board). is_some b.cpu.jam) is;
 }
 

@@ -5,7 +5,7 @@ use Rattle.board_watch.specs.declared.until.Until.{Until}
 use Rattle.board_watch.specs.declared.until.Until.TheVariants.{Boundary}
 use Rattle.board_watch.specs.Windows.{end_of}
 use Rattle.lockstep_board.specs.Lockstep.{Board}
-use Rattle.lockstep_board.specs.Wires.{board_of, wires_of}
+use Rattle.lockstep_board.specs.Peripherals.{board_of, peripherals_of}
 use Rattle.save_state.specs.Reading.{IsWhole}
 use Rattle.sampled_run.specs.BoardSamples.{sampled_bytes}
 use Rattle.sliced_run.specs.Slice.{slice_records, slice_text}
@@ -18,15 +18,15 @@ use Rattle.board_stretch.specs.Reading.{ReadsParts}
 
 -- the board with which a stretch begins, without records
 abbrev pub first_board : Bool → Parts → Board
-first_board timers parts = record { cpu = parts.board.cpu; wires = wires_of parts.image timers parts.board }
+first_board timers parts = record { cpu = parts.board.cpu; peripherals = peripherals_of parts.image timers parts.board }
 
 -- a stretch that tells these bytes, where there is room for so many, and ended at this board, each of whose fields is in its range
 pub record EndsAt (room : ℕ) (told : List ℕ) (last : Board) (s : Stretch) : Type 0 where
   pub bytes : s.told.items ≡ kept room told
   pub wanted : s.wanted ≡ length told
   pub board : s.board ≡ saved_bytes last
-  pub whole : IsWhole (board_of last.cpu last.wires)
-  pub clock : s.clock ≡ last.wires.clock
+  pub whole : IsWhole (board_of last.cpu last.peripherals)
+  pub clock : s.clock ≡ last.peripherals.clock
   pub jammed : s.jammed ≡ is_some last.cpu.jam
 
 -- a stretch that tells the lines of its records: those of a log without its last line

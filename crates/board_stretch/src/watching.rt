@@ -8,14 +8,14 @@ ghost use Rattle.board_stretch.specs.Kept.{IsKept};
 use crate::growing::GrowingSink;
 use crate::told::Told;
 use board_base::CLOCK_LIMIT;
-use board_watch::{SyncedMachine, Until, Watch};
+use board_watch::{RecordObserver, SyncedMachine, Until};
 use catchup_engine::{Machine, Stop};
 use std::alloc::{AllocError, Global};
 use tape_ports::Tape;
 
 /// Runs to a clock or to a boundary, as `SyncedMachine::watch` does, and keeps what the watcher tells as far as
 /// there is room for it. It takes memory for that room and for what is told of one window.
-pub(crate) fn watch_within<M: Machine, W: Watch>(
+pub(crate) fn watch_within<M: Machine, W: RecordObserver>(
     alloc: Global,
     synced: &mut SyncedMachine<'_, M>,
     tape: &Tape,
@@ -25,10 +25,10 @@ pub(crate) fn watch_within<M: Machine, W: Watch>(
 ) -> Result<Told, AllocError>
     requires limit { clock_in until ≤ CLOCK_LIMIT }
     requires room { let last = end_of tape.now.entries until (value_of synced.old).board in
-        W.can_take watcher.old (value_of synced.old).board.wires.clock (records_of last) last.wires.clock }
+        W.can_take watcher.old (value_of synced.old).board.peripherals.clock (records_of last) last.peripherals.clock }
     ensures same { loan_of synced.new ≡ loan_of synced.old }
     ensures told { let last = end_of tape.now.entries until (value_of synced.old).board in
-        IfOk result (λ t. IsKept room (W.tells watcher.old (records_of last) last.wires.clock) t) }
+        IfOk result (λ t. IsKept room (W.tells watcher.old (records_of last) last.peripherals.clock) t) }
     ensures board { OnOk result ((value_of synced.new).board ≡ cleared (end_of tape.now.entries until (value_of synced.old).board)) }
 {
     let mut told = Told::new(alloc, room)?;

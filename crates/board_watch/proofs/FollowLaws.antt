@@ -19,13 +19,13 @@ use Rattle.lockstep_board.proofs.Behind.{to_boundary-behind, behind-cleared}
 use Rattle.lockstep_board.proofs.Ends.{boundary-split, to_boundary-clock, to_boundary-over}
 use Rattle.catchup_engine.proofs.RunsOn.{open-before}
 use Rattle.lockstep_board.proofs.TurnLaws.{turn-later, turn-placed, to_boundary-none, to_boundary-turn}
-use Rattle.board_watch.specs.Follow.{FollowsInParts, IsFollowedInParts, StandsStill}
+use Rattle.board_watch.specs.TurnObserver.{FollowsInParts, IsFollowedInParts, StandsStill}
 
 module _ (entries : List TapeEntry) where
   -- a run that isn't over is the run from its next turn on
   run-turn : (limit : ℕ) (b : Board) → IsPlaced b → is_over limit b ≡ false → to_boundary entries limit b ≡ to_boundary entries limit (turn entries b)
-  run-turn limit b placed open_yet = elim (cases_lt b.wires.clock limit) [
-    | inl before ↦ boundary-split entries (b.wires.clock + 1) limit b (omega (arith, before)) placed
+  run-turn limit b placed open_yet = elim (cases_lt b.peripherals.clock limit) [
+    | inl before ↦ boundary-split entries (b.peripherals.clock + 1) limit b (omega (arith, before)) placed
     | inr past ↦ (let here = to_boundary-turn entries limit b placed open_yet (omega (arith, past)) in
         here ∙ sym (to_boundary-none entries limit (turn entries b) (subst (λ (c : Board). is_over limit c ≡ true) here (to_boundary-over entries limit b placed))))
   ]
@@ -47,16 +47,16 @@ module _ (entries : List TapeEntry) where
   unfolding turned
   turned-none b = refl
 
-  turned-clocks : (n : ℕ) (b : Board) → b.wires.clock ≤ (turned entries n b).wires.clock
+  turned-clocks : (n : ℕ) (b : Board) → b.peripherals.clock ≤ (turned entries n b).peripherals.clock
   unfolding turned
   turned-clocks zero b = omega arith
   turned-clocks (suc n) b =
-      let one = to_boundary-clock entries (b.wires.clock + 1) b in
+      let one = to_boundary-clock entries (b.peripherals.clock + 1) b in
       let rest = turned-clocks n (turn entries b) in
       omega arith
 
   -- some turns of a board that isn't jammed move its clock on
-  turned-later : (n : ℕ) (b : Board) → 1 ≤ n → b.cpu.jam ≡ None → b.wires.clock < (turned entries n b).wires.clock
+  turned-later : (n : ℕ) (b : Board) → 1 ≤ n → b.cpu.jam ≡ None → b.peripherals.clock < (turned entries n b).peripherals.clock
   unfolding turned
   turned-later zero b some running = absurd (omega arith)
   turned-later (suc n) b some running =
@@ -68,7 +68,7 @@ module _ (entries : List TapeEntry) where
 not-jammed : (limit : ℕ) (b : Board) → is_over limit b ≡ false → b.cpu.jam ≡ None
 not-jammed limit b off = of b.cpu.jam (is_none b.cpu.mid) off
   where
-    of : (jam : Option ℕ) (boundary : Bool) → is_some jam || (boundary && nat_le limit b.wires.clock) ≡ false → jam ≡ None
+    of : (jam : Option ℕ) (boundary : Bool) → is_some jam || (boundary && nat_le limit b.peripherals.clock) ≡ false → jam ≡ None
     of None boundary off = refl
     of (Some o) boundary off = cc
 
@@ -79,8 +79,8 @@ window-ends (Some o) boundary limit clock wrap ahead over = refl
 window-ends None false limit clock wrap ahead over = cc
 window-ends None true limit clock wrap ahead over = grind (arith, nat_tests)
 
-window-over : (limit : ℕ) (b : Board) → b.wires.divider.phase < DIVIDER_PERIOD → is_over (window_limit limit b) b ≡ true → is_over limit b ≡ true
-window-over limit b phase over = window-ends b.cpu.jam (is_none b.cpu.mid) limit b.wires.clock (wrap_of b) (omega arith) over
+window-over : (limit : ℕ) (b : Board) → b.peripherals.divider.phase < DIVIDER_PERIOD → is_over (window_limit limit b) b ≡ true → is_over limit b ≡ true
+window-over limit b phase over = window-ends b.cpu.jam (is_none b.cpu.mid) limit b.peripherals.clock (wrap_of b) (omega arith) over
 
 -- a run that isn't over to its window's end isn't over
 over-window : (jam : Option ℕ) (boundary : Bool) (part limit clock : ℕ) → part ≤ limit → is_some jam || (boundary && nat_le part clock) ≡ false
@@ -88,7 +88,7 @@ over-window : (jam : Option ℕ) (boundary : Bool) (part limit clock : ℕ) → 
 over-window jam boundary part limit clock most off = grind (arith, nat_tests)
 
 pub over-part : (part limit : ℕ) (b : Board) → part ≤ limit → is_over part b ≡ false → is_over limit b ≡ false
-over-part part limit b most off = over-window b.cpu.jam (is_none b.cpu.mid) part limit b.wires.clock most off
+over-part part limit b most off = over-window b.cpu.jam (is_none b.cpu.mid) part limit b.peripherals.clock most off
 
 -- a run that ended with its window isn't over
 pub window-open : (limit : ℕ) (b : Board) → cause_of limit b ≡ Window → is_over limit b ≡ false
@@ -96,9 +96,9 @@ window-open limit b is = of b.cpu.jam refl
   where
     of : (jam : Option ℕ) → b.cpu.jam ≡ jam → is_over limit b ≡ false
     of (Some o) jammed = (let other : Jammed b.cpu.pc o ≡ Window = sym (ap (λ j. cause_at j limit b) jammed) ∙ is in cc)
-    of None running = by_test (nat_le limit b.wires.clock) refl
+    of None running = by_test (nat_le limit b.peripherals.clock) refl
       where
-        by_test : (late : Bool) → nat_le limit b.wires.clock ≡ late → is_over limit b ≡ false
+        by_test : (late : Bool) → nat_le limit b.peripherals.clock ≡ late → is_over limit b ≡ false
         by_test false early = rw (running, early) (and-false (is_none b.cpu.mid))
           where
             and-false : (boundary : Bool) → (boundary && false) ≡ false
@@ -108,7 +108,7 @@ window-open limit b is = of b.cpu.jam refl
 
 -- the clocks to a limit, and one for a sequence that is under way
 abbrev pub clocks_left : ℕ → Board → ℕ
-clocks_left limit b = (limit - b.wires.clock) + (if is_some b.cpu.mid then 1 else 0)
+clocks_left limit b = (limit - b.peripherals.clock) + (if is_some b.cpu.mid then 1 else 0)
 
 module _ {F : Type 0} (next : F → TraceValue → ℕ → F) (enough : F → Bool) where
   -- a part of a run: its end, and what he is there who is told of its turns
@@ -124,15 +124,15 @@ module _ {F : Type 0} (next : F → TraceValue → ℕ → F) (enough : F → Bo
       ∙ run-cleared entries limit c
 
   -- a part that isn't the last moves the clock on, or ends what was under way
-  pub part-smaller : (entries : List TapeEntry) (limit : ℕ) (now c after : Board) (v u : F) → now.wires.divider.phase < DIVIDER_PERIOD → IsPart entries limit now c v u
+  pub part-smaller : (entries : List TapeEntry) (limit : ℕ) (now c after : Board) (v u : F) → now.peripherals.divider.phase < DIVIDER_PERIOD → IsPart entries limit now c v u
       → after ≡ cleared c → after.cpu.mid ≡ None → is_over limit after ≡ false → clocks_left limit after < clocks_left limit now
   part-smaller entries limit now c after v u phase part is boundary open_yet = elim (cases_lt part.count 1) [
     | inl less ↦ absurd (no-turn (omega (arith, less)))
     | inr not_less ↦ (let some : 1 ≤ part.count = omega (arith, not_less) in
         let off = over-part (window_limit limit now) limit now (omega arith) (subst (λ (b : Board). is_over (window_limit limit now) b ≡ false) (turned-none entries now) (part.over 0 (omega (arith, some)))) in
-        let later : now.wires.clock < c.wires.clock = subst (λ (b : Board). now.wires.clock < b.wires.clock) (sym part.board)
+        let later : now.peripherals.clock < c.peripherals.clock = subst (λ (b : Board). now.peripherals.clock < b.peripherals.clock) (sym part.board)
         (turned-later entries part.count now some (not-jammed limit now off)) in
-        let clock : after.wires.clock ≡ c.wires.clock = ap (λ (b : Board). b.wires.clock) is in
+        let clock : after.peripherals.clock ≡ c.peripherals.clock = ap (λ (b : Board). b.peripherals.clock) is in
         smaller now.cpu.mid refl off later clock)
   ]
     where
@@ -149,7 +149,7 @@ module _ {F : Type 0} (next : F → TraceValue → ℕ → F) (enough : F → Bo
           true-false : is_over limit now ≡ true → is_over limit now ≡ false → ⊥
           true-false over off = let both : true ≡ false = sym over ∙ off in cc
 
-      smaller : (mid : Option MidValue) → now.cpu.mid ≡ mid → is_over limit now ≡ false → now.wires.clock < c.wires.clock → after.wires.clock ≡ c.wires.clock
+      smaller : (mid : Option MidValue) → now.cpu.mid ≡ mid → is_over limit now ≡ false → now.peripherals.clock < c.peripherals.clock → after.peripherals.clock ≡ c.peripherals.clock
           → clocks_left limit after < clocks_left limit now
       smaller None none off later clock =
           let before = (open-before limit now none off).clock in
@@ -157,14 +157,14 @@ module _ {F : Type 0} (next : F → TraceValue → ℕ → F) (enough : F → Bo
       smaller (Some m) inside off later clock = rw (boundary, inside) (omega arith)
 
 module _ {F : Type 0} (can_follow : F → List TapeEntry → ℕ → Board → Type 0) (tells : F → List TapeEntry → ℕ → Board → List ℕ)
-    (behind_run : F → List TapeEntry → ℕ → Board → F) where
+    (after_run : F → List TapeEntry → ℕ → Board → F) where
   -- the run has come from b and w to a board and one who have told these bytes, and behind them it is the same run
   pub record Followed (entries : List TapeEntry) (limit : ℕ) (b now : Board) (w v : F) (taken0 taken : Option (List ℕ)) (faults0 faults : ℕ) : Type 0 where
     pub sent : List ℕ
     pub took : taken ≡ grown taken0 sent
     pub sound : faults ≡ faults0
     pub text : tells w entries limit b ≡ sent ++ tells v entries limit now
-    pub state : behind_run w entries limit b ≡ behind_run v entries limit now
+    pub state : after_run w entries limit b ≡ after_run v entries limit now
     pub room : can_follow v entries limit now
     pub board : cleared (to_boundary entries limit b) ≡ cleared (to_boundary entries limit now)
 
@@ -181,9 +181,9 @@ module _ {F : Type 0} (can_follow : F → List TapeEntry → ℕ → Board → T
   }
 
   -- a run that is over has told all
-  pub followed-over : StandsStill tells behind_run → (entries : List TapeEntry) (limit : ℕ) (b now : Board) (w v : F) (taken0 taken : Option (List ℕ)) (faults0 faults : ℕ)
+  pub followed-over : StandsStill tells after_run → (entries : List TapeEntry) (limit : ℕ) (b now : Board) (w v : F) (taken0 taken : Option (List ℕ)) (faults0 faults : ℕ)
       → Followed entries limit b now w v taken0 taken faults0 faults → is_over limit now ≡ true
-      → (taken ≡ grown taken0 (tells w entries limit b)) × (v ≡ behind_run w entries limit b) × (cleared now ≡ cleared (to_boundary entries limit b))
+      → (taken ≡ grown taken0 (tells w entries limit b)) × (v ≡ after_run w entries limit b) × (cleared now ≡ cleared (to_boundary entries limit b))
   followed-over still entries limit b now w v taken0 taken faults0 faults h over =
       let s = still v entries limit now over in (
         h.took ∙ ap (grown taken0) (sym (h.text ∙ ap (λ l. h.sent ++ l) s.text ∙ append-nil h.sent)),
@@ -192,12 +192,12 @@ module _ {F : Type 0} (can_follow : F → List TapeEntry → ℕ → Board → T
       )
 
 module _ {F : Type 0} (next : F → TraceValue → ℕ → F) (enough : F → Bool) (can_follow : F → List TapeEntry → ℕ → Board → Type 0)
-    (tells : F → List TapeEntry → ℕ → Board → List ℕ) (behind_run : F → List TapeEntry → ℕ → Board → F)
-    (can_take : F → Recorded → Type 0) (part_tells : F → Recorded → List ℕ) (behind_part : F → Recorded → F)
-    (law : FollowsInParts next enough can_follow tells behind_run can_take part_tells behind_part) where
+    (tells : F → List TapeEntry → ℕ → Board → List ℕ) (after_run : F → List TapeEntry → ℕ → Board → F)
+    (can_take : F → Recorded → Type 0) (part_tells : F → Recorded → List ℕ) (after_part : F → Recorded → F)
+    (law : FollowsInParts next enough can_follow tells after_run can_take part_tells after_part) where
   -- what the law says of a part
   part-is : (entries : List TapeEntry) (limit : ℕ) (b c : Board) (w v : F) → IsPlaced b → HasNoRecords b → can_follow w entries limit b
-      → IsPart next enough entries limit b c w v → IsFollowedInParts next enough can_follow tells behind_run can_take part_tells behind_part w v entries limit b c
+      → IsPart next enough entries limit b c w v → IsFollowedInParts next enough can_follow tells after_run can_take part_tells after_part w v entries limit b c
   part-is entries limit b c w v placed none room part = law w v entries limit (window_limit limit b) b c (omega arith) placed none room part
 
   pub part-room : (entries : List TapeEntry) (limit : ℕ) (b c : Board) (w v : F) → IsPlaced b → HasNoRecords b → can_follow w entries limit b
@@ -206,9 +206,9 @@ module _ {F : Type 0} (next : F → TraceValue → ℕ → F) (enough : F → Bo
 
   -- a part more
   pub followed-part : (entries : List TapeEntry) (limit : ℕ) (b now c after : Board) (w v u f : F) (taken0 taken taken1 : Option (List ℕ)) (faults0 faults faults1 : ℕ)
-      → Followed can_follow tells behind_run entries limit b now w v taken0 taken faults0 faults → IsPlaced now → HasNoRecords now → IsPart next enough entries limit now c v u
-      → after ≡ cleared c → f ≡ behind_part u (records_of c) → taken1 ≡ grown taken (part_tells u (records_of c)) → faults1 ≡ faults
-      → Followed can_follow tells behind_run entries limit b after w f taken0 taken1 faults0 faults1
+      → Followed can_follow tells after_run entries limit b now w v taken0 taken faults0 faults → IsPlaced now → HasNoRecords now → IsPart next enough entries limit now c v u
+      → after ≡ cleared c → f ≡ after_part u (records_of c) → taken1 ≡ grown taken (part_tells u (records_of c)) → faults1 ≡ faults
+      → Followed can_follow tells after_run entries limit b after w f taken0 taken1 faults0 faults1
   followed-part entries limit b now c after w v u f taken0 taken taken1 faults0 faults faults1 h placed none part is state took sound =
       let p = part-is entries limit now c v u placed none h.room part in
       let piece = part_tells u (records_of c) in
@@ -219,7 +219,7 @@ module _ {F : Type 0} (next : F → TraceValue → ℕ → F) (enough : F → Bo
         text =
             h.text
             ∙ ap (λ l. h.sent ++ l) p.text
-            ∙ sym (append_assoc h.sent piece (tells (behind_part u (records_of c)) entries limit (cleared c)));
+            ∙ sym (append_assoc h.sent piece (tells (after_part u (records_of c)) entries limit (cleared c)));
         state = h.state ∙ p.state;
         room = p.rest;
         board = h.board ∙ part-board next enough entries limit now c v u placed part;
@@ -227,12 +227,12 @@ module _ {F : Type 0} (next : F → TraceValue → ℕ → F) (enough : F → Bo
 
   -- a part of which a first part was written
   pub cut-part : (entries : List TapeEntry) (limit : ℕ) (b now c : Board) (w v u : F) (taken0 taken taken1 : Option (List ℕ)) (faults0 faults : ℕ)
-      → Followed can_follow tells behind_run entries limit b now w v taken0 taken faults0 faults → IsPlaced now → HasNoRecords now → IsPart next enough entries limit now c v u
+      → Followed can_follow tells after_run entries limit b now w v taken0 taken faults0 faults → IsPlaced now → HasNoRecords now → IsPart next enough entries limit now c v u
       → (k : ℕ) × (taken1 ≡ grown taken (take k (part_tells u (records_of c))))
       → (k : ℕ) × (taken1 ≡ grown taken0 (take k (tells w entries limit b)))
   cut-part entries limit b now c w v u taken0 taken taken1 faults0 faults h placed none part cut =
       let p = part-is entries limit now c v u placed none h.room part in
-      let rest = tells (behind_part u (records_of c)) entries limit (cleared c) in
+      let rest = tells (after_part u (records_of c)) entries limit (cleared c) in
       let piece = part_tells u (records_of c) in
       let whole = took_then taken0 taken taken1 h.sent (piece ++ rest) h.took (took_first taken taken1 piece rest cut) in
       (whole.0, whole.1 ∙ ap (λ l. grown taken0 (take whole.0 l)) (sym (h.text ∙ ap (λ l. h.sent ++ l) p.text)))

@@ -21,7 +21,7 @@ use Rattle.lockstep_board.proofs.Wraps.{wrap-counted}
 use Rattle.board_watch.specs.declared.until.Until.{Until}
 use Rattle.board_watch.specs.declared.until.Until.TheVariants.{Clock, Boundary}
 use Rattle.board_watch.specs.Synced.{IsSynced}
-use Rattle.board_watch.specs.Watch.{IsTakenInParts, TakesInParts, joined, recorded}
+use Rattle.board_watch.specs.RecordObserver.{IsTakenInParts, TakesInParts, joined, recorded}
 use Rattle.board_watch.specs.Windows.{EndsSo, IsFirstWindow, clock_in, end_of, price_to, steps_to, window_end, window_price, window_steps}
 
 -- what doesn't look at records is the same of a board whose records are forgotten
@@ -36,7 +36,7 @@ unfolding no_records
 joined-none l = rw (append-nil l.strokes, append-nil l.levels1, append-nil l.levels2, append-nil l.written) refl
 
 -- no records are records in order
-made-none : (b : Board) → HasNoRecords b → AreMadeBetween b.wires.clock (records_of b) b.wires.clock
+made-none : (b : Board) → HasNoRecords b → AreMadeBetween b.peripherals.clock (records_of b) b.peripherals.clock
 made-none b none = rw (none.strokes, none.levels1, none.levels2, none.written) (record {
   strokes = omega arith;
   levels1 = omega arith;
@@ -55,7 +55,7 @@ module _ (entries : List TapeEntry) where
   price-behind : (n : ℕ) (l : Recorded) (b : Board) → window_price entries n (behind l b) ≡ window_price entries n b
   price-behind n l b =
       let calls = budget-behind entries n l b in
-      let wrapped = counted-behind entries (λ c. wraps c.wires) (λ m c. refl) n l b in
+      let wrapped = counted-behind entries (λ c. wraps c.peripherals) (λ m c. refl) n l b in
       omega arith
 
   pub price-cleared : (n : ℕ) (b : Board) → window_price entries n (cleared b) ≡ window_price entries n b
@@ -64,7 +64,7 @@ module _ (entries : List TapeEntry) where
   pub price-add : (n m : ℕ) (b : Board) → window_price entries (n + m) b ≡ window_price entries n b + window_price entries m (stepped entries n b)
   price-add n m b =
       let calls = budget-add entries n m b in
-      let wrapped = counted-add entries (λ c. wraps c.wires) n m b in
+      let wrapped = counted-add entries (λ c. wraps c.peripherals) n m b in
       omega arith
 
   -- the end of a run from a board is that from the board without its records, behind them
@@ -89,8 +89,8 @@ module _ (entries : List TapeEntry) where
 
   -- a run of a board without records makes those of its clocks
   pub run-made : (until : Until) (b : Board) → HasNoRecords b
-      → AreMadeBetween b.wires.clock (records_of (end_of entries until b)) (end_of entries until b).wires.clock
-  run-made until b none = stepped-made entries b.wires.clock (steps_to entries until b) b (made-none b none)
+      → AreMadeBetween b.peripherals.clock (records_of (end_of entries until b)) (end_of entries until b).peripherals.clock
+  run-made until b none = stepped-made entries b.peripherals.clock (steps_to entries until b) b (made-none b none)
 
   pub first-window : (until : Until) (b : Board) → IsPlaced b → HasNoRecords b → IsFirstWindow entries until b
   first-window until b placed none =
@@ -99,9 +99,9 @@ module _ (entries : List TapeEntry) where
       let whole : end_of entries until b ≡ behind (records_of there) rest = end-split until b placed ∙ end-cleared until there in
       record {
         made = ap records_of whole;
-        clock = ap (λ (c : Board). c.wires.clock) whole;
+        clock = ap (λ (c : Board). c.peripherals.clock) whole;
         parts = record {
-          sooner = stepped-made entries b.wires.clock (window_steps entries until b) b (made-none b none);
+          sooner = stepped-made entries b.peripherals.clock (window_steps entries until b) b (made-none b none);
           later = run-made until (cleared there) (record { strokes = refl; levels1 = refl; levels2 = refl; written = refl });
         };
         board = ap cleared whole;
@@ -110,9 +110,9 @@ module _ (entries : List TapeEntry) where
   -- a run that didn't end with its window alone is over
   run-over : (until : Until) (b : Board) → EndsSo until b → (cause_of (clock_in until) b ≢ Window) → steps_to entries until b ≡ 0
   run-over (Clock cut) b ends not_window =
-      steps-none entries (is_at cut) (cut - b.wires.clock) b (at-stop b.cpu.jam cut b not_window)
+      steps-none entries (is_at cut) (cut - b.peripherals.clock) b (at-stop b.cpu.jam cut b not_window)
   run-over (Boundary limit) b ends not_window =
-      steps-none entries (is_over limit) ((limit - b.wires.clock) + 6) b (over-stop limit b ends not_window)
+      steps-none entries (is_over limit) ((limit - b.peripherals.clock) + 6) b (over-stop limit b ends not_window)
 
   -- so that its last window is all of it
   pub last-window : (until : Until) (b now : Board) → IsPlaced b → now ≡ cleared (window_end entries until b) → EndsSo until now
@@ -140,12 +140,12 @@ module _ (entries : List TapeEntry) where
 
   -- a window that came to the divider's wrap has a wrap that pays for it
   pub wrap-paid : (until : Until) (e next : EngineValue) → IsSynced e → next.board ≡ cleared (window_end entries until e.board)
-      → wrap_of e.board ≤ next.board.wires.clock → next.calls ≤ e.calls + budget entries (window_steps entries until e.board) e.board + 5
+      → wrap_of e.board ≤ next.board.peripherals.clock → next.calls ≤ e.calls + budget entries (window_steps entries until e.board) e.board + 5
       → next.calls + price_to entries until next.board ≤ e.calls + price_to entries until e.board
   wrap-paid until e next rest is far most =
       let n = window_steps entries until e.board in
-      let clock : next.board.wires.clock ≡ e.board.wires.clock + n =
-      ap (λ (b : Board). b.wires.clock) is ∙ stepped-clock entries n e.board in
+      let clock : next.board.peripherals.clock ≡ e.board.peripherals.clock + n =
+      ap (λ (b : Board). b.peripherals.clock) is ∙ stepped-clock entries n e.board in
       let one = wrap-counted entries n e.board rest.phase (omega arith) in
       let split = price-split until e.board rest.placed in
       let after : price_to entries until next.board ≡ price_to entries until (cleared (window_end entries until e.board)) = ap (price_to entries until) is in
@@ -166,12 +166,12 @@ module _ {W : Type 0} (can_take : W → ℕ → Recorded → ℕ → Type 0) (te
     pub sent : List ℕ
     pub took : taken ≡ grown taken0 sent
     pub sound : faults ≡ faults0
-    pub text : tells w0 (records_of whole) whole.wires.clock ≡ sent ++ tells w (records_of rest) rest.wires.clock
-    pub state : next w0 (records_of whole) whole.wires.clock ≡ next w (records_of rest) rest.wires.clock
-    pub room : can_take w from (records_of rest) rest.wires.clock
+    pub text : tells w0 (records_of whole) whole.peripherals.clock ≡ sent ++ tells w (records_of rest) rest.peripherals.clock
+    pub state : next w0 (records_of whole) whole.peripherals.clock ≡ next w (records_of rest) rest.peripherals.clock
+    pub room : can_take w from (records_of rest) rest.peripherals.clock
     pub board : cleared whole ≡ cleared rest
 
-  pub watched-start : (from : ℕ) (whole : Board) (w : W) (taken : Option (List ℕ)) (faults : ℕ) → can_take w from (records_of whole) whole.wires.clock
+  pub watched-start : (from : ℕ) (whole : Board) (w : W) (taken : Option (List ℕ)) (faults : ℕ) → can_take w from (records_of whole) whole.peripherals.clock
       → Watched from whole whole w w taken taken faults faults
   watched-start from whole w taken faults room = record {
     sent = [];
@@ -184,7 +184,7 @@ module _ {W : Type 0} (can_take : W → ℕ → Recorded → ℕ → Type 0) (te
   }
 
   module _ (law : TakesInParts can_take tells next) (entries : List TapeEntry) (until : Until) (whole b : Board) (w0 w : W) (taken0 taken : Option (List ℕ))
-      (faults0 faults : ℕ) (so_far : Watched b.wires.clock whole (end_of entries until b) w0 w taken0 taken faults0 faults) (placed : IsPlaced b) (none : HasNoRecords b) where
+      (faults0 faults : ℕ) (so_far : Watched b.peripherals.clock whole (end_of entries until b) w0 w taken0 taken faults0 faults) (placed : IsPlaced b) (none : HasNoRecords b) where
     abbrev there : Board
     there = window_end entries until b
 
@@ -192,59 +192,59 @@ module _ {W : Type 0} (can_take : W → ℕ → Recorded → ℕ → Type 0) (te
     after = end_of entries until (cleared there)
 
     -- the next window is a first part of what is still to come
-    in_two : IsTakenInParts can_take tells next w b.wires.clock (records_of there) there.wires.clock (records_of after) after.wires.clock
+    in_two : IsTakenInParts can_take tells next w b.peripherals.clock (records_of there) there.peripherals.clock (records_of after) after.peripherals.clock
     in_two =
         let first = first-window entries until b placed none in
-        law w b.wires.clock (records_of there) there.wires.clock (records_of after) after.wires.clock first.parts
+        law w b.peripherals.clock (records_of there) there.peripherals.clock (records_of after) after.peripherals.clock first.parts
         (rw (first.made, first.clock) at so_far.room)
 
-    text-window : tells w0 (records_of whole) whole.wires.clock
-        ≡ so_far.sent ++ (tells w (records_of there) there.wires.clock
-        ++ tells (next w (records_of there) there.wires.clock) (records_of after) after.wires.clock)
+    text-window : tells w0 (records_of whole) whole.peripherals.clock
+        ≡ so_far.sent ++ (tells w (records_of there) there.peripherals.clock
+        ++ tells (next w (records_of there) there.peripherals.clock) (records_of after) after.peripherals.clock)
     text-window =
         let first = first-window entries until b placed none in
         so_far.text ∙ ap (λ (l : List ℕ). so_far.sent ++ l) (rw (first.made, first.clock) in_two.text)
 
     -- so there is room for it
-    pub room-window : can_take w b.wires.clock (records_of there) there.wires.clock
+    pub room-window : can_take w b.peripherals.clock (records_of there) there.peripherals.clock
     room-window = in_two.room_first
 
     -- it is taken
     pub watched-window : (now : Board) (v : W) (more : Option (List ℕ)) (faults' : ℕ) → now ≡ cleared there
-        → v ≡ next w (records_of there) there.wires.clock → more ≡ grown taken (tells w (records_of there) there.wires.clock) → faults' ≡ faults
-        → Watched now.wires.clock whole (end_of entries until now) w0 v taken0 more faults0 faults'
+        → v ≡ next w (records_of there) there.peripherals.clock → more ≡ grown taken (tells w (records_of there) there.peripherals.clock) → faults' ≡ faults
+        → Watched now.peripherals.clock whole (end_of entries until now) w0 v taken0 more faults0 faults'
     watched-window now v more faults' is next_is took sound =
         let first = first-window entries until b placed none in
         rw (is, next_is) (record {
-          sent = so_far.sent ++ tells w (records_of there) there.wires.clock;
+          sent = so_far.sent ++ tells w (records_of there) there.peripherals.clock;
           took =
               took
-              ∙ ap (λ (out : Option (List ℕ)). grown out (tells w (records_of there) there.wires.clock)) so_far.took
-              ∙ grown-twice taken0 so_far.sent (tells w (records_of there) there.wires.clock);
+              ∙ ap (λ (out : Option (List ℕ)). grown out (tells w (records_of there) there.peripherals.clock)) so_far.took
+              ∙ grown-twice taken0 so_far.sent (tells w (records_of there) there.peripherals.clock);
           sound = sound ∙ so_far.sound;
-          text = text-window ∙ sym (append_assoc so_far.sent (tells w (records_of there) there.wires.clock) _);
+          text = text-window ∙ sym (append_assoc so_far.sent (tells w (records_of there) there.peripherals.clock) _);
           state = so_far.state ∙ rw (first.made, first.clock) in_two.state;
           room = in_two.room_rest;
           board = so_far.board ∙ first.board;
         })
 
     -- or a fault cuts it
-    pub cut-window : (now : Option (List ℕ)) → (k : ℕ) × (now ≡ grown taken (take k (tells w (records_of there) there.wires.clock)))
-        → (k : ℕ) × (now ≡ grown taken0 (take k (tells w0 (records_of whole) whole.wires.clock)))
+    pub cut-window : (now : Option (List ℕ)) → (k : ℕ) × (now ≡ grown taken (take k (tells w (records_of there) there.peripherals.clock)))
+        → (k : ℕ) × (now ≡ grown taken0 (take k (tells w0 (records_of whole) whole.peripherals.clock)))
     cut-window now cut =
         rw text-window (took_then taken0 taken now so_far.sent _ so_far.took
-        (took_first taken now (tells w (records_of there) there.wires.clock) _ cut))
+        (took_first taken now (tells w (records_of there) there.peripherals.clock) _ cut))
 
   -- the last window is what is still to come
   module _ (from : ℕ) (whole rest there : Board) (w0 w : W) (taken0 taken : Option (List ℕ)) (faults0 faults : ℕ)
       (so_far : Watched from whole rest w0 w taken0 taken faults0 faults) (last : there ≡ rest) where
-    pub took-last : (now : Option (List ℕ)) → now ≡ grown taken (tells w (records_of there) there.wires.clock)
-        → now ≡ grown taken0 (tells w0 (records_of whole) whole.wires.clock)
+    pub took-last : (now : Option (List ℕ)) → now ≡ grown taken (tells w (records_of there) there.peripherals.clock)
+        → now ≡ grown taken0 (tells w0 (records_of whole) whole.peripherals.clock)
     took-last now took =
-        took ∙ ap (λ (out : Option (List ℕ)). grown out (tells w (records_of there) there.wires.clock)) so_far.took ∙ grown-twice taken0 so_far.sent _
+        took ∙ ap (λ (out : Option (List ℕ)). grown out (tells w (records_of there) there.peripherals.clock)) so_far.took ∙ grown-twice taken0 so_far.sent _
         ∙ ap (grown taken0) (rw last (sym so_far.text))
 
-    pub state-last : (v : W) → v ≡ next w (records_of there) there.wires.clock → v ≡ next w0 (records_of whole) whole.wires.clock
+    pub state-last : (v : W) → v ≡ next w (records_of there) there.peripherals.clock → v ≡ next w0 (records_of whole) whole.peripherals.clock
     state-last v is = is ∙ rw last (sym so_far.state)
 
     pub board-last : (now : Board) → now ≡ cleared there → now ≡ cleared whole

@@ -1,5 +1,5 @@
-pub mod Follow
+pub mod TurnObserver
 pub mod Synced
 pub mod SyncedMachine
-pub mod Watch
+pub mod RecordObserver
 pub mod Windows

@@ -8,6 +8,6 @@ use Rattle.lockstep_board.specs.Run.{IsPlaced}
 -- no record is left, no device lags behind the processor, and the processor and the divider stand where a run can bring them
 pub record IsSynced (e : EngineValue) : Type 0 where
   pub placed : IsPlaced e.board
-  pub phase : e.board.wires.divider.phase < DIVIDER_PERIOD
+  pub phase : e.board.peripherals.divider.phase < DIVIDER_PERIOD
   pub empty : HasNoRecords e.board
   pub settled : e.lagging ≡ 0

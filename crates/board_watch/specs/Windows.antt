@@ -7,7 +7,7 @@ use Rattle.lockstep_board.specs.Budget.{budget, counted, wraps}
 use Rattle.lockstep_board.specs.Order.{cleared, records_of}
 use Rattle.board_watch.specs.declared.until.Until.{Until}
 use Rattle.board_watch.specs.declared.until.Until.TheVariants.{Clock, Boundary}
-use Rattle.board_watch.specs.Watch.{AreParts, joined}
+use Rattle.board_watch.specs.RecordObserver.{AreParts, joined}
 
 abbrev pub clock_in : Until → ℕ
 clock_in (Clock cut) = cut
@@ -32,7 +32,7 @@ window_end entries until b = stepped entries (window_steps entries until b) b
 -- the device calls that n steps may cost where somebody sees the records after each wrap: five more for each, since the
 -- devices are brought to the present for it
 abbrev pub window_price : List TapeEntry → ℕ → Board → ℕ
-window_price entries n b = budget entries n b + 5 * counted entries (λ c. wraps c.wires) n b
+window_price entries n b = budget entries n b + 5 * counted entries (λ c. wraps c.peripherals) n b
 
 -- those of a run
 abbrev pub price_to : List TapeEntry → Until → Board → ℕ
@@ -48,7 +48,7 @@ EndsSo (Boundary limit) b = b.cpu.mid ≡ None
 pub record IsFirstWindow (entries : List TapeEntry) (until : Until) (b : Board) : Type 0 where
   pub made : records_of (end_of entries until b)
       ≡ joined (records_of (window_end entries until b)) (records_of (end_of entries until (cleared (window_end entries until b))))
-  pub clock : (end_of entries until b).wires.clock ≡ (end_of entries until (cleared (window_end entries until b))).wires.clock
-  pub parts : AreParts b.wires.clock (records_of (window_end entries until b)) (window_end entries until b).wires.clock
-      (records_of (end_of entries until (cleared (window_end entries until b)))) (end_of entries until (cleared (window_end entries until b))).wires.clock
+  pub clock : (end_of entries until b).peripherals.clock ≡ (end_of entries until (cleared (window_end entries until b))).peripherals.clock
+  pub parts : AreParts b.peripherals.clock (records_of (window_end entries until b)) (window_end entries until b).peripherals.clock
+      (records_of (end_of entries until (cleared (window_end entries until b)))) (end_of entries until (cleared (window_end entries until b))).peripherals.clock
   pub board : cleared (end_of entries until b) ≡ cleared (end_of entries until (cleared (window_end entries until b)))

@@ -4,8 +4,8 @@ ghost use Rattle.outside_io.specs.Sink.{Takes};
 ghost use Rattle.tape_ports.specs.declared.entry.TapeEntry.{TapeEntry};
 ghost use Rattle.lockstep_board.specs.Lockstep.{Board};
 ghost use Rattle.lockstep_board.specs.Order.{Recorded};
-ghost use Rattle.board_watch.specs.Follow.{FollowsInParts, StandsStill};
-ghost use Rattle.board_watch.specs.Watch.{recorded};
+ghost use Rattle.board_watch.specs.TurnObserver.{FollowsInParts, StandsStill};
+ghost use Rattle.board_watch.specs.RecordObserver.{recorded};
 
 use board_base::Trails;
 use catchup_engine::Tracer;
@@ -13,7 +13,7 @@ use outside_io::{Sink, SinkFault};
 
 /// A tracer of a run, which takes the records of its turns too, part by part: after each turn that
 /// gave it enough, and where the trails want room.
-pub trait Follow: Tracer {
+pub trait TurnObserver: Tracer {
     /// It can follow the run from a board to a limit.
     ghost can_follow: { Self → List TapeEntry → ℕ → Board → Type 0 };
 
@@ -21,7 +21,7 @@ pub trait Follow: Tracer {
     ghost tells: { Self → List TapeEntry → ℕ → Board → List ℕ };
 
     /// What it is behind that run.
-    ghost behind_run: { Self → List TapeEntry → ℕ → Board → Self };
+    ghost after_run: { Self → List TapeEntry → ℕ → Board → Self };
 
     /// It can take the records of a part, of whose turns it was told.
     ghost can_take: { Self → Recorded → Type 0 };
@@ -30,7 +30,7 @@ pub trait Follow: Tracer {
     ghost part_tells: { Self → Recorded → List ℕ };
 
     /// What it is then.
-    ghost behind_part: { Self → Recorded → Self };
+    ghost after_part: { Self → Recorded → Self };
 
     /// Takes the records of a part. After a fault it is only to be dropped.
     fn take_part<O: Sink>(&mut self, trails: &Trails<'_>, out: &mut O) -> Result<(), SinkFault>
@@ -39,12 +39,12 @@ pub trait Follow: Tracer {
         ensures taken { Takes (O.taken out.old) (O.taken out.new) (part_tells self.old (recorded trails.now.vector.now.records trails.now.sound1.now.records
             trails.now.sound2.now.records trails.now.board.now.records)) result }
         ensures cause { HasCause (O.faults out.old) (O.faults out.new) result }
-        ensures next { OnOk result (self.new ≡ behind_part self.old (recorded trails.now.vector.now.records trails.now.sound1.now.records
+        ensures next { OnOk result (self.new ≡ after_part self.old (recorded trails.now.vector.now.records trails.now.sound1.now.records
             trails.now.sound2.now.records trails.now.board.now.records)) };
 
     /// To follow a first part, and then the rest, is to follow the whole.
-    ghost in_parts: { FollowsInParts Self.next Self.has_enough can_follow tells behind_run can_take part_tells behind_part };
+    ghost in_parts: { FollowsInParts Self.next Self.has_enough can_follow tells after_run can_take part_tells after_part };
 
     /// A run that is over tells nothing.
-    ghost stands_still: { StandsStill tells behind_run };
+    ghost stands_still: { StandsStill tells after_run };
 }

@@ -13,5 +13,5 @@ ghost use Rattle.board_watch.specs.Windows.{IsFirstWindow, end_of};
 pub fn windows_are_the_run()
     ensures first { (entries : List TapeEntry) → (until : until_value) → (b : Board) → IsPlaced b → HasNoRecords b → IsFirstWindow entries until b }
     ensures made { (entries : List TapeEntry) → (until : until_value) → (b : Board) → HasNoRecords b
-        → AreMadeBetween b.wires.clock (records_of (end_of entries until b)) (end_of entries until b).wires.clock }
+        → AreMadeBetween b.peripherals.clock (records_of (end_of entries until b)) (end_of entries until b).peripherals.clock }
 {}

@@ -9,10 +9,10 @@ mod synced;
 mod until;
 mod watch;
 
-pub use follow::Follow;
+pub use follow::TurnObserver;
 pub use laws::windows_are_the_run;
 pub use nothing::Nothing;
 pub use nowhere::Nowhere;
 pub use synced::SyncedMachine;
 pub use until::Until;
-pub use watch::Watch;
+pub use watch::RecordObserver;

@@ -1,6 +1,6 @@
 ghost use Rattle.std.specs.Prelude.{[], ⊤, refl};
 
-use crate::watch::Watch;
+use crate::watch::RecordObserver;
 use board_base::Trails;
 use outside_io::{Sink, SinkFault};
 
@@ -8,7 +8,7 @@ use outside_io::{Sink, SinkFault};
 #[derive(Clone, Copy, Debug, PartialEq, Eq)]
 pub struct Nothing;
 
-impl Watch for Nothing {
+impl RecordObserver for Nothing {
     ghost can_take = { λ _ _ _ _. ⊤ };
 
     ghost tells = { λ _ _ _. [] };

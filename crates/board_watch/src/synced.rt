@@ -12,13 +12,13 @@ ghost use Rattle.lockstep_board.specs.Order.{HasNoRecords, cleared, records_of};
 ghost use Rattle.lockstep_board.specs.Lockstep as lockstep;
 ghost use Rattle.lockstep_board.specs.Run.{cause_of, to_boundary, window_limit, wrap_of};
 ghost use Rattle.catchup_engine.specs.Traced.{TracedRun};
-ghost use Rattle.lockstep_board.specs.Wires.{reloaded};
+ghost use Rattle.lockstep_board.specs.Peripherals.{reloaded};
 ghost use Rattle.board_watch.specs.Synced.{IsSynced};
 ghost use Rattle.board_watch.specs.Windows.{EndsSo, clock_in, end_of, price_to, window_end, window_steps};
 
-use crate::follow::Follow;
+use crate::follow::TurnObserver;
 use crate::until::Until;
-use crate::watch::Watch;
+use crate::watch::RecordObserver;
 use board_base::{BoardState, CLOCK_LIMIT};
 use catchup_engine::{Machine, Stop};
 use outside_io::{Sink, SinkFault};
@@ -38,7 +38,7 @@ fn load_synced<M: Machine>(machine: &mut M, state: &BoardState)
     requires undocumented { IfSome state.now.cpu.jam (λ o. row_of o ≡ None) }
     requires place { IfSome state.now.cpu.mid (λ _. IsMiddle state.now.cpu) }
     ensures value { M.value machine.new ≡ record (M.value machine.old) {
-      board = record { cpu = state.now.cpu; wires = reloaded (M.value machine.old).board.wires state.now };
+      board = record { cpu = state.now.cpu; peripherals = reloaded (M.value machine.old).board.peripherals state.now };
       calls = counted_on (M.value machine.old).calls 5;
     } }
     ensures synced { IsSynced (M.value machine.new) }
@@ -67,12 +67,12 @@ fn advance<M: Machine>(machine: &mut M, tape: &Tape, until: Until) -> Stop
     ensures board { (M.value machine.new).board ≡ window_end tape.now.entries until (M.value machine.old).board }
     ensures stop { result ≡ cause_of (clock_in until) (M.value machine.new).board }
     ensures ends { EndsSo until (M.value machine.new).board }
-    ensures wrap { result ≡ Stop.Window → wrap_of (M.value machine.old).board ≤ (M.value machine.new).board.wires.clock }
-    ensures later { result ≡ Stop.Window → (M.value machine.old).board.wires.clock < (M.value machine.new).board.wires.clock }
-    ensures before { result ≡ Stop.Window → (M.value machine.new).board.wires.clock < clock_in until }
+    ensures wrap { result ≡ Stop.Window → wrap_of (M.value machine.old).board ≤ (M.value machine.new).board.peripherals.clock }
+    ensures later { result ≡ Stop.Window → (M.value machine.old).board.peripherals.clock < (M.value machine.new).board.peripherals.clock }
+    ensures before { result ≡ Stop.Window → (M.value machine.new).board.peripherals.clock < clock_in until }
     ensures calls { (M.value machine.new).calls ≤ (M.value machine.old).calls + budget tape.now.entries (window_steps tape.now.entries until (M.value machine.old).board) (M.value machine.old).board }
     ensures more { (M.value machine.old).calls ≤ (M.value machine.new).calls }
-    ensures done { (M.value machine.new).done ≡ counted_on (M.value machine.old).done ((M.value machine.new).board.wires.clock - (M.value machine.old).board.wires.clock) }
+    ensures done { (M.value machine.new).done ≡ counted_on (M.value machine.old).done ((M.value machine.new).board.peripherals.clock - (M.value machine.old).board.peripherals.clock) }
 {
     match until {
         Until::Clock(cut) => machine.run_to(tape, cut),
@@ -108,7 +108,7 @@ impl<'a, M: Machine> SyncedMachine<'a, M> {
         requires place { IfSome state.now.cpu.mid (λ _. IsMiddle state.now.cpu) }
         ensures same { loan_of self.new ≡ loan_of self.old }
         ensures value { value_of self.new ≡ record (value_of self.old) {
-          board = record { cpu = state.now.cpu; wires = reloaded (value_of self.old).board.wires state.now };
+          board = record { cpu = state.now.cpu; peripherals = reloaded (value_of self.old).board.peripherals state.now };
           calls = counted_on (value_of self.old).calls 5;
         } }
     {
@@ -118,7 +118,7 @@ impl<'a, M: Machine> SyncedMachine<'a, M> {
     /// Runs up to the end of a window, the first one of `watch`, and hands its records to a watcher.
     /// `Window` says that the run isn't over. After a fault the machine is synchronised too, and the
     /// watcher is only to be dropped.
-    pub fn window<W: Watch, O: Sink>(
+    pub fn window<W: RecordObserver, O: Sink>(
         &mut self,
         tape: &Tape,
         until: Until,
@@ -127,24 +127,24 @@ impl<'a, M: Machine> SyncedMachine<'a, M> {
     ) -> Result<Stop, SinkFault>
         requires limit { clock_in until ≤ CLOCK_LIMIT }
         requires room { let there = window_end tape.now.entries until (value_of self.old).board in
-            W.can_take watcher.old (value_of self.old).board.wires.clock (records_of there) there.wires.clock }
+            W.can_take watcher.old (value_of self.old).board.peripherals.clock (records_of there) there.peripherals.clock }
         ensures same { loan_of self.new ≡ loan_of self.old }
         ensures taken { let there = window_end tape.now.entries until (value_of self.old).board in
-            Takes (O.taken out.old) (O.taken out.new) (W.tells watcher.old (records_of there) there.wires.clock) result }
+            Takes (O.taken out.old) (O.taken out.new) (W.tells watcher.old (records_of there) there.peripherals.clock) result }
         ensures cause { HasCause (O.faults out.old) (O.faults out.new) result }
         ensures next { let there = window_end tape.now.entries until (value_of self.old).board in
-            OnOk result (watcher.new ≡ W.next watcher.old (records_of there) there.wires.clock) }
+            OnOk result (watcher.new ≡ W.next watcher.old (records_of there) there.peripherals.clock) }
         ensures board { (value_of self.new).board ≡ cleared (window_end tape.now.entries until (value_of self.old).board) }
         ensures stop { IfOk result (λ stop. stop ≡ cause_of (clock_in until) (value_of self.new).board) }
         ensures ends { EndsSo until (value_of self.new).board }
-        ensures wrap { result ≡ Ok Stop.Window → wrap_of (value_of self.old).board ≤ (value_of self.new).board.wires.clock }
-        ensures later { result ≡ Ok Stop.Window → (value_of self.old).board.wires.clock < (value_of self.new).board.wires.clock }
-        ensures before { result ≡ Ok Stop.Window → (value_of self.new).board.wires.clock < clock_in until }
+        ensures wrap { result ≡ Ok Stop.Window → wrap_of (value_of self.old).board ≤ (value_of self.new).board.peripherals.clock }
+        ensures later { result ≡ Ok Stop.Window → (value_of self.old).board.peripherals.clock < (value_of self.new).board.peripherals.clock }
+        ensures before { result ≡ Ok Stop.Window → (value_of self.new).board.peripherals.clock < clock_in until }
         ensures calls { (value_of self.new).calls ≤ (value_of self.old).calls
             + budget tape.now.entries (window_steps tape.now.entries until (value_of self.old).board) (value_of self.old).board + 5 }
         ensures more { (value_of self.old).calls ≤ (value_of self.new).calls }
         ensures done { (value_of self.new).done
-            ≡ counted_on (value_of self.old).done ((value_of self.new).board.wires.clock - (value_of self.old).board.wires.clock) }
+            ≡ counted_on (value_of self.old).done ((value_of self.new).board.peripherals.clock - (value_of self.old).board.peripherals.clock) }
     {
         let stop = advance(self.machine, tape, until);
         self.machine.settle();
@@ -160,7 +160,7 @@ impl<'a, M: Machine> SyncedMachine<'a, M> {
     /// Runs to a clock or to a boundary, window by window, and hands the records of each window to a
     /// watcher. A window ends with the run, or at the first boundary after the divider's next wrap.
     /// After a fault the machine is synchronised too, and the watcher is only to be dropped.
-    pub fn watch<W: Watch, O: Sink>(
+    pub fn watch<W: RecordObserver, O: Sink>(
         &mut self,
         tape: &Tape,
         until: Until,
@@ -169,13 +169,13 @@ impl<'a, M: Machine> SyncedMachine<'a, M> {
     ) -> Result<Stop, SinkFault>
         requires limit { clock_in until ≤ CLOCK_LIMIT }
         requires room { let last = end_of tape.now.entries until (value_of self.old).board in
-            W.can_take watcher.old (value_of self.old).board.wires.clock (records_of last) last.wires.clock }
+            W.can_take watcher.old (value_of self.old).board.peripherals.clock (records_of last) last.peripherals.clock }
         ensures same { loan_of self.new ≡ loan_of self.old }
         ensures taken { let last = end_of tape.now.entries until (value_of self.old).board in
-            Takes (O.taken out.old) (O.taken out.new) (W.tells watcher.old (records_of last) last.wires.clock) result }
+            Takes (O.taken out.old) (O.taken out.new) (W.tells watcher.old (records_of last) last.peripherals.clock) result }
         ensures cause { HasCause (O.faults out.old) (O.faults out.new) result }
         ensures next { let last = end_of tape.now.entries until (value_of self.old).board in
-            OnOk result (watcher.new ≡ W.next watcher.old (records_of last) last.wires.clock) }
+            OnOk result (watcher.new ≡ W.next watcher.old (records_of last) last.peripherals.clock) }
         ensures board { OnOk result ((value_of self.new).board ≡ cleared (end_of tape.now.entries until (value_of self.old).board)) }
         ensures stop { IfOk result (λ stop. stop ≡ cause_of (clock_in until) (value_of self.new).board) }
         ensures calls { (value_of self.new).calls ≤ (value_of self.old).calls + price_to tape.now.entries until (value_of self.old).board + 5 }
@@ -194,7 +194,7 @@ impl<'a, M: Machine> SyncedMachine<'a, M> {
 
     /// Runs turn by turn, tells a follower of each, and hands it their records: up to the limit, to the
     /// end of a window, or to where it has enough.
-    fn part<F: Follow, O: Sink>(
+    fn part<F: TurnObserver, O: Sink>(
         &mut self,
         tape: &Tape,
         limit: u64,
@@ -206,7 +206,7 @@ impl<'a, M: Machine> SyncedMachine<'a, M> {
         ensures same { loan_of self.new ≡ loan_of self.old }
         ensures part { (c : lockstep.Board) × (v : F) × TracedRun F.next F.has_enough tape.now.entries (window_limit limit (value_of self.old).board) (value_of self.old).board c follower.old v
             × Takes (O.taken out.old) (O.taken out.new) (F.part_tells v (records_of c)) result
-            × OnOk result (follower.new ≡ F.behind_part v (records_of c))
+            × OnOk result (follower.new ≡ F.after_part v (records_of c))
             × ((value_of self.new).board ≡ cleared c) }
         ensures cause { HasCause (O.faults out.old) (O.faults out.new) result }
         ensures boundary { (value_of self.new).board.cpu.mid ≡ None }
@@ -224,7 +224,7 @@ impl<'a, M: Machine> SyncedMachine<'a, M> {
 
     /// Runs to a boundary, and tells a follower of each turn and of all records. After a fault the
     /// machine is synchronised too, and the follower is only to be dropped.
-    pub fn follow<F: Follow, O: Sink>(
+    pub fn follow<F: TurnObserver, O: Sink>(
         &mut self,
         tape: &Tape,
         limit: u64,
@@ -236,7 +236,7 @@ impl<'a, M: Machine> SyncedMachine<'a, M> {
         ensures same { loan_of self.new ≡ loan_of self.old }
         ensures taken { Takes (O.taken out.old) (O.taken out.new) (F.tells follower.old tape.now.entries limit (value_of self.old).board) result }
         ensures cause { HasCause (O.faults out.old) (O.faults out.new) result }
-        ensures next { OnOk result (follower.new ≡ F.behind_run follower.old tape.now.entries limit (value_of self.old).board) }
+        ensures next { OnOk result (follower.new ≡ F.after_run follower.old tape.now.entries limit (value_of self.old).board) }
         ensures board { OnOk result ((value_of self.new).board ≡ cleared (to_boundary tape.now.entries limit (value_of self.old).board)) }
         ensures stop { IfOk result (λ stop. stop ≡ cause_of limit (value_of self.new).board) }
     {
@@ -253,10 +253,10 @@ impl<'a, M: Machine> SyncedMachine<'a, M> {
     /// Makes one turn, what is left of the sequence under way or else one instruction or sequence, and
     /// forgets its records.
     pub fn turn(&mut self, tape: &Tape)
-        requires clock { (value_of self.old).board.wires.clock < CLOCK_LIMIT }
+        requires clock { (value_of self.old).board.peripherals.clock < CLOCK_LIMIT }
         ensures same { loan_of self.new ≡ loan_of self.old }
         ensures board { (value_of self.new).board ≡ cleared (turn tape.now.entries (value_of self.old).board) }
-        ensures later { (value_of self.old).board.cpu.jam ≡ None → (value_of self.old).board.wires.clock < (value_of self.new).board.wires.clock }
+        ensures later { (value_of self.old).board.cpu.jam ≡ None → (value_of self.old).board.peripherals.clock < (value_of self.new).board.peripherals.clock }
     {
         let _stop = self.machine.step(tape);
         self.machine.settle();
@@ -267,11 +267,11 @@ impl<'a, M: Machine> SyncedMachine<'a, M> {
     /// their records.
     pub fn turns(&mut self, tape: &Tape, limit: u64)
         requires limit { limit ≤ CLOCK_LIMIT }
-        requires before { (value_of self.old).board.wires.clock < limit }
+        requires before { (value_of self.old).board.peripherals.clock < limit }
         ensures same { loan_of self.new ≡ loan_of self.old }
         ensures board { (value_of self.new).board
             ≡ cleared (to_boundary tape.now.entries (window_limit limit (value_of self.old).board) (value_of self.old).board) }
-        ensures later { (value_of self.new).board.cpu.jam ≡ None → (value_of self.old).board.wires.clock < (value_of self.new).board.wires.clock }
+        ensures later { (value_of self.new).board.cpu.jam ≡ None → (value_of self.old).board.peripherals.clock < (value_of self.new).board.peripherals.clock }
     {
         let _stop = self.machine.run(tape, limit);
         self.machine.settle();
@@ -282,11 +282,11 @@ impl<'a, M: Machine> SyncedMachine<'a, M> {
     /// end of a window, and forgets their records.
     pub fn turns_to_break(&mut self, tape: &Tape, limit: u64, addresses: &[u16])
         requires limit { limit ≤ CLOCK_LIMIT }
-        requires before { (value_of self.old).board.wires.clock < limit }
+        requires before { (value_of self.old).board.peripherals.clock < limit }
         ensures same { loan_of self.new ≡ loan_of self.old }
         ensures board { (c : lockstep.Board) × BreakRun tape.now.entries limit addresses.now (value_of self.old).board c
             × ((value_of self.new).board ≡ cleared c) }
-        ensures later { (value_of self.old).board.cpu.jam ≡ None → (value_of self.old).board.wires.clock < (value_of self.new).board.wires.clock }
+        ensures later { (value_of self.old).board.cpu.jam ≡ None → (value_of self.old).board.peripherals.clock < (value_of self.new).board.peripherals.clock }
     {
         self.machine.run_to_break(tape, limit, addresses);
         self.machine.settle();

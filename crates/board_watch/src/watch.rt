@@ -2,13 +2,13 @@ ghost use Rattle.std.specs.Prelude.{◌≡◌, ℕ, List, OnOk};
 ghost use Rattle.outside_io.specs.Causes.{HasCause};
 ghost use Rattle.outside_io.specs.Sink.{Takes};
 ghost use Rattle.lockstep_board.specs.Order.{Recorded};
-ghost use Rattle.board_watch.specs.Watch.{TakesInParts, recorded};
+ghost use Rattle.board_watch.specs.RecordObserver.{TakesInParts, recorded};
 
 use board_base::Trails;
 use outside_io::{Sink, SinkFault};
 
 /// A watcher of the records of a run, which takes them window by window.
-pub trait Watch {
+pub trait RecordObserver {
     /// It can take these records, which are those of the clocks from one up to another.
     ghost can_take: { Self → ℕ → Recorded → ℕ → Type 0 };
 

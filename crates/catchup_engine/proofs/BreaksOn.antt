@@ -26,24 +26,24 @@ open-at : (jam : Option ℕ) (boundary : Bool) (limit clock : ℕ) → jam ≡ N
 open-at jam boundary limit clock e h = grind (arith, nat_tests)
 
 -- a turn that goes past a clock is a run to the next boundary after it
-turn-ends : (entries : List TapeEntry) (c : CpuValue) (s u : BusValue) (f : CpuValue) → AtBoundary entries (s.wires.clock + 1) c s u f
-    → TurnedBus entries 7 c s u f → BoundaryRun entries (s.wires.clock + 1) c s u f
+turn-ends : (entries : List TapeEntry) (c : CpuValue) (s u : BusValue) (f : CpuValue) → AtBoundary entries (s.peripherals.clock + 1) c s u f
+    → TurnedBus entries 7 c s u f → BoundaryRun entries (s.peripherals.clock + 1) c s u f
 turn-ends entries c s u f at turned =
     let clock = turned.turned.clock in
-    boundary-ends entries (s.wires.clock + 1) c s u f at (over-at f.jam f.mid (s.wires.clock + 1) u.wires.clock at.boundary (omega arith))
+    boundary-ends entries (s.peripherals.clock + 1) c s u f at (over-at f.jam f.mid (s.peripherals.clock + 1) u.peripherals.clock at.boundary (omega arith))
 
 -- a turn over the bus is one of the board
-turn-run : (entries : List TapeEntry) (c : CpuValue) (s u : BusValue) (f : CpuValue) → s.begun ≡ false → c.jam ≡ None → s.wires.clock < 2 ^ 48
-    → IfSome c.mid (λ _. IsMiddle c) → IsInRange c s → TurnedBus entries 7 c s u f → BoundaryRun entries (s.wires.clock + 1) c s u f
+turn-run : (entries : List TapeEntry) (c : CpuValue) (s u : BusValue) (f : CpuValue) → s.begun ≡ false → c.jam ≡ None → s.peripherals.clock < 2 ^ 48
+    → IfSome c.mid (λ _. IsMiddle c) → IsInRange c s → TurnedBus entries 7 c s u f → BoundaryRun entries (s.peripherals.clock + 1) c s u f
 turn-run entries c s u f between running early place range turned = by_mid (is_some c.mid) refl
   where
-    by_mid : (some : Bool) → is_some c.mid ≡ some → BoundaryRun entries (s.wires.clock + 1) c s u f
+    by_mid : (some : Bool) → is_some c.mid ≡ some → BoundaryRun entries (s.peripherals.clock + 1) c s u f
     by_mid true e =
-        turn-ends entries c s u f (boundary-resumes entries (s.wires.clock + 1) c s u f between (some-of c.mid e) place range turned) turned
+        turn-ends entries c s u f (boundary-resumes entries (s.peripherals.clock + 1) c s u f between (some-of c.mid e) place range turned) turned
     by_mid false e =
-        turn-ends entries c s u f (boundary-goes_on entries (s.wires.clock + 1) c s s u c f (omega arith)
-        (boundary-starts entries (s.wires.clock + 1) c s between (none-is c.mid e) range)
-        (open-at c.jam (is_none c.mid) (s.wires.clock + 1) s.wires.clock running (omega arith)) turned)
+        turn-ends entries c s u f (boundary-goes_on entries (s.peripherals.clock + 1) c s s u c f (omega arith)
+        (boundary-starts entries (s.peripherals.clock + 1) c s between (none-is c.mid e) range)
+        (open-at c.jam (is_none c.mid) (s.peripherals.clock + 1) s.peripherals.clock running (omega arith)) turned)
         turned
 
 -- no board is as asked, so that any step goes on
@@ -60,7 +60,7 @@ pub record AtTurn (entries : List TapeEntry) (limit : ℕ) (addresses : List ℕ
   pub turns : BreakRun entries limit addresses (over_bus c s) (over_bus e t)
   pub boundary : e.mid ≡ None
   pub range : IsInRange e t
-  pub later : c.jam ≡ None → s.wires.clock < t.wires.clock
+  pub later : c.jam ≡ None → s.peripherals.clock < t.peripherals.clock
 
 jam-none : (jam : Option ℕ) → is_some jam ≡ false → jam ≡ None
 jam-none None e = refl
@@ -83,7 +83,7 @@ break-jammed entries limit addresses c s between jammed place range = record {
 
 -- the first turn of another
 pub break-begins : (entries : List TapeEntry) (limit : ℕ) (addresses : List ℕ) (c : CpuValue) (s u : BusValue) (f : CpuValue) → s.begun ≡ false
-    → is_some c.jam ≡ false → s.wires.clock < 2 ^ 48 → IfSome c.mid (λ _. IsMiddle c) → IsInRange c s → TurnedBus entries 7 c s u f
+    → is_some c.jam ≡ false → s.peripherals.clock < 2 ^ 48 → IfSome c.mid (λ _. IsMiddle c) → IsInRange c s → TurnedBus entries 7 c s u f
     → AtTurn entries limit addresses c s u f
 break-begins entries limit addresses c s u f between running early place range turned =
     let made = turn-run entries c s u f between (jam-none c.jam running) early place range turned in
@@ -161,7 +161,7 @@ break-ends entries limit addresses c s u t f e at rest =
     let run = runs-join entries never c s u t f e at.run more in
     let clock = run.clock in
     let clock_then = rest.on.run.clock in
-    let steps : t.wires.clock - s.wires.clock ≡ run.count = omega arith in
+    let steps : t.peripherals.clock - s.peripherals.clock ≡ run.count = omega arith in
     record {
       turns = rest.on.turns (over_bus c s) at.turns;
       ends = rest.ends;

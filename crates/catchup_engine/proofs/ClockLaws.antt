@@ -1,14 +1,14 @@
 -- The bus's clock, and the clocks in which nothing comes.
 use Rattle.std.proofs.Common.{◌≡◌, ◌+◌, ◌-◌, ◌≤◌, refl, arith}
-use Rattle.lockstep_board.specs.Wires.{Wires}
+use Rattle.lockstep_board.specs.Peripherals.{Peripherals}
 use Rattle.catchup_engine.specs.Bus.{at_clock}
 
 -- a clock that is done and taken back is the clock before
-pub clock-back : (w : Wires) → at_clock (w.clock + 1 - 1) w ≡ w
+pub clock-back : (w : Peripherals) → at_clock (w.clock + 1 - 1) w ≡ w
 clock-back w = let e : w.clock + 1 - 1 ≡ w.clock = omega arith in rw e refl
 
 -- a clock that counts as done and is taken back and done again
-pub clock-again : (w : Wires) → 1 ≤ w.clock → at_clock (w.clock - 1 + 1) w ≡ w
+pub clock-again : (w : Peripherals) → 1 ≤ w.clock → at_clock (w.clock - 1 + 1) w ≡ w
 clock-again w h = let e : w.clock - 1 + 1 ≡ w.clock = omega arith in rw e refl
 
 pub ruleset clocks = (clock-back, clock-again)

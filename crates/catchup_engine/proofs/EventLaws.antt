@@ -4,38 +4,38 @@ use Rattle.tape_ports.specs.declared.entry.TapeEntry.{TapeEntry}
 use Rattle.tape_ports.specs.Due.{due_at}
 use Rattle.tape_ports.specs.Tape.{TapeValue}
 use Rattle.lockstep_board.specs.Budget.{wraps}
-use Rattle.lockstep_board.specs.Wires.{Wires, applied, devices_ticked, ticked}
+use Rattle.lockstep_board.specs.Peripherals.{Peripherals, applied, devices_ticked, ticked}
 use Rattle.catchup_engine.specs.Bus.{BusValue, IsTapePlace, done_clock}
 use Rattle.lockstep_board.proofs.Clocks.{ticked-clock, ticked-written}
 use Rattle.catchup_engine.proofs.TapeLaws.{applied-clock}
 use Rattle.lockstep_board.proofs.Wraps.{applied-divider}
 
 -- the entries of a clock, and then its ticks
-pub ticked-is : (entries : List TapeEntry) (w v : Wires) → v ≡ applied (due_at w.clock entries) w → devices_ticked v ≡ ticked entries w
+pub ticked-is : (entries : List TapeEntry) (w v : Peripherals) → v ≡ applied (due_at w.clock entries) w → devices_ticked v ≡ ticked entries w
 unfolding ticked
 ticked-is entries w v e = ap devices_ticked e
 
 -- entries leave the divider, and so its wrap
-pub wraps-applied : (entries : List TapeEntry) (w : Wires) → wraps (applied entries w) ≡ wraps w
+pub wraps-applied : (entries : List TapeEntry) (w : Peripherals) → wraps (applied entries w) ≡ wraps w
 wraps-applied entries w = rw (applied-divider entries w) refl
 
-devices_ticked-clock : (w : Wires) → (devices_ticked w).clock ≡ w.clock
+devices_ticked-clock : (w : Peripherals) → (devices_ticked w).clock ≡ w.clock
 unfolding devices_ticked
 devices_ticked-clock w = refl
 
 pub ruleset events = (ticked-is, wraps-applied, applied-clock)
 
 -- the clock after ticks
-pub ticks-clock : (b a t : BusValue) (clock : ℕ) → a.wires.clock ≡ clock → t.wires ≡ done_clock (devices_ticked a.wires) → t.wires.clock ≡ clock + 1
+pub ticks-clock : (b a t : BusValue) (clock : ℕ) → a.peripherals.clock ≡ clock → t.peripherals ≡ done_clock (devices_ticked a.peripherals) → t.peripherals.clock ≡ clock + 1
 ticks-clock b a t clock here ticks =
-    ap (λ (w : Wires). w.clock) ticks ∙ ap (λ n. n + 1) (devices_ticked-clock a.wires ∙ here)
+    ap (λ (w : Peripherals). w.clock) ticks ∙ ap (λ n. n + 1) (devices_ticked-clock a.peripherals ∙ here)
 
 -- the place of the next clock, after the entries and the ticks
-pub place-after : (tape : TapeValue) (s a t : BusValue) → a.wires ≡ applied (due_at s.wires.clock tape.entries) s.wires
-    → t.wires ≡ done_clock (devices_ticked a.wires) → t.next ≡ a.next → IsTapePlace tape (s.wires.clock + 1) a.next → IsTapePlace tape t.wires.clock t.next
+pub place-after : (tape : TapeValue) (s a t : BusValue) → a.peripherals ≡ applied (due_at s.peripherals.clock tape.entries) s.peripherals
+    → t.peripherals ≡ done_clock (devices_ticked a.peripherals) → t.next ≡ a.next → IsTapePlace tape (s.peripherals.clock + 1) a.next → IsTapePlace tape t.peripherals.clock t.next
 place-after tape s a t applies ticks next place =
-    let here : a.wires.clock ≡ s.wires.clock = ap (λ (w : Wires). w.clock) applies ∙ applied-clock (due_at s.wires.clock tape.entries) s.wires in
-    let clock : t.wires.clock ≡ s.wires.clock + 1 = ticks-clock s a t s.wires.clock here ticks in
+    let here : a.peripherals.clock ≡ s.peripherals.clock = ap (λ (w : Peripherals). w.clock) applies ∙ applied-clock (due_at s.peripherals.clock tape.entries) s.peripherals in
+    let clock : t.peripherals.clock ≡ s.peripherals.clock + 1 = ticks-clock s a t s.peripherals.clock here ticks in
     rw (clock, next) place
 
 -- what the ticks of a clock leave

@@ -1,6 +1,6 @@
 pub mod AccessLaws
 pub mod BreaksOn
-pub mod CalmLaws
+pub mod HorizonLaws
 pub mod ClockLaws
 pub mod DividerLaws
 pub mod EventLaws
@@ -22,4 +22,4 @@ pub mod Traces
 pub mod TracedRuns
 pub mod QuietLaws
 pub mod BreakMarks
-pub mod CalmRuns
+pub mod HorizonRuns

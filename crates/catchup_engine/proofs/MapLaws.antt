@@ -4,7 +4,7 @@ use Rattle.std.proofs.lemmas.Bool.Decides.{nat_tests}
 use Rattle.board_map.specs.declared.map.Reads.TheVariants as reads
 use Rattle.board_map.specs.declared.map.Writes.TheVariants as writes
 use Rattle.board_map.specs.Map.{row, row_of}
-use Rattle.lockstep_board.specs.Wires.{Wires, byte_read}
+use Rattle.lockstep_board.specs.Peripherals.{Peripherals, byte_read}
 use Rattle.catchup_engine.specs.Bus.{is_private}
 
 pub row-ram : (a : ℕ) → a < 2048 → row_of a ≡ row a reads.Ram writes.Ram
@@ -16,11 +16,11 @@ unfolding row_of
 row-program a h last = grind (arith, nat_tests)
 
 -- and the bytes that a read gives there
-pub ram-byte : (a : ℕ) (w : Wires) → a < 2048 → byte_read a w ≡ slice_index w.ram a
+pub ram-byte : (a : ℕ) (w : Peripherals) → a < 2048 → byte_read a w ≡ slice_index w.ram a
 unfolding byte_read
 ram-byte a w h = rw (row-ram a h) refl
 
-pub program-byte : (a : ℕ) (w : Wires) → 36864 ≤ a → a < 65536 → byte_read a w ≡ slice_index w.program (a - 36864)
+pub program-byte : (a : ℕ) (w : Peripherals) → 36864 ≤ a → a < 65536 → byte_read a w ≡ slice_index w.program (a - 36864)
 unfolding byte_read
 program-byte a w h last = rw (row-program a h last) refl
 

@@ -15,7 +15,7 @@ use Rattle.tape_ports.specs.declared.entry.TapeEntry.{TapeEntry}
 use Rattle.tape_ports.specs.Tape.{TapeValue}
 use Rattle.lockstep_board.specs.Budget.{reaches_device}
 use Rattle.lockstep_board.specs.Lockstep.{access_in, due_access, made_by, sequence_due}
-use Rattle.lockstep_board.specs.Wires.{byte_read, ticked}
+use Rattle.lockstep_board.specs.Peripherals.{byte_read, ticked}
 use Rattle.catchup_engine.specs.declared.trace.Access.{Access}
 use Rattle.catchup_engine.specs.Bus.{BusStep, BusValue, Fits}
 use Rattle.catchup_engine.specs.Notes.{NoteValue, NotedStep, NotedValue, note_of, noting, reaching, with_reached}
@@ -48,9 +48,9 @@ reaching-more made a = by_test (reaches_device (made_of a)) refl
         rw (filter-append (λ access. reaches_device (made_of access)) made (a ∷ []), is, append-nil (filter (λ access. reaches_device (made_of access)) made)) refl
 
 noted-more : (entries : List TapeEntry) (x : course.Access) (s t : NotedValue) (made : List Access) → NotedStep entries x s t → s.reached ≡ reaching made
-    → t.reached ≡ reaching (made ++ access_at (t.bus.wires.clock - 1) x ∷ [])
+    → t.reached ≡ reaching (made ++ access_at (t.bus.peripherals.clock - 1) x ∷ [])
 noted-more entries x s t made did is =
-    let a = access_at (t.bus.wires.clock - 1) x in did.reached ∙ ap (λ l. with_reached l a) is ∙ reaching-more made a
+    let a = access_at (t.bus.peripherals.clock - 1) x in did.reached ∙ ap (λ l. with_reached l a) is ∙ reaching-more made a
 
 -- a bus that notes makes the accesses of one that traces
 record IsLifted (entries : List TapeEntry) (r : RegistersValue) (q : Sequence) (bytes more : List ℕ) (s t : NotedValue) (before : List Access) : Type 0 where
@@ -66,7 +66,7 @@ lift entries r q bytes [] s t before same is few = record {
   noted = ap (λ (k : NotedValue). k.reached) same ∙ is;
 }
 lift entries r q bytes (v ∷ more) s t before (x, m, is, did, rest) at few =
-    let a = access_at (m.bus.wires.clock - 1) x in
+    let a = access_at (m.bus.peripherals.clock - 1) x in
     let longer = length-append before (a ∷ []) in
     let others = lift entries r q (bytes ++ v ∷ []) more m t (before ++ a ∷ []) rest (noted-more entries x s m before did at) (omega arith) in
     record {
@@ -84,16 +84,16 @@ opcode_note code clocks reached = record { sequence = Opcode; opcode = code; clo
 pub record IsNotedTurn (entries : List TapeEntry) (c : CpuValue) (s : BusValue) (t : NotedValue) (e : CpuValue) : Type 0 where
   pub turned : TurnedBus entries 7 c s t.bus e
   pub trace : TraceValue
-  pub is : trace ≡ trace_of entries (t.bus.wires.clock - s.wires.clock) (over_bus c s)
-  pub note : (code : ℕ) → code ≡ byte_read c.pc (ticked entries s.wires) → opcode_note code (t.bus.wires.clock - s.wires.clock) t.reached ≡ note_of trace
-  pub few : (t.bus.wires.clock - s.wires.clock ≤ 7) × (length t.reached ≤ t.bus.wires.clock - s.wires.clock)
+  pub is : trace ≡ trace_of entries (t.bus.peripherals.clock - s.peripherals.clock) (over_bus c s)
+  pub note : (code : ℕ) → code ≡ byte_read c.pc (ticked entries s.peripherals) → opcode_note code (t.bus.peripherals.clock - s.peripherals.clock) t.reached ≡ note_of trace
+  pub few : (t.bus.peripherals.clock - s.peripherals.clock ≤ 7) × (length t.reached ≤ t.bus.peripherals.clock - s.peripherals.clock)
 
 -- the first byte of an instruction is the one at pc
-opcode-byte : (entries : List TapeEntry) (c : CpuValue) (s : BusValue) → c.mid ≡ None → Opcode ≡ sequence_due c (ticked entries s.wires)
-    → first_byte (over_bus c s).cpu.mid (access_in entries (over_bus c s)) ≡ byte_read c.pc (ticked entries s.wires)
+opcode-byte : (entries : List TapeEntry) (c : CpuValue) (s : BusValue) → c.mid ≡ None → Opcode ≡ sequence_due c (ticked entries s.peripherals)
+    → first_byte (over_bus c s).cpu.mid (access_in entries (over_bus c s)) ≡ byte_read c.pc (ticked entries s.peripherals)
 unfolding access_in next_of
 opcode-byte entries c s boundary due =
-    let w = ticked entries s.wires in
+    let w = ticked entries s.peripherals in
     ap (λ (mid : Option MidValue). first_byte mid (due_access mid c w)) boundary ∙ ap (λ (q : Sequence). byte_of (made_by (next_of (start_of q c) q []) w)) (sym due)
 
 count-of : (entries : List TapeEntry) (n : ℕ) (c : CpuValue) (s : BusValue) (trace : TraceValue) → trace ≡ trace_of entries n (over_bus c s) → trace.count ≡ n
@@ -110,22 +110,22 @@ noted-turn tape c s t e reads between fits runs boundary =
     let moves = (moves-seen (BusStep entries) (λ (k : NotedValue). k.bus) (λ k. 0) (λ x a b h. (refl, h.step)) r Opcode [] runs.bytes start t runs.moves).1 in
     let few = moves-length entries r Opcode [] runs.bytes s t.bus moves (omega arith) in
     let lifted = lift entries r Opcode [] runs.bytes start t [] runs.moves refl few in
-    let due : Opcode ≡ sequence_due c (ticked entries s.wires) = sym (ap (sequence_due c) (ticked-quiet tape s fits reads.quiet) ∙ reads.due) in
+    let due : Opcode ≡ sequence_due c (ticked entries s.peripherals) = sym (ap (sequence_due c) (ticked-quiet tape s fits reads.quiet) ∙ reads.due) in
     let full = traced t.bus (of_accesses lifted.made) in
     let told = opcode-told entries c s full e reads.boundary between due (record { bytes = runs.bytes; moves = lifted.moves; ends = runs.ends }) in
     let o = first_value (seven_of lifted.made) in
     let byte = fetch-byte entries c s full reads.boundary told in
     let trace : TraceValue = record (of_accesses lifted.made) { sequence = Opcode; opcode = o } in
     let is =
-    trace-named entries (over_bus c s) full Opcode o told (due ∙ sym (ap (λ (mid : Option MidValue). sequence_at mid c (ticked entries s.wires)) reads.boundary)) byte in
-    let clocks : length lifted.made ≡ t.bus.wires.clock - s.wires.clock = count-of entries (t.bus.wires.clock - s.wires.clock) c s trace is in
+    trace-named entries (over_bus c s) full Opcode o told (due ∙ sym (ap (λ (mid : Option MidValue). sequence_at mid c (ticked entries s.peripherals)) reads.boundary)) byte in
+    let clocks : length lifted.made ≡ t.bus.peripherals.clock - s.peripherals.clock = count-of entries (t.bus.peripherals.clock - s.peripherals.clock) c s trace is in
     let turned = opcode-turn tape c s t.bus e reads between fits bus boundary in
     record {
       turned = turned;
       trace = trace;
       is = is;
       note = λ code at. (
-          ap (λ k. opcode_note k (t.bus.wires.clock - s.wires.clock) t.reached) (at ∙ sym (byte ∙ opcode-byte entries c s reads.boundary due))
+          ap (λ k. opcode_note k (t.bus.peripherals.clock - s.peripherals.clock) t.reached) (at ∙ sym (byte ∙ opcode-byte entries c s reads.boundary due))
           ∙ ap (λ n. opcode_note o n t.reached) (sym clocks)
           ∙ ap (opcode_note o (length lifted.made)) (lifted.noted ∙ ap reaching (sym (take-append_seam lifted.made (drop (length lifted.made) (replicate 7 no_access)))))
           );

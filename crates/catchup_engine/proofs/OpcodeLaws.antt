@@ -6,9 +6,9 @@ use Rattle.board_base.specs.declared.cpu.Sequence.TheVariants.{Opcode, Interrupt
 use Rattle.board_base.specs.declared.divider.Pending.{Pending}
 use Rattle.board_base.specs.declared.divider.Pending.TheVariants.{Nothing, Power, Watchdog}
 use Rattle.board_base.specs.Cpu.{CpuValue, MidValue}
-use Rattle.catchup_engine.specs.declared.bus.TheConstants.{WHOLE}
+use Rattle.catchup_engine.specs.declared.bus.TheConstants.{MAX_SEQUENCE_CLOCKS}
 use Rattle.lockstep_board.specs.Lockstep.{is_reset, sequence_due}
-use Rattle.lockstep_board.specs.Wires.{devices_ticked}
+use Rattle.lockstep_board.specs.Peripherals.{devices_ticked}
 use Rattle.catchup_engine.specs.Bus.{BusValue}
 use Rattle.catchup_engine.specs.Turn.{ReadsOpcode, is_opcode, reads_opcode}
 
@@ -31,19 +31,19 @@ none-is (Some m) e = cc
 -- what it says of the next fetch
 pub record Reads (c : CpuValue) (s : BusValue) : Type 0 where
   pub reads : ReadsOpcode c s
-  pub quiet : s.wires.clock + WHOLE ≤ s.event_at
+  pub quiet : s.peripherals.clock + MAX_SEQUENCE_CLOCKS ≤ s.event_at
 
 pub reads-opcode : (c : CpuValue) (s : BusValue) → reads_opcode c s ≡ true → Reads c s
 unfolding reads_opcode
 reads-opcode c s e =
-    let both = and_parts (is_none c.mid) (nat_le (s.wires.clock + WHOLE) s.event_at && is_opcode (sequence_due c (devices_ticked s.wires))) e in
-    let more = and_parts (nat_le (s.wires.clock + WHOLE) s.event_at) (is_opcode (sequence_due c (devices_ticked s.wires))) both.1 in
-    let quiet : s.wires.clock + WHOLE ≤ s.event_at = leb-true (s.wires.clock + WHOLE) s.event_at more.0 in
+    let both = and_parts (is_none c.mid) (nat_le (s.peripherals.clock + MAX_SEQUENCE_CLOCKS) s.event_at && is_opcode (sequence_due c (devices_ticked s.peripherals))) e in
+    let more = and_parts (nat_le (s.peripherals.clock + MAX_SEQUENCE_CLOCKS) s.event_at) (is_opcode (sequence_due c (devices_ticked s.peripherals))) both.1 in
+    let quiet : s.peripherals.clock + MAX_SEQUENCE_CLOCKS ≤ s.event_at = leb-true (s.peripherals.clock + MAX_SEQUENCE_CLOCKS) s.event_at more.0 in
     record {
       reads = record {
         boundary = none-is c.mid both.0;
         quiet = omega arith;
-        due = opcode-is (sequence_due c (devices_ticked s.wires)) more.1;
+        due = opcode-is (sequence_due c (devices_ticked s.peripherals)) more.1;
       };
       quiet = quiet;
     }

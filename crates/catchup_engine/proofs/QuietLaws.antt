@@ -18,13 +18,13 @@ use Rattle.cpu_core.specs.Sequences.{Runs}
 use Rattle.tape_ports.specs.declared.entry.TapeEntry.{TapeEntry}
 use Rattle.tape_ports.specs.Tape.{TapeValue}
 use Rattle.board_map.specs.Map.{row_of}
-use Rattle.catchup_engine.specs.declared.bus.TheConstants.{PROGRAM_START, WHOLE}
+use Rattle.catchup_engine.specs.declared.bus.TheConstants.{PROGRAM_START, MAX_SEQUENCE_CLOCKS}
 use Rattle.lockstep_board.specs.Budget.{reaches_device}
 use Rattle.catchup_engine.specs.Lags.{DeviceLags, all_lag, lagging_at}
-use Rattle.device_lanes.specs.Lags.{lags}
+use Rattle.catchup_devices.specs.Lags.{lags}
 use Rattle.catchup_engine.specs.Bus.{BusStep, BusValue, Does, Fits, Stays, at_clock, begin_price, done_clock, in_clock, room_of}
 use Rattle.catchup_engine.specs.Quiet.{IsCounted, later, passed, quiet_room}
-use Rattle.lockstep_board.specs.Wires.{Wires, byte_put, byte_read, devices_ticked}
+use Rattle.lockstep_board.specs.Peripherals.{Peripherals, byte_put, byte_read, devices_ticked}
 use Rattle.catchup_engine.proofs.AccessLaws.{write-step}
 use Rattle.catchup_engine.proofs.ClockLaws.{clock-back}
 use Rattle.catchup_engine.proofs.MapLaws.{row-program, row-ram}
@@ -79,17 +79,17 @@ lagging-later a b c d e clock (suc n) ha hb hc hd he =
 
 pub ruleset later_devices = (ticks-later, made-later, times-later, append_assoc, lagging-later)
 
--- no clock leaves the wires
-later-zero : (w : Wires) → later 0 w ≡ w
+-- no clock leaves the peripherals
+later-zero : (w : Peripherals) → later 0 w ≡ w
 unfolding later ticks made
 later-zero w = rw (add-zero, append-nil, append-nil, append-nil) refl
 
 pub passed-zero : (s : BusValue) → passed 0 s ≡ s
 unfolding passed
-passed-zero s = ap (λ (w : Wires). let r : BusValue = record s { wires = w } in r) (later-zero s.wires)
+passed-zero s = ap (λ (w : Peripherals). let r : BusValue = record s { peripherals = w } in r) (later-zero s.peripherals)
 
 -- and one clock more has its devices' ticks
-later-more : (n : ℕ) (w : Wires) → later (n + 1) w ≡ done_clock (devices_ticked (later n w))
+later-more : (n : ℕ) (w : Peripherals) → later (n + 1) w ≡ done_clock (devices_ticked (later n w))
 unfolding later devices_ticked
 later-more n w =
     let e : w.clock + (n + 1) ≡ w.clock + n + 1 = omega arith in
@@ -110,21 +110,21 @@ later-more n w =
       append_assoc,
     ) refl
 
-passed-clock : (n : ℕ) (s : BusValue) → (passed n s).wires.clock ≡ s.wires.clock + n
+passed-clock : (n : ℕ) (s : BusValue) → (passed n s).peripherals.clock ≡ s.peripherals.clock + n
 unfolding passed later
 passed-clock n s = refl
 
 -- in a clock in which nothing comes, an access finds the devices after their ticks
-pub in-quiet : (tape : TapeValue) (n : ℕ) (s : BusValue) → IsCounted tape n s → s.wires.clock + n < s.event_at
-    → in_clock tape.entries (passed n s).begun (passed n s).wires ≡ devices_ticked (later n s.wires)
+pub in-quiet : (tape : TapeValue) (n : ℕ) (s : BusValue) → IsCounted tape n s → s.peripherals.clock + n < s.event_at
+    → in_clock tape.entries (passed n s).begun (passed n s).peripherals ≡ devices_ticked (later n s.peripherals)
 unfolding passed in_clock
 in-quiet tape n s c h = rw c.between (ticked-quiet tape (passed n s) c.fits (rw (passed-clock n s) h))
 
 -- and the clock is done after it
-pub quiet-entered : (tape : TapeValue) (n : ℕ) (s : BusValue) → IsCounted tape n s → s.wires.clock + n < s.event_at
-    → (passed (n + 1) s).wires ≡ done_clock (in_clock tape.entries (passed n s).begun (passed n s).wires)
+pub quiet-entered : (tape : TapeValue) (n : ℕ) (s : BusValue) → IsCounted tape n s → s.peripherals.clock + n < s.event_at
+    → (passed (n + 1) s).peripherals ≡ done_clock (in_clock tape.entries (passed n s).begun (passed n s).peripherals)
 unfolding passed
-quiet-entered tape n s c h = later-more n s.wires ∙ ap done_clock (sym (in-quiet tape n s c h))
+quiet-entered tape n s c h = later-more n s.peripherals ∙ ap done_clock (sym (in-quiet tape n s c h))
 
 -- with one more clock the bus is as it has to be
 pub counted-more : (tape : TapeValue) (n : ℕ) (s : BusValue) → IsCounted tape n s → 1 ≤ quiet_room n s → IsCounted tape (n + 1) s
@@ -149,8 +149,8 @@ stays-quiet entries x n s t between begun rooms until calls = record {
 }
 
 -- a read of the RAM or of the program ROM
-ram-read : (tape : TapeValue) (n a v : ℕ) (s : BusValue) → IsCounted tape n s → s.wires.clock + n < s.event_at → a < 2048
-    → v ≡ slice_index s.wires.ram a → BusStep tape.entries (read_of a v) (passed n s) (passed (n + 1) s)
+ram-read : (tape : TapeValue) (n a v : ℕ) (s : BusValue) → IsCounted tape n s → s.peripherals.clock + n < s.event_at → a < 2048
+    → v ≡ slice_index s.peripherals.ram a → BusStep tape.entries (read_of a v) (passed n s) (passed (n + 1) s)
 unfolding byte_read later devices_ticked
 ram-read tape n a v s c h near is = (
   is ∙ sym (ap (byte_read a) (in-quiet tape n s c h) ∙ rw (row-ram a near) refl),
@@ -159,8 +159,8 @@ ram-read tape n a v s c h near is = (
   rw (row-ram a near) refl,
 )
 
-program-read : (tape : TapeValue) (n a v : ℕ) (s : BusValue) → IsCounted tape n s → s.wires.clock + n < s.event_at → PROGRAM_START ≤ a → a < 65536
-    → v ≡ slice_index s.wires.program (a - PROGRAM_START) → BusStep tape.entries (read_of a v) (passed n s) (passed (n + 1) s)
+program-read : (tape : TapeValue) (n a v : ℕ) (s : BusValue) → IsCounted tape n s → s.peripherals.clock + n < s.event_at → PROGRAM_START ≤ a → a < 65536
+    → v ≡ slice_index s.peripherals.program (a - PROGRAM_START) → BusStep tape.entries (read_of a v) (passed n s) (passed (n + 1) s)
 unfolding byte_read later devices_ticked
 program-read tape n a v s c h near last is = (
   is ∙ sym (ap (byte_read a) (in-quiet tape n s c h) ∙ rw (row-program a near last) refl),
@@ -170,32 +170,32 @@ program-read tape n a v s c h near last is = (
 )
 
 -- a write to the RAM, which no device sees
-later-ram : (n : ℕ) (ram : List ℕ) (w : Wires)
-    → later n (let r : Wires = record w { ram = ram } in r) ≡ (let r : Wires = record (later n w) { ram = ram } in r)
+later-ram : (n : ℕ) (ram : List ℕ) (w : Peripherals)
+    → later n (let r : Peripherals = record w { ram = ram } in r) ≡ (let r : Peripherals = record (later n w) { ram = ram } in r)
 unfolding later
 later-ram n ram w = refl
 
-put-ram : (n a v : ℕ) (w : Wires) → a < 2048
-    → (let r : Wires = record (done_clock (devices_ticked (later n w))) { ram = slice_set w.ram a v } in r) ≡ done_clock (byte_put a v (devices_ticked (later n w)))
+put-ram : (n a v : ℕ) (w : Peripherals) → a < 2048
+    → (let r : Peripherals = record (done_clock (devices_ticked (later n w))) { ram = slice_set w.ram a v } in r) ≡ done_clock (byte_put a v (devices_ticked (later n w)))
 unfolding later devices_ticked byte_put
 put-ram n a v w near = rw (row-ram a near) refl
 
-ram-written : (tape : TapeValue) (n a v : ℕ) (s t : BusValue) → IsCounted tape n s → s.wires.clock + n < s.event_at → a < 2048
-    → t ≡ record s { wires = record s.wires { ram = slice_set s.wires.ram a v } }
+ram-written : (tape : TapeValue) (n a v : ℕ) (s t : BusValue) → IsCounted tape n s → s.peripherals.clock + n < s.event_at → a < 2048
+    → t ≡ record s { peripherals = record s.peripherals { ram = slice_set s.peripherals.ram a v } }
     → BusStep tape.entries (write_of a v) (passed n s) (passed (n + 1) t)
 unfolding passed byte_put
 ram-written tape n a v s t c h near is = (
-  ap (λ (b : BusValue). later (n + 1) b.wires) is
-      ∙ later-ram (n + 1) (slice_set s.wires.ram a v) s.wires
-      ∙ ap (λ (w : Wires). let r : Wires = record w { ram = slice_set s.wires.ram a v } in r) (later-more n s.wires)
-      ∙ put-ram n a v s.wires near
-      ∙ ap (λ (w : Wires). done_clock (byte_put a v w)) (sym (in-quiet tape n s c h)),
+  ap (λ (b : BusValue). later (n + 1) b.peripherals) is
+      ∙ later-ram (n + 1) (slice_set s.peripherals.ram a v) s.peripherals
+      ∙ ap (λ (w : Peripherals). let r : Peripherals = record w { ram = slice_set s.peripherals.ram a v } in r) (later-more n s.peripherals)
+      ∙ put-ram n a v s.peripherals near
+      ∙ ap (λ (w : Peripherals). done_clock (byte_put a v w)) (sym (in-quiet tape n s c h)),
   stays-quiet tape.entries (write_of a v) n s t c.between (ap (λ (b : BusValue). b.begun) is) (ap (λ (b : BusValue). b.rooms) is)
       (ap (λ (b : BusValue). b.until) is) (ap (λ (b : BusValue). b.calls) is),
 )
 
 -- after the RAM was written the bus is as it has to be
-counted-ram : (tape : TapeValue) (n a v : ℕ) (s t : BusValue) → IsCounted tape n s → t ≡ record s { wires = record s.wires { ram = slice_set s.wires.ram a v } }
+counted-ram : (tape : TapeValue) (n a v : ℕ) (s t : BusValue) → IsCounted tape n s → t ≡ record s { peripherals = record s.peripherals { ram = slice_set s.peripherals.ram a v } }
     → IsCounted tape n t
 unfolding passed later
 counted-ram tape n a v s t c is = rw is (record {
@@ -212,16 +212,16 @@ pub record IsStep (tape : TapeValue) (x : Access) (n : ℕ) (s : BusValue) (k : 
   pub fits : IsCounted tape k t
   pub room : quiet_room n s ≤ quiet_room k t + 1
 
-room-near : (n : ℕ) (s t : BusValue) → t.wires.clock ≡ s.wires.clock → t.wires.written ≡ s.wires.written → t.rooms ≡ s.rooms
+room-near : (n : ℕ) (s t : BusValue) → t.peripherals.clock ≡ s.peripherals.clock → t.peripherals.written ≡ s.peripherals.written → t.rooms ≡ s.rooms
     → t.until ≡ s.until → t.event_at ≡ s.event_at → quiet_room n s ≤ quiet_room (n + 1) t + 1
 unfolding passed later
 room-near n s t clock written rooms until event =
     let e : t.rooms.board ≡ s.rooms.board = ap (λ r. r.board) rooms in
-    let f : length t.wires.written ≡ length s.wires.written = ap (λ (l : List Record). length l) written in
+    let f : length t.peripherals.written ≡ length s.peripherals.written = ap (λ (l : List Record). length l) written in
     omega arith
 
 pub ram-reads : (tape : TapeValue) (n a v : ℕ) (s : BusValue) → IsCounted tape n s → 1 ≤ quiet_room n s → a < 2048
-    → v ≡ slice_index s.wires.ram a → IsStep tape (read_of a v) n s (n + 1) s
+    → v ≡ slice_index s.peripherals.ram a → IsStep tape (read_of a v) n s (n + 1) s
 ram-reads tape n a v s c room near is =
     let more = counted-more tape n s c room in
     let quiet = more.quiet in
@@ -232,7 +232,7 @@ ram-reads tape n a v s c room near is =
     }
 
 pub program-reads : (tape : TapeValue) (n a v : ℕ) (s : BusValue) → IsCounted tape n s → 1 ≤ quiet_room n s → PROGRAM_START ≤ a → a < 65536
-    → v ≡ slice_index s.wires.program (a - PROGRAM_START) → IsStep tape (read_of a v) n s (n + 1) s
+    → v ≡ slice_index s.peripherals.program (a - PROGRAM_START) → IsStep tape (read_of a v) n s (n + 1) s
 program-reads tape n a v s c room near last is =
     let more = counted-more tape n s c room in
     let quiet = more.quiet in
@@ -243,14 +243,14 @@ program-reads tape n a v s c room near last is =
     }
 
 pub ram-writes : (tape : TapeValue) (n a v : ℕ) (s t : BusValue) → IsCounted tape n s → 1 ≤ quiet_room n s → a < 2048
-    → t ≡ record s { wires = record s.wires { ram = slice_set s.wires.ram a v } } → IsStep tape (write_of a v) n s (n + 1) t
+    → t ≡ record s { peripherals = record s.peripherals { ram = slice_set s.peripherals.ram a v } } → IsStep tape (write_of a v) n s (n + 1) t
 ram-writes tape n a v s t c room near is =
     let more = counted-more tape n s c room in
     let quiet = more.quiet in
     record {
       step = ram-written tape n a v s t c (omega arith) near is;
       fits = counted-ram tape (n + 1) a v s t more is;
-      room = room-near n s t (ap (λ (b : BusValue). b.wires.clock) is) (ap (λ (b : BusValue). b.wires.written) is) (ap (λ (b : BusValue). b.rooms) is)
+      room = room-near n s t (ap (λ (b : BusValue). b.peripherals.clock) is) (ap (λ (b : BusValue). b.peripherals.written) is) (ap (λ (b : BusValue). b.rooms) is)
           (ap (λ (b : BusValue). b.until) is) (ap (λ (b : BusValue). b.event_at) is);
     }
 
@@ -261,20 +261,20 @@ record Reaches (n : ℕ) (x : Access) (s m t : BusValue) : Type 0 where
   begun : t.begun ≡ m.begun
   next : t.next ≡ m.next
   event : t.event_at ≡ m.event_at
-  clock : t.wires.clock ≡ m.wires.clock
+  clock : t.peripherals.clock ≡ m.peripherals.clock
   until : m.until ≤ t.until
   calls : t.calls ≤ m.calls + 2 * from_bool (reaches_device x)
   more : m.calls ≤ t.calls
 
-reaches : (n : ℕ) (x : Access) (s m t : BusValue) (w : Wires) → m ≡ passed (n + 1) s → Does m t w (2 * from_bool (reaches_device x))
-    → w.clock ≡ m.wires.clock → Reaches n x s m t
+reaches : (n : ℕ) (x : Access) (s m t : BusValue) (w : Peripherals) → m ≡ passed (n + 1) s → Does m t w (2 * from_bool (reaches_device x))
+    → w.clock ≡ m.peripherals.clock → Reaches n x s m t
 reaches n x s m t w told does clock = record {
   told = told;
   rooms = ap (λ (b : BusValue). b.rooms) does.value;
   begun = ap (λ (b : BusValue). b.begun) does.value;
   next = ap (λ (b : BusValue). b.next) does.value;
   event = ap (λ (b : BusValue). b.event_at) does.value;
-  clock = ap (λ (b : BusValue). b.wires.clock) does.value ∙ clock;
+  clock = ap (λ (b : BusValue). b.peripherals.clock) does.value ∙ clock;
   until = does.until;
   calls = does.calls;
   more = does.more;
@@ -296,20 +296,20 @@ stays-told entries n x s m t between r =
       more = omega arith;
     }
 
-told-entered : (tape : TapeValue) (n : ℕ) (s m : BusValue) → IsCounted tape n s → s.wires.clock + n < s.event_at → m ≡ passed (n + 1) s
-    → m.wires ≡ done_clock (in_clock tape.entries (passed n s).begun (passed n s).wires)
-told-entered tape n s m c h told = ap (λ (b : BusValue). b.wires) told ∙ quiet-entered tape n s c h
+told-entered : (tape : TapeValue) (n : ℕ) (s m : BusValue) → IsCounted tape n s → s.peripherals.clock + n < s.event_at → m ≡ passed (n + 1) s
+    → m.peripherals ≡ done_clock (in_clock tape.entries (passed n s).begun (passed n s).peripherals)
+told-entered tape n s m c h told = ap (λ (b : BusValue). b.peripherals) told ∙ quiet-entered tape n s c h
 
 counted-told : (tape : TapeValue) (n : ℕ) (x : Access) (s m t : BusValue) → IsCounted tape n s → 1 ≤ quiet_room n s → Reaches n x s m t
     → IsCounted tape 0 t
 unfolding passed later
 counted-told tape n x s m t c room r =
     let more = counted-more tape n s c room in
-    let told_clock : m.wires.clock ≡ s.wires.clock + (n + 1) = ap (λ (b : BusValue). b.wires.clock) r.told in
+    let told_clock : m.peripherals.clock ≡ s.peripherals.clock + (n + 1) = ap (λ (b : BusValue). b.peripherals.clock) r.told in
     let told_event : m.event_at ≡ s.event_at = ap (λ (b : BusValue). b.event_at) r.told in
     let told_until : m.until ≡ s.until = ap (λ (b : BusValue). b.until) r.told in
     let told_next : m.next ≡ s.next = ap (λ (b : BusValue). b.next) r.told in
-    let clock : t.wires.clock ≡ s.wires.clock + (n + 1) = r.clock ∙ told_clock in
+    let clock : t.peripherals.clock ≡ s.peripherals.clock + (n + 1) = r.clock ∙ told_clock in
     let next : t.next ≡ s.next = r.next ∙ told_next in
     let event : t.event_at ≡ s.event_at = r.event ∙ told_event in
     let until = r.until in
@@ -328,15 +328,15 @@ counted-told tape n x s m t c room r =
       until = omega arith;
     }
 
-room-told : (n : ℕ) (x : Access) (s m t : BusValue) → Reaches n x s m t → length t.wires.written ≤ length m.wires.written + 1
+room-told : (n : ℕ) (x : Access) (s m t : BusValue) → Reaches n x s m t → length t.peripherals.written ≤ length m.peripherals.written + 1
     → quiet_room n s ≤ quiet_room 0 t + 1
 unfolding passed later
 room-told n x s m t r few =
-    let told_clock : m.wires.clock ≡ s.wires.clock + (n + 1) = ap (λ (b : BusValue). b.wires.clock) r.told in
+    let told_clock : m.peripherals.clock ≡ s.peripherals.clock + (n + 1) = ap (λ (b : BusValue). b.peripherals.clock) r.told in
     let told_event : m.event_at ≡ s.event_at = ap (λ (b : BusValue). b.event_at) r.told in
     let told_until : m.until ≡ s.until = ap (λ (b : BusValue). b.until) r.told in
     let told_rooms : m.rooms.board ≡ s.rooms.board = ap (λ (b : BusValue). b.rooms.board) r.told in
-    let told_written : length m.wires.written ≡ length s.wires.written = ap (λ (b : BusValue). length b.wires.written) r.told in
+    let told_written : length m.peripherals.written ≡ length s.peripherals.written = ap (λ (b : BusValue). length b.peripherals.written) r.told in
     let rooms : t.rooms.board ≡ m.rooms.board = ap (λ r. r.board) r.rooms in
     let clock = r.clock in
     let event = r.event in
@@ -344,32 +344,32 @@ room-told n x s m t r few =
     omega arith
 
 -- there is room for it
-pub told-room : (n : ℕ) (s m : BusValue) → 1 ≤ quiet_room n s → m ≡ passed (n + 1) s → length m.wires.written < m.rooms.board
+pub told-room : (n : ℕ) (s m : BusValue) → 1 ≤ quiet_room n s → m ≡ passed (n + 1) s → length m.peripherals.written < m.rooms.board
 unfolding passed later
 told-room n s m room told =
     let rooms : m.rooms.board ≡ s.rooms.board = ap (λ (b : BusValue). b.rooms.board) told in
-    let written : length m.wires.written ≡ length s.wires.written = ap (λ (b : BusValue). length b.wires.written) told in
+    let written : length m.peripherals.written ≡ length s.peripherals.written = ap (λ (b : BusValue). length b.peripherals.written) told in
     omega arith
 
-pub told-begun : (n : ℕ) (s m : BusValue) → m ≡ passed (n + 1) s → 1 ≤ m.wires.clock
+pub told-begun : (n : ℕ) (s m : BusValue) → m ≡ passed (n + 1) s → 1 ≤ m.peripherals.clock
 unfolding passed later
-told-begun n s m told = let clock : m.wires.clock ≡ s.wires.clock + (n + 1) = ap (λ (b : BusValue). b.wires.clock) told in omega arith
+told-begun n s m told = let clock : m.peripherals.clock ≡ s.peripherals.clock + (n + 1) = ap (λ (b : BusValue). b.peripherals.clock) told in omega arith
 
 pub device-reads : (tape : TapeValue) (n k a v : ℕ) (s m t : BusValue) → IsCounted tape n s → 1 ≤ quiet_room n s → m ≡ passed (n + 1) s → k ≡ 0
-    → Does m t m.wires (2 * from_bool (reaches_device (read_of a v))) → v ≡ byte_read a (at_clock (m.wires.clock - 1) m.wires)
+    → Does m t m.peripherals (2 * from_bool (reaches_device (read_of a v))) → v ≡ byte_read a (at_clock (m.peripherals.clock - 1) m.peripherals)
     → lagging_at (row_of a).reads t.lagging ≡ 0 → IsStep tape (read_of a v) n s k t
 device-reads tape n k a v s m t c room told none does is current =
     let more = counted-more tape n s c room in
     let quiet = more.quiet in
-    let r = reaches n (read_of a v) s m t m.wires told does refl in
+    let r = reaches n (read_of a v) s m t m.peripherals told does refl in
     let entered = told-entered tape n s m c (omega arith) told in
-    let same : t.wires ≡ m.wires = ap (λ (b : BusValue). b.wires) does.value in
-    let w = in_clock tape.entries (passed n s).begun (passed n s).wires in
-    let few : length t.wires.written ≡ length m.wires.written = ap (λ (w : Wires). length w.written) same in
+    let same : t.peripherals ≡ m.peripherals = ap (λ (b : BusValue). b.peripherals) does.value in
+    let w = in_clock tape.entries (passed n s).begun (passed n s).peripherals in
+    let few : length t.peripherals.written ≡ length m.peripherals.written = ap (λ (w : Peripherals). length w.written) same in
     rw none (record {
       step = (
-        is ∙ ap (λ (k : Wires). byte_read a (at_clock (k.clock - 1) k)) entered ∙ ap (byte_read a) (clock-back w),
-        ap (λ (b : BusValue). b.wires) (passed-zero t) ∙ same ∙ entered,
+        is ∙ ap (λ (k : Peripherals). byte_read a (at_clock (k.clock - 1) k)) entered ∙ ap (byte_read a) (clock-back w),
+        ap (λ (b : BusValue). b.peripherals) (passed-zero t) ∙ same ∙ entered,
         rw (passed-zero t) (stays-told tape.entries n (read_of a v) s m t c.between r),
         rw (passed-zero t) current,
       );
@@ -378,50 +378,50 @@ device-reads tape n k a v s m t c room told none does is current =
     })
 
 pub device-writes : (tape : TapeValue) (n k a v : ℕ) (s m t : BusValue) → IsCounted tape n s → 1 ≤ quiet_room n s → m ≡ passed (n + 1) s → k ≡ 0
-    → Does m t (at_clock m.wires.clock (byte_put a v (at_clock (m.wires.clock - 1) m.wires))) (2 * from_bool (reaches_device (write_of a v)))
-    → length t.wires.written ≤ length m.wires.written + 1 → IsStep tape (write_of a v) n s k t
+    → Does m t (at_clock m.peripherals.clock (byte_put a v (at_clock (m.peripherals.clock - 1) m.peripherals))) (2 * from_bool (reaches_device (write_of a v)))
+    → length t.peripherals.written ≤ length m.peripherals.written + 1 → IsStep tape (write_of a v) n s k t
 device-writes tape n k a v s m t c room told none does few =
     let more = counted-more tape n s c room in
     let quiet = more.quiet in
-    let r = reaches n (write_of a v) s m t (at_clock m.wires.clock (byte_put a v (at_clock (m.wires.clock - 1) m.wires))) told does refl in
+    let r = reaches n (write_of a v) s m t (at_clock m.peripherals.clock (byte_put a v (at_clock (m.peripherals.clock - 1) m.peripherals))) told does refl in
     rw none (record {
       step =
           rw (passed-zero t) (write-step tape.entries a v (passed n s) m t (told-entered tape n s m c (omega arith) told)
-          (ap (λ (b : BusValue). b.wires) does.value) (stays-told tape.entries n (write_of a v) s m t c.between r));
+          (ap (λ (b : BusValue). b.peripherals) does.value) (stays-told tape.entries n (write_of a v) s m t c.between r));
       fits = counted-told tape n (write_of a v) s m t c room r;
       room = room-told n (write_of a v) s m t r few;
     })
 
 -- one such clock has its devices' ticks
-pub passed-one : (s : BusValue) → (passed 1 s).wires ≡ done_clock (devices_ticked s.wires)
+pub passed-one : (s : BusValue) → (passed 1 s).peripherals ≡ done_clock (devices_ticked s.peripherals)
 unfolding passed
-passed-one s = later-more 0 s.wires ∙ ap (λ (w : Wires). done_clock (devices_ticked w)) (later-zero s.wires)
+passed-one s = later-more 0 s.peripherals ∙ ap (λ (w : Peripherals). done_clock (devices_ticked w)) (later-zero s.peripherals)
 
-entered-wires : (tape : TapeValue) (s : BusValue) → Fits tape s → s.wires.clock < s.event_at → s.begun ≡ false
-    → (passed 1 s).wires ≡ done_clock (in_clock tape.entries s.begun s.wires)
+entered-peripherals : (tape : TapeValue) (s : BusValue) → Fits tape s → s.peripherals.clock < s.event_at → s.begun ≡ false
+    → (passed 1 s).peripherals ≡ done_clock (in_clock tape.entries s.begun s.peripherals)
 unfolding in_clock passed
-entered-wires tape s f h between = rw between (passed-one s ∙ ap done_clock (sym (ticked-quiet tape s f h)))
+entered-peripherals tape s f h between = rw between (passed-one s ∙ ap done_clock (sym (ticked-quiet tape s f h)))
 
-entered-value : (tape : TapeValue) (s : BusValue) → Fits tape s → s.wires.clock < s.event_at → s.begun ≡ false
-    → passed 1 s ≡ record s { wires = done_clock (in_clock tape.entries s.begun s.wires); begun = false; lagging = (passed 1 s).lagging }
+entered-value : (tape : TapeValue) (s : BusValue) → Fits tape s → s.peripherals.clock < s.event_at → s.begun ≡ false
+    → passed 1 s ≡ record s { peripherals = done_clock (in_clock tape.entries s.begun s.peripherals); begun = false; lagging = (passed 1 s).lagging }
 unfolding passed
 entered-value tape s f h between =
-    ap (λ (w : Wires). let r : BusValue = record s { wires = w; lagging = (passed 1 s).lagging } in r) (entered-wires tape s f h between)
-    ∙ ap (λ b. let r : BusValue = record s { wires = done_clock (in_clock tape.entries s.begun s.wires); begun = b; lagging = (passed 1 s).lagging } in r) between
+    ap (λ (w : Peripherals). let r : BusValue = record s { peripherals = w; lagging = (passed 1 s).lagging } in r) (entered-peripherals tape s f h between)
+    ∙ ap (λ b. let r : BusValue = record s { peripherals = done_clock (in_clock tape.entries s.begun s.peripherals); begun = b; lagging = (passed 1 s).lagging } in r) between
 
 -- the clock of an access in which nothing comes, on a bus that doesn't count
 pub record IsEntered (tape : TapeValue) (s t : BusValue) : Type 0 where
-  pub value : t ≡ record s { wires = done_clock (in_clock tape.entries s.begun s.wires); begun = false; next = t.next; event_at = t.event_at; lagging = t.lagging; until = t.until; calls = t.calls }
+  pub value : t ≡ record s { peripherals = done_clock (in_clock tape.entries s.begun s.peripherals); begun = false; next = t.next; event_at = t.event_at; lagging = t.lagging; until = t.until; calls = t.calls }
   pub fits : Fits tape t
   pub until : s.until ≤ t.until
-  pub calls : t.calls ≤ s.calls + begin_price tape.entries s.begun s.wires
+  pub calls : t.calls ≤ s.calls + begin_price tape.entries s.begun s.peripherals
   pub more : s.calls ≤ t.calls
-  pub begun : 1 ≤ t.wires.clock
+  pub begun : 1 ≤ t.peripherals.clock
 
-pub entered-quiet : (tape : TapeValue) (s t : BusValue) → Fits tape s → s.wires.clock < s.event_at → s.begun ≡ false → t ≡ passed 1 s → IsEntered tape s t
+pub entered-quiet : (tape : TapeValue) (s t : BusValue) → Fits tape s → s.peripherals.clock < s.event_at → s.begun ≡ false → t ≡ passed 1 s → IsEntered tape s t
 unfolding passed later
 entered-quiet tape s t f h between told =
-    let clock : t.wires.clock ≡ s.wires.clock + 1 = ap (λ (b : BusValue). b.wires.clock) told in
+    let clock : t.peripherals.clock ≡ s.peripherals.clock + 1 = ap (λ (b : BusValue). b.peripherals.clock) told in
     let until : t.until ≡ s.until = ap (λ (b : BusValue). b.until) told in
     let calls : t.calls ≡ s.calls = ap (λ (b : BusValue). b.calls) told in
     record {
@@ -434,7 +434,7 @@ entered-quiet tape s t f h between told =
     }
 
 -- before the first of them
-pub counted-start : (tape : TapeValue) (n : ℕ) (s : BusValue) → n ≡ 0 → Fits tape s → s.begun ≡ false → s.wires.clock + WHOLE ≤ s.event_at → WHOLE ≤ room_of s
+pub counted-start : (tape : TapeValue) (n : ℕ) (s : BusValue) → n ≡ 0 → Fits tape s → s.begun ≡ false → s.peripherals.clock + MAX_SEQUENCE_CLOCKS ≤ s.event_at → MAX_SEQUENCE_CLOCKS ≤ room_of s
     → IsCounted tape n s
 counted-start tape n s none fits between quiet room =
     rw none (record { fits = rw (passed-zero s) fits; between = between; quiet = omega arith; last = omega arith; until = omega arith })

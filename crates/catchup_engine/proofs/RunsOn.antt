@@ -25,7 +25,7 @@ abbrev pub starts : (entries : List TapeEntry) (asked : Board → Bool) (c : Cpu
 starts entries asked c s between = record {
   count = 0;
   reached = refl;
-  clock = sym (add-zero s.wires.clock);
+  clock = sym (add-zero s.peripherals.clock);
   written = omega arith;
   paid = omega arith;
   goes = record { more = omega arith; rooms = refl; until = omega arith; between = between };
@@ -102,7 +102,7 @@ runs-asked entries asked sooner weaker c s t e run =
 -- a run to a boundary that stands at one
 pub record AtBoundary (entries : List TapeEntry) (limit : ℕ) (c : CpuValue) (s t : BusValue) (e : CpuValue) : Type 0 where
   pub run : RunsOn entries (is_over limit) c s t e
-  pub few : run.count ≤ (limit - s.wires.clock) + 6
+  pub few : run.count ≤ (limit - s.peripherals.clock) + 6
   pub boundary : e.mid ≡ None
   pub range : IsInRange e t
 
@@ -146,16 +146,16 @@ middle-open limit b inside running = grind (arith, rules)
 
 -- at a boundary a run that isn't over stands before its limit, and isn't jammed
 pub record IsBefore (limit : ℕ) (b : Board) : Type 0 where
-  pub clock : b.wires.clock < limit
+  pub clock : b.peripherals.clock < limit
   pub running : b.cpu.jam ≡ None
 
 pub open-before : (limit : ℕ) (b : Board) → b.cpu.mid ≡ None → is_over limit b ≡ false → IsBefore limit b
 open-before limit b boundary open_yet = before b.cpu.jam b.cpu.mid refl boundary open_yet
   where
-    before : (jam : Option ℕ) (mid : Option MidValue) → b.cpu.jam ≡ jam → mid ≡ None → is_some jam || (is_none mid && nat_le limit b.wires.clock) ≡ false
+    before : (jam : Option ℕ) (mid : Option MidValue) → b.cpu.jam ≡ jam → mid ≡ None → is_some jam || (is_none mid && nat_le limit b.peripherals.clock) ≡ false
         → IsBefore limit b
     before (Some o) mid f e h = cc
-    before None None f e h = record { clock = leb-false limit b.wires.clock h; running = f }
+    before None None f e h = record { clock = leb-false limit b.peripherals.clock h; running = f }
     before None (Some m) f e h = cc
 
 -- a run from inside a sequence has ended it first
@@ -179,7 +179,7 @@ boundary-resumes entries limit c s u f between inside place range turned =
       range = record { clock = omega arith; middle = λ some. none-some f.mid ends some };
     }
   where
-    none-some : (mid : Option MidValue) → mid ≡ None → IsSome mid → u.wires.clock ≤ 2 ^ 48
+    none-some : (mid : Option MidValue) → mid ≡ None → IsSome mid → u.peripherals.clock ≤ 2 ^ 48
     none-some None e some = cc
     none-some (Some m) e some = cc
 
@@ -203,7 +203,7 @@ boundary-goes_on entries limit c s t u e f last at open_yet turned =
       range = record { clock = omega arith; middle = λ some. none-some f.mid ends some };
     }
   where
-    none-some : (mid : Option MidValue) → mid ≡ None → IsSome mid → u.wires.clock ≤ 2 ^ 48
+    none-some : (mid : Option MidValue) → mid ≡ None → IsSome mid → u.peripherals.clock ≤ 2 ^ 48
     none-some None e some = cc
     none-some (Some m) e some = cc
 
@@ -212,7 +212,7 @@ pub boundary-ends : (entries : List TapeEntry) (limit : ℕ) (c : CpuValue) (s t
     → is_over limit (over_bus e t) ≡ true → BoundaryRun entries limit c s t e
 boundary-ends entries limit c s t e at over =
     let steps : boundary_steps entries limit (over_bus c s) ≡ at.run.count =
-    steps_until-is entries (is_over limit) at.run.count ((limit - s.wires.clock) + 6) (over_bus c s) (over_bus e t) at.run.reached over at.few in
+    steps_until-is entries (is_over limit) at.run.count ((limit - s.peripherals.clock) + 6) (over_bus c s) (over_bus e t) at.run.reached over at.few in
     let clock = at.run.clock in
     record {
       board = sym (to_boundary-is entries limit at.run.count (over_bus c s) (over_bus e t) at.run.reached over at.few);
@@ -232,7 +232,7 @@ boundary-turns entries limit c s u t f e at rest =
     let first = at.few in
     let clock = at.run.clock in
     let clock_then = rest.on.run.clock in
-    let few : run.count ≤ (limit - s.wires.clock) + 6 = elim rest.on.near [
+    let few : run.count ≤ (limit - s.peripherals.clock) + 6 = elim rest.on.near [
       | inl none ↦ omega arith
       | inr near ↦ (let within = near.within in omega arith)
     ] in
@@ -249,9 +249,9 @@ boundary-turns entries limit c s u t f e at rest =
 -- a run to a cut
 pub record AtCut (entries : List TapeEntry) (cut wrap : ℕ) (c : CpuValue) (s t : BusValue) (e : CpuValue) : Type 0 where
   pub run : RunsOn entries (is_cut cut wrap) c s t e
-  pub few : run.count ≤ cut - s.wires.clock
+  pub few : run.count ≤ cut - s.peripherals.clock
   pub range : IsInRange e t
-  pub inside : IsSome e.mid → (t.wires.clock ≡ s.wires.clock) ⊎ (cut ≤ t.wires.clock)
+  pub inside : IsSome e.mid → (t.peripherals.clock ≡ s.peripherals.clock) ⊎ (cut ≤ t.peripherals.clock)
 
 pub cut-starts : (entries : List TapeEntry) (cut wrap : ℕ) (c : CpuValue) (s : BusValue) → s.begun ≡ false → IsInRange c s → AtCut entries cut wrap c s s c
 cut-starts entries cut wrap c s between range = record {
@@ -261,17 +261,17 @@ cut-starts entries cut wrap c s between range = record {
   inside = λ some. inl refl;
 }
 
-inside-open : (cut wrap : ℕ) (b : Board) → IsInside b → b.wires.clock < cut → is_cut cut wrap b ≡ false
-inside-open cut wrap b inside before = by_parts b.cpu.jam b.cpu.mid inside.running inside.middle (lt-leb cut b.wires.clock before)
+inside-open : (cut wrap : ℕ) (b : Board) → IsInside b → b.peripherals.clock < cut → is_cut cut wrap b ≡ false
+inside-open cut wrap b inside before = by_parts b.cpu.jam b.cpu.mid inside.running inside.middle (lt-leb cut b.peripherals.clock before)
   where
-    by_parts : (jam : Option ℕ) (mid : Option MidValue) → jam ≡ None → IsSome mid → nat_le cut b.wires.clock ≡ false
-        → is_some jam || (nat_le cut b.wires.clock || (is_none mid && nat_le wrap b.wires.clock)) ≡ false
+    by_parts : (jam : Option ℕ) (mid : Option MidValue) → jam ≡ None → IsSome mid → nat_le cut b.peripherals.clock ≡ false
+        → is_some jam || (nat_le cut b.peripherals.clock || (is_none mid && nat_le wrap b.peripherals.clock)) ≡ false
     by_parts (Some o) mid e some h = cc
     by_parts None None e some h = cc
     by_parts None (Some m) e some h = rw h refl
 
 -- steps through the inside of a sequence, which end at the cut at the latest
-through-cut : (entries : List TapeEntry) (cut wrap n : ℕ) (b last : Board) → Through entries n b last → last.wires.clock ≤ cut
+through-cut : (entries : List TapeEntry) (cut wrap n : ℕ) (b last : Board) → Through entries n b last → last.peripherals.clock ≤ cut
     → StepsTo entries (is_cut cut wrap) n b last
 through-cut entries cut wrap zero b last e within = e
 through-cut entries cut wrap (suc n) b last t within =
@@ -280,8 +280,8 @@ through-cut entries cut wrap (suc n) b last t within =
 
 -- a turn that isn't to go past the cut
 pub cut-goes_on : (entries : List TapeEntry) (cut wrap clocks : ℕ) (c : CpuValue) (s t u : BusValue) (e f : CpuValue) → cut ≤ 2 ^ 48
-    → AtCut entries cut wrap c s t e → is_cut cut wrap (over_bus e t) ≡ false → t.wires.clock + clocks ≤ cut
-    → (clocks ≡ 7) ⊎ (t.wires.clock + clocks ≡ cut) → TurnedBus entries clocks e t u f → AtCut entries cut wrap c s u f
+    → AtCut entries cut wrap c s t e → is_cut cut wrap (over_bus e t) ≡ false → t.peripherals.clock + clocks ≤ cut
+    → (clocks ≡ 7) ⊎ (t.peripherals.clock + clocks ≡ cut) → TurnedBus entries clocks e t u f → AtCut entries cut wrap c s u f
 cut-goes_on entries cut wrap clocks c s t u e f last at open_yet within all turned =
     let most = turned.at_most in
     let reached = through-cut entries cut wrap turned.turned.count (step entries (over_bus e t)) (over_bus f u) turned.turned.through (omega arith) in
@@ -305,7 +305,7 @@ pub cut-ends : (entries : List TapeEntry) (cut wrap : ℕ) (c : CpuValue) (s t :
     → is_cut cut wrap (over_bus e t) ≡ true → CutRun entries cut wrap c s t e
 cut-ends entries cut wrap c s t e at over =
     let steps : cut_steps entries cut wrap (over_bus c s) ≡ at.run.count =
-    steps_until-is entries (is_cut cut wrap) at.run.count (cut - s.wires.clock) (over_bus c s) (over_bus e t) at.run.reached over at.few in
+    steps_until-is entries (is_cut cut wrap) at.run.count (cut - s.peripherals.clock) (over_bus c s) (over_bus e t) at.run.reached over at.few in
     let clock = at.run.clock in
     record {
       board = sym (to_cut-is entries cut wrap at.run.count (over_bus c s) (over_bus e t) at.run.reached over at.few);
@@ -318,7 +318,7 @@ cut-ends entries cut wrap c s t e at over =
 
 -- steps that lead to a boundary by turns from before a limit are none from a board at which a run to a later cut is over
 over-cut : (entries : List TapeEntry) (cut wrap limit n : ℕ) (b last : Board) → limit ≤ wrap → StepsTo entries (is_over limit) n b last
-    → b.wires.clock + n ≤ cut → StepsTo entries (is_cut cut wrap) n b last
+    → b.peripherals.clock + n ≤ cut → StepsTo entries (is_cut cut wrap) n b last
 over-cut entries cut wrap limit zero b last sooner r within = r
 over-cut entries cut wrap limit (suc n) b last sooner r within =
     let clock = step-clock entries b in
@@ -332,8 +332,8 @@ over-cut entries cut wrap limit (suc n) b last sooner r within =
         rw (lt-leb cut clock before, lt-leb wrap clock (omega arith)) refl
     by_parts None false clock before e = rw (lt-leb cut clock before) refl
 
-    over-open : (a : Board) → is_over limit a ≡ false → a.wires.clock < cut → is_cut cut wrap a ≡ false
-    over-open a e before = by_parts a.cpu.jam (is_none a.cpu.mid) a.wires.clock before e
+    over-open : (a : Board) → is_over limit a ≡ false → a.peripherals.clock < cut → is_cut cut wrap a ≡ false
+    over-open a e before = by_parts a.cpu.jam (is_none a.cpu.mid) a.peripherals.clock before e
 
 -- a run to a cut goes on by whole turns that end before it
 pub cut-turns : (entries : List TapeEntry) (cut wrap limit : ℕ) (c : CpuValue) (s t u : BusValue) (e f : CpuValue) → limit ≡ min wrap (cut - 6)
@@ -342,7 +342,7 @@ cut-turns entries cut wrap limit c s t u e f least at rest =
     let clock = at.run.clock in
     let clock_then = rest.on.run.clock in
     let few = at.few in
-    let made : (rest.on.run.count ≡ 0) ⊎ (t.wires.clock + rest.on.run.count ≤ cut) = elim rest.on.near [
+    let made : (rest.on.run.count ≡ 0) ⊎ (t.peripherals.clock + rest.on.run.count ≤ cut) = elim rest.on.near [
       | inl none ↦ inl (omega arith)
       | inr near ↦ inr (let before = near.before in let within = near.within in omega arith)
     ] in
@@ -355,12 +355,12 @@ cut-turns entries cut wrap limit c s t u e f least at rest =
       inside = λ some. none-some f.mid rest.on.boundary some;
     }
   where
-    by-made : (n : ℕ) → (n ≡ 0) ⊎ (t.wires.clock + n ≤ cut) → StepsTo entries (is_over limit) n (over_bus e t) (over_bus f u)
+    by-made : (n : ℕ) → (n ≡ 0) ⊎ (t.peripherals.clock + n ≤ cut) → StepsTo entries (is_over limit) n (over_bus e t) (over_bus f u)
         → StepsTo entries (is_cut cut wrap) n (over_bus e t) (over_bus f u)
     by-made zero made r = r
     by-made (suc n) (inl none) r = cc
     by-made (suc n) (inr within) r = over-cut entries cut wrap limit (suc n) (over_bus e t) (over_bus f u) (omega arith) r within
 
-    none-some : (mid : Option MidValue) → mid ≡ None → IsSome mid → (u.wires.clock ≡ s.wires.clock) ⊎ (cut ≤ u.wires.clock)
+    none-some : (mid : Option MidValue) → mid ≡ None → IsSome mid → (u.peripherals.clock ≡ s.peripherals.clock) ⊎ (cut ≤ u.peripherals.clock)
     none-some None e some = cc
     none-some (Some m) e some = cc

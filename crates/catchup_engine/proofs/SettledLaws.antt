@@ -2,7 +2,7 @@
 use Rattle.std.proofs.Common.{◌≡◌, ℕ, ◌≤◌, List, [], ◌∷◌, ◌++◌, length, refl, arith}
 use Rattle.std.proofs.lemmas.Bool.Decides.{nat_tests}
 use Rattle.board_base.specs.declared.record.Record.{Record}
-use Rattle.device_lanes.specs.Lags.{lags}
+use Rattle.catchup_devices.specs.Lags.{lags}
 
 -- a device that isn't moved up to the clock lags
 pub level-of : (done clock : ℕ) → done ≤ clock → lags done clock ≡ 0 → done ≡ clock
@@ -19,4 +19,4 @@ front-empty (r ∷ records) more e = cc
 
 pub ruleset settled = (level-of, front-empty)
 
-pub ruleset brought = lags-level
+pub ruleset synced = lags-level

@@ -15,7 +15,7 @@ use Rattle.tape_ports.specs.Due.{due_at}
 use Rattle.tape_ports.specs.Ports.{IsPort}
 use Rattle.tape_ports.specs.Tape.{TapeValue, IsTape, count_before}
 use Rattle.catchup_engine.specs.Events.{next_event_of}
-use Rattle.lockstep_board.specs.Wires.{Wires, applied, devices_ticked, port_set, ticked}
+use Rattle.lockstep_board.specs.Peripherals.{Peripherals, applied, devices_ticked, port_set, ticked}
 use Rattle.catchup_engine.specs.Bus.{BusValue, ComesNext, Does, Fits, IsTapePlace}
 
 -- where the entries before a place are before a clock and the others aren't, that place is their number
@@ -45,7 +45,7 @@ slice_none : (n : ℕ) (es : List TapeEntry) → slice_range es n n ≡ []
 slice_none n es = let e : n - n ≡ 0 = omega arith in rw e refl
 
 -- before the next event the place stays
-pub place-stays : (tape : TapeValue) (s : BusValue) → Fits tape s → s.wires.clock < s.event_at → IsTapePlace tape (s.wires.clock + 1) s.next
+pub place-stays : (tape : TapeValue) (s : BusValue) → Fits tape s → s.peripherals.clock < s.event_at → IsTapePlace tape (s.peripherals.clock + 1) s.next
 place-stays tape s f h = record {
   within = f.place.within;
   before = λ k d inside. (let a = f.place.before k d inside in omega arith);
@@ -53,9 +53,9 @@ place-stays tape s f h = record {
 }
 
 -- and no entry is due
-pub none-due : (tape : TapeValue) (s : BusValue) → Fits tape s → s.wires.clock < s.event_at → due_at s.wires.clock tape.entries ≡ []
+pub none-due : (tape : TapeValue) (s : BusValue) → Fits tape s → s.peripherals.clock < s.event_at → due_at s.peripherals.clock tape.entries ≡ []
 none-due tape s f h =
-    due-between tape s.wires.clock s.next s.next f.valid f.place (place-stays tape s f h) ∙ slice_none s.next tape.entries
+    due-between tape s.peripherals.clock s.next s.next f.valid f.place (place-stays tape s f h) ∙ slice_none s.next tape.entries
 
 -- the place of the next clock isn't before that of this one
 pub place-rises : (tape : TapeValue) (clock next after : ℕ) → IsTapePlace tape clock next → IsTapePlace tape (clock + 1) after → next ≤ after
@@ -80,20 +80,20 @@ ports-between tape n m valid =
     All-take (λ (e : TapeEntry). IsPort e.port) (m - n) (drop n tape.entries) (All-drop (λ (e : TapeEntry). IsPort e.port) n tape.entries valid.ports)
 
 -- what entries leave as it is
-port_set-clock : (p : Port) (value : ℕ) (w : Wires) → (port_set p value w).clock ≡ w.clock
+port_set-clock : (p : Port) (value : ℕ) (w : Peripherals) → (port_set p value w).clock ≡ w.clock
 port_set-clock port.In0 value w = refl
 port_set-clock port.In3 value w = refl
 port_set-clock port.In4 value w = refl
 port_set-clock (port.Pot1 which) value w = refl
 port_set-clock (port.Pot2 which) value w = refl
 
-pub applied-clock : (es : List TapeEntry) (w : Wires) → (applied es w).clock ≡ w.clock
+pub applied-clock : (es : List TapeEntry) (w : Peripherals) → (applied es w).clock ≡ w.clock
 unfolding applied
 applied-clock [] w = refl
 applied-clock (e ∷ es) w = applied-clock es (port_set e.port e.value w) ∙ port_set-clock e.port e.value w
 
 -- one entry more
-pub applied-more : (k : ℕ) (es : List TapeEntry) (d : TapeEntry) (w : Wires) → k < length es
+pub applied-more : (k : ℕ) (es : List TapeEntry) (d : TapeEntry) (w : Peripherals) → k < length es
     → applied (take (suc k) es) w ≡ port_set (get_or es k d).port (get_or es k d).value (applied (take k es) w)
 unfolding applied
 applied-more zero [] d w h = absurd (omega arith)
@@ -119,7 +119,7 @@ pub ruleset due_entries = due-entries
 
 -- the first k entries are applied
 pub record HasApplied (es : List TapeEntry) (k : ℕ) (start now : BusValue) : Type 0 where
-  pub value : now ≡ record start { wires = applied (take k es) start.wires; lagging = now.lagging; until = now.until; calls = now.calls }
+  pub value : now ≡ record start { peripherals = applied (take k es) start.peripherals; lagging = now.lagging; until = now.until; calls = now.calls }
   pub until : start.until ≤ now.until
   pub calls : now.calls ≤ start.calls + 5 * k
   pub more : start.calls ≤ now.calls
@@ -129,12 +129,12 @@ unfolding applied
 none-applied es start = record { value = refl; until = omega arith; calls = omega arith; more = omega arith }
 
 pub one-applied : (es : List TapeEntry) (k : ℕ) (d : TapeEntry) (start now next : BusValue) → k < length es → HasApplied es k start now
-    → Does now next (port_set (get_or es k d).port (get_or es k d).value now.wires) 2 → HasApplied es (k + 1) start next
+    → Does now next (port_set (get_or es k d).port (get_or es k d).value now.peripherals) 2 → HasApplied es (k + 1) start next
 one-applied es k d start now next inside h does =
     let e : k + 1 ≡ suc k = omega arith in
-    let wires : port_set (get_or es k d).port (get_or es k d).value now.wires ≡ applied (take (k + 1) es) start.wires =
-    ap (λ (b : BusValue). port_set (get_or es k d).port (get_or es k d).value b.wires) h.value
-    ∙ sym (ap (λ n. applied (take n es) start.wires) e ∙ applied-more k es d start.wires inside) in
+    let peripherals : port_set (get_or es k d).port (get_or es k d).value now.peripherals ≡ applied (take (k + 1) es) start.peripherals =
+    ap (λ (b : BusValue). port_set (get_or es k d).port (get_or es k d).value b.peripherals) h.value
+    ∙ sym (ap (λ n. applied (take n es) start.peripherals) e ∙ applied-more k es d start.peripherals inside) in
     let here_until = h.until in
     let here_calls = h.calls in
     let here_more = h.more in
@@ -144,18 +144,18 @@ one-applied es k d start now next inside h does =
     record {
       value =
           does.value
-          ∙ ap (λ (w : Wires). let r : BusValue = record now { wires = w; lagging = next.lagging; until = next.until; calls = next.calls } in r) wires
-          ∙ ap (λ (b : BusValue). let r : BusValue = record b { wires = applied (take (k + 1) es) start.wires; lagging = next.lagging; until = next.until; calls = next.calls } in r) h.value;
+          ∙ ap (λ (w : Peripherals). let r : BusValue = record now { peripherals = w; lagging = next.lagging; until = next.until; calls = next.calls } in r) peripherals
+          ∙ ap (λ (b : BusValue). let r : BusValue = record b { peripherals = applied (take (k + 1) es) start.peripherals; lagging = next.lagging; until = next.until; calls = next.calls } in r) h.value;
       until = omega arith;
       calls = omega arith;
       more = omega arith;
     }
 
 pub all-applied : (es : List TapeEntry) (k : ℕ) (start now : BusValue) → k ≤ length es → length es ≤ k → HasApplied es k start now
-    → now ≡ record start { wires = applied es start.wires; lagging = now.lagging; until = now.until; calls = now.calls }
+    → now ≡ record start { peripherals = applied es start.peripherals; lagging = now.lagging; until = now.until; calls = now.calls }
 all-applied es k start now h g has =
     let e : k ≡ length es = omega arith in
-    has.value ∙ ap (λ (xs : List TapeEntry). let r : BusValue = record start { wires = applied xs start.wires; lagging = now.lagging; until = now.until; calls = now.calls } in r)
+    has.value ∙ ap (λ (xs : List TapeEntry). let r : BusValue = record start { peripherals = applied xs start.peripherals; lagging = now.lagging; until = now.until; calls = now.calls } in r)
     (ap (λ n. take n es) e ∙ take-length es)
 
 -- no entry after a place has an earlier clock
@@ -175,12 +175,12 @@ rises-read tape valid next k d e es inside same =
     rw (ap (λ (xs : List TapeEntry). (get_or xs next e).clock) same) (rises-from tape valid next k d e inside)
 
 -- a clock in which nothing comes has its devices' ticks alone
-pub ticked-quiet : (tape : TapeValue) (s : BusValue) → Fits tape s → s.wires.clock < s.event_at → ticked tape.entries s.wires ≡ devices_ticked s.wires
+pub ticked-quiet : (tape : TapeValue) (s : BusValue) → Fits tape s → s.peripherals.clock < s.event_at → ticked tape.entries s.peripherals ≡ devices_ticked s.peripherals
 unfolding ticked applied
-ticked-quiet tape s f h = ap (λ (es : List TapeEntry). devices_ticked (applied es s.wires)) (none-due tape s f h)
+ticked-quiet tape s f h = ap (λ (es : List TapeEntry). devices_ticked (applied es s.peripherals)) (none-due tape s f h)
 
 -- the bus after such a clock fits too
-pub fits-quiet : (tape : TapeValue) (s t : BusValue) → Fits tape s → s.wires.clock < s.event_at → t.wires.clock ≡ s.wires.clock + 1 → t.next ≡ s.next
+pub fits-quiet : (tape : TapeValue) (s t : BusValue) → Fits tape s → s.peripherals.clock < s.event_at → t.peripherals.clock ≡ s.peripherals.clock + 1 → t.next ≡ s.next
     → t.event_at ≡ s.event_at → Fits tape t
 fits-quiet tape s t f h clock next event = record {
   valid = f.valid;

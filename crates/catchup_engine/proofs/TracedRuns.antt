@@ -19,7 +19,7 @@ use Rattle.lockstep_board.proofs.TurnLaws.{turned-add, turned-next}
 
 -- the clocks to a limit, and one for a sequence that is under way
 abbrev pub clocks_left : ℕ → CpuValue → BusValue → ℕ
-clocks_left limit c s = (limit - s.wires.clock) + (if is_some c.mid then 1 else 0)
+clocks_left limit c s = (limit - s.peripherals.clock) + (if is_some c.mid then 1 else 0)
 
 module _ {T : Type 0} (next : T → TraceValue → ℕ → T) where
   -- he is told of one turn more
@@ -49,7 +49,7 @@ module _ {T : Type 0} (next : T → TraceValue → ℕ → T) where
   -- one turn more, of a board at which the run isn't over
   pub turns-more : (enough : T → Bool) (entries : List TapeEntry) (limit : ℕ) (b : Board) (t u : BusValue) (e f : CpuValue) (w v new : T) (trace : TraceValue) (flag : Bool)
       → limit ≤ 2 ^ 48 → ToldTurns next enough entries limit b (over_bus e t) w v false → is_over limit (over_bus e t) ≡ false → IsInRange e t → TurnedBus entries 7 e t u f
-      → trace ≡ trace_of entries (u.wires.clock - t.wires.clock) (over_bus e t) → new ≡ next v trace f.pc → flag ≡ enough new
+      → trace ≡ trace_of entries (u.peripherals.clock - t.peripherals.clock) (over_bus e t) → new ≡ next v trace f.pc → flag ≡ enough new
       → (turns : ToldTurns next enough entries limit b (over_bus f u) w new flag) × (1 ≤ turns.count)
   turns-more enough entries limit b t u e f w v new trace flag last at open_yet range turned_bus is told_new asked =
       let n = at.count in
@@ -86,12 +86,12 @@ module _ {T : Type 0} (next : T → TraceValue → ℕ → T) where
 
   -- where the clock is later, there is one at least
   pub turns-some : (enough : T → Bool) (entries : List TapeEntry) (limit : ℕ) (b c : Board) (w v : T) (flag : Bool)
-      → (turns : ToldTurns next enough entries limit b c w v flag) → b.wires.clock < c.wires.clock → 1 ≤ turns.count
+      → (turns : ToldTurns next enough entries limit b c w v flag) → b.peripherals.clock < c.peripherals.clock → 1 ≤ turns.count
   unfolding turned
   turns-some enough entries limit b c w v flag turns more = by_count turns.count turns.board
     where
       by_count : (m : ℕ) → c ≡ turned entries m b → 1 ≤ m
-      by_count zero is = let same = ap (λ (k : Board). k.wires.clock) is in absurd (omega (arith, same, more))
+      by_count zero is = let same = ap (λ (k : Board). k.peripherals.clock) is in absurd (omega (arith, same, more))
       by_count (suc m) is = omega arith
 
   -- he is told of some turns, and then of others
@@ -103,7 +103,7 @@ module _ {T : Type 0} (next : T → TraceValue → ℕ → T) where
       let e : suc n + m ≡ suc (n + m) = omega arith in rw e (told-add entries n m (told_once next entries w b) (turn entries b))
 
   pub turns-then : (enough : T → Bool) (entries : List TapeEntry) (limit : ℕ) (b c d : Board) (w v x : T) (flag : Bool)
-      → ToldTurns next enough entries limit b c w v false → ToldTurns next enough entries limit c d v x flag → b.wires.clock ≤ c.wires.clock → c.wires.clock < d.wires.clock
+      → ToldTurns next enough entries limit b c w v false → ToldTurns next enough entries limit c d v x flag → b.peripherals.clock ≤ c.peripherals.clock → c.peripherals.clock < d.peripherals.clock
       → ToldTurns next enough entries limit b d w x flag
   unfolding told
   turns-then enough entries limit b c d w v x flag at rest later more =
@@ -147,7 +147,7 @@ module _ {T : Type 0} (next : T → TraceValue → ℕ → T) where
     pub turns : ToldTurns next enough entries limit (over_bus c s) (over_bus e t) w v flag
     pub first : turns.count ≡ 0 → (e ≡ c) × (t ≡ s)
     pub later : 1 ≤ turns.count → e.mid ≡ None
-    pub near : (t.wires.clock ≤ s.wires.clock + 7) ⊎ (t.wires.clock ≤ limit + 6)
+    pub near : (t.peripherals.clock ≤ s.peripherals.clock + 7) ⊎ (t.peripherals.clock ≤ limit + 6)
     pub range : IsInRange e t
 
   pub told-starts : (enough : T → Bool) (entries : List TapeEntry) (limit : ℕ) (c : CpuValue) (s : BusValue) (w : T) → s.begun ≡ false → IsInRange c s
@@ -164,7 +164,7 @@ module _ {T : Type 0} (next : T → TraceValue → ℕ → T) where
   -- a board at which a run isn't over, and one of its turns
   pub told-goes_on : (enough : T → Bool) (entries : List TapeEntry) (limit : ℕ) (c : CpuValue) (s t u : BusValue) (e f : CpuValue) (w v new : T) (trace : TraceValue) (flag : Bool)
       → limit ≤ 2 ^ 48 → AtTold enough entries limit c s t e w v false → is_over limit (over_bus e t) ≡ false → TurnedBus entries 7 e t u f
-      → trace ≡ trace_of entries (u.wires.clock - t.wires.clock) (over_bus e t) → new ≡ next v trace f.pc → flag ≡ enough new
+      → trace ≡ trace_of entries (u.peripherals.clock - t.peripherals.clock) (over_bus e t) → new ≡ next v trace f.pc → flag ≡ enough new
       → AtTold enough entries limit c s u f w new flag
   told-goes_on enough entries limit c s t u e f w v new trace flag last at open_yet turned_bus is told_new asked =
       let open_turn = over-running limit (over_bus e t) open_yet in
@@ -183,12 +183,12 @@ module _ {T : Type 0} (next : T → TraceValue → ℕ → T) where
         range = made.range;
       }
     where
-      of_mid : (mid : Option MidValue) → e.mid ≡ mid → (e.mid ≡ None → t.wires.clock < limit) → u.wires.clock ≡ t.wires.clock + suc turned_bus.turned.count
-          → u.wires.clock ≤ t.wires.clock + 7 → (u.wires.clock ≤ s.wires.clock + 7) ⊎ (u.wires.clock ≤ limit + 6)
+      of_mid : (mid : Option MidValue) → e.mid ≡ mid → (e.mid ≡ None → t.peripherals.clock < limit) → u.peripherals.clock ≡ t.peripherals.clock + suc turned_bus.turned.count
+          → u.peripherals.clock ≤ t.peripherals.clock + 7 → (u.peripherals.clock ≤ s.peripherals.clock + 7) ⊎ (u.peripherals.clock ≤ limit + 6)
       of_mid None inside before clock most = let early = before inside in inr (omega arith)
       of_mid (Some m) inside before clock most = elim (cases_lt at.turns.count 1) [
         | inl less ↦ (let none : at.turns.count ≡ 0 = omega (arith, less) in
-            let same = ap (λ (k : BusValue). k.wires.clock) (at.first none).1 in inl (omega (arith, same, most)))
+            let same = ap (λ (k : BusValue). k.peripherals.clock) (at.first none).1 in inl (omega (arith, same, most)))
         | inr not_less ↦ absurd (some-none (sym inside ∙ at.later (omega (arith, not_less))))
       ]
         where
@@ -198,7 +198,7 @@ module _ {T : Type 0} (next : T → TraceValue → ℕ → T) where
   -- and some turns of it from a boundary on
   pub told-goes_calmly : (enough : T → Bool) (entries : List TapeEntry) (limit : ℕ) (c : CpuValue) (s t u : BusValue) (e f : CpuValue) (w v new : T) (flag : Bool)
       → AtTold enough entries limit c s t e w v false → TurnsOn entries limit [] e t u f
-      → ToldTurns next enough entries limit (over_bus e t) (over_bus f u) v new flag → t.wires.clock < u.wires.clock
+      → ToldTurns next enough entries limit (over_bus e t) (over_bus f u) v new flag → t.peripherals.clock < u.peripherals.clock
       → AtTold enough entries limit c s u f w new flag
   told-goes_calmly enough entries limit c s t u e f w v new flag at on turns more =
       let clock = at.run.clock in
@@ -221,7 +221,7 @@ module _ {T : Type 0} (next : T → TraceValue → ℕ → T) where
       → TracedBusRun next enough entries limit c s t e w v
   told-ends enough entries limit c s t e w v flag at place ends =
       let clock = at.run.clock in
-      let steps : t.wires.clock - s.wires.clock ≡ at.run.count = omega arith in
+      let steps : t.peripherals.clock - s.peripherals.clock ≡ at.run.count = omega arith in
       record {
         turns = record {
           count = at.turns.count;

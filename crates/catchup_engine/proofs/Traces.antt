@@ -21,7 +21,7 @@ use Rattle.lockstep_board.specs.Run.{boundary_steps, is_over}
 use Rattle.catchup_engine.specs.Runs.{over_bus, BoundaryRun, IsInRange}
 use Rattle.catchup_engine.specs.Trace.{TracedReset, TracedStep, TracedValue, TraceValue, access_at, accesses_in, accesses_of, byte_of, first_byte, first_value, no_trace, opcode_by, pushed, sequence_at, seven_of, step_trace, trace_of, traced}
 use Rattle.catchup_engine.specs.Turn.{Goes, TurnedBus}
-use Rattle.lockstep_board.specs.Wires.{Wires, ticked}
+use Rattle.lockstep_board.specs.Peripherals.{Peripherals, ticked}
 use Rattle.lockstep_board.proofs.Clocks.{step-clock}
 use Rattle.lockstep_board.proofs.Runs.{steps_until-is, through-reached}
 use Rattle.catchup_engine.proofs.RunsOn.{boundary-ends, boundary-starts, open-before, turn-runs}
@@ -31,7 +31,7 @@ use Rattle.catchup_engine.proofs.Turns.{Begins, First, HasEffects, ResetBegun, c
 
 -- the access that was made is the one that the board makes
 made_by-is : (entries : List TapeEntry) (next : Next) (v : ℕ) (x : course.Access) (s t : BusValue) → IsAccess next v x → BusStep entries x s t
-    → made_by next (in_clock entries s.begun s.wires) ≡ Some x
+    → made_by next (in_clock entries s.begun s.peripherals) ≡ Some x
 made_by-is entries (Read a) v x s t is did =
     let d = subst (λ y. BusStep entries y s t) is did in
     ap (λ b. Some (read_of a b)) (sym d.0) ∙ ap (λ (y : course.Access). Some y) (sym is)
@@ -42,17 +42,17 @@ access-resumed : (entries : List TapeEntry) (c : CpuValue) (m : MidValue) (v : �
     → IsAccess (next_of (registers_of c) m.sequence (given_by m)) v x → BusStep entries x s t → access_in entries (over_bus c s) ≡ Some x
 unfolding access_in
 access-resumed entries c m v x s t inside between is did =
-    ap (λ (mid : Option MidValue). due_access mid c (ticked entries s.wires)) inside
+    ap (λ (mid : Option MidValue). due_access mid c (ticked entries s.peripherals)) inside
     ∙ ap (made_by (next_of (registers_of c) m.sequence (given_by m))) (sym (in_clock-between entries s between))
     ∙ made_by-is entries (next_of (registers_of c) m.sequence (given_by m)) v x s t is did
 
 access-fetched : (entries : List TapeEntry) (c : CpuValue) (q : Sequence) (v : ℕ) (x : course.Access) (s b t : BusValue) → c.mid ≡ None
-    → Begins entries s b → q ≡ sequence_due c b.wires → IsAccess (next_of (start_of q c) q []) v x → BusStep entries x b t
+    → Begins entries s b → q ≡ sequence_due c b.peripherals → IsAccess (next_of (start_of q c) q []) v x → BusStep entries x b t
     → access_in entries (over_bus c s) ≡ Some x
 unfolding access_in
 access-fetched entries c q v x s b t boundary begins due is did =
-    let w = ticked entries s.wires in
-    let due_then : q ≡ sequence_due c w = due ∙ ap (sequence_due c) begins.wires ∙ due-clock c w in
+    let w = ticked entries s.peripherals in
+    let due_then : q ≡ sequence_due c w = due ∙ ap (sequence_due c) begins.peripherals ∙ due-clock c w in
     ap (λ (mid : Option MidValue). due_access mid c w) boundary
     ∙ ap (λ (p : Sequence). made_by (next_of (start_of p c) p []) w) (sym due_then)
     ∙ ap (made_by (next_of (start_of q c) q [])) (sym (in_clock-begun entries s b begins))
@@ -90,16 +90,16 @@ bus-advances entries r q given clocks made s t e a =
     (advances-seen (BusStep entries) (λ (k : TracedValue). k.bus) (λ k. 0) (λ x a b h. (refl, h.0)) r q given clocks made s t e a).1
 
 -- the access of a board inside a sequence
-access-paused : (entries : List TapeEntry) (r : RegistersValue) (q : Sequence) (bytes : List ℕ) (w : Wires)
-    → access_in entries (record { cpu = paused r q bytes; wires = w }) ≡ made_by (next_of r q bytes) (ticked entries w)
+access-paused : (entries : List TapeEntry) (r : RegistersValue) (q : Sequence) (bytes : List ℕ) (w : Peripherals)
+    → access_in entries (record { cpu = paused r q bytes; peripherals = w }) ≡ made_by (next_of r q bytes) (ticked entries w)
 unfolding access_in
 access-paused entries r q bytes w = rw (given_paused bytes) refl
 
 access-inside : (entries : List TapeEntry) (r : RegistersValue) (q : Sequence) (bytes : List ℕ) (v : ℕ) (x : course.Access) (s t : BusValue)
-    → IsAccess (next_of r q bytes) v x → BusStep entries x s t → s.begun ≡ false → access_in entries (board_after r q bytes s.wires) ≡ Some x
+    → IsAccess (next_of r q bytes) v x → BusStep entries x s t → s.begun ≡ false → access_in entries (board_after r q bytes s.peripherals) ≡ Some x
 access-inside entries r q bytes v x s t is did between =
-    ap (λ (c : CpuValue). access_in entries (record { cpu = c; wires = s.wires })) (paused-is (next_of r q bytes) r q bytes v x is)
-    ∙ access-paused entries r q bytes s.wires
+    ap (λ (c : CpuValue). access_in entries (record { cpu = c; peripherals = s.peripherals })) (paused-is (next_of r q bytes) r q bytes v x is)
+    ∙ access-paused entries r q bytes s.peripherals
     ∙ ap (made_by (next_of r q bytes)) (sym (in_clock-between entries s between))
     ∙ made_by-is entries (next_of r q bytes) v x s t is did
 
@@ -110,11 +110,11 @@ pub record IsTold (entries : List TapeEntry) (n : ℕ) (b : Board) (before : Lis
 
 -- the accesses of the next clock, and then those of the others
 told-more : (entries : List TapeEntry) (n : ℕ) (b next : Board) (a : Access) (before : List Access) (trace : TraceValue) → step entries b ≡ next
-    → accesses_in b.wires.clock (access_in entries b) ≡ a ∷ [] → IsTold entries n next (before ++ a ∷ []) trace → IsTold entries (suc n) b before trace
+    → accesses_in b.peripherals.clock (access_in entries b) ≡ a ∷ [] → IsTold entries n next (before ++ a ∷ []) trace → IsTold entries (suc n) b before trace
 unfolding accesses_of
 told-more entries n b next a before trace steps one rest =
     let whole : accesses_of entries (suc n) b ≡ a ∷ accesses_of entries n next =
-    ap (λ (k : Board). accesses_in b.wires.clock (access_in entries b) ++ accesses_of entries n k) steps
+    ap (λ (k : Board). accesses_in b.peripherals.clock (access_in entries b) ++ accesses_of entries n k) steps
     ∙ ap (λ (l : List Access). l ++ accesses_of entries n next) one in
     let full = rest.full in
     record {
@@ -127,34 +127,34 @@ told-more entries n b next a before trace steps one rest =
 -- what is left of a sequence is told clock by clock
 moves-told : (entries : List TapeEntry) (r : RegistersValue) (q : Sequence) (bytes more : List ℕ) (s t : TracedValue)
     → Moves (TracedStep entries) r q bytes more s t → s.bus.begun ≡ false → (before : List Access) → s.trace ≡ of_accesses before
-    → length before + length more ≤ 7 → IsTold entries (length more) (board_after r q bytes s.bus.wires) before t.trace
+    → length before + length more ≤ 7 → IsTold entries (length more) (board_after r q bytes s.bus.peripherals) before t.trace
 unfolding accesses_of
 moves-told entries r q bytes [] s t same between before is few = record {
   trace_is = ap (λ (k : TracedValue). k.trace) same ∙ is ∙ ap of_accesses (sym (append-nil before));
   full = refl;
 }
 moves-told entries r q bytes (v ∷ more) s t (x, m, is, did, rest) between before at few =
-    let b = board_after r q bytes s.bus.wires in
+    let b = board_after r q bytes s.bus.peripherals in
     let next = step-access entries r q bytes v x s.bus m.bus is did.0 between in
     let clock = step-clock entries b in
-    let clock_then : m.bus.wires.clock ≡ (step entries b).wires.clock = ap (λ (k : Board). k.wires.clock) (sym next) in
-    let now : m.bus.wires.clock - 1 ≡ s.bus.wires.clock = omega arith in
-    let a = access_at s.bus.wires.clock x in
-    let one : accesses_in b.wires.clock (access_in entries b) ≡ a ∷ [] =
-    ap (accesses_in s.bus.wires.clock) (access-inside entries r q bytes v x s.bus m.bus is did.0 between) in
+    let clock_then : m.bus.peripherals.clock ≡ (step entries b).peripherals.clock = ap (λ (k : Board). k.peripherals.clock) (sym next) in
+    let now : m.bus.peripherals.clock - 1 ≡ s.bus.peripherals.clock = omega arith in
+    let a = access_at s.bus.peripherals.clock x in
+    let one : accesses_in b.peripherals.clock (access_in entries b) ≡ a ∷ [] =
+    ap (accesses_in s.bus.peripherals.clock) (access-inside entries r q bytes v x s.bus m.bus is did.0 between) in
     let longer = length-append before (a ∷ []) in
     let told : m.trace ≡ of_accesses (before ++ a ∷ []) =
     did.1
-    ∙ ap (λ (k : TraceValue). pushed k (access_at (m.bus.wires.clock - 1) x)) at
+    ∙ ap (λ (k : TraceValue). pushed k (access_at (m.bus.peripherals.clock - 1) x)) at
     ∙ ap (λ n. pushed (of_accesses before) (access_at n x)) now
     ∙ pushed-is before a (omega arith) in
-    told-more entries (length more) b (board_after r q (bytes ++ v ∷ []) m.bus.wires) a before t.trace next one
+    told-more entries (length more) b (board_after r q (bytes ++ v ∷ []) m.bus.peripherals) a before t.trace next one
     (moves-told entries r q (bytes ++ v ∷ []) more m t rest (stays-of entries x s.bus m.bus did.0).begun (before ++ a ∷ []) told (omega arith))
 
 -- a turn that is traced: so many clocks of it are told
 pub record IsTraced (entries : List TapeEntry) (b : Board) (t : TracedValue) : Type 0 where
   pub count : ℕ
-  pub clock : t.bus.wires.clock ≡ b.wires.clock + count
+  pub clock : t.bus.peripherals.clock ≡ b.peripherals.clock + count
   pub some : 1 ≤ count
   pub told : IsTold entries count b [] t.trace
   pub byte : first_value t.trace.accesses ≡ byte_of (access_in entries b)
@@ -170,21 +170,21 @@ unfolding accesses_of
 first-byte entries n b x trace access is =
     let rest = accesses_of entries n (step entries b) in
     ap (λ (t : TraceValue). first_value t.accesses) is
-    ∙ ap (λ (y : Option course.Access). first_value (seven_of (accesses_in b.wires.clock y ++ rest))) access
-    ∙ value-at b.wires.clock x
+    ∙ ap (λ (y : Option course.Access). first_value (seven_of (accesses_in b.peripherals.clock y ++ rest))) access
+    ∙ value-at b.peripherals.clock x
     ∙ ap byte_of (sym access)
 
 -- the first clock, and then the others
 turn-told : (entries : List TapeEntry) (b : Board) (r : RegistersValue) (q : Sequence) (bytes more : List ℕ) (s : BusValue) (m t : TracedValue) (x : course.Access)
-    → First entries b r q bytes s m.bus → access_in entries b ≡ Some x → m.trace ≡ of_accesses (access_at (m.bus.wires.clock - 1) x ∷ [])
+    → First entries b r q bytes s m.bus → access_in entries b ≡ Some x → m.trace ≡ of_accesses (access_at (m.bus.peripherals.clock - 1) x ∷ [])
     → Moves (TracedStep entries) r q bytes more m t → length more ≤ 6 → IsTraced entries b t
 turn-told entries b r q bytes more s m t x first access told moves few =
     let clock = step-clock entries b in
-    let clock_then : m.bus.wires.clock ≡ (step entries b).wires.clock = ap (λ (k : Board). k.wires.clock) (sym first.step) in
-    let now : m.bus.wires.clock - 1 ≡ b.wires.clock = omega arith in
-    let a = access_at b.wires.clock x in
+    let clock_then : m.bus.peripherals.clock ≡ (step entries b).peripherals.clock = ap (λ (k : Board). k.peripherals.clock) (sym first.step) in
+    let now : m.bus.peripherals.clock - 1 ≡ b.peripherals.clock = omega arith in
+    let a = access_at b.peripherals.clock x in
     let at : m.trace ≡ of_accesses (a ∷ []) = told ∙ ap (λ n. of_accesses (access_at n x ∷ [])) now in
-    let whole = told-more entries (length more) b (board_after r q bytes m.bus.wires) a [] t.trace first.step (ap (accesses_in b.wires.clock) access)
+    let whole = told-more entries (length more) b (board_after r q bytes m.bus.peripherals) a [] t.trace first.step (ap (accesses_in b.peripherals.clock) access)
     (moves-told entries r q bytes more m t moves first.goes.between (a ∷ []) at (omega arith)) in
     record {
       count = suc (length more);
@@ -203,7 +203,7 @@ bus-runs entries r q s t e runs =
 
 -- a whole instruction or interrupt
 pub whole-told : (entries : List TapeEntry) (c : CpuValue) (q : Sequence) (s b : BusValue) (t : TracedValue) (e : CpuValue) → c.mid ≡ None
-    → Begins entries s b → q ≡ sequence_due c b.wires → q ≢ Reset → Runs (TracedStep entries) (start_of q c) q (traced b no_trace) t e
+    → Begins entries s b → q ≡ sequence_due c b.peripherals → q ≢ Reset → Runs (TracedStep entries) (start_of q c) q (traced b no_trace) t e
     → IsTraced entries (over_bus c s) t
 whole-told entries c q s b t e boundary begins due other runs = by_bytes runs.bytes runs.moves runs.ends
   where
@@ -216,22 +216,22 @@ whole-told entries c q s b t e boundary begins due other runs = by_bytes runs.by
         let few = moves-length entries r q (v ∷ []) more m.bus t.bus (bus-moves entries r q (v ∷ []) more m t rest) (omega arith) in
         turn-told entries (over_bus c s) r q (v ∷ []) more s m t x (fetch-first entries c q s b m.bus v x boundary begins due other is did.0)
         (access-fetched entries c q v x s b m.bus boundary begins due is did.0)
-        (did.1 ∙ pushed-is [] (access_at (m.bus.wires.clock - 1) x) (omega arith)) rest (omega arith)
+        (did.1 ∙ pushed-is [] (access_at (m.bus.peripherals.clock - 1) x) (omega arith)) rest (omega arith)
 
 -- an instruction in whose first clock nothing comes of itself
 access-opcode : (entries : List TapeEntry) (c : CpuValue) (v : ℕ) (x : course.Access) (s t : BusValue) → c.mid ≡ None → s.begun ≡ false
-    → Opcode ≡ sequence_due c (ticked entries s.wires) → IsAccess (next_of (start_of Opcode c) Opcode []) v x → BusStep entries x s t
+    → Opcode ≡ sequence_due c (ticked entries s.peripherals) → IsAccess (next_of (start_of Opcode c) Opcode []) v x → BusStep entries x s t
     → access_in entries (over_bus c s) ≡ Some x
 unfolding access_in
 access-opcode entries c v x s t boundary between due is did =
-    let w = ticked entries s.wires in
+    let w = ticked entries s.peripherals in
     ap (λ (mid : Option MidValue). due_access mid c w) boundary
     ∙ ap (λ (p : Sequence). made_by (next_of (start_of p c) p []) w) (sym due)
     ∙ ap (made_by (next_of (start_of Opcode c) Opcode [])) (sym (in_clock-between entries s between))
     ∙ made_by-is entries (next_of (start_of Opcode c) Opcode []) v x s t is did
 
 pub opcode-told : (entries : List TapeEntry) (c : CpuValue) (s : BusValue) (t : TracedValue) (e : CpuValue) → c.mid ≡ None → s.begun ≡ false
-    → Opcode ≡ sequence_due c (ticked entries s.wires) → Runs (TracedStep entries) (registers_of c) Opcode (traced s no_trace) t e
+    → Opcode ≡ sequence_due c (ticked entries s.peripherals) → Runs (TracedStep entries) (registers_of c) Opcode (traced s no_trace) t e
     → IsTraced entries (over_bus c s) t
 opcode-told entries c s t e boundary between due runs = by_bytes runs.bytes runs.moves runs.ends
   where
@@ -244,7 +244,7 @@ opcode-told entries c s t e boundary between due runs = by_bytes runs.bytes runs
         let few = moves-length entries r Opcode (v ∷ []) more m.bus t.bus (bus-moves entries r Opcode (v ∷ []) more m t rest) (omega arith) in
         turn-told entries (over_bus c s) r Opcode (v ∷ []) more s m t x (opcode-first entries c s m.bus v x boundary between due is did.0)
         (access-opcode entries c v x s m.bus boundary between due is did.0)
-        (did.1 ∙ pushed-is [] (access_at (m.bus.wires.clock - 1) x) (omega arith)) rest (omega arith)
+        (did.1 ∙ pushed-is [] (access_at (m.bus.peripherals.clock - 1) x) (omega arith)) rest (omega arith)
 
 -- what is left of a sequence
 pub rest-told : (entries : List TapeEntry) (c : CpuValue) (m : MidValue) (made : ℕ) (s : BusValue) (t : TracedValue) (e : CpuValue) → c.mid ≡ Some m
@@ -271,7 +271,7 @@ rest-told entries c m made s t e inside middle six between a = by_more a.more a.
         (bus-moves entries r m.sequence (given_by m ++ v ∷ []) more k t rest) (omega arith) in
         turn-told entries (over_bus c s) r m.sequence (given_by m ++ v ∷ []) more s k t x (resume-first entries c m s k.bus v x inside between is did.0)
         (access-resumed entries c m v x s k.bus inside between is did.0)
-        (did.1 ∙ pushed-is [] (access_at (k.bus.wires.clock - 1) x) (omega arith)) rest (omega arith)
+        (did.1 ∙ pushed-is [] (access_at (k.bus.peripherals.clock - 1) x) (omega arith)) rest (omega arith)
 
 -- what is left of a sequence is a turn, and it is told
 pub record IsRest (entries : List TapeEntry) (c : CpuValue) (m : MidValue) (s : BusValue) (t : TracedValue) (e : CpuValue) : Type 0 where
@@ -297,8 +297,8 @@ middle-told entries c m s t e inside middle six between advances =
 
 -- the sequence and the first byte of a sequence under way
 pub middle-sequence : (entries : List TapeEntry) (c : CpuValue) (m : MidValue) (s : BusValue) → c.mid ≡ Some m
-    → m.sequence ≡ sequence_at (over_bus c s).cpu.mid (over_bus c s).cpu (ticked entries (over_bus c s).wires)
-middle-sequence entries c m s inside = sym (ap (λ (mid : Option MidValue). sequence_at mid c (ticked entries s.wires)) inside)
+    → m.sequence ≡ sequence_at (over_bus c s).cpu.mid (over_bus c s).cpu (ticked entries (over_bus c s).peripherals)
+middle-sequence entries c m s inside = sym (ap (λ (mid : Option MidValue). sequence_at mid c (ticked entries s.peripherals)) inside)
 
 pub middle-byte : (entries : List TapeEntry) (c : CpuValue) (m : MidValue) (s : BusValue) → c.mid ≡ Some m
     → slice_index m.bytes 0 ≡ first_byte (over_bus c s).cpu.mid (access_in entries (over_bus c s))
@@ -318,7 +318,7 @@ reset-rest entries c k v s t e stands rest =
 
 -- from the move of its read
 reset-of : (entries : List TapeEntry) (c : CpuValue) (s b : BusValue) (m t : TracedValue) (k e : CpuValue) (v : ℕ) (x : course.Access) → c.mid ≡ None
-    → Begins entries s b → Reset ≡ sequence_due c b.wires → IsAccess (next_of (start_of Reset c) Reset []) v x → TracedStep entries x (traced b no_trace) m
+    → Begins entries s b → Reset ≡ sequence_due c b.peripherals → IsAccess (next_of (start_of Reset c) Reset []) v x → TracedStep entries x (traced b no_trace) m
     → k ≡ paused (start_of Reset c) Reset (v ∷ []) → (taken : BusValue) → HasEffects m.bus taken
     → IfSome k.mid (λ p. (made : ℕ) × Advances (TracedStep entries) (registers_of k) p.sequence (given_by p) 6 made (traced taken m.trace) t e)
     → IsReset entries c s t e
@@ -333,7 +333,7 @@ reset-of entries c s b m t k e v x boundary begins due is did stands taken effec
       between = between;
     } in
     let goes : Goes m.bus taken = record { more = effects.more; rooms = effects.rooms; until = effects.until; between = effects.between ∙ between } in
-    let same : taken.wires.clock ≡ m.bus.wires.clock = ap (λ (w : Wires). w.clock) effects.wires in
+    let same : taken.peripherals.clock ≡ m.bus.peripherals.clock = ap (λ (w : Peripherals). w.clock) effects.peripherals in
     let a = reset-rest entries c k v (traced taken m.trace) t e stands rest in
     let moves = bus-moves entries r Reset (v ∷ []) a.1.more (traced taken m.trace) t a.1.moves in
     let few = moves-length entries r Reset (v ∷ []) a.1.more taken t.bus moves (omega arith) in
@@ -345,14 +345,14 @@ reset-of entries c s b m t k e v x boundary begins due is did stands taken effec
           (bus-advances entries r Reset (v ∷ []) 6 a.0 (traced taken m.trace) t e a.1)));
       traced =
           turn-told entries (over_bus c s) r Reset (v ∷ []) a.1.more s (traced taken m.trace) t x
-          (reset-first entries c s b m.bus taken v x boundary begins due is did.0 effects.wires effects.calls goes)
+          (reset-first entries c s b m.bus taken v x boundary begins due is did.0 effects.peripherals effects.calls goes)
           (access-fetched entries c Reset v x s b m.bus boundary begins due is did.0)
-          (did.1 ∙ pushed-is [] (access_at (m.bus.wires.clock - 1) x) (omega arith) ∙ ap (λ n. of_accesses (access_at (n - 1) x ∷ [])) (sym same))
+          (did.1 ∙ pushed-is [] (access_at (m.bus.peripherals.clock - 1) x) (omega arith) ∙ ap (λ n. of_accesses (access_at (n - 1) x ∷ [])) (sym same))
           a.1.moves (omega arith);
     }
 
 pub reset-told : (entries : List TapeEntry) (c : CpuValue) (s b : BusValue) (t : TracedValue) (e : CpuValue) → c.mid ≡ None
-    → Begins entries s b → Reset ≡ sequence_due c b.wires → TracedReset entries c b t e → IsReset entries c s t e
+    → Begins entries s b → Reset ≡ sequence_due c b.peripherals → TracedReset entries c b t e → IsReset entries c s t e
 reset-told entries c s b t e boundary begins due reset = by_more one.more one.moves one.count one.full one.stands
   where
     r : RegistersValue
@@ -399,9 +399,9 @@ first-room entries c k b trace m begun (made, a) = by_more a.more a.moves a.coun
     read-room : (v : ℕ) (x : course.Access) (t : BusValue) → IsAccess (next_of (start_of Reset c) Reset []) v x → BusStep entries x b t → room_of b ≤ room_of t + 1
     read-room v x t is did =
         let d = subst (λ y. BusStep entries y b t) is did in
-        let wires = d.1 ∙ ap (λ f. done_clock (if f then at_clock (b.wires.clock - 1) b.wires else ticked entries b.wires)) begun in
-        let written = ap (λ (w : Wires). length w.written) wires in
-        let clock = ap (λ (w : Wires). w.clock) wires in
+        let peripherals = d.1 ∙ ap (λ f. done_clock (if f then at_clock (b.peripherals.clock - 1) b.peripherals else ticked entries b.peripherals)) begun in
+        let written = ap (λ (w : Peripherals). length w.written) peripherals in
+        let clock = ap (λ (w : Peripherals). w.clock) peripherals in
         let rooms = ap (λ (r : Rooms). r.board) (stays-of entries x b t did).rooms in
         let until = (stays-of entries x b t did).until in
         omega arith
@@ -414,16 +414,16 @@ first-room entries c k b trace m begun (made, a) = by_more a.more a.moves a.coun
 
 -- the trace with its sequence
 pub trace-named : (entries : List TapeEntry) (b : Board) (t : TracedValue) (q : Sequence) (o : ℕ) → IsTraced entries b t
-    → q ≡ sequence_at b.cpu.mid b.cpu (ticked entries b.wires) → o ≡ opcode_by q (first_byte b.cpu.mid (access_in entries b))
-    → (let r : TraceValue = record t.trace { sequence = q; opcode = o } in r) ≡ trace_of entries (t.bus.wires.clock - b.wires.clock) b
+    → q ≡ sequence_at b.cpu.mid b.cpu (ticked entries b.peripherals) → o ≡ opcode_by q (first_byte b.cpu.mid (access_in entries b))
+    → (let r : TraceValue = record t.trace { sequence = q; opcode = o } in r) ≡ trace_of entries (t.bus.peripherals.clock - b.peripherals.clock) b
 unfolding trace_of
 trace-named entries b t q o at is opcode =
     let n = at.count in
     let clock = at.clock in
-    let same : t.bus.wires.clock - b.wires.clock ≡ n = omega arith in
+    let same : t.bus.peripherals.clock - b.peripherals.clock ≡ n = omega arith in
     let whole = λ (p : Sequence) (code k : ℕ) (l : List Access). (let r : TraceValue = record { sequence = p; opcode = code; count = k; accesses = l } in r) in
     let made = accesses_of entries n b in
-    let there = sequence_at b.cpu.mid b.cpu (ticked entries b.wires) in
+    let there = sequence_at b.cpu.mid b.cpu (ticked entries b.peripherals) in
     ap (λ (k : TraceValue). let r : TraceValue = record k { sequence = q; opcode = o } in r) at.told.trace_is
     ∙ ap (λ code. whole q code (length made) (seven_of made)) opcode
     ∙ ap (λ (p : Sequence). whole p (opcode_by p (first_byte b.cpu.mid (access_in entries b))) (length made) (seven_of made)) is
@@ -437,13 +437,13 @@ reset-opcode Interrupt x y is = refl
 reset-opcode Reset x y is = refl
 
 -- what a fetch begins is the sequence of the next clock
-pub fetch-sequence : (entries : List TapeEntry) (c : CpuValue) (q : Sequence) (s b : BusValue) → c.mid ≡ None → Begins entries s b → q ≡ sequence_due c b.wires
-    → q ≡ sequence_at (over_bus c s).cpu.mid (over_bus c s).cpu (ticked entries (over_bus c s).wires)
+pub fetch-sequence : (entries : List TapeEntry) (c : CpuValue) (q : Sequence) (s b : BusValue) → c.mid ≡ None → Begins entries s b → q ≡ sequence_due c b.peripherals
+    → q ≡ sequence_at (over_bus c s).cpu.mid (over_bus c s).cpu (ticked entries (over_bus c s).peripherals)
 fetch-sequence entries c q s b boundary begins due =
     due
-    ∙ ap (sequence_due c) begins.wires
-    ∙ due-clock c (ticked entries s.wires)
-    ∙ sym (ap (λ (mid : Option MidValue). sequence_at mid c (ticked entries s.wires)) boundary)
+    ∙ ap (sequence_due c) begins.peripherals
+    ∙ due-clock c (ticked entries s.peripherals)
+    ∙ sym (ap (λ (mid : Option MidValue). sequence_at mid c (ticked entries s.peripherals)) boundary)
 
 -- and its byte is that of the first access
 pub fetch-byte : (entries : List TapeEntry) (c : CpuValue) (s : BusValue) (t : TracedValue) → c.mid ≡ None → IsTraced entries (over_bus c s) t
@@ -451,8 +451,8 @@ pub fetch-byte : (entries : List TapeEntry) (c : CpuValue) (s : BusValue) (t : T
 fetch-byte entries c s t boundary at =
     at.byte ∙ sym (ap (λ (mid : Option MidValue). first_byte mid (access_in entries (over_bus c s))) boundary)
 
-over-after : (limit : ℕ) (b : Board) → b.cpu.mid ≡ None → limit ≤ b.wires.clock → is_over limit b ≡ true
-over-after limit b boundary late = rw (boundary, le-leb limit b.wires.clock late) (or-true b.cpu.jam)
+over-after : (limit : ℕ) (b : Board) → b.cpu.mid ≡ None → limit ≤ b.peripherals.clock → is_over limit b ≡ true
+over-after limit b boundary late = rw (boundary, le-leb limit b.peripherals.clock late) (or-true b.cpu.jam)
   where
     or-true : (jam : Option ℕ) → is_some jam || true ≡ true
     or-true None = refl
@@ -461,12 +461,12 @@ over-after limit b boundary late = rw (boundary, le-leb limit b.wires.clock late
 -- a board at which a run isn't over: it isn't jammed, and at a boundary it stands before the limit
 pub record IsRunning (limit : ℕ) (b : Board) : Type 0 where
   pub running : b.cpu.jam ≡ None
-  pub before : b.cpu.mid ≡ None → b.wires.clock < limit
+  pub before : b.cpu.mid ≡ None → b.peripherals.clock < limit
 
 pub over-running : (limit : ℕ) (b : Board) → is_over limit b ≡ false → IsRunning limit b
 over-running limit b open_yet = by_jam b.cpu.jam refl open_yet
   where
-    before : is_over limit b ≡ false → b.cpu.mid ≡ None → b.wires.clock < limit
+    before : is_over limit b ≡ false → b.cpu.mid ≡ None → b.peripherals.clock < limit
     before off boundary = (open-before limit b boundary off).clock
 
     by_jam : (jam : Option ℕ) → b.cpu.jam ≡ jam → is_over limit b ≡ false → IsRunning limit b
@@ -477,64 +477,64 @@ over-running limit b open_yet = by_jam b.cpu.jam refl open_yet
 turn-ended : (entries : List TapeEntry) (c : CpuValue) (s t : BusValue) (e : CpuValue) → TurnedBus entries 7 c s t e → e.mid ≡ None
 turn-ended entries c s t e turned = of e.mid turned.stops turned.short
   where
-    of : (mid : Option MidValue) → (IsSome mid → t.wires.clock ≡ s.wires.clock + 7) → (IsSome mid → turned.before + t.wires.clock ≤ s.wires.clock + 6) → mid ≡ None
+    of : (mid : Option MidValue) → (IsSome mid → t.peripherals.clock ≡ s.peripherals.clock + 7) → (IsSome mid → turned.before + t.peripherals.clock ≤ s.peripherals.clock + 6) → mid ≡ None
     of None stops short = refl
     of (Some m) stops short = let all = stops (search rules) in let few = short (search rules) in absurd (omega arith)
 
-turn-open : (b : Board) → b.cpu.jam ≡ None → is_over (b.wires.clock + 1) b ≡ false
+turn-open : (b : Board) → b.cpu.jam ≡ None → is_over (b.peripherals.clock + 1) b ≡ false
 turn-open b running = by_mid b.cpu.mid refl
   where
-    late : nat_le (b.wires.clock + 1) b.wires.clock ≡ false
-    late = lt-leb (b.wires.clock + 1) b.wires.clock (omega arith)
+    late : nat_le (b.peripherals.clock + 1) b.peripherals.clock ≡ false
+    late = lt-leb (b.peripherals.clock + 1) b.peripherals.clock (omega arith)
 
-    by_mid : (mid : Option MidValue) → b.cpu.mid ≡ mid → is_over (b.wires.clock + 1) b ≡ false
+    by_mid : (mid : Option MidValue) → b.cpu.mid ≡ mid → is_over (b.peripherals.clock + 1) b ≡ false
     by_mid None is = rw (running, is, late) refl
     by_mid (Some m) is = rw (running, is) refl
 
 turn-over : (entries : List TapeEntry) (c : CpuValue) (s t : BusValue) (e : CpuValue) → TurnedBus entries 7 c s t e
-    → is_over (s.wires.clock + 1) (over_bus e t) ≡ true
+    → is_over (s.peripherals.clock + 1) (over_bus e t) ≡ true
 turn-over entries c s t e turned =
     let clock = turned.turned.clock in
-    over-after (s.wires.clock + 1) (over_bus e t) (turn-ended entries c s t e turned) (omega arith)
+    over-after (s.peripherals.clock + 1) (over_bus e t) (turn-ended entries c s t e turned) (omega arith)
 
 -- a turn takes as many clocks as the run that it is
 turn-steps : (entries : List TapeEntry) (c : CpuValue) (s t : BusValue) (e : CpuValue) → c.jam ≡ None → TurnedBus entries 7 c s t e
-    → boundary_steps entries (s.wires.clock + 1) (over_bus c s) ≡ t.wires.clock - s.wires.clock
+    → boundary_steps entries (s.peripherals.clock + 1) (over_bus c s) ≡ t.peripherals.clock - s.peripherals.clock
 turn-steps entries c s t e running turned =
-    let limit = s.wires.clock + 1 in
+    let limit = s.peripherals.clock + 1 in
     let clock = turned.turned.clock in
     let most = turned.at_most in
     let n = turned.turned.count in
     let reached = through-reached entries limit n (step entries (over_bus c s)) (over_bus e t) turned.turned.through in
-    let count : t.wires.clock - s.wires.clock ≡ suc n = omega arith in
-    steps_until-is entries (is_over limit) (suc n) ((limit - s.wires.clock) + 6) (over_bus c s) (over_bus e t) (turn-open (over_bus c s) running, reached)
+    let count : t.peripherals.clock - s.peripherals.clock ≡ suc n = omega arith in
+    steps_until-is entries (is_over limit) (suc n) ((limit - s.peripherals.clock) + 6) (over_bus c s) (over_bus e t) (turn-open (over_bus c s) running, reached)
     (turn-over entries c s t e turned) (omega arith)
     ∙ sym count
 
 pub trace-told : (entries : List TapeEntry) (c : CpuValue) (s t : BusValue) (e : CpuValue) (trace : TraceValue) → c.jam ≡ None → TurnedBus entries 7 c s t e
-    → trace ≡ trace_of entries (t.wires.clock - s.wires.clock) (over_bus c s) → trace ≡ step_trace entries (over_bus c s)
+    → trace ≡ trace_of entries (t.peripherals.clock - s.peripherals.clock) (over_bus c s) → trace ≡ step_trace entries (over_bus c s)
 unfolding step_trace
 trace-told entries c s t e trace running turned is =
     is
     ∙ ap (λ n. trace_of entries n (over_bus c s)) (sym (turn-steps entries c s t e running turned))
-    ∙ sym (ap (λ (jam : Option ℕ). if is_some jam then no_trace else trace_of entries (boundary_steps entries (s.wires.clock + 1) (over_bus c s)) (over_bus c s)) running)
+    ∙ sym (ap (λ (jam : Option ℕ). if is_some jam then no_trace else trace_of entries (boundary_steps entries (s.peripherals.clock + 1) (over_bus c s)) (over_bus c s)) running)
 
 -- a turn of a processor that isn't jammed is the run that it is
 none-some : (mid : Option MidValue) (n : ℕ) → mid ≡ None → IsSome mid → n ≤ 2 ^ 48
 none-some None n is some = cc
 none-some (Some m) n is some = cc
 
-early-of : (c : CpuValue) (s : BusValue) → IsInRange c s → (c.mid ≡ None → s.wires.clock < 2 ^ 48) → s.wires.clock ≤ 2 ^ 48
+early-of : (c : CpuValue) (s : BusValue) → IsInRange c s → (c.mid ≡ None → s.peripherals.clock < 2 ^ 48) → s.peripherals.clock ≤ 2 ^ 48
 early-of c s range early = by_mid c.mid refl
   where
-    by_mid : (mid : Option MidValue) → c.mid ≡ mid → s.wires.clock ≤ 2 ^ 48
+    by_mid : (mid : Option MidValue) → c.mid ≡ mid → s.peripherals.clock ≤ 2 ^ 48
     by_mid None is = let h = early is in omega arith
     by_mid (Some m) is = range.middle (rw is (search rules))
 
 pub trace-ends : (entries : List TapeEntry) (c : CpuValue) (s t : BusValue) (e : CpuValue) → c.jam ≡ None → IsInRange c s
-    → (c.mid ≡ None → s.wires.clock < 2 ^ 48) → TurnedBus entries 7 c s t e → BoundaryRun entries (s.wires.clock + 1) c s t e
+    → (c.mid ≡ None → s.peripherals.clock < 2 ^ 48) → TurnedBus entries 7 c s t e → BoundaryRun entries (s.peripherals.clock + 1) c s t e
 trace-ends entries c s t e running range early turned =
-    let limit = s.wires.clock + 1 in
+    let limit = s.peripherals.clock + 1 in
     let n = turned.turned.count in
     let clock = turned.turned.clock in
     let most = turned.at_most in
@@ -546,7 +546,7 @@ trace-ends entries c s t e running range early turned =
       run = turn-runs entries (is_over limit) 7 c e s t (turn-open (over_bus c s) running) turned reached;
       few = omega arith;
       boundary = boundary;
-      range = record { clock = omega arith; middle = λ some. none-some e.mid t.wires.clock boundary some };
+      range = record { clock = omega arith; middle = λ some. none-some e.mid t.peripherals.clock boundary some };
     })
     (turn-over entries c s t e turned)
 
@@ -570,9 +570,9 @@ none-jammed c off = of c.jam off
 
 -- a board that is jammed does nothing
 pub jammed-run : (entries : List TapeEntry) (c : CpuValue) (s : BusValue) → s.begun ≡ false → is_some c.jam ≡ true
-    → IfSome c.mid (λ _. IsMiddle c) → IsInRange c s → BoundaryRun entries (s.wires.clock + 1) c s s c
+    → IfSome c.mid (λ _. IsMiddle c) → IsInRange c s → BoundaryRun entries (s.peripherals.clock + 1) c s s c
 jammed-run entries c s between jammed middle range =
-    let limit = s.wires.clock + 1 in
+    let limit = s.peripherals.clock + 1 in
     let over : is_over limit (over_bus c s) ≡ true = rw jammed refl in
     boundary-ends entries limit c s s c (boundary-starts entries limit c s between (jammed-boundary c jammed middle) range) over
 

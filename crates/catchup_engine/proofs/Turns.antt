@@ -14,7 +14,7 @@ use Rattle.cpu_core.specs.Places.{standing, stopped, paused, given_by, Advances,
 use Rattle.cpu_core.proofs.LengthLemmas.{six_before_end}
 use Rattle.cpu_core.proofs.PlaceLemmas.{place_due}
 use Rattle.tape_ports.specs.declared.entry.TapeEntry.{TapeEntry}
-use Rattle.lockstep_board.specs.Wires.{Wires, line_of, reset_begun, ticked}
+use Rattle.lockstep_board.specs.Peripherals.{Peripherals, line_of, reset_begun, ticked}
 use Rattle.lockstep_board.specs.Lockstep.{Board, accessed, access_in, begun, clocked, due_access, at_fetch, made_by, sequence_due, step}
 use Rattle.lockstep_board.specs.Budget.{begins_reset, budget, counted, device_access, price, reaches_device, reset_count, ticks_price}
 use Rattle.catchup_engine.specs.Bus.{BusValue, BusStep, Does, Fits, at_clock, done_clock, in_clock}
@@ -27,7 +27,7 @@ use Rattle.catchup_engine.proofs.Steps.{board_after, accessed-is, in_clock-betwe
 
 -- the first clock of a turn: one step of the board, and an access of the bus
 pub record First (entries : List TapeEntry) (b : Board) (r : RegistersValue) (q : Sequence) (bytes : List ℕ) (s m : BusValue) : Type 0 where
-  pub step : step entries b ≡ board_after r q bytes m.wires
+  pub step : step entries b ≡ board_after r q bytes m.peripherals
   pub paid : m.calls ≤ s.calls + price entries b
   pub goes : Goes s m
 
@@ -45,10 +45,10 @@ budget-more entries n b = refl
 
 -- the first clock, and the accesses after it
 turned-by : (entries : List TapeEntry) (b : Board) (r : RegistersValue) (q : Sequence) (bytes more : List ℕ) (before : ℕ) (s m t : BusValue)
-    → First entries b r q bytes s m → Went entries (length more) (board_after r q bytes m.wires) (board_after r q (bytes ++ more) t.wires) m t
-    → before + suc (length more) ≤ 7 → Turned entries before b (board_after r q (bytes ++ more) t.wires) s.calls t.calls
+    → First entries b r q bytes s m → Went entries (length more) (board_after r q bytes m.peripherals) (board_after r q (bytes ++ more) t.peripherals) m t
+    → before + suc (length more) ≤ 7 → Turned entries before b (board_after r q (bytes ++ more) t.peripherals) s.calls t.calls
 turned-by entries b r q bytes more before s m t first rest few =
-    let last = board_after r q (bytes ++ more) t.wires in
+    let last = board_after r q (bytes ++ more) t.peripherals in
     let through : Through entries (length more) (step entries b) last = rw first.step rest.through in
     let paid_first = first.paid in
     let paid_then : t.calls ≤ m.calls + budget entries (length more) (step entries b) = rw first.step rest.paid in
@@ -67,10 +67,10 @@ turned-by entries b r q bytes more before s m t first rest few =
     }
 
 pub turned-clock : (entries : List TapeEntry) (b : Board) (r : RegistersValue) (q : Sequence) (bytes more : List ℕ) (s m t : BusValue)
-    → First entries b r q bytes s m → Went entries (length more) (board_after r q bytes m.wires) (board_after r q (bytes ++ more) t.wires) m t
-    → t.wires.clock ≡ b.wires.clock + suc (length more)
+    → First entries b r q bytes s m → Went entries (length more) (board_after r q bytes m.peripherals) (board_after r q (bytes ++ more) t.peripherals) m t
+    → t.peripherals.clock ≡ b.peripherals.clock + suc (length more)
 turned-clock entries b r q bytes more s m t first rest =
-    let last = board_after r q (bytes ++ more) t.wires in
+    let last = board_after r q (bytes ++ more) t.peripherals in
     let through : Through entries (length more) (step entries b) last = rw first.step rest.through in
     let clock_first = step-clock entries b in
     let clock_then = through-clock entries (length more) (step entries b) last through in
@@ -83,24 +83,24 @@ end_or_not (End e) = inl tt
 
 -- a turn from what an advance made after its first clock
 turn-bus : (entries : List TapeEntry) (c : CpuValue) (r : RegistersValue) (q : Sequence) (bytes : List ℕ) (before clocks made : ℕ) (s m t : BusValue) (e : CpuValue)
-    → First entries (record { cpu = c; wires = s.wires }) r q bytes s m → (IsSome c.mid → 1 ≤ before) → before + 1 ≡ length bytes
+    → First entries (record { cpu = c; peripherals = s.peripherals }) r q bytes s m → (IsSome c.mid → 1 ≤ before) → before + 1 ≡ length bytes
     → length bytes ≤ 7 → Advances (BusStep entries) r q bytes clocks made m t e → TurnedBus entries (clocks + 1) c s t e
 turn-bus entries c r q bytes before clocks made s m t e first inside count few advances =
     let more = advances.more in
     let went = moves-went entries r q bytes more m t advances.moves first.goes.between in
     let seven = moves-length entries r q bytes more m t advances.moves few in
-    let turned = turned-by entries (record { cpu = c; wires = s.wires }) r q bytes more before s m t first went (omega arith) in
-    let e_is : board_after r q (bytes ++ more) t.wires ≡ record { cpu = e; wires = t.wires } =
-    ap (λ (k : CpuValue). let b : Board = record { cpu = k; wires = t.wires } in b) (sym advances.stands) in
+    let turned = turned-by entries (record { cpu = c; peripherals = s.peripherals }) r q bytes more before s m t first went (omega arith) in
+    let e_is : board_after r q (bytes ++ more) t.peripherals ≡ record { cpu = e; peripherals = t.peripherals } =
+    ap (λ (k : CpuValue). let b : Board = record { cpu = k; peripherals = t.peripherals } in b) (sym advances.stands) in
     let long = advances.count in
     let short = advances.few in
-    let clock : t.wires.clock ≡ s.wires.clock + suc (length more) =
-    turned-clock entries (record { cpu = c; wires = s.wires }) r q bytes more s m t first went in
+    let clock : t.peripherals.clock ≡ s.peripherals.clock + suc (length more) =
+    turned-clock entries (record { cpu = c; peripherals = s.peripherals }) r q bytes more s m t first went in
     record {
       before = before;
-      turned = subst (λ (b : Board). Turned entries before (record { cpu = c; wires = s.wires }) b s.calls t.calls) e_is turned;
+      turned = subst (λ (b : Board). Turned entries before (record { cpu = c; peripherals = s.peripherals }) b s.calls t.calls) e_is turned;
       inside = inside;
-      goes = goes-on entries (length more) (board_after r q bytes m.wires) (board_after r q (bytes ++ more) t.wires) s m t first.goes went;
+      goes = goes-on entries (length more) (board_after r q bytes m.peripherals) (board_after r q (bytes ++ more) t.peripherals) s m t first.goes went;
       at_most = omega arith;
       stops = λ some. (
           let due : IsEnd (next_of r q (bytes ++ more)) → ⊥ = λ end. some-none e.mid some (advances.complete.1 end) in
@@ -168,15 +168,15 @@ next-first r Interrupt end = end
 next-first r Reset end = end
 
 -- a fetch of a board at a boundary
-step-fetch : (entries : List TapeEntry) (c : CpuValue) (w : Wires) → c.mid ≡ None
-    → step entries (record { cpu = c; wires = w })
+step-fetch : (entries : List TapeEntry) (c : CpuValue) (w : Peripherals) → c.mid ≡ None
+    → step entries (record { cpu = c; peripherals = w })
     ≡ clocked (begun (sequence_due c (ticked entries w)) (accessed (start_of (sequence_due c (ticked entries w)) c) (sequence_due c (ticked entries w)) [] (ticked entries w)))
 unfolding step at_fetch
 step-fetch entries c w boundary = rw boundary refl
 
-price-fetch : (entries : List TapeEntry) (c : CpuValue) (w : Wires) (q : Sequence) (v : ℕ) (x : Access) → c.mid ≡ None → q ≡ sequence_due c (ticked entries w)
+price-fetch : (entries : List TapeEntry) (c : CpuValue) (w : Peripherals) (q : Sequence) (v : ℕ) (x : Access) → c.mid ≡ None → q ≡ sequence_due c (ticked entries w)
     → IsAccess (next_of (start_of q c) q []) v x
-    → price entries (record { cpu = c; wires = w }) ≡ 2 * from_bool (reaches_device x) + 5 * reset_count q + ticks_price entries w
+    → price entries (record { cpu = c; peripherals = w }) ≡ 2 * from_bool (reaches_device x) + 5 * reset_count q + ticks_price entries w
 unfolding price access_in
 price-fetch entries c w q v x boundary due is =
     let u = ticked entries w in
@@ -187,27 +187,27 @@ price-fetch entries c w q v x boundary due is =
     ∙ ap (λ n. 2 * n + 5 * reset_count q + ticks_price entries w) same
 
 -- the line doesn't look at the clock
-line-clock : (clock : ℕ) (w : Wires) → line_of (at_clock clock w) ≡ line_of w
+line-clock : (clock : ℕ) (w : Peripherals) → line_of (at_clock clock w) ≡ line_of w
 unfolding line_of
 line-clock clock w = refl
 
-pub due-clock : (c : CpuValue) (w : Wires) → sequence_due c (done_clock w) ≡ sequence_due c w
+pub due-clock : (c : CpuValue) (w : Peripherals) → sequence_due c (done_clock w) ≡ sequence_due c w
 due-clock c w = rw (line-clock (w.clock + 1) w) refl
 
 -- the bus after its clock has begun
 pub record Begins (entries : List TapeEntry) (s b : BusValue) : Type 0 where
-  pub wires : b.wires ≡ done_clock (ticked entries s.wires)
+  pub peripherals : b.peripherals ≡ done_clock (ticked entries s.peripherals)
   pub begun : b.begun ≡ true
   pub rooms : b.rooms ≡ s.rooms
   pub until : s.until ≤ b.until
-  pub calls : b.calls ≤ s.calls + ticks_price entries s.wires
+  pub calls : b.calls ≤ s.calls + ticks_price entries s.peripherals
   pub more : s.calls ≤ b.calls
 
 pub begins-by : (entries : List TapeEntry) (s b : BusValue)
-    → b ≡ record s { wires = done_clock (ticked entries s.wires); begun = true; next = b.next; event_at = b.event_at; lagging = b.lagging; until = b.until; calls = b.calls }
-    → s.until ≤ b.until → b.calls ≤ s.calls + ticks_price entries s.wires → s.calls ≤ b.calls → Begins entries s b
+    → b ≡ record s { peripherals = done_clock (ticked entries s.peripherals); begun = true; next = b.next; event_at = b.event_at; lagging = b.lagging; until = b.until; calls = b.calls }
+    → s.until ≤ b.until → b.calls ≤ s.calls + ticks_price entries s.peripherals → s.calls ≤ b.calls → Begins entries s b
 begins-by entries s b value later paid more = record {
-  wires = ap (λ (k : BusValue). k.wires) value;
+  peripherals = ap (λ (k : BusValue). k.peripherals) value;
   begun = ap (λ (k : BusValue). k.begun) value;
   rooms = ap (λ (k : BusValue). k.rooms) value;
   until = later;
@@ -215,12 +215,12 @@ begins-by entries s b value later paid more = record {
   more = more;
 }
 
-pub in_clock-begun : (entries : List TapeEntry) (s b : BusValue) → Begins entries s b → in_clock entries b.begun b.wires ≡ ticked entries s.wires
+pub in_clock-begun : (entries : List TapeEntry) (s b : BusValue) → Begins entries s b → in_clock entries b.begun b.peripherals ≡ ticked entries s.peripherals
 unfolding in_clock
 in_clock-begun entries s b h =
-    let w = ticked entries s.wires in
+    let w = ticked entries s.peripherals in
     let e : w.clock + 1 - 1 ≡ w.clock = omega arith in
-    rw (h.begun, h.wires) (ap (λ n. at_clock n w) e)
+    rw (h.begun, h.peripherals) (ap (λ n. at_clock n w) e)
 
 begun-other : (q : Sequence) (b : Board) → q ≢ Reset → begun q b ≡ b
 begun-other Opcode b other = refl
@@ -234,16 +234,16 @@ reset_count-other Reset other = absurd (other refl)
 
 -- the first clock of an instruction or an interrupt
 pub fetch-first : (entries : List TapeEntry) (c : CpuValue) (q : Sequence) (s b m : BusValue) (v : ℕ) (x : Access) → c.mid ≡ None
-    → Begins entries s b → q ≡ sequence_due c b.wires → q ≢ Reset → IsAccess (next_of (start_of q c) q []) v x → BusStep entries x b m
-    → First entries (record { cpu = c; wires = s.wires }) (start_of q c) q (v ∷ []) s m
+    → Begins entries s b → q ≡ sequence_due c b.peripherals → q ≢ Reset → IsAccess (next_of (start_of q c) q []) v x → BusStep entries x b m
+    → First entries (record { cpu = c; peripherals = s.peripherals }) (start_of q c) q (v ∷ []) s m
 fetch-first entries c q s b m v x boundary begins due other is did =
-    let w = ticked entries s.wires in
-    let due_then : q ≡ sequence_due c w = due ∙ ap (sequence_due c) begins.wires ∙ due-clock c w in
+    let w = ticked entries s.peripherals in
+    let due_then : q ≡ sequence_due c w = due ∙ ap (sequence_due c) begins.peripherals ∙ due-clock c w in
     let clock = in_clock-begun entries s b begins in
     let stays = stays-of entries x b m did in
     let cost = stays.calls in
-    let none : (if b.begun then 0 else ticks_price entries b.wires) ≡ 0 = rw begins.begun refl in
-    let whole = price-fetch entries c s.wires q v x boundary due_then is in
+    let none : (if b.begun then 0 else ticks_price entries b.peripherals) ≡ 0 = rw begins.begun refl in
+    let whole = price-fetch entries c s.peripherals q v x boundary due_then is in
     let no_reset = reset_count-other q other in
     let until_first = begins.until in
     let until_then = stays.until in
@@ -252,24 +252,24 @@ fetch-first entries c q s b m v x boundary begins due other is did =
     let more_then = stays.more in
     record {
       step =
-          step-fetch entries c s.wires boundary
+          step-fetch entries c s.peripherals boundary
           ∙ ap (λ (p : Sequence). clocked (begun p (accessed (start_of p c) p [] w))) (sym due_then)
           ∙ ap clocked (begun-other q (accessed (start_of q c) q [] w) other)
-          ∙ ap (λ (k : Wires). clocked (accessed (start_of q c) q [] k)) (sym clock)
+          ∙ ap (λ (k : Peripherals). clocked (accessed (start_of q c) q [] k)) (sym clock)
           ∙ accessed-is entries (start_of q c) q [] v x b m is did;
       paid = omega arith;
       goes = record { more = omega arith; rooms = stays.rooms ∙ begins.rooms; until = omega arith; between = stays.begun };
     }
 
 -- where a resume begins
-step-resume : (entries : List TapeEntry) (c : CpuValue) (m : MidValue) (w : Wires) → c.mid ≡ Some m
-    → step entries (record { cpu = c; wires = w }) ≡ clocked (accessed (registers_of c) m.sequence (given_by m) (ticked entries w))
+step-resume : (entries : List TapeEntry) (c : CpuValue) (m : MidValue) (w : Peripherals) → c.mid ≡ Some m
+    → step entries (record { cpu = c; peripherals = w }) ≡ clocked (accessed (registers_of c) m.sequence (given_by m) (ticked entries w))
 unfolding step
 step-resume entries c m w inside = rw inside refl
 
-price-resume : (entries : List TapeEntry) (c : CpuValue) (m : MidValue) (w : Wires) (v : ℕ) (x : Access) → c.mid ≡ Some m
+price-resume : (entries : List TapeEntry) (c : CpuValue) (m : MidValue) (w : Peripherals) (v : ℕ) (x : Access) → c.mid ≡ Some m
     → IsAccess (next_of (registers_of c) m.sequence (given_by m)) v x
-    → price entries (record { cpu = c; wires = w }) ≡ 2 * from_bool (reaches_device x) + ticks_price entries w
+    → price entries (record { cpu = c; peripherals = w }) ≡ 2 * from_bool (reaches_device x) + ticks_price entries w
 unfolding price access_in
 price-resume entries c m w v x inside is =
     let u = ticked entries w in
@@ -282,54 +282,54 @@ price-resume entries c m w v x inside is =
 -- the first clock of what is left of a sequence
 pub resume-first : (entries : List TapeEntry) (c : CpuValue) (m : MidValue) (s t : BusValue) (v : ℕ) (x : Access) → c.mid ≡ Some m
     → s.begun ≡ false → IsAccess (next_of (registers_of c) m.sequence (given_by m)) v x → BusStep entries x s t
-    → First entries (record { cpu = c; wires = s.wires }) (registers_of c) m.sequence (given_by m ++ v ∷ []) s t
+    → First entries (record { cpu = c; peripherals = s.peripherals }) (registers_of c) m.sequence (given_by m ++ v ∷ []) s t
 resume-first entries c m s t v x inside between is did =
     let stays = stays-of entries x s t did in
     let cost = stays.calls in
-    let here : (if s.begun then 0 else ticks_price entries s.wires) ≡ ticks_price entries s.wires = rw between refl in
-    let whole = price-resume entries c m s.wires v x inside is in
+    let here : (if s.begun then 0 else ticks_price entries s.peripherals) ≡ ticks_price entries s.peripherals = rw between refl in
+    let whole = price-resume entries c m s.peripherals v x inside is in
     record {
       step =
-          step-resume entries c m s.wires inside
-          ∙ ap (λ (w : Wires). clocked (accessed (registers_of c) m.sequence (given_by m) w)) (sym (in_clock-between entries s between))
+          step-resume entries c m s.peripherals inside
+          ∙ ap (λ (w : Peripherals). clocked (accessed (registers_of c) m.sequence (given_by m) w)) (sym (in_clock-between entries s between))
           ∙ accessed-is entries (registers_of c) m.sequence (given_by m) v x s t is did;
       paid = omega arith;
       goes = record { more = stays.more; rooms = stays.rooms; until = stays.until; between = stays.begun };
     }
 
--- a reset begins with a read, which leaves the wires
-reset-read : (r : RegistersValue) (w : Wires) → (accessed r Reset [] w).wires ≡ w
+-- a reset begins with a read, which leaves the peripherals
+reset-read : (r : RegistersValue) (w : Peripherals) → (accessed r Reset [] w).peripherals ≡ w
 unfolding accessed next_of
 reset-read r w = refl
 
-reset_begun-clock : (w : Wires) → (reset_begun w).clock ≡ w.clock
+reset_begun-clock : (w : Peripherals) → (reset_begun w).clock ≡ w.clock
 unfolding reset_begun
 reset_begun-clock w = reset_by-clock w.divider.pending w
 
 -- the first clock of a reset: its read, and then its effects
 pub reset-first : (entries : List TapeEntry) (c : CpuValue) (s b m n : BusValue) (v : ℕ) (x : Access) → c.mid ≡ None
-    → Begins entries s b → Reset ≡ sequence_due c b.wires → IsAccess (next_of (start_of Reset c) Reset []) v x → BusStep entries x b m
-    → n.wires ≡ at_clock m.wires.clock (reset_begun (at_clock (m.wires.clock - 1) m.wires)) → n.calls ≤ m.calls + 4 → Goes m n
-    → First entries (record { cpu = c; wires = s.wires }) (start_of Reset c) Reset (v ∷ []) s n
+    → Begins entries s b → Reset ≡ sequence_due c b.peripherals → IsAccess (next_of (start_of Reset c) Reset []) v x → BusStep entries x b m
+    → n.peripherals ≡ at_clock m.peripherals.clock (reset_begun (at_clock (m.peripherals.clock - 1) m.peripherals)) → n.calls ≤ m.calls + 4 → Goes m n
+    → First entries (record { cpu = c; peripherals = s.peripherals }) (start_of Reset c) Reset (v ∷ []) s n
 reset-first entries c s b m n v x boundary begins due is did effects few goes =
-    let w = ticked entries s.wires in
+    let w = ticked entries s.peripherals in
     let r = start_of Reset c in
-    let due_then : Reset ≡ sequence_due c w = due ∙ ap (sequence_due c) begins.wires ∙ due-clock c w in
+    let due_then : Reset ≡ sequence_due c w = due ∙ ap (sequence_due c) begins.peripherals ∙ due-clock c w in
     let clock = in_clock-begun entries s b begins in
-    let first : clocked (accessed r Reset [] w) ≡ board_after r Reset (v ∷ []) m.wires =
-    ap (λ (k : Wires). clocked (accessed r Reset [] k)) (sym clock) ∙ accessed-is entries r Reset [] v x b m is did in
+    let first : clocked (accessed r Reset [] w) ≡ board_after r Reset (v ∷ []) m.peripherals =
+    ap (λ (k : Peripherals). clocked (accessed r Reset [] k)) (sym clock) ∙ accessed-is entries r Reset [] v x b m is did in
     let cpu : (accessed r Reset [] w).cpu ≡ standing r Reset (v ∷ []) = ap (λ (k : Board). k.cpu) first in
-    let read : m.wires ≡ done_clock w =
-    sym (ap (λ (k : Board). k.wires) first) ∙ ap done_clock (reset-read r w) in
+    let read : m.peripherals ≡ done_clock w =
+    sym (ap (λ (k : Board). k.peripherals) first) ∙ ap done_clock (reset-read r w) in
     let back : w.clock + 1 - 1 ≡ w.clock = omega arith in
-    let wires : n.wires ≡ at_clock (w.clock + 1) (reset_begun w) =
+    let peripherals : n.peripherals ≡ at_clock (w.clock + 1) (reset_begun w) =
     effects
-    ∙ ap (λ (k : Wires). at_clock k.clock (reset_begun (at_clock (k.clock - 1) k))) read
+    ∙ ap (λ (k : Peripherals). at_clock k.clock (reset_begun (at_clock (k.clock - 1) k))) read
     ∙ ap (λ t. at_clock (w.clock + 1) (reset_begun (at_clock t w))) back in
     let stays = stays-of entries x b m did in
     let cost = stays.calls in
-    let none : (if b.begun then 0 else ticks_price entries b.wires) ≡ 0 = rw begins.begun refl in
-    let whole = price-fetch entries c s.wires Reset v x boundary due_then is in
+    let none : (if b.begun then 0 else ticks_price entries b.peripherals) ≡ 0 = rw begins.begun refl in
+    let whole = price-fetch entries c s.peripherals Reset v x boundary due_then is in
     let until_first = begins.until in
     let until_then = stays.until in
     let until_last = goes.until in
@@ -339,12 +339,12 @@ reset-first entries c s b m n v x boundary begins due is did effects few goes =
     let more_last = goes.more in
     record {
       step =
-          step-fetch entries c s.wires boundary
+          step-fetch entries c s.peripherals boundary
           ∙ ap (λ (p : Sequence). clocked (begun p (accessed (start_of p c) p [] w))) (sym due_then)
-          ∙ ap (λ (k : CpuValue). let d : Board = record { cpu = k; wires = at_clock ((reset_begun (accessed r Reset [] w).wires).clock + 1) (reset_begun (accessed r Reset [] w).wires) } in d) cpu
-          ∙ ap (λ (u : Wires). let d : Board = record { cpu = standing r Reset (v ∷ []); wires = at_clock ((reset_begun u).clock + 1) (reset_begun u) } in d) (reset-read r w)
-          ∙ ap (λ t. let d : Board = record { cpu = standing r Reset (v ∷ []); wires = at_clock (t + 1) (reset_begun w) } in d) (reset_begun-clock w)
-          ∙ ap (λ (u : Wires). board_after r Reset (v ∷ []) u) (sym wires);
+          ∙ ap (λ (k : CpuValue). let d : Board = record { cpu = k; peripherals = at_clock ((reset_begun (accessed r Reset [] w).peripherals).clock + 1) (reset_begun (accessed r Reset [] w).peripherals) } in d) cpu
+          ∙ ap (λ (u : Peripherals). let d : Board = record { cpu = standing r Reset (v ∷ []); peripherals = at_clock ((reset_begun u).clock + 1) (reset_begun u) } in d) (reset-read r w)
+          ∙ ap (λ t. let d : Board = record { cpu = standing r Reset (v ∷ []); peripherals = at_clock (t + 1) (reset_begun w) } in d) (reset_begun-clock w)
+          ∙ ap (λ (u : Peripherals). board_after r Reset (v ∷ []) u) (sym peripherals);
       paid = omega arith;
       goes = record { more = omega arith; rooms = goes.rooms ∙ stays.rooms ∙ begins.rooms; until = omega arith; between = goes.between };
     }
@@ -361,7 +361,7 @@ none-inside (Some m) e some = cc
 
 -- an instruction or an interrupt is a turn
 pub fetch-turn : (entries : List TapeEntry) (c : CpuValue) (q : Sequence) (clocks made : ℕ) (s b t : BusValue) (e : CpuValue) → c.mid ≡ None
-    → Begins entries s b → q ≡ sequence_due c b.wires → q ≢ Reset → 1 ≤ clocks
+    → Begins entries s b → q ≡ sequence_due c b.peripherals → q ≢ Reset → 1 ≤ clocks
     → Advances (BusStep entries) (start_of q c) q [] clocks made b t e → TurnedBus entries clocks c s t e
 fetch-turn entries c q clocks made s b t e boundary begins due other some advances =
     let p = part entries (start_of q c) q [] clocks made b t e some (next-first (start_of q c) q) advances in
@@ -371,7 +371,7 @@ fetch-turn entries c q clocks made s b t e boundary begins due other some advanc
 
 -- a reset is a turn
 pub reset-turn : (entries : List TapeEntry) (c : CpuValue) (clocks : ℕ) (s b t : BusValue) (e : CpuValue) → c.mid ≡ None
-    → Begins entries s b → Reset ≡ sequence_due c b.wires → 1 ≤ clocks → Resets entries c clocks b t e → TurnedBus entries clocks c s t e
+    → Begins entries s b → Reset ≡ sequence_due c b.peripherals → 1 ≤ clocks → Resets entries c clocks b t e → TurnedBus entries clocks c s t e
 reset-turn entries c clocks s b t e boundary begins due some resets = by_moves resets.moves
   where
     by_moves : Moves (BusStep entries) (start_of Reset c) Reset [] (resets.value ∷ []) b resets.read → TurnedBus entries clocks c s t e
@@ -424,12 +424,12 @@ pub record ResetBegun (entries : List TapeEntry) (c : CpuValue) (s m : BusValue)
   pub value : ℕ
   pub moves : Moves (BusStep entries) (start_of Reset c) Reset [] (value ∷ []) s m
   pub stands : k ≡ paused (start_of Reset c) Reset (value ∷ [])
-  pub clock : 1 ≤ m.wires.clock
+  pub clock : 1 ≤ m.peripherals.clock
   pub between : m.begun ≡ false
 
-pub clock-some : (entries : List TapeEntry) (x : Access) (s t : BusValue) → BusStep entries x s t → 1 ≤ t.wires.clock
-clock-some entries (read_of a v) s t b = let e = ap (λ (w : Wires). w.clock) b.1 in omega arith
-clock-some entries (write_of a v) s t b = let e = ap (λ (w : Wires). w.clock) b.0 in omega arith
+pub clock-some : (entries : List TapeEntry) (x : Access) (s t : BusValue) → BusStep entries x s t → 1 ≤ t.peripherals.clock
+clock-some entries (read_of a v) s t b = let e = ap (λ (w : Peripherals). w.clock) b.1 in omega arith
+clock-some entries (write_of a v) s t b = let e = ap (λ (w : Peripherals). w.clock) b.0 in omega arith
 
 pub standing-paused : (r : RegistersValue) (v : ℕ) → standing r Reset (v ∷ []) ≡ paused r Reset (v ∷ [])
 unfolding next_of
@@ -449,23 +449,23 @@ reset-begun entries c s m k (made, a) = by_more a.more a.moves a.count a.full a.
       value = v;
       moves = (x, n, is, did, same);
       stands = stands ∙ standing-paused (start_of Reset c) v;
-      clock = (let e = ap (λ (b : BusValue). b.wires.clock) same in let h = clock-some entries x s n did in omega arith);
+      clock = (let e = ap (λ (b : BusValue). b.peripherals.clock) same in let h = clock-some entries x s n did in omega arith);
       between = ap (λ (b : BusValue). b.begun) same ∙ (stays-of entries x s n did).begun;
     }
     by_more (v ∷ (u ∷ more)) moves count full stands = let few = a.few in absurd (omega arith)
 
 -- the effects of a reset, over a bus
 pub record HasEffects (m n : BusValue) : Type 0 where
-  pub wires : n.wires ≡ at_clock m.wires.clock (reset_begun (at_clock (m.wires.clock - 1) m.wires))
+  pub peripherals : n.peripherals ≡ at_clock m.peripherals.clock (reset_begun (at_clock (m.peripherals.clock - 1) m.peripherals))
   pub calls : n.calls ≤ m.calls + 4
   pub more : m.calls ≤ n.calls
   pub rooms : n.rooms ≡ m.rooms
   pub until : m.until ≤ n.until
   pub between : n.begun ≡ m.begun
 
-pub effects-by : (m n : BusValue) → Does m n (at_clock m.wires.clock (reset_begun (at_clock (m.wires.clock - 1) m.wires))) 4 → HasEffects m n
+pub effects-by : (m n : BusValue) → Does m n (at_clock m.peripherals.clock (reset_begun (at_clock (m.peripherals.clock - 1) m.peripherals))) 4 → HasEffects m n
 effects-by m n does = record {
-  wires = ap (λ (b : BusValue). b.wires) does.value;
+  peripherals = ap (λ (b : BusValue). b.peripherals) does.value;
   calls = does.calls;
   more = does.more;
   rooms = ap (λ (b : BusValue). b.rooms) does.value;
@@ -487,7 +487,7 @@ resets-one entries c clocks s m n k one b h =
       read = m;
       moves = b.moves;
       taken = n;
-      effects = h.wires;
+      effects = h.peripherals;
       calls = h.calls;
       goes = record { more = h.more; rooms = h.rooms; until = h.until; between = h.between ∙ b.between };
       made = 0;
@@ -523,7 +523,7 @@ resets-more entries c clocks made s m n t k e b h advances = record {
   read = m;
   moves = b.moves;
   taken = n;
-  effects = h.wires;
+  effects = h.peripherals;
   calls = h.calls;
   goes = record { more = h.more; rooms = h.rooms; until = h.until; between = h.between ∙ b.between };
   made = made;
@@ -532,19 +532,19 @@ resets-more entries c clocks made s m n t k e b h advances = record {
 
 -- an instruction in whose first clock nothing comes of itself
 pub opcode-first : (entries : List TapeEntry) (c : CpuValue) (s m : BusValue) (v : ℕ) (x : Access) → c.mid ≡ None → s.begun ≡ false
-    → Opcode ≡ sequence_due c (ticked entries s.wires) → IsAccess (next_of (start_of Opcode c) Opcode []) v x → BusStep entries x s m
-    → First entries (record { cpu = c; wires = s.wires }) (start_of Opcode c) Opcode (v ∷ []) s m
+    → Opcode ≡ sequence_due c (ticked entries s.peripherals) → IsAccess (next_of (start_of Opcode c) Opcode []) v x → BusStep entries x s m
+    → First entries (record { cpu = c; peripherals = s.peripherals }) (start_of Opcode c) Opcode (v ∷ []) s m
 opcode-first entries c s m v x boundary between due is did =
-    let w = ticked entries s.wires in
+    let w = ticked entries s.peripherals in
     let stays = stays-of entries x s m did in
     let cost = stays.calls in
-    let here : (if s.begun then 0 else ticks_price entries s.wires) ≡ ticks_price entries s.wires = rw between refl in
-    let whole = price-fetch entries c s.wires Opcode v x boundary due is in
+    let here : (if s.begun then 0 else ticks_price entries s.peripherals) ≡ ticks_price entries s.peripherals = rw between refl in
+    let whole = price-fetch entries c s.peripherals Opcode v x boundary due is in
     record {
       step =
-          step-fetch entries c s.wires boundary
+          step-fetch entries c s.peripherals boundary
           ∙ ap (λ (p : Sequence). clocked (begun p (accessed (start_of p c) p [] w))) (sym due)
-          ∙ ap (λ (k : Wires). clocked (accessed (start_of Opcode c) Opcode [] k)) (sym (in_clock-between entries s between))
+          ∙ ap (λ (k : Peripherals). clocked (accessed (start_of Opcode c) Opcode [] k)) (sym (in_clock-between entries s between))
           ∙ accessed-is entries (start_of Opcode c) Opcode [] v x s m is did;
       paid = omega arith;
       goes = record { more = stays.more; rooms = stays.rooms; until = stays.until; between = stays.begun };
@@ -556,7 +556,7 @@ pub opcode-turn : (tape : TapeValue) (c : CpuValue) (s t : BusValue) (e : CpuVal
     → TurnedBus tape.entries 7 c s t e
 opcode-turn tape c s t e reads between fits runs boundary =
     let entries = tape.entries in
-    let due : Opcode ≡ sequence_due c (ticked entries s.wires) =
+    let due : Opcode ≡ sequence_due c (ticked entries s.peripherals) =
     sym (ap (sequence_due c) (ticked-quiet tape s fits reads.quiet) ∙ reads.due) in
     let a = runs-advance entries (registers_of c) Opcode s t e runs boundary in
     let p = part entries (registers_of c) Opcode [] 7 a.0 s t e (omega arith) (next-first (registers_of c) Opcode) a.1 in

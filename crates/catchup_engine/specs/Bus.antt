@@ -6,17 +6,17 @@ use Rattle.board_map.specs.Map.{row_of}
 use Rattle.cpu_core.specs.Course.{Access, read_of, write_of}
 use Rattle.tape_ports.specs.declared.entry.TapeEntry.{TapeEntry}
 use Rattle.tape_ports.specs.Tape.{TapeValue, IsTape}
-use Rattle.lockstep_board.specs.Wires.{Wires, ticked, byte_read, byte_put}
+use Rattle.lockstep_board.specs.Peripherals.{Peripherals, ticked, byte_read, byte_put}
 use Rattle.lockstep_board.specs.Budget.{reaches_device, ticks_price}
 use Rattle.catchup_engine.specs.declared.bus.TheConstants.{PROGRAM_START}
 use Rattle.catchup_engine.specs.EngineValue.{Rooms}
 use Rattle.catchup_engine.specs.Lags.{DeviceLags, lagging_at}
 
--- The wires, and whether the ticks of the next access's clock are in them already: such a clock counts as done. Then the
+-- The peripherals, and whether the ticks of the next access's clock are in them already: such a clock counts as done. Then the
 -- entries of the tape that are past, the clock before which nothing comes of itself, which devices lag, the clock up to
 -- which the trails of the generator and the POKEYs have room, the rooms of all four, and the device calls.
 pub record BusValue : Type 0 where
-  pub wires : Wires
+  pub peripherals : Peripherals
   pub begun : Bool
   pub next : ℕ
   pub event_at : ℕ
@@ -29,26 +29,26 @@ pub record BusValue : Type 0 where
 abbrev pub is_private : ℕ → Bool
 is_private address = nat_lt address RAM_LEN || nat_le PROGRAM_START address
 
--- the wires at another clock
-abbrev pub at_clock : ℕ → Wires → Wires
+-- the peripherals at another clock
+abbrev pub at_clock : ℕ → Peripherals → Peripherals
 at_clock clock w = record w { clock = clock }
 
--- the wires in the clock of the next access, after its ticks
-unfoldable pub in_clock : List TapeEntry → Bool → Wires → Wires
+-- the peripherals in the clock of the next access, after its ticks
+unfoldable pub in_clock : List TapeEntry → Bool → Peripherals → Peripherals
 in_clock entries begun w = if begun then at_clock (w.clock - 1) w else ticked entries w
 
--- the wires when that clock is done
-abbrev pub done_clock : Wires → Wires
+-- the peripherals when that clock is done
+abbrev pub done_clock : Peripherals → Peripherals
 done_clock w = at_clock (w.clock + 1) w
 
 -- the calls that a clock's ticks may cost, unless they are done
-abbrev pub begin_price : List TapeEntry → Bool → Wires → ℕ
+abbrev pub begin_price : List TapeEntry → Bool → Peripherals → ℕ
 begin_price entries begun w = if begun then 0 else ticks_price entries w
 
--- Something was done to the wires, for which a device may have been brought to the present: the wires are these, so many
+-- Something was done to the peripherals, for which a device may have been synced: the peripherals are these, so many
 -- device calls were made at most, and all else stays.
-pub record Does (old new : BusValue) (wires : Wires) (most : ℕ) : Type 0 where
-  pub value : new ≡ record old { wires = wires; lagging = new.lagging; until = new.until; calls = new.calls }
+pub record Does (old new : BusValue) (peripherals : Peripherals) (most : ℕ) : Type 0 where
+  pub value : new ≡ record old { peripherals = peripherals; lagging = new.lagging; until = new.until; calls = new.calls }
   pub until : old.until ≤ new.until
   pub calls : new.calls ≤ old.calls + most
   pub more : old.calls ≤ new.calls
@@ -58,18 +58,18 @@ pub record Stays (entries : List TapeEntry) (x : Access) (s t : BusValue) : Type
   pub begun : t.begun ≡ false
   pub rooms : t.rooms ≡ s.rooms
   pub until : s.until ≤ t.until
-  pub calls : t.calls ≤ s.calls + (2 * from_bool (reaches_device x) + begin_price entries s.begun s.wires)
+  pub calls : t.calls ≤ s.calls + (2 * from_bool (reaches_device x) + begin_price entries s.begun s.peripherals)
   pub more : s.calls ≤ t.calls
 
--- one access: the byte read is that of the wires in this clock, and the devices that give it stand at the present; or the
+-- one access: the byte read is that of the peripherals in this clock, and the devices that give it stand at the present; or the
 -- byte written is put into them
 abbrev pub BusStep : List TapeEntry → Access → BusValue → BusValue → Type 0
 BusStep entries (read_of address value) s t =
-    (value ≡ byte_read address (in_clock entries s.begun s.wires))
-    × (t.wires ≡ done_clock (in_clock entries s.begun s.wires)) × Stays entries (read_of address value) s t
+    (value ≡ byte_read address (in_clock entries s.begun s.peripherals))
+    × (t.peripherals ≡ done_clock (in_clock entries s.begun s.peripherals)) × Stays entries (read_of address value) s t
     × (lagging_at (row_of address).reads t.lagging ≡ 0)
 BusStep entries (write_of address value) s t =
-    (t.wires ≡ done_clock (byte_put address value (in_clock entries s.begun s.wires))) × Stays entries (write_of address value) s t
+    (t.peripherals ≡ done_clock (byte_put address value (in_clock entries s.begun s.peripherals))) × Stays entries (write_of address value) s t
 
 -- the place of a clock among the entries of a tape: those before it are of earlier clocks, and the others aren't
 pub record IsTapePlace (tape : TapeValue) (clock next : ℕ) : Type 0 where
@@ -85,10 +85,10 @@ ComesNext tape next (Some at) = All (λ entry. at ≤ entry.clock) (drop next ta
 -- a tape fits where the entries past are those of the clocks done, and no later one comes before the next event
 pub record Fits (tape : TapeValue) (s : BusValue) : Type 0 where
   pub valid : IsTape tape
-  pub place : IsTapePlace tape s.wires.clock s.next
+  pub place : IsTapePlace tape s.peripherals.clock s.next
   pub quiet : All (λ entry. s.event_at ≤ entry.clock) (drop s.next tape.entries)
 
 -- each access takes a clock, and one record of each part at most
 abbrev pub room_of : BusValue → ℕ
 room_of s =
-    min (min (s.rooms.board - length s.wires.written) (s.until - s.wires.clock)) (CLOCK_END - s.wires.clock)
+    min (min (s.rooms.board - length s.peripherals.written) (s.until - s.peripherals.clock)) (CLOCK_END - s.peripherals.clock)

@@ -34,7 +34,7 @@ lagging_among devices l =
     lag_among devices.vector l.vector + lag_among devices.sound1 l.sound1 + lag_among devices.sound2 l.sound2
     + lag_among devices.cells l.cells + lag_among devices.divider l.divider
 
--- the lag of a device that is brought to the present where it is reached
+-- the lag of a device that is synced where it is reached
 abbrev pub lag_left : Bool → ℕ → ℕ
 lag_left reached lag = if reached then 0 else lag
 

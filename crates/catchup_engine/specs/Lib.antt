@@ -7,7 +7,7 @@ pub mod Turn
 pub mod Trace
 pub mod Traced
 pub mod Quiet
-pub mod Calm
+pub mod Horizon
 pub mod BreakMarks
 pub mod NewBoard
 pub mod Notes

@@ -49,4 +49,4 @@ noting bus reached = record { bus = bus; reached = reached }
 -- an access is made, and noted with its clock
 pub record NotedStep (entries : List TapeEntry) (x : course.Access) (s t : NotedValue) : Type 0 where
   pub step : BusStep entries x s.bus t.bus
-  pub reached : t.reached ≡ with_reached s.reached (access_at (t.bus.wires.clock - 1) x)
+  pub reached : t.reached ≡ with_reached s.reached (access_at (t.bus.peripherals.clock - 1) x)

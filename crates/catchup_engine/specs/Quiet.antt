@@ -9,10 +9,10 @@ use Rattle.pokey_chip.specs.Tick.{levels_made, pokey_tick}
 use Rattle.tape_ports.specs.Tape.{TapeValue}
 use Rattle.catchup_engine.specs.Bus.{BusValue, Fits, room_of}
 use Rattle.catchup_engine.specs.Lags.{all_lag}
-use Rattle.lockstep_board.specs.Wires.{Wires}
+use Rattle.lockstep_board.specs.Peripherals.{Peripherals}
 
--- the wires n such clocks later
-unfoldable pub later : ℕ → Wires → Wires
+-- the peripherals n such clocks later
+unfoldable pub later : ℕ → Peripherals → Peripherals
 later n w = record w {
   clock = w.clock + n;
   divider = times divider_tick n w.divider;
@@ -27,16 +27,16 @@ later n w = record w {
 
 -- the bus n such clocks later: each device lags behind them
 unfoldable pub passed : ℕ → BusValue → BusValue
-passed n s = record s { wires = later n s.wires; lagging = if n == 0 then s.lagging else all_lag }
+passed n s = record s { peripherals = later n s.peripherals; lagging = if n == 0 then s.lagging else all_lag }
 
 -- a bus that has yet to be told of n clocks: with them its tape fits, nothing comes in them, and there is room for them
 pub record IsCounted (tape : TapeValue) (n : ℕ) (s : BusValue) : Type 0 where
   pub fits : Fits tape (passed n s)
   pub between : s.begun ≡ false
-  pub quiet : s.wires.clock + n ≤ s.event_at
-  pub last : s.wires.clock + n ≤ CLOCK_END
-  pub until : s.wires.clock + n ≤ s.until
+  pub quiet : s.peripherals.clock + n ≤ s.event_at
+  pub last : s.peripherals.clock + n ≤ CLOCK_END
+  pub until : s.peripherals.clock + n ≤ s.until
 
 -- the accesses for which it has room before something comes
 abbrev pub quiet_room : ℕ → BusValue → ℕ
-quiet_room n s = min (room_of (passed n s)) (s.event_at - (s.wires.clock + n))
+quiet_room n s = min (room_of (passed n s)) (s.event_at - (s.peripherals.clock + n))

@@ -15,36 +15,36 @@ use Rattle.catchup_engine.specs.Turn.{Goes, reads_opcode}
 
 -- the board that a processor and a bus stand for
 abbrev pub over_bus : CpuValue → BusValue → Board
-over_bus c s = record { cpu = c; wires = s.wires }
+over_bus c s = record { cpu = c; peripherals = s.peripherals }
 
 -- a processor inside a sequence is no later than the greatest clock, and else a little at most
 pub record IsInRange (c : CpuValue) (s : BusValue) : Type 0 where
-  pub clock : s.wires.clock ≤ CLOCK_LIMIT + 16
-  pub middle : IsSome c.mid → s.wires.clock ≤ CLOCK_LIMIT
+  pub clock : s.peripherals.clock ≤ CLOCK_LIMIT + 16
+  pub middle : IsSome c.mid → s.peripherals.clock ≤ CLOCK_LIMIT
 
 -- from the processor c and the bus s some steps have led to e and t, none of them from a board that is as asked
 pub record RunsOn (entries : List TapeEntry) (asked : Board → Bool) (c : CpuValue) (s t : BusValue) (e : CpuValue) : Type 0 where
   pub count : ℕ
   pub reached : StepsTo entries asked count (over_bus c s) (over_bus e t)
-  pub clock : t.wires.clock ≡ s.wires.clock + count
-  pub written : length t.wires.written ≤ length s.wires.written + count
+  pub clock : t.peripherals.clock ≡ s.peripherals.clock + count
+  pub written : length t.peripherals.written ≤ length s.peripherals.written + count
   pub paid : t.calls ≤ s.calls + budget entries count (over_bus c s)
   pub goes : Goes s t
 
 -- there is room for the clocks up to a limit, and those of a turn that begins before it
 abbrev pub HasRoomTo : ℕ → BusValue → Type 0
-HasRoomTo limit s = limit + 8 ≤ s.wires.clock + room_of s
+HasRoomTo limit s = limit + 8 ≤ s.peripherals.clock + room_of s
 
 -- turns begin before a limit, and end within six clocks after it
 pub record IsNear (limit : ℕ) (s t : BusValue) : Type 0 where
-  pub before : s.wires.clock < limit
-  pub within : t.wires.clock ≤ limit + 6
+  pub before : s.peripherals.clock < limit
+  pub within : t.peripherals.clock ≤ limit + 6
 
 -- From c and s whole turns led to e and t, none of them from a board at which a run to this limit is over. A run to a break that
 -- had come to c goes on to e.
 pub record TurnsOn (entries : List TapeEntry) (limit : ℕ) (addresses : List ℕ) (c : CpuValue) (s t : BusValue) (e : CpuValue) : Type 0 where
   pub run : RunsOn entries (is_over limit) c s t e
-  pub near : (t.wires.clock ≡ s.wires.clock) ⊎ IsNear limit s t
+  pub near : (t.peripherals.clock ≡ s.peripherals.clock) ⊎ IsNear limit s t
   pub turns : (b : Board) → BreakRun entries limit addresses b (over_bus c s) → BreakRun entries limit addresses b (over_bus e t)
   pub boundary : e.mid ≡ None
   pub range : IsInRange e t
@@ -74,7 +74,7 @@ pub record BoundaryRun (entries : List TapeEntry) (limit : ℕ) (c : CpuValue) (
   pub paid : t.calls ≤ s.calls + budget entries (boundary_steps entries limit (over_bus c s)) (over_bus c s)
   pub goes : Goes s t
   pub range : IsInRange e t
-  pub later : s.wires.clock ≤ t.wires.clock
+  pub later : s.peripherals.clock ≤ t.peripherals.clock
 
 -- and one to a clock or a window's end
 pub record CutRun (entries : List TapeEntry) (cut wrap : ℕ) (c : CpuValue) (s t : BusValue) (e : CpuValue) : Type 0 where
@@ -83,24 +83,24 @@ pub record CutRun (entries : List TapeEntry) (cut wrap : ℕ) (c : CpuValue) (s 
   pub paid : t.calls ≤ s.calls + budget entries (cut_steps entries cut wrap (over_bus c s)) (over_bus c s)
   pub goes : Goes s t
   pub range : IsInRange e t
-  pub later : s.wires.clock ≤ t.wires.clock
+  pub later : s.peripherals.clock ≤ t.peripherals.clock
 
 -- and one that ends at one of these addresses too, a turn at least
 pub record BreakRunBus (entries : List TapeEntry) (limit : ℕ) (addresses : List ℕ) (c : CpuValue) (s t : BusValue) (e : CpuValue) : Type 0 where
   pub turns : BreakRun entries limit addresses (over_bus c s) (over_bus e t)
   pub ends : is_over limit (over_bus e t) || is_at_any addresses (over_bus e t) ≡ true
   pub boundary : e.mid ≡ None
-  pub paid : t.calls ≤ s.calls + budget entries (t.wires.clock - s.wires.clock) (over_bus c s)
+  pub paid : t.calls ≤ s.calls + budget entries (t.peripherals.clock - s.peripherals.clock) (over_bus c s)
   pub goes : Goes s t
   pub range : IsInRange e t
-  pub since : s.wires.clock ≤ t.wires.clock
-  pub later : c.jam ≡ None → s.wires.clock < t.wires.clock
+  pub since : s.peripherals.clock ≤ t.peripherals.clock
+  pub later : c.jam ≡ None → s.peripherals.clock < t.peripherals.clock
 
 -- and one of which somebody is told turn by turn, who was w and is v then
 pub record TracedBusRun {T : Type 0} (next : T → TraceValue → ℕ → T) (enough : T → Bool) (entries : List TapeEntry) (limit : ℕ) (c : CpuValue) (s t : BusValue) (e : CpuValue) (w v : T) : Type 0 where
   pub turns : TracedRun next enough entries limit (over_bus c s) (over_bus e t) w v
   pub boundary : e.mid ≡ None
-  pub paid : t.calls ≤ s.calls + budget entries (t.wires.clock - s.wires.clock) (over_bus c s)
+  pub paid : t.calls ≤ s.calls + budget entries (t.peripherals.clock - s.peripherals.clock) (over_bus c s)
   pub goes : Goes s t
   pub range : IsInRange e t
-  pub later : s.wires.clock ≤ t.wires.clock
+  pub later : s.peripherals.clock ≤ t.peripherals.clock

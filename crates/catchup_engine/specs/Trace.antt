@@ -13,7 +13,7 @@ use Rattle.catchup_engine.specs.declared.trace.Access.{Access}
 use Rattle.catchup_engine.specs.Bus.{BusStep, BusValue, Does, at_clock}
 use Rattle.lockstep_board.specs.Lockstep.{Board, access_in, sequence_due, step}
 use Rattle.lockstep_board.specs.Run.{boundary_steps, is_jammed}
-use Rattle.lockstep_board.specs.Wires.{Wires, reset_begun, ticked}
+use Rattle.lockstep_board.specs.Peripherals.{Peripherals, reset_begun, ticked}
 
 -- the sequence, its opcode, the number of its accesses, and seven accesses of which the first are those made
 pub record TraceValue : Type 0 where
@@ -53,7 +53,7 @@ accesses_in clock (Some access) = access_at clock access ∷ []
 -- the accesses of n clocks
 unfoldable pub accesses_of : List TapeEntry → ℕ → Board → List Access
 accesses_of entries zero b = []
-accesses_of entries (suc n) b = accesses_in b.wires.clock (access_in entries b) ++ accesses_of entries n (step entries b)
+accesses_of entries (suc n) b = accesses_in b.peripherals.clock (access_in entries b) ++ accesses_of entries n (step entries b)
 
 -- the byte of an access
 abbrev pub byte_of : Option course.Access → ℕ
@@ -62,7 +62,7 @@ byte_of (Some (read_of address value)) = value
 byte_of (Some (write_of address value)) = value
 
 -- the sequence that the next clock of a board belongs to, and the byte of its first access
-abbrev pub sequence_at : Option MidValue → CpuValue → Wires → Sequence
+abbrev pub sequence_at : Option MidValue → CpuValue → Peripherals → Sequence
 sequence_at None c w = sequence_due c w
 sequence_at (Some mid) c w = mid.sequence
 
@@ -79,7 +79,7 @@ opcode_by Reset byte = 0
 -- the trace of n clocks of one sequence
 unfoldable pub trace_of : List TapeEntry → ℕ → Board → TraceValue
 trace_of entries n b =
-    let q = sequence_at b.cpu.mid b.cpu (ticked entries b.wires) in
+    let q = sequence_at b.cpu.mid b.cpu (ticked entries b.peripherals) in
     record {
       sequence = q;
       opcode = opcode_by q (first_byte b.cpu.mid (access_in entries b));
@@ -93,7 +93,7 @@ no_trace = record { sequence = Opcode; opcode = 0; count = 0; accesses = seven_o
 -- the trace of what is left of the sequence under way, or else of the next one; a board that is jammed does nothing
 unfoldable pub step_trace : List TapeEntry → Board → TraceValue
 step_trace entries b =
-    if is_jammed b then no_trace else trace_of entries (boundary_steps entries (b.wires.clock + 1) b) b
+    if is_jammed b then no_trace else trace_of entries (boundary_steps entries (b.peripherals.clock + 1) b) b
 
 -- the byte of the first of some accesses
 abbrev pub first_value : List Access → ℕ
@@ -115,7 +115,7 @@ pushed trace access = record trace { count = trace.count + 1; accesses = slice_s
 -- an access is made, and traced with its clock
 abbrev pub TracedStep : List TapeEntry → course.Access → TracedValue → TracedValue → Type 0
 TracedStep entries x s t =
-    BusStep entries x s.bus t.bus × (t.trace ≡ pushed s.trace (access_at (t.bus.wires.clock - 1) x))
+    BusStep entries x s.bus t.bus × (t.trace ≡ pushed s.trace (access_at (t.bus.peripherals.clock - 1) x))
 
 -- a whole reset over a bus whose clock has begun, with its trace: its read, then its effects in that clock, and then the rest
 -- of its accesses
@@ -124,5 +124,5 @@ pub record TracedReset (entries : List TapeEntry) (c : CpuValue) (s : BusValue) 
   pub inside : CpuValue
   pub begins : (made : ℕ) × Advances (TracedStep entries) (start_of Reset c) Reset [] 1 made (traced s no_trace) read inside
   pub taken : BusValue
-  pub effects : Does read.bus taken (at_clock read.bus.wires.clock (reset_begun (at_clock (read.bus.wires.clock - 1) read.bus.wires))) 4
+  pub effects : Does read.bus taken (at_clock read.bus.peripherals.clock (reset_begun (at_clock (read.bus.peripherals.clock - 1) read.bus.peripherals))) 4
   pub rest : IfSome inside.mid (λ m. (made : ℕ) × Advances (TracedStep entries) (registers_of inside) m.sequence (given_by m) 6 made (traced taken read.trace) t e)

@@ -6,8 +6,8 @@ use Rattle.board_base.specs.Cpu.{CpuValue}
 use Rattle.cpu_core.specs.Places.{Advances}
 use Rattle.cpu_core.specs.Sequences.{Moves, start_of}
 use Rattle.tape_ports.specs.declared.entry.TapeEntry.{TapeEntry}
-use Rattle.catchup_engine.specs.declared.bus.TheConstants.{WHOLE}
-use Rattle.lockstep_board.specs.Wires.{devices_ticked, reset_begun}
+use Rattle.catchup_engine.specs.declared.bus.TheConstants.{MAX_SEQUENCE_CLOCKS}
+use Rattle.lockstep_board.specs.Peripherals.{devices_ticked, reset_begun}
 use Rattle.lockstep_board.specs.Lockstep.{Board, sequence_due, step}
 use Rattle.lockstep_board.specs.Budget.{budget}
 use Rattle.lockstep_board.specs.Steps.{Through}
@@ -18,9 +18,9 @@ use Rattle.catchup_engine.specs.Bus.{BusStep, BusValue, at_clock}
 pub record Turned (entries : List TapeEntry) (before : ℕ) (b last : Board) (calls calls_then : ℕ) : Type 0 where
   pub count : ℕ
   pub through : Through entries count (step entries b) last
-  pub few : before + suc count ≤ WHOLE
-  pub clock : last.wires.clock ≡ b.wires.clock + suc count
-  pub written : length last.wires.written ≤ length b.wires.written + suc count
+  pub few : before + suc count ≤ MAX_SEQUENCE_CLOCKS
+  pub clock : last.peripherals.clock ≡ b.peripherals.clock + suc count
+  pub written : length last.peripherals.written ≤ length b.peripherals.written + suc count
   pub paid : calls_then ≤ calls + budget entries (suc count) b
 
 -- what the bus keeps from one state to a later one
@@ -33,19 +33,19 @@ pub record Goes (s t : BusValue) : Type 0 where
 -- a turn of the processor c over the bus s, in so many clocks at most; it stops inside a sequence only where these are done
 pub record TurnedBus (entries : List TapeEntry) (clocks : ℕ) (c : CpuValue) (s t : BusValue) (e : CpuValue) : Type 0 where
   pub before : ℕ
-  pub turned : Turned entries before (record { cpu = c; wires = s.wires }) (record { cpu = e; wires = t.wires }) s.calls t.calls
+  pub turned : Turned entries before (record { cpu = c; peripherals = s.peripherals }) (record { cpu = e; peripherals = t.peripherals }) s.calls t.calls
   pub inside : IsSome c.mid → 1 ≤ before
   pub goes : Goes s t
-  pub at_most : t.wires.clock ≤ s.wires.clock + clocks
-  pub stops : IsSome e.mid → t.wires.clock ≡ s.wires.clock + clocks
-  pub short : IsSome e.mid → before + t.wires.clock ≤ s.wires.clock + 6
+  pub at_most : t.peripherals.clock ≤ s.peripherals.clock + clocks
+  pub stops : IsSome e.mid → t.peripherals.clock ≡ s.peripherals.clock + clocks
+  pub short : IsSome e.mid → before + t.peripherals.clock ≤ s.peripherals.clock + 6
 
 -- the next fetch reads an opcode: nothing comes in its clock of itself, and after its ticks neither a reset nor an interrupt
 -- is due
 pub record ReadsOpcode (c : CpuValue) (s : BusValue) : Type 0 where
   pub boundary : c.mid ≡ None
-  pub quiet : s.wires.clock < s.event_at
-  pub due : sequence_due c (devices_ticked s.wires) ≡ Opcode
+  pub quiet : s.peripherals.clock < s.event_at
+  pub due : sequence_due c (devices_ticked s.peripherals) ≡ Opcode
 
 -- a fetch begins an instruction
 abbrev pub is_opcode : Sequence → Bool
@@ -57,7 +57,7 @@ is_opcode Reset = false
 -- whole sequence
 unfoldable pub reads_opcode : CpuValue → BusValue → Bool
 reads_opcode c s =
-    is_none c.mid && (nat_le (s.wires.clock + WHOLE) s.event_at && is_opcode (sequence_due c (devices_ticked s.wires)))
+    is_none c.mid && (nat_le (s.peripherals.clock + MAX_SEQUENCE_CLOCKS) s.event_at && is_opcode (sequence_due c (devices_ticked s.peripherals)))
 
 -- A reset over a bus whose clock has begun: its read, then its effects in that clock, and then the rest of its accesses, in
 -- so many clocks at most.
@@ -66,7 +66,7 @@ pub record Resets (entries : List TapeEntry) (c : CpuValue) (clocks : ℕ) (s t 
   pub read : BusValue
   pub moves : Moves (BusStep entries) (start_of Reset c) Reset [] (value ∷ []) s read
   pub taken : BusValue
-  pub effects : taken.wires ≡ at_clock read.wires.clock (reset_begun (at_clock (read.wires.clock - 1) read.wires))
+  pub effects : taken.peripherals ≡ at_clock read.peripherals.clock (reset_begun (at_clock (read.peripherals.clock - 1) read.peripherals))
   pub calls : taken.calls ≤ read.calls + 4
   pub goes : Goes read taken
   pub made : ℕ

@@ -12,8 +12,8 @@ mod state;
 
 use avg_device::VectorUnit;
 use board_base::{RAM_LEN, Trail, VectorMemory};
+use catchup_devices::{CatchUp, SoundCatchUp, VectorCatchUp};
 use cpu_core::Bus;
-use device_lanes::{Lane, SoundLane, VectorLane};
 use earom_cells::CellUnit;
 use irq_watchdog::DividerUnit;
 use pokey_chip::SoundUnit;
@@ -37,21 +37,21 @@ pub(crate) fn is_private(addr: u16) -> bool
 }
 
 /// The clocks that end each sequence: none has more.
-pub(crate) const WHOLE: u8 = 7;
+pub(crate) const MAX_SEQUENCE_CLOCKS: u8 = 7;
 
 /// All of the board but its processor: the devices, each moved up to a clock of its own, and what
 /// they share.
 ///
-/// A device is brought to the present where it is reached, and the divider where its line is read and
+/// A device is synced where it is reached, and the divider where its line is read and
 /// at its wraps: its latch, its watchdog and its reset are the same before its ticks and after them.
 /// So in most clocks nothing moves but the number of clocks.
 #[derive(Drop)]
 pub(crate) struct BoardBus<V: VectorUnit, P: SoundUnit, C: CellUnit, D: DividerUnit> {
-    vector: VectorLane<V>,
-    sound1: SoundLane<P>,
-    sound2: SoundLane<P>,
-    cells: Lane<C>,
-    divider: Lane<D>,
+    vector: VectorCatchUp<V>,
+    sound1: SoundCatchUp<P>,
+    sound2: SoundCatchUp<P>,
+    cells: CatchUp<C>,
+    divider: CatchUp<D>,
     memory: VectorMemory,
     ram: Vec<u8>,
     program: Vec<u8>,
@@ -80,12 +80,12 @@ impl<V: VectorUnit, P: SoundUnit, C: CellUnit, D: DividerUnit> Model for BoardBu
     ghost use Rattle.pokey_chip.specs.Tick.{levels_made, pokey_tick};
     ghost use Rattle.catchup_engine.specs.declared.bus.TheConstants.{TRAIL_ROOM};
     ghost use Rattle.catchup_engine.specs.Bus.{BusValue};
-    ghost use Rattle.device_lanes.specs.Lags.{lags, AsksAt};
+    ghost use Rattle.catchup_devices.specs.Lags.{lags, AsksAt};
 
     ghost Value = { BusValue };
 
     ghost view = { λ a. record {
-      wires = record {
+      peripherals = record {
         clock = a.clock;
         wired = a.sound1.wired;
         out = a.out;

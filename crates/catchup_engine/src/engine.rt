@@ -9,7 +9,7 @@ ghost use Rattle.lockstep_board.specs.Memory.{memory_byte};
 ghost use Rattle.lockstep_board.specs.Run.{boundary_steps, cause_of, cut_steps, is_over, to_boundary, to_cut, window_limit, wrap_of, IsPlaced};
 ghost use Rattle.catchup_engine.specs.Trace.{step_trace};
 ghost use Rattle.catchup_engine.specs.Traced.{TracedRun};
-ghost use Rattle.lockstep_board.specs.Wires.{board_of, reloaded, wires_of};
+ghost use Rattle.lockstep_board.specs.Peripherals.{board_of, reloaded, peripherals_of};
 
 use crate::bus::BoardBus;
 use crate::devices::Devices;
@@ -30,7 +30,7 @@ use tape_ports::Tape;
 
 /// The engine: a processor and five devices that lag behind it, which stand for one lockstep board.
 ///
-/// A device is brought to the present where something can see it. What the engine stands for is the
+/// A device is synced where something can see it. What the engine stands for is the
 /// board advanced one clock at a time.
 #[derive(Drop)]
 pub struct Engine<V: VectorUnit, P: SoundUnit, C: CellUnit, D: DividerUnit> {
@@ -48,7 +48,7 @@ impl<V: VectorUnit, P: SoundUnit, C: CellUnit, D: DividerUnit> Model for Engine<
     ghost Value = { EngineValue };
 
     ghost view = { λ e. record {
-      board = record { cpu = e.cpu; wires = e.bus.wires };
+      board = record { cpu = e.cpu; peripherals = e.bus.peripherals };
       lagging = lagging_of e.bus.lagging;
       rooms = e.bus.rooms;
       calls = e.bus.calls;
@@ -71,7 +71,7 @@ impl<V: VectorUnit, P: SoundUnit, C: CellUnit, D: DividerUnit> Engine<V, P, C, D
     ) -> Result<Engine<V, P, C, D>, OutOfMemory>
         requires undocumented { IfSome state.now.cpu.jam (λ o. row_of o ≡ None) }
         requires place { IfSome state.now.cpu.mid (λ _. IsMiddle state.now.cpu) }
-        ensures board { IfOk result (λ e. e.board ≡ record { cpu = state.now.cpu; wires = wires_of image.now wired state.now }) }
+        ensures board { IfOk result (λ e. e.board ≡ record { cpu = state.now.cpu; peripherals = peripherals_of image.now wired state.now }) }
         ensures settled { IfOk result (λ e. e.lagging ≡ 0) }
         ensures room { IfOk result (λ e. HasRoom e.rooms) }
         ensures calls { IfOk result (λ e. e.calls ≡ counted_on (V.calls devices.vector + P.calls devices.sound1 + P.calls devices.sound2
@@ -96,7 +96,7 @@ impl<V: VectorUnit, P: SoundUnit, C: CellUnit, D: DividerUnit> Engine<V, P, C, D
         requires empty { HasNoRecords self.old.board }
         requires undocumented { IfSome state.now.cpu.jam (λ o. row_of o ≡ None) }
         requires place { IfSome state.now.cpu.mid (λ _. IsMiddle state.now.cpu) }
-        ensures value { self.new ≡ record self.old { board = record { cpu = state.now.cpu; wires = reloaded self.old.board.wires state.now }; calls = counted_on self.old.calls 5 } }
+        ensures value { self.new ≡ record self.old { board = record { cpu = state.now.cpu; peripherals = reloaded self.old.board.peripherals state.now }; calls = counted_on self.old.calls 5 } }
     {
         // opens the model
         let _clock = state.clock;
@@ -106,8 +106,8 @@ impl<V: VectorUnit, P: SoundUnit, C: CellUnit, D: DividerUnit> Engine<V, P, C, D
 
     /// Counts the clocks done since one.
     fn count_clocks(&mut self, before: u64)
-        requires { before ≤ self.old.board.wires.clock }
-        ensures { self.new ≡ record self.old { done = counted_on self.old.done (self.old.board.wires.clock - before) } }
+        requires { before ≤ self.old.board.peripherals.clock }
+        ensures { self.new ≡ record self.old { done = counted_on self.old.done (self.old.board.peripherals.clock - before) } }
     {
         self.done = self.done.saturating_add(self.bus.clock() - before);
     }
@@ -115,7 +115,7 @@ impl<V: VectorUnit, P: SoundUnit, C: CellUnit, D: DividerUnit> Engine<V, P, C, D
     /// Runs to a boundary that isn't before this clock.
     fn advance(&mut self, tape: &Tape, limit: u64)
         requires limit { limit ≤ CLOCK_LIMIT }
-        requires window { limit ≤ self.old.board.wires.clock + DIVIDER_PERIOD }
+        requires window { limit ≤ self.old.board.peripherals.clock + DIVIDER_PERIOD }
         requires settled { self.old.lagging ≡ 0 }
         requires empty { HasNoRecords self.old.board }
         ensures board { self.new.board ≡ to_boundary tape.now.entries limit self.old.board }
@@ -123,12 +123,12 @@ impl<V: VectorUnit, P: SoundUnit, C: CellUnit, D: DividerUnit> Engine<V, P, C, D
         ensures boundary { self.new.board.cpu.mid ≡ None }
         ensures calls { self.new.calls ≤ self.old.calls + budget tape.now.entries (boundary_steps tape.now.entries limit self.old.board) self.old.board }
         ensures more { self.old.calls ≤ self.new.calls }
-        ensures later { self.old.board.wires.clock ≤ self.new.board.wires.clock }
-        ensures done { self.new.done ≡ counted_on self.old.done (self.new.board.wires.clock - self.old.board.wires.clock) }
+        ensures later { self.old.board.peripherals.clock ≤ self.new.board.peripherals.clock }
+        ensures done { self.new.done ≡ counted_on self.old.done (self.new.board.peripherals.clock - self.old.board.peripherals.clock) }
         ensures rooms { self.new.rooms ≡ self.old.rooms }
     {
         let before = self.bus.clock();
-        self.bus.has_room();
+        self.bus.lemma_room();
         self.bus.look_at(tape);
         let cpu = Cpu::new(*self.cpu.state());
         self.cpu = run_until(cpu, &mut self.bus, tape, limit);
@@ -160,13 +160,13 @@ impl<V: VectorUnit, P: SoundUnit, C: CellUnit, D: DividerUnit> Engine<V, P, C, D
         ensures board { self.new.board ≡ to_boundary tape.now.entries (window_limit limit self.old.board) self.old.board }
         ensures cause { result ≡ cause_of limit self.new.board }
         ensures boundary { self.new.board.cpu.mid ≡ None }
-        ensures window { result ≡ Stop.Window → wrap_of self.old.board ≤ self.new.board.wires.clock }
-        ensures later { result ≡ Stop.Window → self.old.board.wires.clock < self.new.board.wires.clock }
-        ensures before { result ≡ Stop.Window → self.new.board.wires.clock < limit }
+        ensures window { result ≡ Stop.Window → wrap_of self.old.board ≤ self.new.board.peripherals.clock }
+        ensures later { result ≡ Stop.Window → self.old.board.peripherals.clock < self.new.board.peripherals.clock }
+        ensures before { result ≡ Stop.Window → self.new.board.peripherals.clock < limit }
         ensures calls { self.new.calls ≤ self.old.calls
             + budget tape.now.entries (boundary_steps tape.now.entries (window_limit limit self.old.board) self.old.board) self.old.board }
         ensures more { self.old.calls ≤ self.new.calls }
-        ensures done { self.new.done ≡ counted_on self.old.done (self.new.board.wires.clock - self.old.board.wires.clock) }
+        ensures done { self.new.done ≡ counted_on self.old.done (self.new.board.peripherals.clock - self.old.board.peripherals.clock) }
         ensures rooms { self.new.rooms ≡ self.old.rooms }
     {
         let until = limit.min(self.bus.next_wrap());
@@ -180,22 +180,22 @@ impl<V: VectorUnit, P: SoundUnit, C: CellUnit, D: DividerUnit> Engine<V, P, C, D
     #[tactic(auto, using(crate::proofs::Windows::windows))]
     pub fn run_to_break(&mut self, tape: &Tape, limit: u64, addresses: &[u16])
         requires limit { limit ≤ CLOCK_LIMIT }
-        requires before { self.old.board.wires.clock < limit }
+        requires before { self.old.board.peripherals.clock < limit }
         requires settled { self.old.lagging ≡ 0 }
         requires empty { HasNoRecords self.old.board }
         ensures run { BreakRun tape.now.entries limit addresses.now self.old.board self.new.board }
         ensures window { BreakRun tape.now.entries (window_limit limit self.old.board) addresses.now self.old.board self.new.board }
         ensures ends { (is_over (window_limit limit self.old.board) self.new.board || is_at_any addresses.now self.new.board) ≡ true }
         ensures boundary { self.new.board.cpu.mid ≡ None }
-        ensures later { self.old.board.cpu.jam ≡ None → self.old.board.wires.clock < self.new.board.wires.clock }
-        ensures calls { self.new.calls ≤ self.old.calls + budget tape.now.entries (self.new.board.wires.clock - self.old.board.wires.clock) self.old.board }
+        ensures later { self.old.board.cpu.jam ≡ None → self.old.board.peripherals.clock < self.new.board.peripherals.clock }
+        ensures calls { self.new.calls ≤ self.old.calls + budget tape.now.entries (self.new.board.peripherals.clock - self.old.board.peripherals.clock) self.old.board }
         ensures more { self.old.calls ≤ self.new.calls }
-        ensures done { self.new.done ≡ counted_on self.old.done (self.new.board.wires.clock - self.old.board.wires.clock) }
+        ensures done { self.new.done ≡ counted_on self.old.done (self.new.board.peripherals.clock - self.old.board.peripherals.clock) }
         ensures rooms { self.new.rooms ≡ self.old.rooms }
     {
         let wrap = self.bus.next_wrap();
         let before = self.bus.clock();
-        self.bus.has_room();
+        self.bus.lemma_room();
         self.bus.look_at(tape);
         let cpu = Cpu::new(*self.cpu.state());
         self.cpu = run_to_break(cpu, &mut self.bus, tape, limit.min(wrap), addresses);
@@ -205,16 +205,16 @@ impl<V: VectorUnit, P: SoundUnit, C: CellUnit, D: DividerUnit> Engine<V, P, C, D
     /// Does what is left of the sequence under way, or else one instruction or sequence. A board that
     /// is jammed takes no clock.
     pub fn step(&mut self, tape: &Tape) -> Stop
-        requires clock { self.old.board.wires.clock < CLOCK_LIMIT }
+        requires clock { self.old.board.peripherals.clock < CLOCK_LIMIT }
         requires settled { self.old.lagging ≡ 0 }
         requires empty { HasNoRecords self.old.board }
-        ensures board { self.new.board ≡ to_boundary tape.now.entries (self.old.board.wires.clock + 1) self.old.board }
-        ensures cause { result ≡ cause_of (self.old.board.wires.clock + 1) self.new.board }
+        ensures board { self.new.board ≡ to_boundary tape.now.entries (self.old.board.peripherals.clock + 1) self.old.board }
+        ensures cause { result ≡ cause_of (self.old.board.peripherals.clock + 1) self.new.board }
         ensures boundary { self.new.board.cpu.mid ≡ None }
         ensures calls { self.new.calls ≤ self.old.calls
-            + budget tape.now.entries (boundary_steps tape.now.entries (self.old.board.wires.clock + 1) self.old.board) self.old.board }
+            + budget tape.now.entries (boundary_steps tape.now.entries (self.old.board.peripherals.clock + 1) self.old.board) self.old.board }
         ensures more { self.old.calls ≤ self.new.calls }
-        ensures done { self.new.done ≡ counted_on self.old.done (self.new.board.wires.clock - self.old.board.wires.clock) }
+        ensures done { self.new.done ≡ counted_on self.old.done (self.new.board.peripherals.clock - self.old.board.peripherals.clock) }
         ensures rooms { self.new.rooms ≡ self.old.rooms }
     {
         let limit = self.bus.clock() + 1;
@@ -225,21 +225,21 @@ impl<V: VectorUnit, P: SoundUnit, C: CellUnit, D: DividerUnit> Engine<V, P, C, D
     /// Does what `step` does, and tells its accesses, dropped reads included. A board that is jammed
     /// makes none.
     pub fn trace_step(&mut self, tape: &Tape, trace: &mut Trace) -> Stop
-        requires clock { self.old.board.cpu.mid ≡ None → self.old.board.wires.clock < CLOCK_LIMIT }
+        requires clock { self.old.board.cpu.mid ≡ None → self.old.board.peripherals.clock < CLOCK_LIMIT }
         requires settled { self.old.lagging ≡ 0 }
         requires empty { HasNoRecords self.old.board }
-        ensures board { self.new.board ≡ to_boundary tape.now.entries (self.old.board.wires.clock + 1) self.old.board }
-        ensures cause { result ≡ cause_of (self.old.board.wires.clock + 1) self.new.board }
+        ensures board { self.new.board ≡ to_boundary tape.now.entries (self.old.board.peripherals.clock + 1) self.old.board }
+        ensures cause { result ≡ cause_of (self.old.board.peripherals.clock + 1) self.new.board }
         ensures boundary { self.new.board.cpu.mid ≡ None }
         ensures trace { trace.new ≡ step_trace tape.now.entries self.old.board }
         ensures calls { self.new.calls ≤ self.old.calls
-            + budget tape.now.entries (boundary_steps tape.now.entries (self.old.board.wires.clock + 1) self.old.board) self.old.board }
+            + budget tape.now.entries (boundary_steps tape.now.entries (self.old.board.peripherals.clock + 1) self.old.board) self.old.board }
         ensures more { self.old.calls ≤ self.new.calls }
-        ensures done { self.new.done ≡ counted_on self.old.done (self.new.board.wires.clock - self.old.board.wires.clock) }
+        ensures done { self.new.done ≡ counted_on self.old.done (self.new.board.peripherals.clock - self.old.board.peripherals.clock) }
         ensures rooms { self.new.rooms ≡ self.old.rooms }
     {
         let before = self.bus.clock();
-        self.bus.has_room();
+        self.bus.lemma_room();
         self.bus.look_at(tape);
         let mut cpu = Cpu::new(*self.cpu.state());
         *trace = trace_sequence(&mut cpu, &mut self.bus, tape);
@@ -259,14 +259,14 @@ impl<V: VectorUnit, P: SoundUnit, C: CellUnit, D: DividerUnit> Engine<V, P, C, D
         ensures run { TracedRun T.next T.has_enough tape.now.entries (window_limit limit self.old.board) self.old.board self.new.board tracer.old tracer.new }
         ensures cause { result ≡ cause_of limit self.new.board }
         ensures boundary { self.new.board.cpu.mid ≡ None }
-        ensures calls { self.new.calls ≤ self.old.calls + budget tape.now.entries (self.new.board.wires.clock - self.old.board.wires.clock) self.old.board }
+        ensures calls { self.new.calls ≤ self.old.calls + budget tape.now.entries (self.new.board.peripherals.clock - self.old.board.peripherals.clock) self.old.board }
         ensures more { self.old.calls ≤ self.new.calls }
-        ensures done { self.new.done ≡ counted_on self.old.done (self.new.board.wires.clock - self.old.board.wires.clock) }
+        ensures done { self.new.done ≡ counted_on self.old.done (self.new.board.peripherals.clock - self.old.board.peripherals.clock) }
         ensures rooms { self.new.rooms ≡ self.old.rooms }
     {
         let wrap = self.bus.next_wrap();
         let before = self.bus.clock();
-        self.bus.has_room();
+        self.bus.lemma_room();
         self.bus.look_at(tape);
         let cpu = Cpu::new(*self.cpu.state());
         self.cpu = run_traced(cpu, &mut self.bus, tape, limit.min(wrap), tracer);
@@ -283,18 +283,18 @@ impl<V: VectorUnit, P: SoundUnit, C: CellUnit, D: DividerUnit> Engine<V, P, C, D
         requires empty { HasNoRecords self.old.board }
         ensures board { self.new.board ≡ to_cut tape.now.entries cut (wrap_of self.old.board) self.old.board }
         ensures cause { result ≡ cause_of cut self.new.board }
-        ensures window { result ≡ Stop.Window → wrap_of self.old.board ≤ self.new.board.wires.clock }
-        ensures later { result ≡ Stop.Window → self.old.board.wires.clock < self.new.board.wires.clock }
-        ensures before { result ≡ Stop.Window → self.new.board.wires.clock < cut }
+        ensures window { result ≡ Stop.Window → wrap_of self.old.board ≤ self.new.board.peripherals.clock }
+        ensures later { result ≡ Stop.Window → self.old.board.peripherals.clock < self.new.board.peripherals.clock }
+        ensures before { result ≡ Stop.Window → self.new.board.peripherals.clock < cut }
         ensures calls { self.new.calls ≤ self.old.calls
             + budget tape.now.entries (cut_steps tape.now.entries cut (wrap_of self.old.board) self.old.board) self.old.board }
         ensures more { self.old.calls ≤ self.new.calls }
-        ensures done { self.new.done ≡ counted_on self.old.done (self.new.board.wires.clock - self.old.board.wires.clock) }
+        ensures done { self.new.done ≡ counted_on self.old.done (self.new.board.peripherals.clock - self.old.board.peripherals.clock) }
         ensures rooms { self.new.rooms ≡ self.old.rooms }
     {
         let wrap = self.bus.next_wrap();
         let before = self.bus.clock();
-        self.bus.has_room();
+        self.bus.lemma_room();
         self.bus.look_at(tape);
         let cpu = Cpu::new(*self.cpu.state());
         self.cpu = run_to_cut(cpu, &mut self.bus, tape, cut, wrap);
@@ -323,7 +323,7 @@ impl<V: VectorUnit, P: SoundUnit, C: CellUnit, D: DividerUnit> Engine<V, P, C, D
     /// Copies the board.
     pub fn state(&self, into: &mut BoardState)
         requires settled { self.now.lagging ≡ 0 }
-        ensures board { into.new ≡ board_of self.now.board.cpu self.now.board.wires }
+        ensures board { into.new ≡ board_of self.now.board.cpu self.now.board.peripherals }
         ensures undocumented { IfSome self.now.board.cpu.jam (λ o. row_of o ≡ None) }
         ensures place { IfSome self.now.board.cpu.mid (λ _. IsMiddle self.now.board.cpu) }
     {
@@ -332,7 +332,7 @@ impl<V: VectorUnit, P: SoundUnit, C: CellUnit, D: DividerUnit> Engine<V, P, C, D
 
     /// The clocks done.
     pub fn clock(&self) -> u64
-        ensures { result ≡ self.now.board.wires.clock }
+        ensures { result ≡ self.now.board.peripherals.clock }
     {
         self.bus.clock()
     }
@@ -347,14 +347,14 @@ impl<V: VectorUnit, P: SoundUnit, C: CellUnit, D: DividerUnit> Engine<V, P, C, D
     /// Whether the vector generator is halted.
     pub fn is_halted(&self) -> bool
         requires settled { self.now.lagging ≡ 0 }
-        ensures { result ≡ self.now.board.wires.vg.halted }
+        ensures { result ≡ self.now.board.peripherals.vg.halted }
     {
         self.bus.is_halted()
     }
 
     /// The byte at an address of the RAM, the vector RAM or a ROM; none elsewhere.
     pub fn byte_at(&self, addr: u16) -> Option<u8>
-        ensures { result ≡ memory_byte addr self.now.board.wires }
+        ensures { result ≡ memory_byte addr self.now.board.peripherals }
     {
         self.bus.byte_at(addr)
     }
@@ -362,10 +362,10 @@ impl<V: VectorUnit, P: SoundUnit, C: CellUnit, D: DividerUnit> Engine<V, P, C, D
     /// The records of each part since the last clearing, in order; those of a device that lags end
     /// where it stands.
     pub fn trails(&self) -> Trails<'_>
-        ensures vector { self.now.lagging ≡ 0 → result.vector.now.records ≡ self.now.board.wires.strokes }
-        ensures sound1 { self.now.lagging ≡ 0 → result.sound1.now.records ≡ self.now.board.wires.levels1 }
-        ensures sound2 { self.now.lagging ≡ 0 → result.sound2.now.records ≡ self.now.board.wires.levels2 }
-        ensures board { result.board.now.records ≡ self.now.board.wires.written }
+        ensures vector { self.now.lagging ≡ 0 → result.vector.now.records ≡ self.now.board.peripherals.strokes }
+        ensures sound1 { self.now.lagging ≡ 0 → result.sound1.now.records ≡ self.now.board.peripherals.levels1 }
+        ensures sound2 { self.now.lagging ≡ 0 → result.sound2.now.records ≡ self.now.board.peripherals.levels2 }
+        ensures board { result.board.now.records ≡ self.now.board.peripherals.written }
         ensures rooms { self.now.rooms ≡ record { vector = result.vector.now.room; sound1 = result.sound1.now.room; sound2 = result.sound2.now.room; board = result.board.now.room } }
     {
         self.bus.trails()
@@ -397,7 +397,7 @@ impl<V: VectorUnit, P: SoundUnit, C: CellUnit, D: DividerUnit> Engine<V, P, C, D
     pub fn lemma_range(&self)
         requires settled { self.now.lagging ≡ 0 }
         ensures placed { IsPlaced self.now.board }
-        ensures phase { self.now.board.wires.divider.phase < DIVIDER_PERIOD }
+        ensures phase { self.now.board.peripherals.divider.phase < DIVIDER_PERIOD }
     {
         if let Some(mid) = self.cpu.state().mid {
             let _count = mid.count; // opens the model

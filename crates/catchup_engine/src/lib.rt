@@ -3,9 +3,9 @@
 
 mod breaks;
 mod bus;
-mod calm;
 pub mod devices;
 pub mod engine;
+mod horizon;
 mod laws;
 pub mod machine;
 mod note;

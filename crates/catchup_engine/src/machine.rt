@@ -8,7 +8,7 @@ ghost use Rattle.lockstep_board.specs.Budget.{budget};
 ghost use Rattle.lockstep_board.specs.Memory.{memory_byte};
 ghost use Rattle.lockstep_board.specs.Order.{HasNoRecords, cleared};
 ghost use Rattle.lockstep_board.specs.Run.{boundary_steps, cause_of, cut_steps, is_over, to_boundary, to_cut, window_limit, wrap_of, IsPlaced};
-ghost use Rattle.lockstep_board.specs.Wires.{board_of, reloaded};
+ghost use Rattle.lockstep_board.specs.Peripherals.{board_of, reloaded};
 ghost use Rattle.catchup_engine.specs.EngineValue.{EngineValue, counted_on};
 ghost use Rattle.catchup_engine.specs.Traced.{TracedRun};
 
@@ -34,7 +34,7 @@ pub trait Machine {
         requires empty { HasNoRecords (value self.old).board }
         requires undocumented { IfSome state.now.cpu.jam (λ o. row_of o ≡ None) }
         requires place { IfSome state.now.cpu.mid (λ _. IsMiddle state.now.cpu) }
-        ensures value { value self.new ≡ record (value self.old) { board = record { cpu = state.now.cpu; wires = reloaded (value self.old).board.wires state.now }; calls = counted_on (value self.old).calls 5 } };
+        ensures value { value self.new ≡ record (value self.old) { board = record { cpu = state.now.cpu; peripherals = reloaded (value self.old).board.peripherals state.now }; calls = counted_on (value self.old).calls 5 } };
 
     /// Runs to the limit, or to the first boundary after the divider's next wrap where that comes
     /// first. A board that is jammed takes no clock; a sequence under way is ended first.
@@ -45,13 +45,13 @@ pub trait Machine {
         ensures board { (value self.new).board ≡ to_boundary tape.now.entries (window_limit limit (value self.old).board) (value self.old).board }
         ensures cause { result ≡ cause_of limit (value self.new).board }
         ensures boundary { (value self.new).board.cpu.mid ≡ None }
-        ensures window { result ≡ Stop.Window → wrap_of (value self.old).board ≤ (value self.new).board.wires.clock }
-        ensures later { result ≡ Stop.Window → (value self.old).board.wires.clock < (value self.new).board.wires.clock }
-        ensures before { result ≡ Stop.Window → (value self.new).board.wires.clock < limit }
+        ensures window { result ≡ Stop.Window → wrap_of (value self.old).board ≤ (value self.new).board.peripherals.clock }
+        ensures later { result ≡ Stop.Window → (value self.old).board.peripherals.clock < (value self.new).board.peripherals.clock }
+        ensures before { result ≡ Stop.Window → (value self.new).board.peripherals.clock < limit }
         ensures calls { (value self.new).calls ≤ (value self.old).calls
             + budget tape.now.entries (boundary_steps tape.now.entries (window_limit limit (value self.old).board) (value self.old).board) (value self.old).board }
         ensures more { (value self.old).calls ≤ (value self.new).calls }
-        ensures done { (value self.new).done ≡ counted_on (value self.old).done ((value self.new).board.wires.clock - (value self.old).board.wires.clock) }
+        ensures done { (value self.new).done ≡ counted_on (value self.old).done ((value self.new).board.peripherals.clock - (value self.old).board.peripherals.clock) }
         ensures rooms { (value self.new).rooms ≡ (value self.old).rooms };
 
     /// Runs turn by turn, one turn at least, to the first boundary that isn't before the limit, at
@@ -59,32 +59,32 @@ pub trait Machine {
     /// comes first. A board that is jammed takes no clock.
     fn run_to_break(&mut self, tape: &Tape, limit: u64, addresses: &[u16])
         requires limit { limit ≤ CLOCK_LIMIT }
-        requires before { (value self.old).board.wires.clock < limit }
+        requires before { (value self.old).board.peripherals.clock < limit }
         requires settled { (value self.old).lagging ≡ 0 }
         requires empty { HasNoRecords (value self.old).board }
         ensures run { BreakRun tape.now.entries limit addresses.now (value self.old).board (value self.new).board }
         ensures window { BreakRun tape.now.entries (window_limit limit (value self.old).board) addresses.now (value self.old).board (value self.new).board }
         ensures ends { (is_over (window_limit limit (value self.old).board) (value self.new).board || is_at_any addresses.now (value self.new).board) ≡ true }
         ensures boundary { (value self.new).board.cpu.mid ≡ None }
-        ensures later { (value self.old).board.cpu.jam ≡ None → (value self.old).board.wires.clock < (value self.new).board.wires.clock }
-        ensures calls { (value self.new).calls ≤ (value self.old).calls + budget tape.now.entries ((value self.new).board.wires.clock - (value self.old).board.wires.clock) (value self.old).board }
+        ensures later { (value self.old).board.cpu.jam ≡ None → (value self.old).board.peripherals.clock < (value self.new).board.peripherals.clock }
+        ensures calls { (value self.new).calls ≤ (value self.old).calls + budget tape.now.entries ((value self.new).board.peripherals.clock - (value self.old).board.peripherals.clock) (value self.old).board }
         ensures more { (value self.old).calls ≤ (value self.new).calls }
-        ensures done { (value self.new).done ≡ counted_on (value self.old).done ((value self.new).board.wires.clock - (value self.old).board.wires.clock) }
+        ensures done { (value self.new).done ≡ counted_on (value self.old).done ((value self.new).board.peripherals.clock - (value self.old).board.peripherals.clock) }
         ensures rooms { (value self.new).rooms ≡ (value self.old).rooms };
 
     /// Does what is left of the sequence under way, or else one instruction or sequence. A board that
     /// is jammed takes no clock.
     fn step(&mut self, tape: &Tape) -> Stop
-        requires clock { (value self.old).board.wires.clock < CLOCK_LIMIT }
+        requires clock { (value self.old).board.peripherals.clock < CLOCK_LIMIT }
         requires settled { (value self.old).lagging ≡ 0 }
         requires empty { HasNoRecords (value self.old).board }
-        ensures board { (value self.new).board ≡ to_boundary tape.now.entries ((value self.old).board.wires.clock + 1) (value self.old).board }
-        ensures cause { result ≡ cause_of ((value self.old).board.wires.clock + 1) (value self.new).board }
+        ensures board { (value self.new).board ≡ to_boundary tape.now.entries ((value self.old).board.peripherals.clock + 1) (value self.old).board }
+        ensures cause { result ≡ cause_of ((value self.old).board.peripherals.clock + 1) (value self.new).board }
         ensures boundary { (value self.new).board.cpu.mid ≡ None }
         ensures calls { (value self.new).calls ≤ (value self.old).calls
-            + budget tape.now.entries (boundary_steps tape.now.entries ((value self.old).board.wires.clock + 1) (value self.old).board) (value self.old).board }
+            + budget tape.now.entries (boundary_steps tape.now.entries ((value self.old).board.peripherals.clock + 1) (value self.old).board) (value self.old).board }
         ensures more { (value self.old).calls ≤ (value self.new).calls }
-        ensures done { (value self.new).done ≡ counted_on (value self.old).done ((value self.new).board.wires.clock - (value self.old).board.wires.clock) }
+        ensures done { (value self.new).done ≡ counted_on (value self.old).done ((value self.new).board.peripherals.clock - (value self.old).board.peripherals.clock) }
         ensures rooms { (value self.new).rooms ≡ (value self.old).rooms };
 
     /// Runs turn by turn to the limit, to the first boundary after the divider's next wrap, or to
@@ -97,9 +97,9 @@ pub trait Machine {
         ensures run { TracedRun T.next T.has_enough tape.now.entries (window_limit limit (value self.old).board) (value self.old).board (value self.new).board tracer.old tracer.new }
         ensures cause { result ≡ cause_of limit (value self.new).board }
         ensures boundary { (value self.new).board.cpu.mid ≡ None }
-        ensures calls { (value self.new).calls ≤ (value self.old).calls + budget tape.now.entries ((value self.new).board.wires.clock - (value self.old).board.wires.clock) (value self.old).board }
+        ensures calls { (value self.new).calls ≤ (value self.old).calls + budget tape.now.entries ((value self.new).board.peripherals.clock - (value self.old).board.peripherals.clock) (value self.old).board }
         ensures more { (value self.old).calls ≤ (value self.new).calls }
-        ensures done { (value self.new).done ≡ counted_on (value self.old).done ((value self.new).board.wires.clock - (value self.old).board.wires.clock) }
+        ensures done { (value self.new).done ≡ counted_on (value self.old).done ((value self.new).board.peripherals.clock - (value self.old).board.peripherals.clock) }
         ensures rooms { (value self.new).rooms ≡ (value self.old).rooms };
 
     /// Runs to this clock, inside a sequence too, or to the first boundary after the divider's next
@@ -110,13 +110,13 @@ pub trait Machine {
         requires empty { HasNoRecords (value self.old).board }
         ensures board { (value self.new).board ≡ to_cut tape.now.entries cut (wrap_of (value self.old).board) (value self.old).board }
         ensures cause { result ≡ cause_of cut (value self.new).board }
-        ensures window { result ≡ Stop.Window → wrap_of (value self.old).board ≤ (value self.new).board.wires.clock }
-        ensures later { result ≡ Stop.Window → (value self.old).board.wires.clock < (value self.new).board.wires.clock }
-        ensures before { result ≡ Stop.Window → (value self.new).board.wires.clock < cut }
+        ensures window { result ≡ Stop.Window → wrap_of (value self.old).board ≤ (value self.new).board.peripherals.clock }
+        ensures later { result ≡ Stop.Window → (value self.old).board.peripherals.clock < (value self.new).board.peripherals.clock }
+        ensures before { result ≡ Stop.Window → (value self.new).board.peripherals.clock < cut }
         ensures calls { (value self.new).calls ≤ (value self.old).calls
             + budget tape.now.entries (cut_steps tape.now.entries cut (wrap_of (value self.old).board) (value self.old).board) (value self.old).board }
         ensures more { (value self.old).calls ≤ (value self.new).calls }
-        ensures done { (value self.new).done ≡ counted_on (value self.old).done ((value self.new).board.wires.clock - (value self.old).board.wires.clock) }
+        ensures done { (value self.new).done ≡ counted_on (value self.old).done ((value self.new).board.peripherals.clock - (value self.old).board.peripherals.clock) }
         ensures rooms { (value self.new).rooms ≡ (value self.old).rooms };
 
     /// Brings each device to the present. One that stands there already isn't called, so that there
@@ -130,13 +130,13 @@ pub trait Machine {
     /// Copies the board.
     fn state(&self, into: &mut BoardState)
         requires settled { (value self.now).lagging ≡ 0 }
-        ensures board { into.new ≡ board_of (value self.now).board.cpu (value self.now).board.wires }
+        ensures board { into.new ≡ board_of (value self.now).board.cpu (value self.now).board.peripherals }
         ensures undocumented { IfSome (value self.now).board.cpu.jam (λ o. row_of o ≡ None) }
         ensures place { IfSome (value self.now).board.cpu.mid (λ _. IsMiddle (value self.now).board.cpu) };
 
     /// The clocks done.
     fn clock(&self) -> u64
-        ensures { result ≡ (value self.now).board.wires.clock };
+        ensures { result ≡ (value self.now).board.peripherals.clock };
 
     /// The processor.
     fn cpu(&self) -> &CpuState
@@ -145,19 +145,19 @@ pub trait Machine {
     /// Whether the vector generator is halted.
     fn is_halted(&self) -> bool
         requires settled { (value self.now).lagging ≡ 0 }
-        ensures { result ≡ (value self.now).board.wires.vg.halted };
+        ensures { result ≡ (value self.now).board.peripherals.vg.halted };
 
     /// The byte at an address of the RAM, the vector RAM or a ROM; none elsewhere.
     fn byte_at(&self, addr: u16) -> Option<u8>
-        ensures { result ≡ memory_byte addr (value self.now).board.wires };
+        ensures { result ≡ memory_byte addr (value self.now).board.peripherals };
 
     /// The records of each part since the last clearing, in order; those of a device that lags end
     /// where it stands.
     fn trails(&self) -> Trails<'_>
-        ensures vector { (value self.now).lagging ≡ 0 → result.vector.now.records ≡ (value self.now).board.wires.strokes }
-        ensures sound1 { (value self.now).lagging ≡ 0 → result.sound1.now.records ≡ (value self.now).board.wires.levels1 }
-        ensures sound2 { (value self.now).lagging ≡ 0 → result.sound2.now.records ≡ (value self.now).board.wires.levels2 }
-        ensures board { result.board.now.records ≡ (value self.now).board.wires.written }
+        ensures vector { (value self.now).lagging ≡ 0 → result.vector.now.records ≡ (value self.now).board.peripherals.strokes }
+        ensures sound1 { (value self.now).lagging ≡ 0 → result.sound1.now.records ≡ (value self.now).board.peripherals.levels1 }
+        ensures sound2 { (value self.now).lagging ≡ 0 → result.sound2.now.records ≡ (value self.now).board.peripherals.levels2 }
+        ensures board { result.board.now.records ≡ (value self.now).board.peripherals.written }
         ensures rooms { (value self.now).rooms ≡ record { vector = result.vector.now.room; sound1 = result.sound1.now.room; sound2 = result.sound2.now.room; board = result.board.now.room } };
 
     /// Forgets the records, and leaves the board; the trails have their first room again.
@@ -173,7 +173,7 @@ pub trait Machine {
     fn lemma_range(&self)
         requires settled { (value self.now).lagging ≡ 0 }
         ensures placed { IsPlaced (value self.now).board }
-        ensures phase { (value self.now).board.wires.divider.phase < DIVIDER_PERIOD };
+        ensures phase { (value self.now).board.peripherals.divider.phase < DIVIDER_PERIOD };
 }
 
 impl<V: VectorUnit, P: SoundUnit, C: CellUnit, D: DividerUnit> Machine for Engine<V, P, C, D> {

@@ -3,16 +3,16 @@ ghost use Rattle.std.specs.Prelude.{◌≡◌, ◌+◌, ◌-◌, ◌<◌, ◌≤
 ghost use Rattle.board_base.specs.declared.divider.TheConstants.{DIVIDER_PERIOD};
 ghost use Rattle.cpu_alu.specs.Flags.{is_masked};
 ghost use Rattle.cpu_core.specs.Course.{read_of, write_of};
-ghost use Rattle.lockstep_board.specs.Wires.{Wires, byte_read};
+ghost use Rattle.lockstep_board.specs.Peripherals.{Peripherals, byte_read};
 ghost use Rattle.catchup_engine.specs.Bus.{Fits, is_private};
-ghost use Rattle.catchup_engine.specs.Calm.{KeepsLines};
+ghost use Rattle.catchup_engine.specs.Horizon.{KeepsLines};
 ghost use Rattle.catchup_engine.specs.Notes.{NotedStep, noting};
 ghost use Rattle.catchup_engine.specs.Quiet.{passed, IsCounted, quiet_room};
 ghost use Rattle.catchup_engine.specs.Runs.{over_bus, GoesOn, HasRoomTo, IsInRange, TurnsOn};
 ghost use Rattle.catchup_engine.specs.Traced.{ToldTurns};
 
 use crate::bus::{BoardBus, PROGRAM_START, is_private};
-use crate::calm::{Calm, calm_since};
+use crate::horizon::{Horizon, horizon_from};
 use crate::note::{Reached, TurnNote};
 use crate::quiet::QuietBus;
 use crate::trace::Access;
@@ -124,7 +124,7 @@ impl<'a, V: VectorUnit, P: SoundUnit, C: CellUnit, D: DividerUnit, T: Tracer> No
     #[inline(always)]
     fn byte_at(&self, addr: u16) -> u8
         requires { is_private addr ≡ true }
-        ensures { (w : Wires) → w.ram ≡ self.now.quiet.bus.now.wires.ram → w.program ≡ self.now.quiet.bus.now.wires.program → result ≡ byte_read addr w }
+        ensures { (w : Peripherals) → w.ram ≡ self.now.quiet.bus.now.peripherals.ram → w.program ≡ self.now.quiet.bus.now.peripherals.program → result ≡ byte_read addr w }
     {
         self.quiet.bus.private_byte(addr)
     }
@@ -132,19 +132,19 @@ impl<'a, V: VectorUnit, P: SoundUnit, C: CellUnit, D: DividerUnit, T: Tracer> No
     /// Whether a tracer has not enough, and the fetch at this boundary surely reads an opcode, from the
     /// RAM or the program ROM.
     #[inline(always)]
-    fn goes_on(&self, enough: bool, calm: &Calm, cpu: &Cpu) -> bool
-        requires quiet { self.now.quiet.bus.now.wires.clock + self.now.quiet.made ≤ self.now.quiet.bus.now.event_at }
-        ensures value { result ≡ (not enough && ((nat_lt (self.now.quiet.bus.now.wires.clock + self.now.quiet.made) calm.now.until && (is_none cpu.now.jam && (calm.now.silent || is_masked cpu.now.p))) && is_private cpu.now.pc)) }
-        ensures wrap { result ≡ true → self.now.quiet.bus.now.wires.divider.phase + (self.now.quiet.bus.now.event_at - self.now.quiet.bus.now.wires.clock) < DIVIDER_PERIOD }
+    fn goes_on(&self, enough: bool, horizon: &Horizon, cpu: &Cpu) -> bool
+        requires quiet { self.now.quiet.bus.now.peripherals.clock + self.now.quiet.made ≤ self.now.quiet.bus.now.event_at }
+        ensures value { result ≡ (not enough && ((nat_lt (self.now.quiet.bus.now.peripherals.clock + self.now.quiet.made) horizon.now.until && (is_none cpu.now.jam && (horizon.now.silent || is_masked cpu.now.p))) && is_private cpu.now.pc)) }
+        ensures wrap { result ≡ true → self.now.quiet.bus.now.peripherals.divider.phase + (self.now.quiet.bus.now.event_at - self.now.quiet.bus.now.peripherals.clock) < DIVIDER_PERIOD }
     {
-        !enough && self.quiet.lasts(calm, cpu) && is_private(cpu.state().pc)
+        !enough && self.quiet.lasts(horizon, cpu) && is_private(cpu.state().pc)
     }
 }
 
 impl<'a, V: VectorUnit, P: SoundUnit, C: CellUnit, D: DividerUnit, T: Tracer> Bus
     for NotedBus<'a, V, P, C, D, T> {
     ghost use Rattle.std.specs.Prelude.{◌≡◌, ◌-◌, ◌≤◌, length, min};
-    ghost use Rattle.catchup_engine.specs.Calm.{KeepsLines};
+    ghost use Rattle.catchup_engine.specs.Horizon.{KeepsLines};
     ghost use Rattle.catchup_engine.specs.Notes.{NotedStep, noting};
     ghost use Rattle.catchup_engine.specs.Quiet.{passed, IsCounted, quiet_room};
 
@@ -193,9 +193,9 @@ pub(crate) struct Told {
     pub enough: bool,
 }
 
-/// Does the instruction at a boundary, and those at the calm boundaries after it whose opcodes stand in
+/// Does the instruction at a boundary, and those at the boundaries after it before the horizon whose opcodes stand in
 /// the RAM or the program ROM, up to one after which a tracer has enough.
-pub(crate) fn trace_calmly<V: VectorUnit, P: SoundUnit, C: CellUnit, D: DividerUnit, T: Tracer>(
+pub(crate) fn trace_to_horizon<V: VectorUnit, P: SoundUnit, C: CellUnit, D: DividerUnit, T: Tracer>(
     mut cpu: Cpu,
     bus: &mut BoardBus<V, P, C, D>,
     tape: &Tape,
@@ -211,10 +211,10 @@ pub(crate) fn trace_calmly<V: VectorUnit, P: SoundUnit, C: CellUnit, D: DividerU
     requires opcode { is_private cpu.pc ≡ true }
     ensures on { TurnsOn tape.now.entries limit [] cpu bus.old bus.new result.cpu }
     ensures told { ToldTurns T.next T.has_enough tape.now.entries limit (over_bus cpu bus.old) (over_bus result.cpu bus.new) tracer.old tracer.new result.enough }
-    ensures later { bus.old.wires.clock < bus.new.wires.clock }
+    ensures later { bus.old.peripherals.clock < bus.new.peripherals.clock }
     ensures fits { Fits tape.now bus.new }
 {
-    let calm = calm_since(bus, limit);
+    let horizon = horizon_from(bus, limit);
     let mut reached = Reached::new();
     let mut noted = NotedBus::<V, P, C, D, T> {
         quiet: QuietBus::new(bus),
@@ -235,7 +235,7 @@ pub(crate) fn trace_calmly<V: VectorUnit, P: SoundUnit, C: CellUnit, D: DividerU
             reached: noted.reached.as_slice(),
         };
         enough = tracer.turn(&note, cpu.state().pc);
-        goes_on = noted.goes_on(enough, &calm, &cpu);
+        goes_on = noted.goes_on(enough, &horizon, &cpu);
     }
     noted.quiet.tell();
     let NotedBus { quiet, reached: _ } = noted;

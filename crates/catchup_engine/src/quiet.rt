@@ -3,13 +3,13 @@ ghost use Rattle.std.specs.Prelude.{◌≡◌, ◌+◌, ◌-◌, ◌≤◌, ◌<
 ghost use Rattle.board_base.specs.declared.divider.TheConstants.{DIVIDER_PERIOD};
 ghost use Rattle.cpu_alu.specs.Flags.{is_masked};
 ghost use Rattle.catchup_engine.specs.Bus.{Fits};
-ghost use Rattle.catchup_engine.specs.Calm.{KeepsLines};
+ghost use Rattle.catchup_engine.specs.Horizon.{KeepsLines};
 ghost use Rattle.catchup_engine.specs.Quiet.{passed};
 ghost use Rattle.catchup_engine.specs.Runs.{GoesOn, HasRoomTo, IsInRange, TurnsOn};
 
 use crate::breaks::Breaks;
 use crate::bus::{BoardBus, PROGRAM_START};
-use crate::calm::{Calm, calm_since};
+use crate::horizon::{Horizon, horizon_from};
 use avg_device::VectorUnit;
 use board_base::{CLOCK_END, CLOCK_LIMIT, RAM_LEN};
 use cpu_alu::Flags;
@@ -49,9 +49,9 @@ impl<'a, V: VectorUnit, P: SoundUnit, C: CellUnit, D: DividerUnit, U> QuietBus<'
     /// Tells the board of the clocks counted.
     #[inline(always)]
     pub(crate) fn tell(&mut self)
-        requires quiet { self.old.bus.now.wires.clock + self.old.made ≤ self.old.bus.now.event_at }
-        requires clock { self.old.bus.now.wires.clock + self.old.made ≤ CLOCK_END }
-        requires room { self.old.bus.now.wires.clock + self.old.made ≤ self.old.bus.now.until }
+        requires quiet { self.old.bus.now.peripherals.clock + self.old.made ≤ self.old.bus.now.event_at }
+        requires clock { self.old.bus.now.peripherals.clock + self.old.made ≤ CLOCK_END }
+        requires room { self.old.bus.now.peripherals.clock + self.old.made ≤ self.old.bus.now.until }
         requires begun { self.old.bus.now.begun ≡ false }
         ensures same_reference { self.new.bus.ghost_name ≡ self.old.bus.ghost_name }
         ensures told { self.new.bus.now ≡ passed self.old.made self.old.bus.now }
@@ -65,22 +65,22 @@ impl<'a, V: VectorUnit, P: SoundUnit, C: CellUnit, D: DividerUnit, U> QuietBus<'
     /// The clock, with those counted.
     #[inline(always)]
     pub(crate) fn clock(&self) -> u64
-        requires quiet { self.now.bus.now.wires.clock + self.now.made ≤ self.now.bus.now.event_at }
-        ensures { result ≡ self.now.bus.now.wires.clock + self.now.made }
+        requires quiet { self.now.bus.now.peripherals.clock + self.now.made ≤ self.now.bus.now.event_at }
+        ensures { result ≡ self.now.bus.now.peripherals.clock + self.now.made }
     {
         self.bus.clock_after(self.made)
     }
 
     /// Whether the fetch at this boundary surely reads an opcode.
     #[inline(always)]
-    pub(crate) fn lasts(&self, calm: &Calm, cpu: &Cpu) -> bool
-        requires quiet { self.now.bus.now.wires.clock + self.now.made ≤ self.now.bus.now.event_at }
-        ensures value { result ≡ (nat_lt (self.now.bus.now.wires.clock + self.now.made) calm.now.until && (is_none cpu.now.jam && (calm.now.silent || is_masked cpu.now.p))) }
-        ensures wrap { self.now.bus.now.wires.divider.phase + (self.now.bus.now.event_at - self.now.bus.now.wires.clock) < DIVIDER_PERIOD }
+    pub(crate) fn lasts(&self, horizon: &Horizon, cpu: &Cpu) -> bool
+        requires quiet { self.now.bus.now.peripherals.clock + self.now.made ≤ self.now.bus.now.event_at }
+        ensures value { result ≡ (nat_lt (self.now.bus.now.peripherals.clock + self.now.made) horizon.now.until && (is_none cpu.now.jam && (horizon.now.silent || is_masked cpu.now.p))) }
+        ensures wrap { self.now.bus.now.peripherals.divider.phase + (self.now.bus.now.event_at - self.now.bus.now.peripherals.clock) < DIVIDER_PERIOD }
     {
-        self.bus.clock_after(self.made) < calm.until
+        self.bus.clock_after(self.made) < horizon.until
             && cpu.state().jam.is_none()
-            && (calm.silent || Flags::from_byte(cpu.state().p).interrupt)
+            && (horizon.silent || Flags::from_byte(cpu.state().p).interrupt)
     }
 }
 
@@ -88,7 +88,7 @@ impl<'a, V: VectorUnit, P: SoundUnit, C: CellUnit, D: DividerUnit, U> Bus
     for QuietBus<'a, V, P, C, D, U> {
     ghost use Rattle.std.specs.Prelude.{◌≡◌, ◌-◌, false};
     ghost use Rattle.catchup_engine.specs.Bus.{BusStep, Fits, room_of};
-    ghost use Rattle.catchup_engine.specs.Calm.{KeepsLines};
+    ghost use Rattle.catchup_engine.specs.Horizon.{KeepsLines};
     ghost use Rattle.catchup_engine.specs.Quiet.{passed, IsCounted, quiet_room};
 
     type Feed = Tape;
@@ -124,10 +124,10 @@ impl<'a, V: VectorUnit, P: SoundUnit, C: CellUnit, D: DividerUnit, U> Bus
     }
 }
 
-/// Does the instruction at a boundary, and those at the calm boundaries after it, up to the first of
+/// Does the instruction at a boundary, and those at the boundaries after it before the horizon, up to the first of
 /// these addresses. The board hears of their clocks where a device is reached, and at the end.
 #[inline(always)]
-pub(crate) fn run_calmly<V: VectorUnit, P: SoundUnit, C: CellUnit, D: DividerUnit, B: Breaks>(
+pub(crate) fn run_to_horizon<V: VectorUnit, P: SoundUnit, C: CellUnit, D: DividerUnit, B: Breaks>(
     mut cpu: Cpu,
     bus: &mut BoardBus<V, P, C, D>,
     tape: &Tape,
@@ -141,15 +141,15 @@ pub(crate) fn run_calmly<V: VectorUnit, P: SoundUnit, C: CellUnit, D: DividerUni
     requires fits { Fits tape.now bus.old }
     requires goes_on { GoesOn limit (B.addresses breaks.now) cpu bus.old }
     ensures on { TurnsOn tape.now.entries limit (B.addresses breaks.now) cpu bus.old bus.new result }
-    ensures later { bus.old.wires.clock < bus.new.wires.clock }
+    ensures later { bus.old.peripherals.clock < bus.new.peripherals.clock }
     ensures fits { Fits tape.now bus.new }
 {
-    let calm = calm_since(bus, limit);
+    let horizon = horizon_from(bus, limit);
     let mut quiet = QuietBus::<V, P, C, D, B>::new(bus);
     let mut goes_on = true;
     while goes_on {
         let _fetched = cpu.instruction(&mut quiet, tape);
-        goes_on = quiet.lasts(&calm, &cpu) && !breaks.has(cpu.state().pc);
+        goes_on = quiet.lasts(&horizon, &cpu) && !breaks.has(cpu.state().pc);
     }
     quiet.tell();
     let QuietBus {

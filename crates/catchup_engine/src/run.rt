@@ -8,13 +8,13 @@ ghost use Rattle.catchup_engine.specs.Turn.{reads_opcode};
 ghost use Rattle.catchup_engine.specs.Runs.{over_bus, BoundaryRun, BreakRunBus, CutRun, HasRoomTo, IsInRange, QuietRun, TracedBusRun, TurnsRun};
 
 use crate::breaks::{BreakList, Breaks, Nowhere};
-use crate::bus::{BoardBus, TRAIL_ROOM, WHOLE, is_private};
+use crate::bus::{BoardBus, MAX_SEQUENCE_CLOCKS, TRAIL_ROOM, is_private};
 use crate::note::{Reached, TurnNote};
-use crate::noted::trace_calmly;
-use crate::quiet::run_calmly;
+use crate::noted::trace_to_horizon;
+use crate::quiet::run_to_horizon;
 use crate::trace::trace_running;
 use crate::tracer::Tracer;
-use crate::turn::{reads_opcode, turn_slowly};
+use crate::turn::{reads_opcode, step_slow};
 use avg_device::VectorUnit;
 use board_base::{CLOCK_LIMIT, DIVIDER_PERIOD};
 use cpu_core::Cpu;
@@ -83,7 +83,7 @@ fn goes_on<V: VectorUnit, P: SoundUnit, C: CellUnit, D: DividerUnit, B: Breaks>(
 /// Every run makes most of its clocks here. As nothing that this loop calls takes the processor, LLVM
 /// keeps its registers out of memory.
 #[inline(always)]
-fn run_quietly<V: VectorUnit, P: SoundUnit, C: CellUnit, D: DividerUnit, B: Breaks>(
+fn run_fast<V: VectorUnit, P: SoundUnit, C: CellUnit, D: DividerUnit, B: Breaks>(
     mut cpu: Cpu,
     bus: &mut BoardBus<V, P, C, D>,
     tape: &Tape,
@@ -100,7 +100,7 @@ fn run_quietly<V: VectorUnit, P: SoundUnit, C: CellUnit, D: DividerUnit, B: Brea
     ensures fits { Fits tape.now bus.new }
 {
     while goes_on(&cpu, bus, limit, breaks) {
-        cpu = run_calmly(cpu, bus, tape, limit, breaks);
+        cpu = run_to_horizon(cpu, bus, tape, limit, breaks);
     }
     cpu
 }
@@ -129,8 +129,8 @@ fn run_turns<V: VectorUnit, P: SoundUnit, C: CellUnit, D: DividerUnit, B: Breaks
     // opens its range
     let _clock = bus.clock();
     while !is_at_break(&cpu, bus, limit, breaks) {
-        cpu = turn_slowly(cpu, bus, tape, WHOLE);
-        cpu = run_quietly(cpu, bus, tape, limit, breaks);
+        cpu = step_slow(cpu, bus, tape, MAX_SEQUENCE_CLOCKS);
+        cpu = run_fast(cpu, bus, tape, limit, breaks);
     }
     cpu
 }
@@ -168,18 +168,18 @@ pub(crate) fn run_until<V: VectorUnit, P: SoundUnit, C: CellUnit, D: DividerUnit
     limit: u64,
 ) -> Cpu
     requires limit { limit ≤ CLOCK_LIMIT }
-    requires window { limit ≤ bus.old.wires.clock + DIVIDER_PERIOD }
+    requires window { limit ≤ bus.old.peripherals.clock + DIVIDER_PERIOD }
     requires range { IsInRange cpu bus.old }
     requires between { bus.old.begun ≡ false }
-    requires until { bus.old.wires.clock + TRAIL_ROOM ≤ bus.old.until }
-    requires written { bus.old.wires.written ≡ [] }
+    requires until { bus.old.peripherals.clock + TRAIL_ROOM ≤ bus.old.until }
+    requires written { bus.old.peripherals.written ≡ [] }
     requires fits { Fits tape.now bus.old }
     ensures runs { BoundaryRun tape.now.entries limit cpu bus.old bus.new result }
 {
     // opens its range
     let _clock = bus.clock();
     if cpu.state().mid.is_some() {
-        cpu = turn_slowly(cpu, bus, tape, WHOLE);
+        cpu = step_slow(cpu, bus, tape, MAX_SEQUENCE_CLOCKS);
     }
     run_turns(cpu, bus, tape, limit, &Nowhere)
 }
@@ -194,19 +194,19 @@ pub(crate) fn run_to_break<V: VectorUnit, P: SoundUnit, C: CellUnit, D: DividerU
     addresses: &[u16],
 ) -> Cpu
     requires limit { limit ≤ CLOCK_LIMIT }
-    requires before { bus.old.wires.clock < limit }
-    requires window { limit ≤ bus.old.wires.clock + DIVIDER_PERIOD }
+    requires before { bus.old.peripherals.clock < limit }
+    requires window { limit ≤ bus.old.peripherals.clock + DIVIDER_PERIOD }
     requires range { IsInRange cpu bus.old }
     requires between { bus.old.begun ≡ false }
-    requires until { bus.old.wires.clock + TRAIL_ROOM ≤ bus.old.until }
-    requires written { bus.old.wires.written ≡ [] }
+    requires until { bus.old.peripherals.clock + TRAIL_ROOM ≤ bus.old.until }
+    requires written { bus.old.peripherals.written ≡ [] }
     requires fits { Fits tape.now bus.old }
     ensures runs { BreakRunBus tape.now.entries limit addresses.now cpu bus.old bus.new result }
 {
     // opens its range
     let _clock = bus.clock();
     if cpu.state().jam.is_none() {
-        cpu = turn_slowly(cpu, bus, tape, WHOLE);
+        cpu = step_slow(cpu, bus, tape, MAX_SEQUENCE_CLOCKS);
     }
     run_turns_to_break(cpu, bus, tape, limit, addresses)
 }
@@ -221,12 +221,12 @@ pub(crate) fn run_traced<V: VectorUnit, P: SoundUnit, C: CellUnit, D: DividerUni
     tracer: &mut T,
 ) -> Cpu
     requires limit { limit ≤ CLOCK_LIMIT }
-    requires window { limit ≤ bus.old.wires.clock + DIVIDER_PERIOD }
+    requires window { limit ≤ bus.old.peripherals.clock + DIVIDER_PERIOD }
     requires range { IsInRange cpu bus.old }
     requires place { IfSome cpu.mid (λ _. IsMiddle cpu) }
     requires between { bus.old.begun ≡ false }
-    requires until { bus.old.wires.clock + TRAIL_ROOM ≤ bus.old.until }
-    requires written { bus.old.wires.written ≡ [] }
+    requires until { bus.old.peripherals.clock + TRAIL_ROOM ≤ bus.old.until }
+    requires written { bus.old.peripherals.written ≡ [] }
     requires fits { Fits tape.now bus.old }
     ensures runs { TracedBusRun T.next T.has_enough tape.now.entries limit cpu bus.old bus.new result tracer.old tracer.new }
 {
@@ -235,7 +235,7 @@ pub(crate) fn run_traced<V: VectorUnit, P: SoundUnit, C: CellUnit, D: DividerUni
     let mut enough = false;
     while !enough && !is_done(&cpu, bus, limit) {
         if goes_on(&cpu, bus, limit, &Nowhere) && is_private(cpu.state().pc) {
-            let told = trace_calmly(cpu, bus, tape, limit, tracer);
+            let told = trace_to_horizon(cpu, bus, tape, limit, tracer);
             cpu = told.cpu;
             enough = told.enough;
         } else {
@@ -251,15 +251,15 @@ pub(crate) fn run_traced<V: VectorUnit, P: SoundUnit, C: CellUnit, D: DividerUni
 fn clocks_to(clock: u64, cut: u64) -> u8
     requires { clock < cut }
     ensures some { 1 ≤ result }
-    ensures few { result ≤ WHOLE }
+    ensures few { result ≤ MAX_SEQUENCE_CLOCKS }
     ensures within { clock + result ≤ cut }
-    ensures all { result ≡ WHOLE ⊎ clock + result ≡ cut }
+    ensures all { result ≡ MAX_SEQUENCE_CLOCKS ⊎ clock + result ≡ cut }
 {
     let left = cut - clock;
-    if left < u64::from(WHOLE) {
+    if left < u64::from(MAX_SEQUENCE_CLOCKS) {
         left as u8
     } else {
-        WHOLE
+        MAX_SEQUENCE_CLOCKS
     }
 }
 
@@ -272,11 +272,11 @@ pub(crate) fn run_to_cut<V: VectorUnit, P: SoundUnit, C: CellUnit, D: DividerUni
     wrap: u64,
 ) -> Cpu
     requires cut { cut ≤ CLOCK_LIMIT }
-    requires window { wrap ≤ bus.old.wires.clock + DIVIDER_PERIOD }
+    requires window { wrap ≤ bus.old.peripherals.clock + DIVIDER_PERIOD }
     requires range { IsInRange cpu bus.old }
     requires between { bus.old.begun ≡ false }
-    requires until { bus.old.wires.clock + TRAIL_ROOM ≤ bus.old.until }
-    requires written { bus.old.wires.written ≡ [] }
+    requires until { bus.old.peripherals.clock + TRAIL_ROOM ≤ bus.old.until }
+    requires written { bus.old.peripherals.written ≡ [] }
     requires fits { Fits tape.now bus.old }
     ensures runs { CutRun tape.now.entries cut wrap cpu bus.old bus.new result }
 {
@@ -284,7 +284,7 @@ pub(crate) fn run_to_cut<V: VectorUnit, P: SoundUnit, C: CellUnit, D: DividerUni
     let near = wrap.min(cut.saturating_sub(6));
     while !is_stopped(&cpu, bus, cut, wrap) {
         let clocks = clocks_to(bus.clock(), cut);
-        cpu = turn_slowly(cpu, bus, tape, clocks);
+        cpu = step_slow(cpu, bus, tape, clocks);
         if cpu.state().mid.is_none() {
             cpu = run_turns(cpu, bus, tape, near, &Nowhere);
         }

@@ -8,7 +8,7 @@ ghost use Rattle.catchup_engine.specs.Runs.{over_bus, BoundaryRun, IsInRange};
 ghost use Rattle.catchup_engine.specs.Trace.{TracedReset, TracedStep, no_trace, step_trace, trace_of, traced};
 ghost use Rattle.catchup_engine.specs.Turn.{TurnedBus};
 
-use crate::bus::{BoardBus, WHOLE};
+use crate::bus::{BoardBus, MAX_SEQUENCE_CLOCKS};
 use crate::turn::{due, perform};
 use avg_device::VectorUnit;
 use board_base::{CLOCK_LIMIT, Sequence};
@@ -138,7 +138,7 @@ impl<'a, V: VectorUnit, P: SoundUnit, C: CellUnit, D: DividerUnit> TracedBus<'a,
         requires running { cpu.old.jam ≡ None }
         requires boundary { cpu.old.mid ≡ None }
         requires fits { Fits tape.now self.old.bus.now }
-        requires room { WHOLE ≤ room_of self.old.bus.now }
+        requires room { MAX_SEQUENCE_CLOCKS ≤ room_of self.old.bus.now }
         requires first { self.old.trace.count ≡ 0 }
         requires no_reset { sequence ≢ Sequence.Reset }
         ensures same_reference { self.new.bus.ghost_name ≡ self.old.bus.ghost_name }
@@ -228,7 +228,7 @@ fn trace_whole<V: VectorUnit, P: SoundUnit, C: CellUnit, D: DividerUnit>(
     requires running { cpu.old.jam ≡ None }
     requires boundary { cpu.old.mid ≡ None }
     requires fits { Fits tape.now bus.old }
-    requires room { WHOLE ≤ room_of bus.old }
+    requires room { MAX_SEQUENCE_CLOCKS ≤ room_of bus.old }
     requires no_reset { sequence ≢ Sequence.Reset }
     ensures runs { Runs (TracedStep tape.now.entries) (start_of sequence cpu.old) sequence (traced bus.old no_trace) (traced bus.new result) cpu.new }
     ensures boundary { cpu.new.mid ≡ None }
@@ -306,7 +306,7 @@ fn trace_reset<V: VectorUnit, P: SoundUnit, C: CellUnit, D: DividerUnit>(
 {
     let trace = trace_first(cpu, bus, tape);
     bus.begin_reset();
-    trace_rest(cpu, bus, tape, trace, WHOLE - 1)
+    trace_rest(cpu, bus, tape, trace, MAX_SEQUENCE_CLOCKS - 1)
 }
 
 /// Does the sequence that a fetch begins, and tells its accesses.
@@ -320,8 +320,8 @@ fn trace_fetch<V: VectorUnit, P: SoundUnit, C: CellUnit, D: DividerUnit>(
     requires between { bus.old.begun ≡ false }
     requires fits { Fits tape.now bus.old }
     requires room { 9 ≤ room_of bus.old }
-    ensures turned { TurnedBus tape.now.entries WHOLE cpu.old bus.old bus.new cpu.new }
-    ensures trace { result ≡ trace_of tape.now.entries (bus.new.wires.clock - bus.old.wires.clock) (over_bus cpu.old bus.old) }
+    ensures turned { TurnedBus tape.now.entries MAX_SEQUENCE_CLOCKS cpu.old bus.old bus.new cpu.new }
+    ensures trace { result ≡ trace_of tape.now.entries (bus.new.peripherals.clock - bus.old.peripherals.clock) (over_bus cpu.old bus.old) }
     ensures fits { Fits tape.now bus.new }
 {
     bus.begin(tape);
@@ -348,9 +348,9 @@ fn trace_middle<V: VectorUnit, P: SoundUnit, C: CellUnit, D: DividerUnit>(
     requires middle { IsSome cpu.old.mid }
     requires between { bus.old.begun ≡ false }
     requires fits { Fits tape.now bus.old }
-    requires room { WHOLE ≤ room_of bus.old }
-    ensures turned { TurnedBus tape.now.entries WHOLE cpu.old bus.old bus.new cpu.new }
-    ensures trace { result ≡ trace_of tape.now.entries (bus.new.wires.clock - bus.old.wires.clock) (over_bus cpu.old bus.old) }
+    requires room { MAX_SEQUENCE_CLOCKS ≤ room_of bus.old }
+    ensures turned { TurnedBus tape.now.entries MAX_SEQUENCE_CLOCKS cpu.old bus.old bus.new cpu.new }
+    ensures trace { result ≡ trace_of tape.now.entries (bus.new.peripherals.clock - bus.old.peripherals.clock) (over_bus cpu.old bus.old) }
     ensures fits { Fits tape.now bus.new }
 {
     let Some(mid) = cpu.state().mid else {
@@ -358,7 +358,7 @@ fn trace_middle<V: VectorUnit, P: SoundUnit, C: CellUnit, D: DividerUnit>(
     };
     // the bytes of the place, for the proof
     let _count = mid.count;
-    let trace = trace_rest(cpu, bus, tape, Trace::new(), WHOLE);
+    let trace = trace_rest(cpu, bus, tape, Trace::new(), MAX_SEQUENCE_CLOCKS);
     trace.named(mid.sequence, mid.bytes[0])
 }
 
@@ -373,8 +373,8 @@ pub(crate) fn trace_running<V: VectorUnit, P: SoundUnit, C: CellUnit, D: Divider
     requires between { bus.old.begun ≡ false }
     requires fits { Fits tape.now bus.old }
     requires room { 9 ≤ room_of bus.old }
-    ensures turned { TurnedBus tape.now.entries WHOLE cpu.old bus.old bus.new cpu.new }
-    ensures trace { result ≡ trace_of tape.now.entries (bus.new.wires.clock - bus.old.wires.clock) (over_bus cpu.old bus.old) }
+    ensures turned { TurnedBus tape.now.entries MAX_SEQUENCE_CLOCKS cpu.old bus.old bus.new cpu.new }
+    ensures trace { result ≡ trace_of tape.now.entries (bus.new.peripherals.clock - bus.old.peripherals.clock) (over_bus cpu.old bus.old) }
     ensures fits { Fits tape.now bus.new }
 {
     if cpu.state().mid.is_some() {
@@ -393,9 +393,9 @@ pub(crate) fn trace_sequence<V: VectorUnit, P: SoundUnit, C: CellUnit, D: Divide
     requires between { bus.old.begun ≡ false }
     requires fits { Fits tape.now bus.old }
     requires range { IsInRange cpu.old bus.old }
-    requires early { cpu.old.mid ≡ None → bus.old.wires.clock < CLOCK_LIMIT }
+    requires early { cpu.old.mid ≡ None → bus.old.peripherals.clock < CLOCK_LIMIT }
     requires room { 9 ≤ room_of bus.old }
-    ensures run { BoundaryRun tape.now.entries (bus.old.wires.clock + 1) cpu.old bus.old bus.new cpu.new }
+    ensures run { BoundaryRun tape.now.entries (bus.old.peripherals.clock + 1) cpu.old bus.old bus.new cpu.new }
     ensures trace { result ≡ step_trace tape.now.entries (over_bus cpu.old bus.old) }
 {
     if cpu.state().jam.is_some() {

@@ -6,7 +6,7 @@ ghost use Rattle.catchup_engine.specs.Bus.{BusStep, Fits, room_of};
 ghost use Rattle.lockstep_board.specs.Lockstep.{sequence_due};
 ghost use Rattle.catchup_engine.specs.Turn.{Resets, TurnedBus, reads_opcode};
 
-use crate::bus::{BoardBus, WHOLE};
+use crate::bus::{BoardBus, MAX_SEQUENCE_CLOCKS};
 use avg_device::VectorUnit;
 use board_base::{CLOCK_END, Pending, Sequence};
 use cpu_alu::Flags;
@@ -21,7 +21,7 @@ pub(crate) fn due<V: VectorUnit, P: SoundUnit, C: CellUnit, D: DividerUnit>(
     cpu: &Cpu,
     bus: &BoardBus<V, P, C, D>,
 ) -> Sequence
-    ensures { result ≡ sequence_due cpu.now bus.now.wires }
+    ensures { result ≡ sequence_due cpu.now bus.now.peripherals }
 {
     if bus.pending() != Pending::Nothing {
         Sequence::Reset
@@ -38,7 +38,7 @@ pub(crate) fn perform<B: Bus>(cpu: &mut Cpu, sequence: Sequence, bus: &mut B, fe
     requires running { cpu.old.jam ≡ None }
     requires boundary { cpu.old.mid ≡ None }
     requires fits { B.fits feed.now bus.old }
-    requires room { WHOLE ≤ B.room bus.old }
+    requires room { MAX_SEQUENCE_CLOCKS ≤ B.room bus.old }
     requires no_reset { sequence ≢ Sequence.Reset }
     ensures runs { Runs (B.step feed.now) (start_of sequence cpu.old) sequence bus.old bus.new cpu.new }
     ensures boundary { cpu.new.mid ≡ None }
@@ -64,13 +64,13 @@ fn begin_sequence<V: VectorUnit, P: SoundUnit, C: CellUnit, D: DividerUnit>(
     requires boundary { cpu.old.mid ≡ None }
     requires fits { Fits tape.now bus.old }
     requires some { 1 ≤ clocks }
-    requires few { clocks ≤ WHOLE }
+    requires few { clocks ≤ MAX_SEQUENCE_CLOCKS }
     requires room { clocks ≤ room_of bus.old }
     requires no_reset { sequence ≢ Sequence.Reset }
     ensures advances { (made : ℕ) × Advances (BusStep tape.now.entries) (start_of sequence cpu.old) sequence [] clocks made bus.old bus.new cpu.new }
     ensures fits { Fits tape.now bus.new }
 {
-    if clocks == WHOLE {
+    if clocks == MAX_SEQUENCE_CLOCKS {
         perform(cpu, sequence, bus, tape);
     } else {
         let _fetched = cpu.begin(sequence, bus, tape, clocks);
@@ -89,7 +89,7 @@ fn take_reset<V: VectorUnit, P: SoundUnit, C: CellUnit, D: DividerUnit>(
     requires boundary { cpu.old.mid ≡ None }
     requires fits { Fits tape.now bus.old }
     requires some { 1 ≤ clocks }
-    requires few { clocks ≤ WHOLE }
+    requires few { clocks ≤ MAX_SEQUENCE_CLOCKS }
     requires room { clocks + 1 ≤ room_of bus.old }
     ensures resets { Resets tape.now.entries cpu.old clocks bus.old bus.new cpu.new }
     ensures fits { Fits tape.now bus.new }
@@ -114,7 +114,7 @@ fn fetch<V: VectorUnit, P: SoundUnit, C: CellUnit, D: DividerUnit>(
     requires between { bus.old.begun ≡ false }
     requires fits { Fits tape.now bus.old }
     requires some { 1 ≤ clocks }
-    requires few { clocks ≤ WHOLE }
+    requires few { clocks ≤ MAX_SEQUENCE_CLOCKS }
     requires room { clocks + 2 ≤ room_of bus.old }
     ensures turned { TurnedBus tape.now.entries clocks cpu.old bus.old bus.new cpu.new }
     ensures fits { Fits tape.now bus.new }
@@ -138,7 +138,7 @@ fn resume<V: VectorUnit, P: SoundUnit, C: CellUnit, D: DividerUnit>(
     requires between { bus.old.begun ≡ false }
     requires fits { Fits tape.now bus.old }
     requires some { 1 ≤ clocks }
-    requires few { clocks ≤ WHOLE }
+    requires few { clocks ≤ MAX_SEQUENCE_CLOCKS }
     requires room { clocks ≤ room_of bus.old }
     ensures turned { TurnedBus tape.now.entries clocks cpu.old bus.old bus.new cpu.new }
     ensures fits { Fits tape.now bus.new }
@@ -152,7 +152,7 @@ fn resume<V: VectorUnit, P: SoundUnit, C: CellUnit, D: DividerUnit>(
 
 /// Does a turn that may begin with anything.
 #[inline(never)]
-pub(crate) fn turn_slowly<V: VectorUnit, P: SoundUnit, C: CellUnit, D: DividerUnit>(
+pub(crate) fn step_slow<V: VectorUnit, P: SoundUnit, C: CellUnit, D: DividerUnit>(
     mut cpu: Cpu,
     bus: &mut BoardBus<V, P, C, D>,
     tape: &Tape,
@@ -162,7 +162,7 @@ pub(crate) fn turn_slowly<V: VectorUnit, P: SoundUnit, C: CellUnit, D: DividerUn
     requires between { bus.old.begun ≡ false }
     requires fits { Fits tape.now bus.old }
     requires some { 1 ≤ clocks }
-    requires few { clocks ≤ WHOLE }
+    requires few { clocks ≤ MAX_SEQUENCE_CLOCKS }
     requires room { clocks + 2 ≤ room_of bus.old }
     ensures turned { TurnedBus tape.now.entries clocks cpu bus.old bus.new result }
     ensures fits { Fits tape.now bus.new }
@@ -183,7 +183,7 @@ pub(crate) fn reads_opcode<V: VectorUnit, P: SoundUnit, C: CellUnit, D: DividerU
     cpu: &Cpu,
     bus: &BoardBus<V, P, C, D>,
 ) -> bool
-    requires clock { bus.now.wires.clock < CLOCK_END }
+    requires clock { bus.now.peripherals.clock < CLOCK_END }
     ensures { result ≡ reads_opcode cpu.now bus.now }
 {
     let state = cpu.state();

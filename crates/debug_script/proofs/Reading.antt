@@ -4,7 +4,7 @@ use Rattle.std.proofs.lemmas.List.{append_assoc, append-nil, nil_from_length}
 use Rattle.plain_text.specs.Lines.{lines_of}
 use Rattle.debug_script.specs.declared.command.Command.{Command}
 use Rattle.debug_script.specs.Script.{next_command, script_from, script_of, with_command, with_first}
-use Rattle.debug_script.specs.Stops.{Fit, StopsValue, are_few, no_stops, stops_after}
+use Rattle.debug_script.specs.Breakpoints.{Fit, StopsValue, are_few, no_stops, stops_after}
 
 -- commands in front of the others, or the number of the first line of no form
 abbrev pub with_front : List Command → Result (List Command) ℕ → Result (List Command) ℕ

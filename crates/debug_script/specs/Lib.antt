@@ -1,4 +1,4 @@
 pub mod Commands
 pub mod Script
-pub mod Stops
+pub mod Breakpoints
 pub mod Texts

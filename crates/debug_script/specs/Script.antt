@@ -6,7 +6,7 @@ use Rattle.debug_script.specs.declared.fault.ScriptFault.{ScriptFault}
 use Rattle.debug_script.specs.declared.fault.ScriptFault.TheVariants.{TooLong, BadCommand, OutOfMemory}
 use Rattle.debug_script.specs.declared.script.TheConstants.{SCRIPT_LIMIT}
 use Rattle.debug_script.specs.Commands.{command_of, where_it}
-use Rattle.debug_script.specs.Stops.{StopsValue, are_few, no_stops, stops_after}
+use Rattle.debug_script.specs.Breakpoints.{StopsValue, are_few, no_stops, stops_after}
 
 -- the command of a line, where so few stops stand with it as may
 abbrev pub next_command : StopsValue → List ℕ → Option Command

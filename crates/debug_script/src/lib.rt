@@ -12,4 +12,4 @@ pub use command::{Command, Span};
 pub use fault::ScriptFault;
 pub use laws::script_limits;
 pub use script::{SCRIPT_LIMIT, read_script};
-pub use stops::{STOPS, Stops};
+pub use stops::{Breakpoints, STOPS};

@@ -1,11 +1,11 @@
 ghost use Rattle.std.specs.Prelude.{◌≡◌, true, IfOk, IfSome};
 ghost use Rattle.debug_script.specs.Script.{ReadsScript, next_command};
-ghost use Rattle.debug_script.specs.Stops.{Fit, are_few, no_stops, stops_after};
+ghost use Rattle.debug_script.specs.Breakpoints.{Fit, are_few, no_stops, stops_after};
 
 use crate::command::Command;
 use crate::fault::ScriptFault;
 use crate::line::read_command;
-use crate::stops::Stops;
+use crate::stops::Breakpoints;
 use plain_text::read_line;
 use std::alloc::Global;
 
@@ -13,7 +13,7 @@ use std::alloc::Global;
 pub const SCRIPT_LIMIT: usize = 65_536;
 
 /// The command of a line, where no more stops stand with it than may.
-fn read_next(line: &[u8], stops: &Stops) -> Option<Command>
+fn read_next(line: &[u8], stops: &Breakpoints) -> Option<Command>
     ensures command { result ≡ next_command stops.now line.now }
     ensures few { IfSome result (λ command. are_few (stops_after command stops.now) ≡ true) }
 {
@@ -39,7 +39,7 @@ pub fn read_script(alloc: Global, text: &[u8]) -> Result<Vec<Command>, ScriptFau
         return Err(ScriptFault::TooLong);
     }
     let mut commands = Vec::new(alloc);
-    let mut stops = Stops::new();
+    let mut stops = Breakpoints::new();
     let mut rest = text;
     let mut number = 0;
     'lines: while !rest.is_empty() {

@@ -7,16 +7,16 @@ pub const STOPS: usize = 16;
 
 /// Where a session stops.
 #[derive(Drop)]
-pub struct Stops {
+pub struct Breakpoints {
     breaks: ArrayVec<u16, STOPS>,
     watches: ArrayVec<u16, STOPS>,
     vg: bool,
 }
 
-impl Model for Stops {
+impl Model for Breakpoints {
     ghost use Rattle.std.specs.Prelude.{◌≤◌, length};
     ghost use Rattle.debug_script.specs.declared.stops.TheConstants.{STOPS};
-    ghost use Rattle.debug_script.specs.Stops.{StopsValue};
+    ghost use Rattle.debug_script.specs.Breakpoints.{StopsValue};
 
     ghost Value = { StopsValue };
 
@@ -25,15 +25,15 @@ impl Model for Stops {
     ghost invariant = { λ s. (length s.breaks.items ≤ STOPS) × (length s.watches.items ≤ STOPS) };
 }
 
-impl Stops {
+impl Breakpoints {
     ghost use Rattle.std.specs.Prelude.{◌≡◌, ◌≤◌, length, true};
-    ghost use Rattle.debug_script.specs.Stops.{are_few, no_stops, stops_after};
+    ghost use Rattle.debug_script.specs.Breakpoints.{are_few, no_stops, stops_after};
 
     /// No stops.
-    pub fn new() -> Stops
+    pub fn new() -> Breakpoints
         ensures { result ≡ no_stops }
     {
-        Stops {
+        Breakpoints {
             breaks: ArrayVec::new(),
             watches: ArrayVec::new(),
             vg: false,
@@ -60,7 +60,7 @@ impl Stops {
             Command::Break(address) => self.breaks.push(address),
             Command::Watch(address) => self.watches.push(address),
             Command::StopVg => self.vg = true,
-            Command::Clear => *self = Stops::new(),
+            Command::Clear => *self = Breakpoints::new(),
             _ => {}
         }
     }

@@ -18,7 +18,7 @@ use Rattle.debug_script.specs.declared.command.Command.{Command}
 use Rattle.debug_script.specs.declared.fault.ScriptFault.TheVariants as script
 use Rattle.debug_script.specs.declared.script.TheConstants.{SCRIPT_LIMIT}
 use Rattle.debug_script.specs.Script.{script_of}
-use Rattle.debug_script.specs.Stops.{no_stops}
+use Rattle.debug_script.specs.Breakpoints.{no_stops}
 use Rattle.soak_run.specs.SoakText.{run_text}
 use Rattle.tape_ports.specs.Tape.{TapeValue}
 use Rattle.workload_gen.specs.Roms.{image_of}

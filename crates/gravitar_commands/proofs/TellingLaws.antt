@@ -14,7 +14,7 @@ use Rattle.outside_io.specs.Shelf.{Files}
 use Rattle.outside_io.specs.Sink.{Takes}
 use Rattle.tape_ports.specs.declared.entry.TapeEntry.{TapeEntry}
 use Rattle.lockstep_board.specs.Lockstep.{Board}
-use Rattle.lockstep_board.specs.Wires.{wires_of}
+use Rattle.lockstep_board.specs.Peripherals.{peripherals_of}
 use Rattle.keyframes.specs.Seeking.{over_image}
 use Rattle.keyframes.proofs.AlongLaws.{rom-after}
 use Rattle.board_base.specs.declared.vector_memory.TheConstants.{VECTOR_RAM_LEN, VECTOR_ROM_LEN}
@@ -127,12 +127,12 @@ seek-told None holds seek comes = tt
 seek-told (Some files) holds seek comes = λ reading is. record { calls = 0; fits = tt; of_outcome = comes reading is }
 
 -- a new engine stands at the board that was kept first
-pub start-is : (image : List ℕ) (wired : Bool) (state : BoardValue) (e s : Board) → IsBoard state → e ≡ (let b : Board = record { cpu = state.cpu; wires = wires_of image wired state } in b)
+pub start-is : (image : List ℕ) (wired : Bool) (state : BoardValue) (e s : Board) → IsBoard state → e ≡ (let b : Board = record { cpu = state.cpu; peripherals = peripherals_of image wired state } in b)
     → s ≡ over_image e state → s ≡ e
 start-is image wired state e s board made start =
     start
     ∙ ap (λ (b : Board). over_image b state) made
-    ∙ ap (λ (rom : List ℕ). let b : Board = record { cpu = state.cpu; wires = record (wires_of image wired state) { memory = state.vram ++ rom } } in b)
+    ∙ ap (λ (rom : List ℕ). let b : Board = record { cpu = state.cpu; peripherals = record (peripherals_of image wired state) { memory = state.vram ++ rom } } in b)
     (rom-after VECTOR_RAM_LEN state.vram (take VECTOR_ROM_LEN image) board.vram)
     ∙ sym made
 

@@ -21,7 +21,7 @@ use Rattle.debug_script.specs.declared.command.Command.{Command}
 use Rattle.debug_script.specs.declared.fault.ScriptFault.TheVariants as script
 use Rattle.debug_script.specs.declared.script.TheConstants.{SCRIPT_LIMIT}
 use Rattle.debug_script.specs.Script.{script_of}
-use Rattle.debug_script.specs.Stops.{no_stops}
+use Rattle.debug_script.specs.Breakpoints.{no_stops}
 use Rattle.command_line.specs.CommandLine.{command_of}
 use Rattle.command_line.specs.CommandValue.{AsmValue, CommandValue, DebugValue, RunValue, asm_of, debug_of, frames_of, pcm_of, profile_of, run_of, seek_of, show_of, soak_of}
 use Rattle.command_line.specs.SettingsValue.{SettingsValue}
@@ -29,7 +29,7 @@ use Rattle.outside_io.specs.Shelf.{Files}
 use Rattle.soak_run.specs.SoakText.{run_text}
 use Rattle.workload_gen.specs.Roms.{image_of}
 use Rattle.workload_gen.specs.Tape as workload
-use Rattle.lockstep_board.specs.Wires.{wires_of}
+use Rattle.lockstep_board.specs.Peripherals.{peripherals_of}
 use Rattle.lockstep_board.specs.Lockstep.{Board}
 use Rattle.gravitar_commands.specs.declared.assembled.Assembled.{Assembled}
 use Rattle.gravitar_commands.specs.declared.assembled.Language.{Language}
@@ -172,7 +172,7 @@ debug_files files debug reading =
 
 -- the board that a run begins with: with `--timers` the POKEYs are wired to the interrupt line
 abbrev pub first_board : Bool → Parts → Board
-first_board wired parts = record { cpu = parts.board.cpu; wires = wires_of parts.image wired parts.board }
+first_board wired parts = record { cpu = parts.board.cpu; peripherals = peripherals_of parts.image wired parts.board }
 
 -- a run ends at the tape's END clock, or at the clock of `--until` where that is smaller
 abbrev pub limit_of : Option ℕ → ℕ → ℕ

@@ -24,7 +24,7 @@ use Rattle.keyframes.proofs.ImageLaws.{Image, clock-image, cut-image, image_of}
 abbrev laid : BoardValue → Image → Board
 laid state image = record {
   cpu = state.cpu;
-  wires = record {
+  peripherals = record {
     clock = state.clock;
     wired = image.wired;
     out = state.out;
@@ -46,24 +46,24 @@ laid state image = record {
   };
 }
 
-over_image-of : (e e' : Board) (state : BoardValue) → image_of e.wires ≡ image_of e'.wires → over_image e state ≡ over_image e' state
+over_image-of : (e e' : Board) (state : BoardValue) → image_of e.peripherals ≡ image_of e'.peripherals → over_image e state ≡ over_image e' state
 over_image-of e e' state same = ap (laid state) same
 
 -- over its own image the state of a board is the board without its records
 over_image-own : (b : Board) → over_image b (state_of b) ≡ cleared b
 over_image-own b =
-    ap (λ (memory : List ℕ). let again : Board = record { cpu = b.cpu; wires = record (cleared b).wires { memory = memory } } in again)
-    (take-append-drop VECTOR_RAM_LEN b.wires.memory)
+    ap (λ (memory : List ℕ). let again : Board = record { cpu = b.cpu; peripherals = record (cleared b).peripherals { memory = memory } } in again)
+    (take-append-drop VECTOR_RAM_LEN b.peripherals.memory)
 
 -- the vector RAM of a state stands whole before the vector ROM
 rom-behind : (n : ℕ) (ram rom : List ℕ) → ram ≡ take n (ram ++ rom) → drop n (ram ++ rom) ≡ rom
 rom-behind n ram rom whole =
     append_cancel_left ram (drop n (ram ++ rom)) rom (ap (λ (l : List ℕ). l ++ drop n (ram ++ rom)) whole ∙ take-append-drop n (ram ++ rom))
 
-start-image : (e : Board) (state : BoardValue) → state ≡ state_of (over_image e state) → image_of (over_image e state).wires ≡ image_of e.wires
+start-image : (e : Board) (state : BoardValue) → state ≡ state_of (over_image e state) → image_of (over_image e state).peripherals ≡ image_of e.peripherals
 start-image e state whole =
-    ap (λ (rom : List ℕ). let image : Image = record { wired = e.wires.wired; program = e.wires.program; rom = rom } in image)
-    (rom-behind VECTOR_RAM_LEN state.vram (drop VECTOR_RAM_LEN e.wires.memory) (ap (λ (s : BoardValue). s.vram) whole))
+    ap (λ (rom : List ℕ). let image : Image = record { wired = e.peripherals.wired; program = e.peripherals.program; rom = rom } in image)
+    (rom-behind VECTOR_RAM_LEN state.vram (drop VECTOR_RAM_LEN e.peripherals.memory) (ap (λ (s : BoardValue). s.vram) whole))
 
 -- the vector ROM stands behind the whole vector RAM
 pub rom-after : (n : ℕ) (ram rom : List ℕ) → length ram ≡ n → drop n (ram ++ rom) ≡ rom
@@ -71,12 +71,12 @@ rom-after n ram rom whole = ap (λ k. drop k (ram ++ rom)) (sym whole) ∙ drop-
 
 -- an engine's image is that of the board at which the run begins
 along-image : (kept : List Keyframe) (entries : List TapeEntry) (e : Board) → Along kept entries (run_start kept e)
-    → image_of (run_start kept e).wires ≡ image_of e.wires
+    → image_of (run_start kept e).peripherals ≡ image_of e.peripherals
 along-image [] entries e along = refl
 along-image (first ∷ rest) entries e along = start-image e first.board (along.first first)
 
 -- boards with the same image have the same start
-pub start-same : (kept : List Keyframe) (e e' : Board) → 0 < length kept → image_of e.wires ≡ image_of e'.wires → run_start kept e ≡ run_start kept e'
+pub start-same : (kept : List Keyframe) (e e' : Board) → 0 < length kept → image_of e.peripherals ≡ image_of e'.peripherals → run_start kept e ≡ run_start kept e'
 start-same [] e e' some same = absurd (omega (arith, some))
 start-same (first ∷ rest) e e' some same = over_image-of e e' first.board same
 
@@ -99,7 +99,7 @@ module _ (kept : List Keyframe) (entries : List TapeEntry) (e : Board) (along : 
   loaded-start i d h =
       let state = (get_or kept i d).board in
       start-same kept (over_image e state) e along.some
-      (ap (λ (b : Board). image_of b.wires) (loaded-board i d h) ∙ clock-image entries state.clock start ∙ along-image kept entries e along)
+      (ap (λ (b : Board). image_of b.peripherals) (loaded-board i d h) ∙ clock-image entries state.clock start ∙ along-image kept entries e along)
 
 -- records made before don't change where a run comes to
 pub clock-cleared : (entries : List TapeEntry) (cut : ℕ) (b : Board) → cleared (to_clock entries cut (cleared b)) ≡ cleared (to_clock entries cut b)
@@ -113,38 +113,38 @@ not-before jam cut clock h = grind (arith, nat_tests)
 -- a run to a clock that isn't ahead is no step
 pub clock-none : (entries : List TapeEntry) (cut : ℕ) (b : Board) → is_at cut b ≡ true → to_clock entries cut b ≡ b
 unfolding to_clock stepped
-clock-none entries cut b over = ap (λ n. stepped entries n b) (steps-none entries (is_at cut) (cut - b.wires.clock) b over)
+clock-none entries cut b over = ap (λ n. stepped entries n b) (steps-none entries (is_at cut) (cut - b.peripherals.clock) b over)
 
-pub clock-past : (entries : List TapeEntry) (cut : ℕ) (b : Board) → cut ≤ b.wires.clock → to_clock entries cut b ≡ b
-clock-past entries cut b past = clock-none entries cut b (not-before b.cpu.jam cut b.wires.clock past)
+pub clock-past : (entries : List TapeEntry) (cut : ℕ) (b : Board) → cut ≤ b.peripherals.clock → to_clock entries cut b ≡ b
+clock-past entries cut b past = clock-none entries cut b (not-before b.cpu.jam cut b.peripherals.clock past)
 
 not-at : (jam : Option ℕ) (boundary : Bool) (cut wrap until clock : ℕ)
     → is_some jam || (nat_le cut clock || (boundary && nat_le wrap clock)) ≡ false → clock < until → is_some jam || nat_le until clock ≡ false
 not-at jam boundary cut wrap until clock e h = grind (arith, nat_tests)
 
-reached-at : (entries : List TapeEntry) (cut wrap until n : ℕ) (b last : Board) → StepsTo entries (is_cut cut wrap) n b last → b.wires.clock + n ≤ until
+reached-at : (entries : List TapeEntry) (cut wrap until n : ℕ) (b last : Board) → StepsTo entries (is_cut cut wrap) n b last → b.peripherals.clock + n ≤ until
     → StepsTo entries (is_at until) n b last
 reached-at entries cut wrap until zero b last r h = r
 reached-at entries cut wrap until (suc n) b last r h =
     let one = step-clock entries b in (
-      not-at b.cpu.jam (is_none b.cpu.mid) cut wrap until b.wires.clock r.0 (omega arith),
+      not-at b.cpu.jam (is_none b.cpu.mid) cut wrap until b.peripherals.clock r.0 (omega arith),
       reached-at entries cut wrap until n (step entries b) last r.1 (omega (arith, one)),
     )
 
 -- the end of a window is the board of the run at its own clock
 cut-clock : (entries : List TapeEntry) (cut wrap : ℕ) (b : Board)
-    → to_cut entries cut wrap b ≡ to_clock entries (to_cut entries cut wrap b).wires.clock b
+    → to_cut entries cut wrap b ≡ to_clock entries (to_cut entries cut wrap b).peripherals.clock b
 unfolding to_cut to_clock
 cut-clock entries cut wrap b =
     let n = cut_steps entries cut wrap b in
     let last = stepped entries n b in
     let all = stepped-clock entries n b in
-    let reached = steps-reached entries (is_cut cut wrap) (cut - b.wires.clock) b in
-    sym (ap (λ k. stepped entries k b) (steps_until-is entries (is_at last.wires.clock) n (last.wires.clock - b.wires.clock) b last
-    (reached-at entries cut wrap last.wires.clock n b last reached (omega (arith, all)))
-    (not-before last.cpu.jam last.wires.clock last.wires.clock (omega arith)) (omega (arith, all))))
+    let reached = steps-reached entries (is_cut cut wrap) (cut - b.peripherals.clock) b in
+    sym (ap (λ k. stepped entries k b) (steps_until-is entries (is_at last.peripherals.clock) n (last.peripherals.clock - b.peripherals.clock) b last
+    (reached-at entries cut wrap last.peripherals.clock n b last reached (omega (arith, all)))
+    (not-before last.cpu.jam last.peripherals.clock last.peripherals.clock (omega arith)) (omega (arith, all))))
 
-pub cut-later : (entries : List TapeEntry) (cut wrap : ℕ) (b : Board) → b.wires.clock ≤ (to_cut entries cut wrap b).wires.clock
+pub cut-later : (entries : List TapeEntry) (cut wrap : ℕ) (b : Board) → b.peripherals.clock ≤ (to_cut entries cut wrap b).peripherals.clock
 unfolding to_cut
 cut-later entries cut wrap b = let all = stepped-clock entries (cut_steps entries cut wrap b) b in omega (arith, all)
 
@@ -153,13 +153,13 @@ module _ (entries : List TapeEntry) (b now then : Board) (cut wrap : ℕ) (is : 
   pub window-on_run : IsOnRun entries b now → IsOnRun entries b then
   window-on_run on_run =
       let end = to_cut entries cut wrap now in
-      let clock = end.wires.clock in
-      let there = to_clock entries now.wires.clock b in
-      let same : then.wires.clock ≡ clock = ap (λ (c : Board). c.wires.clock) is in
+      let clock = end.peripherals.clock in
+      let there = to_clock entries now.peripherals.clock b in
+      let same : then.peripherals.clock ≡ clock = ap (λ (c : Board). c.peripherals.clock) is in
       is ∙ ap cleared (cut-clock entries cut wrap now)
       ∙ ap (λ (c : Board). cleared (to_clock entries clock c)) on_run
       ∙ clock-cleared entries clock there
-      ∙ sym (ap cleared (to_clock-split entries now.wires.clock clock b (cut-later entries cut wrap now)))
+      ∙ sym (ap cleared (to_clock-split entries now.peripherals.clock clock b (cut-later entries cut wrap now)))
       ∙ ap (λ n. cleared (to_clock entries n b)) (sym same)
 
   pub window-rest : cleared (to_clock entries cut then) ≡ cleared (to_clock entries cut now)
@@ -168,8 +168,8 @@ module _ (entries : List TapeEntry) (b now then : Board) (cut wrap : ℕ) (is : 
       ∙ clock-cleared entries cut (to_cut entries cut wrap now)
       ∙ sym (ap cleared (to_clock-cut entries cut wrap now))
 
-  pub window-image : image_of then.wires ≡ image_of now.wires
-  window-image = ap (λ (c : Board). image_of c.wires) is ∙ cut-image entries cut wrap now
+  pub window-image : image_of then.peripherals ≡ image_of now.peripherals
+  window-image = ap (λ (c : Board). image_of c.peripherals) is ∙ cut-image entries cut wrap now
 
   -- the last window ends with the run
   pub window-last : (first : Board) → (cause_of cut then ≢ Window) → cleared (to_clock entries cut now) ≡ cleared (to_clock entries cut first)

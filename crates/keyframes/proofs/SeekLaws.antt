@@ -96,7 +96,7 @@ module _ (old roomy new : KeyframesValue) (state : BoardValue) (room : MakesRoom
 -- over an image a whole state is told as it is
 over_image-told : (e : Board) (state : BoardValue) → IsBoard state → state ≡ state_of (over_image e state)
 over_image-told e state is =
-    let rom = drop VECTOR_RAM_LEN e.wires.memory in
+    let rom = drop VECTOR_RAM_LEN e.peripherals.memory in
     ap (λ (vram : List ℕ). let again : BoardValue = record state { vram = vram } in again)
     (sym (ap (λ k. take k (state.vram ++ rom)) (sym is.vram) ∙ take-append_seam state.vram rom))
 
@@ -146,13 +146,13 @@ begins kept entries e now i along within loads =
     let d : Keyframe = record { board = state_of e; pages = [] } in
     let is = loads d in
     let start : run_start kept now ≡ run_start kept e = ap (run_start kept) is ∙ loaded-start kept entries e along i d within in
-    let clock : now.wires.clock ≡ (get_or kept i d).board.clock = ap (λ (b : Board). b.wires.clock) is in
+    let clock : now.peripherals.clock ≡ (get_or kept i d).board.clock = ap (λ (b : Board). b.peripherals.clock) is in
     record {
       start = start;
       along = subst (Along kept entries) (sym start) along;
       on_run =
           is ∙ loaded-board kept entries e along i d within ∙ ap (λ n. cleared (to_clock entries n (run_start kept e))) (sym clock)
-          ∙ ap (λ (b : Board). cleared (to_clock entries now.wires.clock b)) (sym start);
+          ∙ ap (λ (b : Board). cleared (to_clock entries now.peripherals.clock b)) (sym start);
     }
 
 -- what a kept board is, an engine can take on
@@ -164,9 +164,9 @@ can_load kept i state all within is =
 
 -- a run to a clock before its beginning stays there
 pub before-first : (kept : List Keyframe) (entries : List TapeEntry) (b now : Board) (clock : ℕ) (d : Keyframe) → Along kept entries b
-    → now ≡ cleared (to_clock entries clock b) → clock < b.wires.clock → now.wires.clock ≡ (get_or kept 0 d).board.clock
+    → now ≡ cleared (to_clock entries clock b) → clock < b.peripherals.clock → now.peripherals.clock ≡ (get_or kept 0 d).board.clock
 before-first kept entries b now clock d along is before =
-    ap (λ (c : Board). c.wires.clock) is ∙ ap (λ (c : Board). c.wires.clock) (clock-past entries clock b (omega (arith, before)))
+    ap (λ (c : Board). c.peripherals.clock) is ∙ ap (λ (c : Board). c.peripherals.clock) (clock-past entries clock b (omega (arith, before)))
     ∙ sym (ap (λ (s : BoardValue). s.clock) (along.first d))
 
 -- the last is at the last place
@@ -226,7 +226,7 @@ module _ (kept : List Keyframe) (clock index : ℕ) (rising : HaveRisingClocks k
       ap (λ (c : Board). cleared (to_clock entries clock c)) (loads d ∙ loaded-board kept entries e along index d within) ∙ clock-cleared entries clock there in
       elim (cases_lt clock at) [
         | inl above ↦
-            let at_first : at ≡ b.wires.clock =
+            let at_first : at ≡ b.peripherals.clock =
             ap (λ n. (get_or kept n d).board.clock) (first d above) ∙ ap (λ (s : BoardValue). s.clock) (along.first d) in
             loaded ∙ ap (λ (c : Board). cleared (to_clock entries clock c)) (clock-past entries at b (omega (arith, at_first)))
         | inr below ↦ loaded ∙ sym (ap cleared (to_clock-split entries at clock b below))

@@ -2,7 +2,7 @@
 ghost use Rattle.std.specs.Prelude.{◌≡◌, ℕ, Bool, List};
 ghost use Rattle.board_base.specs.Board.{BoardValue, IsBoard};
 ghost use Rattle.lockstep_board.specs.Lockstep.{Board};
-ghost use Rattle.lockstep_board.specs.Wires.{wires_of};
+ghost use Rattle.lockstep_board.specs.Peripherals.{peripherals_of};
 ghost use Rattle.keyframes.specs.Seeking.{over_image};
 
 use crate::keyframes::{FRAMES_MIN, PAGES_MIN};
@@ -20,5 +20,5 @@ pub fn keyframe_numbers()
 /// itself.
 pub fn engines_begin_at_their_board()
     ensures new { (image : List ℕ) → (wired : Bool) → (state : BoardValue) → IsBoard state
-        → (let b : Board = record { cpu = state.cpu; wires = wires_of image wired state } in over_image b state ≡ b) }
+        → (let b : Board = record { cpu = state.cpu; peripherals = peripherals_of image wired state } in over_image b state ≡ b) }
 {}

@@ -66,9 +66,9 @@ fn run_window<M: Machine>(synced: &mut SyncedMachine<'_, M>, tape: &Tape, clock:
     ensures loan { loan_of synced.new ≡ loan_of synced.old }
     ensures board { (value_of synced.new).board ≡ cleared (to_cut tape.now.entries clock (wrap_of (value_of synced.old).board) (value_of synced.old).board) }
     ensures stop { result ≡ cause_of clock (value_of synced.new).board }
-    ensures later { result ≡ Stop.Window → (value_of synced.old).board.wires.clock < (value_of synced.new).board.wires.clock }
-    ensures before { result ≡ Stop.Window → (value_of synced.new).board.wires.clock < clock }
-    ensures done { (value_of synced.new).done + (value_of synced.old).board.wires.clock ≤ (value_of synced.old).done + (value_of synced.new).board.wires.clock }
+    ensures later { result ≡ Stop.Window → (value_of synced.old).board.peripherals.clock < (value_of synced.new).board.peripherals.clock }
+    ensures before { result ≡ Stop.Window → (value_of synced.new).board.peripherals.clock < clock }
+    ensures done { (value_of synced.new).done + (value_of synced.old).board.peripherals.clock ≤ (value_of synced.old).done + (value_of synced.new).board.peripherals.clock }
 {
     let Ok(stop) = synced.window(tape, Until::Clock(clock), &mut Nothing, &mut Nowhere) else {
         unreachable!();
@@ -83,7 +83,7 @@ fn run_on<M: Machine>(synced: &mut SyncedMachine<'_, M>, tape: &Tape, clock: u64
     ensures board { (value_of synced.new).board ≡ cleared (to_clock tape.now.entries clock (value_of synced.old).board) }
     ensures on_run { (b : Board) → IsOnRun tape.now.entries b (value_of synced.old).board → IsOnRun tape.now.entries b (value_of synced.new).board }
     ensures same { (kept : List Keyframe) → 0 < length kept → run_start kept (value_of synced.new).board ≡ run_start kept (value_of synced.old).board }
-    ensures done { (value_of synced.new).done + (value_of synced.old).board.wires.clock ≤ (value_of synced.old).done + (value_of synced.new).board.wires.clock }
+    ensures done { (value_of synced.new).done + (value_of synced.old).board.peripherals.clock ≤ (value_of synced.old).done + (value_of synced.new).board.peripherals.clock }
 {
     'windows: loop {
         match run_window(synced, tape, clock) {
@@ -99,7 +99,7 @@ fn keep_if_due<M: Machine>(synced: &SyncedMachine<'_, M>, keys: &mut Keyframes, 
     requires stride { 1 ≤ stride }
     ensures first { (e : Board) → run_start keys.new.kept e ≡ run_start keys.old.kept e }
     ensures along { (entries : List TapeEntry) → (b : Board) → Along keys.old.kept entries b → IsOnRun entries b (value_of synced.now).board → Along keys.new.kept entries b }
-    ensures near { IfSome (last_of keys.new.kept) (λ last. (value_of synced.now).board.wires.clock < last.board.clock + stride) }
+    ensures near { IfSome (last_of keys.new.kept) (λ last. (value_of synced.now).board.peripherals.clock < last.board.clock + stride) }
 {
     let machine = synced.machine();
     let last = keys.clock_of(keys.len() - 1);
@@ -127,8 +127,8 @@ fn run_keeping<M: Machine>(
     ensures board { (value_of synced.new).board ≡ cleared (to_clock tape.now.entries clock (value_of synced.old).board) }
     ensures same { run_start keys.new.kept (value_of synced.new).board ≡ run_start keys.old.kept (value_of synced.old).board }
     ensures along { Along keys.new.kept tape.now.entries (run_start keys.old.kept (value_of synced.old).board) }
-    ensures done { (value_of synced.new).done + (value_of synced.old).board.wires.clock ≤ (value_of synced.old).done + (value_of synced.new).board.wires.clock }
-    ensures near { IfSome (last_of keys.new.kept) (λ last. (value_of synced.new).board.wires.clock < last.board.clock + stride) }
+    ensures done { (value_of synced.new).done + (value_of synced.old).board.peripherals.clock ≤ (value_of synced.old).done + (value_of synced.new).board.peripherals.clock }
+    ensures near { IfSome (last_of keys.new.kept) (λ last. (value_of synced.new).board.peripherals.clock < last.board.clock + stride) }
 {
     'windows: loop {
         let stop = run_window(synced, tape, clock);
@@ -159,8 +159,8 @@ pub fn go_to<M: Machine>(
     ensures same { run_start keys.now.kept (value_of synced.new).board ≡ run_start keys.now.kept (value_of synced.old).board }
     ensures along { Along keys.now.kept tape.now.entries (run_start keys.now.kept (value_of synced.new).board) }
     ensures done { All (λ keyframe. keyframe.board.clock ≤ clock
-        → (value_of synced.new).done + keyframe.board.clock ≤ (value_of synced.old).done + (value_of synced.new).board.wires.clock) keys.now.kept }
-    ensures before { clock < (run_start keys.now.kept (value_of synced.old).board).wires.clock → (value_of synced.new).done ≤ (value_of synced.old).done }
+        → (value_of synced.new).done + keyframe.board.clock ≤ (value_of synced.old).done + (value_of synced.new).board.peripherals.clock) keys.now.kept }
+    ensures before { clock < (run_start keys.now.kept (value_of synced.old).board).peripherals.clock → (value_of synced.new).done ≤ (value_of synced.old).done }
 {
     let nearest = start_index(keys, clock);
     load_kept(synced, keys, nearest);
@@ -200,9 +200,9 @@ fn seek_synced<M: Machine>(
     ensures same { run_start keys.new.kept (value_of synced.new).board ≡ run_start keys.old.kept (value_of synced.old).board }
     ensures along { Along keys.new.kept tape.now.entries (run_start keys.new.kept (value_of synced.new).board) }
     ensures done { All (λ keyframe. keyframe.board.clock ≤ clock
-        → (value_of synced.new).done + keyframe.board.clock ≤ (value_of synced.old).done + (value_of synced.new).board.wires.clock) keys.old.kept }
-    ensures before { clock < (run_start keys.old.kept (value_of synced.old).board).wires.clock → (value_of synced.new).done ≤ (value_of synced.old).done }
-    ensures near { IfSome (last_of keys.new.kept) (λ last. (value_of synced.new).board.wires.clock < last.board.clock + stride) }
+        → (value_of synced.new).done + keyframe.board.clock ≤ (value_of synced.old).done + (value_of synced.new).board.peripherals.clock) keys.old.kept }
+    ensures before { clock < (run_start keys.old.kept (value_of synced.old).board).peripherals.clock → (value_of synced.new).done ≤ (value_of synced.old).done }
+    ensures near { IfSome (last_of keys.new.kept) (λ last. (value_of synced.new).board.peripherals.clock < last.board.clock + stride) }
 {
     let index = start_index(keys, clock);
     load_kept(synced, keys, index);
@@ -235,9 +235,9 @@ pub fn seek<V: VectorUnit, P: SoundUnit, C: CellUnit, D: DividerUnit>(
     ensures same { run_start keys.new.kept engine.new.board ≡ run_start keys.old.kept engine.old.board }
     ensures along { Along keys.new.kept tape.now.entries (run_start keys.new.kept engine.new.board) }
     ensures done { All (λ keyframe. keyframe.board.clock ≤ clock
-        → engine.new.done + keyframe.board.clock ≤ engine.old.done + engine.new.board.wires.clock) keys.old.kept }
-    ensures before { clock < (run_start keys.old.kept engine.old.board).wires.clock → engine.new.done ≤ engine.old.done }
-    ensures near { IfSome (last_of keys.new.kept) (λ last. engine.new.board.wires.clock < last.board.clock + stride) }
+        → engine.new.done + keyframe.board.clock ≤ engine.old.done + engine.new.board.peripherals.clock) keys.old.kept }
+    ensures before { clock < (run_start keys.old.kept engine.old.board).peripherals.clock → engine.new.done ≤ engine.old.done }
+    ensures near { IfSome (last_of keys.new.kept) (λ last. engine.new.board.peripherals.clock < last.board.clock + stride) }
 {
     seek_synced(&mut SyncedMachine::of(engine), keys, tape, clock, stride);
 }

@@ -21,14 +21,14 @@ use Rattle.tape_ports.specs.declared.entry.TapeEntry.{TapeEntry}
 use Rattle.tape_ports.specs.Due.{due_at}
 use Rattle.avg_device.specs.Tick.{vg_gives}
 use Rattle.pokey_chip.specs.Tick.{pokey_gives}
-use Rattle.lockstep_board.specs.Wires.{Wires, port_set, applied, devices_ticked, ticked, line_of, byte_in, byte_read, put_in, byte_put, reset_by, reset_begun}
+use Rattle.lockstep_board.specs.Peripherals.{Peripherals, port_set, applied, devices_ticked, ticked, line_of, byte_in, byte_read, put_in, byte_put, reset_by, reset_begun}
 use Rattle.lockstep_board.specs.Lockstep.{Board, accessed, accessed_by, sequence_due, begun, at_fetch, after_access, step, made_by, due_access, access_in}
 use Rattle.lockstep_board.specs.Run.{stepped, steps_until, is_over, is_at, is_cut, boundary_steps, clock_steps, cut_steps, to_boundary, to_clock, to_cut}
 use Rattle.lockstep_board.specs.Budget.{counted, begins_reset, resets_begun, ticks_price, price, budget}
 use Rattle.lockstep_board.specs.Order.{cleared, Recorded, behind, records_of}
 
--- wires with earlier records
-abbrev front : Recorded → Wires → Wires
+-- peripherals with earlier records
+abbrev front : Recorded → Peripherals → Peripherals
 front l w = record w {
   strokes = l.strokes ++ w.strokes;
   levels1 = l.levels1 ++ w.levels1;
@@ -36,20 +36,20 @@ front l w = record w {
   written = l.written ++ w.written;
 }
 
-port_set-front : (p : Port) (value : ℕ) (l : Recorded) (w : Wires) → port_set p value (front l w) ≡ front l (port_set p value w)
+port_set-front : (p : Port) (value : ℕ) (l : Recorded) (w : Peripherals) → port_set p value (front l w) ≡ front l (port_set p value w)
 port_set-front port.In0 value l w = refl
 port_set-front port.In3 value l w = refl
 port_set-front port.In4 value l w = refl
 port_set-front (port.Pot1 which) value l w = refl
 port_set-front (port.Pot2 which) value l w = refl
 
-applied-front : (entries : List TapeEntry) (l : Recorded) (w : Wires) → applied entries (front l w) ≡ front l (applied entries w)
+applied-front : (entries : List TapeEntry) (l : Recorded) (w : Peripherals) → applied entries (front l w) ≡ front l (applied entries w)
 unfolding applied
 applied-front [] l w = refl
 applied-front (entry ∷ entries) l w =
     ap (applied entries) (port_set-front entry.port entry.value l w) ∙ applied-front entries l (port_set entry.port entry.value w)
 
-devices_ticked-front : (l : Recorded) (w : Wires) → devices_ticked (front l w) ≡ front l (devices_ticked w)
+devices_ticked-front : (l : Recorded) (w : Peripherals) → devices_ticked (front l w) ≡ front l (devices_ticked w)
 unfolding devices_ticked
 devices_ticked-front l w =
     rw (
@@ -58,54 +58,54 @@ devices_ticked-front l w =
       append_assoc l.levels2 w.levels2 (pokey_gives w.clock w.sound2),
     ) refl
 
-ticked-front : (entries : List TapeEntry) (l : Recorded) (w : Wires) → ticked entries (front l w) ≡ front l (ticked entries w)
+ticked-front : (entries : List TapeEntry) (l : Recorded) (w : Peripherals) → ticked entries (front l w) ≡ front l (ticked entries w)
 unfolding ticked
 ticked-front entries l w =
     ap devices_ticked (applied-front (due_at w.clock entries) l w) ∙ devices_ticked-front l (applied (due_at w.clock entries) w)
 
-byte_in-front : (got : Reads) (k : ℕ) (l : Recorded) (w : Wires) → byte_in got k (front l w) ≡ byte_in got k w
+byte_in-front : (got : Reads) (k : ℕ) (l : Recorded) (w : Peripherals) → byte_in got k (front l w) ≡ byte_in got k w
 byte_in-front reads.Ram k l w = refl
 byte_in-front _ k l w = refl
 
-byte_read-front : (address : ℕ) (l : Recorded) (w : Wires) → byte_read address (front l w) ≡ byte_read address w
+byte_read-front : (address : ℕ) (l : Recorded) (w : Peripherals) → byte_read address (front l w) ≡ byte_read address w
 unfolding byte_read
 byte_read-front address l w = byte_in-front (row_of address).reads (row_of address).offset l w
 
-put_in-front : (put : Writes) (k value : ℕ) (l : Recorded) (w : Wires) → put_in put k value (front l w) ≡ front l (put_in put k value w)
+put_in-front : (put : Writes) (k value : ℕ) (l : Recorded) (w : Peripherals) → put_in put k value (front l w) ≡ front l (put_in put k value w)
 put_in-front writes.OutputLatch k value l w = rw append_assoc refl
 put_in-front _ k value l w = refl
 
-accessed_by-front : (next : Next) (r : RegistersValue) (q : Sequence) (bytes : List ℕ) (l : Recorded) (w : Wires)
+accessed_by-front : (next : Next) (r : RegistersValue) (q : Sequence) (bytes : List ℕ) (l : Recorded) (w : Peripherals)
     → accessed_by next r q bytes (front l w) ≡ behind l (accessed_by next r q bytes w)
 unfolding byte_put
 accessed_by-front (Read a) r q bytes l w = rw (byte_read-front a l w) refl
 accessed_by-front (Write a v) r q bytes l w = rw (put_in-front (row_of a).writes (row_of a).offset v l w) refl
 accessed_by-front (End e) r q bytes l w = refl
 
-accessed-front : (r : RegistersValue) (q : Sequence) (bytes : List ℕ) (l : Recorded) (w : Wires)
+accessed-front : (r : RegistersValue) (q : Sequence) (bytes : List ℕ) (l : Recorded) (w : Peripherals)
     → accessed r q bytes (front l w) ≡ behind l (accessed r q bytes w)
 unfolding accessed
 accessed-front r q bytes l w = accessed_by-front (next_of r q bytes) r q bytes l w
 
-reset_by-front : (p : Pending) (l : Recorded) (w : Wires) → reset_by p (front l w) ≡ front l (reset_by p w)
+reset_by-front : (p : Pending) (l : Recorded) (w : Peripherals) → reset_by p (front l w) ≡ front l (reset_by p w)
 reset_by-front Nothing l w = refl
 reset_by-front Power l w = refl
 reset_by-front Watchdog l w = rw append_assoc refl
 
 begun-behind : (q : Sequence) (l : Recorded) (b : Board) → begun q (behind l b) ≡ behind l (begun q b)
 unfolding reset_begun
-begun-behind Reset l b = ap (λ (w : Wires). record b { wires = w }) (reset_by-front b.wires.divider.pending l b.wires)
+begun-behind Reset l b = ap (λ (w : Peripherals). record b { peripherals = w }) (reset_by-front b.peripherals.divider.pending l b.peripherals)
 begun-behind Opcode l b = refl
 begun-behind Interrupt l b = refl
 
-line_of-front : (l : Recorded) (w : Wires) → line_of (front l w) ≡ line_of w
+line_of-front : (l : Recorded) (w : Peripherals) → line_of (front l w) ≡ line_of w
 unfolding line_of
 line_of-front l w = refl
 
-sequence_due-front : (c : CpuValue) (l : Recorded) (w : Wires) → sequence_due c (front l w) ≡ sequence_due c w
+sequence_due-front : (c : CpuValue) (l : Recorded) (w : Peripherals) → sequence_due c (front l w) ≡ sequence_due c w
 sequence_due-front c l w = rw (line_of-front l w) refl
 
-at_fetch-front : (c : CpuValue) (l : Recorded) (w : Wires) → at_fetch c (front l w) ≡ behind l (at_fetch c w)
+at_fetch-front : (c : CpuValue) (l : Recorded) (w : Peripherals) → at_fetch c (front l w) ≡ behind l (at_fetch c w)
 unfolding at_fetch
 at_fetch-front c l w =
     let q = sequence_due c w in
@@ -113,7 +113,7 @@ at_fetch-front c l w =
     ∙ ap (begun q) (accessed-front (start_of q c) q [] l w)
     ∙ begun-behind q l (accessed (start_of q c) q [] w)
 
-after_access-front : (mid : Option MidValue) (c : CpuValue) (l : Recorded) (w : Wires) → after_access mid c (front l w) ≡ behind l (after_access mid c w)
+after_access-front : (mid : Option MidValue) (c : CpuValue) (l : Recorded) (w : Peripherals) → after_access mid c (front l w) ≡ behind l (after_access mid c w)
 after_access-front None c l w = at_fetch-front c l w
 after_access-front (Some mid) c l w = accessed-front (registers_of c) mid.sequence (given_by mid) l w
 
@@ -121,7 +121,7 @@ after_access-front (Some mid) c l w = accessed-front (registers_of c) mid.sequen
 pub step-behind : (entries : List TapeEntry) (l : Recorded) (b : Board) → step entries (behind l b) ≡ behind l (step entries b)
 unfolding step
 step-behind entries l b =
-    rw (ticked-front entries l b.wires, after_access-front b.cpu.mid b.cpu l (ticked entries b.wires)) refl
+    rw (ticked-front entries l b.peripherals, after_access-front b.cpu.mid b.cpu l (ticked entries b.peripherals)) refl
 
 -- and so do n steps
 pub stepped-behind : (entries : List TapeEntry) (n : ℕ) (l : Recorded) (b : Board) → stepped entries n (behind l b) ≡ behind l (stepped entries n b)
@@ -150,38 +150,38 @@ behind-by entries asked same most l b =
 -- a run adds to the records made before
 pub to_clock-behind : (entries : List TapeEntry) (cut : ℕ) (l : Recorded) (b : Board) → to_clock entries cut (behind l b) ≡ behind l (to_clock entries cut b)
 unfolding to_clock
-to_clock-behind entries cut l b = behind-by entries (is_at cut) (λ _ _. refl) (cut - b.wires.clock) l b
+to_clock-behind entries cut l b = behind-by entries (is_at cut) (λ _ _. refl) (cut - b.peripherals.clock) l b
 
 -- the same for a run to a boundary
 pub to_boundary-behind : (entries : List TapeEntry) (limit : ℕ) (l : Recorded) (b : Board)
     → to_boundary entries limit (behind l b) ≡ behind l (to_boundary entries limit b)
 unfolding to_boundary
-to_boundary-behind entries limit l b = behind-by entries (is_over limit) (λ _ _. refl) ((limit - b.wires.clock) + 6) l b
+to_boundary-behind entries limit l b = behind-by entries (is_over limit) (λ _ _. refl) ((limit - b.peripherals.clock) + 6) l b
 
 -- and for one to a clock or a window's end
 pub to_cut-behind : (entries : List TapeEntry) (cut wrap : ℕ) (l : Recorded) (b : Board)
     → to_cut entries cut wrap (behind l b) ≡ behind l (to_cut entries cut wrap b)
 unfolding to_cut
-to_cut-behind entries cut wrap l b = behind-by entries (is_cut cut wrap) (λ _ _. refl) (cut - b.wires.clock) l b
+to_cut-behind entries cut wrap l b = behind-by entries (is_cut cut wrap) (λ _ _. refl) (cut - b.peripherals.clock) l b
 
 -- each run takes as many steps
 pub clock_steps-behind : (entries : List TapeEntry) (cut : ℕ) (l : Recorded) (b : Board) → clock_steps entries cut (behind l b) ≡ clock_steps entries cut b
-clock_steps-behind entries cut l b = steps_until-behind entries (is_at cut) (λ _ _. refl) (cut - b.wires.clock) l b
+clock_steps-behind entries cut l b = steps_until-behind entries (is_at cut) (λ _ _. refl) (cut - b.peripherals.clock) l b
 
 pub boundary_steps-behind : (entries : List TapeEntry) (limit : ℕ) (l : Recorded) (b : Board)
     → boundary_steps entries limit (behind l b) ≡ boundary_steps entries limit b
-boundary_steps-behind entries limit l b = steps_until-behind entries (is_over limit) (λ _ _. refl) ((limit - b.wires.clock) + 6) l b
+boundary_steps-behind entries limit l b = steps_until-behind entries (is_over limit) (λ _ _. refl) ((limit - b.peripherals.clock) + 6) l b
 
 pub cut_steps-behind : (entries : List TapeEntry) (cut wrap : ℕ) (l : Recorded) (b : Board)
     → cut_steps entries cut wrap (behind l b) ≡ cut_steps entries cut wrap b
-cut_steps-behind entries cut wrap l b = steps_until-behind entries (is_cut cut wrap) (λ _ _. refl) (cut - b.wires.clock) l b
+cut_steps-behind entries cut wrap l b = steps_until-behind entries (is_cut cut wrap) (λ _ _. refl) (cut - b.peripherals.clock) l b
 
-made_by-front : (next : Next) (l : Recorded) (w : Wires) → made_by next (front l w) ≡ made_by next w
+made_by-front : (next : Next) (l : Recorded) (w : Peripherals) → made_by next (front l w) ≡ made_by next w
 made_by-front (Read a) l w = rw (byte_read-front a l w) refl
 made_by-front (Write a v) l w = refl
 made_by-front (End e) l w = refl
 
-due_access-front : (mid : Option MidValue) (c : CpuValue) (l : Recorded) (w : Wires) → due_access mid c (front l w) ≡ due_access mid c w
+due_access-front : (mid : Option MidValue) (c : CpuValue) (l : Recorded) (w : Peripherals) → due_access mid c (front l w) ≡ due_access mid c w
 due_access-front None c l w =
     let q = sequence_due c w in
     ap (λ k. made_by (next_of (start_of k c) k []) (front l w)) (sequence_due-front c l w) ∙ made_by-front (next_of (start_of q c) q []) l w
@@ -191,17 +191,17 @@ due_access-front (Some mid) c l w = made_by-front (next_of (registers_of c) mid.
 pub access_in-behind : (entries : List TapeEntry) (l : Recorded) (b : Board) → access_in entries (behind l b) ≡ access_in entries b
 unfolding access_in
 access_in-behind entries l b =
-    ap (due_access b.cpu.mid b.cpu) (ticked-front entries l b.wires) ∙ due_access-front b.cpu.mid b.cpu l (ticked entries b.wires)
+    ap (due_access b.cpu.mid b.cpu) (ticked-front entries l b.peripherals) ∙ due_access-front b.cpu.mid b.cpu l (ticked entries b.peripherals)
 
-begins_reset-front : (mid : Option MidValue) (c : CpuValue) (l : Recorded) (w : Wires) → begins_reset mid c (front l w) ≡ begins_reset mid c w
+begins_reset-front : (mid : Option MidValue) (c : CpuValue) (l : Recorded) (w : Peripherals) → begins_reset mid c (front l w) ≡ begins_reset mid c w
 begins_reset-front None c l w = rw (sequence_due-front c l w) refl
 begins_reset-front (Some mid) c l w = refl
 
 resets_begun-behind : (entries : List TapeEntry) (l : Recorded) (b : Board) → resets_begun entries (behind l b) ≡ resets_begun entries b
 resets_begun-behind entries l b =
-    ap (begins_reset b.cpu.mid b.cpu) (ticked-front entries l b.wires) ∙ begins_reset-front b.cpu.mid b.cpu l (ticked entries b.wires)
+    ap (begins_reset b.cpu.mid b.cpu) (ticked-front entries l b.peripherals) ∙ begins_reset-front b.cpu.mid b.cpu l (ticked entries b.peripherals)
 
-ticks_price-front : (entries : List TapeEntry) (l : Recorded) (w : Wires) → ticks_price entries (front l w) ≡ ticks_price entries w
+ticks_price-front : (entries : List TapeEntry) (l : Recorded) (w : Peripherals) → ticks_price entries (front l w) ≡ ticks_price entries w
 unfolding ticks_price
 ticks_price-front entries l w = rw (applied-front (due_at w.clock entries) l w) refl
 
@@ -209,7 +209,7 @@ ticks_price-front entries l w = rw (applied-front (due_at w.clock entries) l w) 
 pub price-behind : (entries : List TapeEntry) (l : Recorded) (b : Board) → price entries (behind l b) ≡ price entries b
 unfolding price
 price-behind entries l b =
-    rw (access_in-behind entries l b, resets_begun-behind entries l b, ticks_price-front entries l b.wires) refl
+    rw (access_in-behind entries l b, resets_begun-behind entries l b, ticks_price-front entries l b.peripherals) refl
 
 -- a count of what the records don't change is the same
 pub counted-behind : (entries : List TapeEntry) (of_clock : Board → ℕ) → ((l : Recorded) (b : Board) → of_clock (behind l b) ≡ of_clock b)
@@ -228,6 +228,6 @@ budget-behind entries n l b = counted-behind entries (price entries) (price-behi
 -- a board is its own records, and itself without them
 pub behind-cleared : (b : Board) → behind (records_of b) (cleared b) ≡ b
 behind-cleared b =
-    rw (append-nil b.wires.strokes, append-nil b.wires.levels1, append-nil b.wires.levels2, append-nil b.wires.written) refl
+    rw (append-nil b.peripherals.strokes, append-nil b.peripherals.levels1, append-nil b.peripherals.levels2, append-nil b.peripherals.written) refl
 
 pub ruleset behinds = (to_clock-behind, to_boundary-behind, to_cut-behind, access_in-behind, budget-behind, behind-cleared)

@@ -25,15 +25,15 @@ parts-add devices wraps1 entries1 requests1 resets devices2 wraps2 entries2 requ
 pub budget-parts : (entries : List TapeEntry) (n : ℕ) (b : Board)
     → budget entries n b
     ≡ 2 * counted entries (device_accesses entries) n b
-    + 5 * (counted entries (λ c. wraps c.wires) n b + counted entries (λ c. entries_applied entries c.wires) n b
-    + counted entries (λ c. requests entries c.wires) n b + counted entries (resets_begun entries) n b)
+    + 5 * (counted entries (λ c. wraps c.peripherals) n b + counted entries (λ c. entries_applied entries c.peripherals) n b
+    + counted entries (λ c. requests entries c.peripherals) n b + counted entries (resets_begun entries) n b)
 unfolding counted price ticks_price
 budget-parts entries zero b = refl
 budget-parts entries (suc n) b =
     ap (λ k. price entries b + k) (budget-parts entries n (step entries b))
-    ∙ parts-add (device_accesses entries b) (wraps b.wires) (entries_applied entries b.wires) (requests entries b.wires) (resets_begun entries b)
-    (counted entries (device_accesses entries) n (step entries b)) (counted entries (λ c. wraps c.wires) n (step entries b))
-    (counted entries (λ c. entries_applied entries c.wires) n (step entries b)) (counted entries (λ c. requests entries c.wires) n (step entries b))
+    ∙ parts-add (device_accesses entries b) (wraps b.peripherals) (entries_applied entries b.peripherals) (requests entries b.peripherals) (resets_begun entries b)
+    (counted entries (device_accesses entries) n (step entries b)) (counted entries (λ c. wraps c.peripherals) n (step entries b))
+    (counted entries (λ c. entries_applied entries c.peripherals) n (step entries b)) (counted entries (λ c. requests entries c.peripherals) n (step entries b))
     (counted entries (resets_begun entries) n (step entries b))
 
 -- a budget for some steps and then for others

@@ -10,16 +10,16 @@ use Rattle.lockstep_board.proofs.Behind.{behind-cleared}
 use Rattle.lockstep_board.proofs.Runs.{steps-none}
 
 -- a clock is reached, or the processor is jammed
-pub at-stop : (jam : Option ℕ) (cut : ℕ) (b : Board) → (cause_at jam cut b ≢ Window) → is_some jam || nat_le cut b.wires.clock ≡ true
+pub at-stop : (jam : Option ℕ) (cut : ℕ) (b : Board) → (cause_at jam cut b ≢ Window) → is_some jam || nat_le cut b.peripherals.clock ≡ true
 at-stop (Some o) cut b not_window = refl
-at-stop None cut b not_window = by_test (nat_le cut b.wires.clock) refl
+at-stop None cut b not_window = by_test (nat_le cut b.peripherals.clock) refl
   where
-    by_test : (late : Bool) → nat_le cut b.wires.clock ≡ late → nat_le cut b.wires.clock ≡ true
+    by_test : (late : Bool) → nat_le cut b.peripherals.clock ≡ late → nat_le cut b.peripherals.clock ≡ true
     by_test true e = e
     by_test false e = absurd (not_window (rw e refl))
 
 boundary-stop : (jam : Option ℕ) (mid : Option MidValue) (limit : ℕ) (b : Board) → mid ≡ None → (cause_at jam limit b ≢ Window)
-    → is_some jam || (is_none mid && nat_le limit b.wires.clock) ≡ true
+    → is_some jam || (is_none mid && nat_le limit b.peripherals.clock) ≡ true
 boundary-stop jam (Some m) limit b none not_window = cc
 boundary-stop (Some o) None limit b none not_window = refl
 boundary-stop None None limit b none not_window = at-stop None limit b not_window
@@ -31,7 +31,7 @@ over-stop limit b none not_window = boundary-stop b.cpu.jam b.cpu.mid limit b no
 -- and makes no step from there
 pub over-stays : (entries : List TapeEntry) (limit : ℕ) (b : Board) → is_over limit b ≡ true → to_boundary entries limit b ≡ b
 unfolding to_boundary stepped
-over-stays entries limit b over = ap (λ n. stepped entries n b) (steps-none entries (is_over limit) ((limit - b.wires.clock) + 6) b over)
+over-stays entries limit b over = ap (λ n. stepped entries n b) (steps-none entries (is_over limit) ((limit - b.peripherals.clock) + 6) b over)
 
 -- a board without records is as it is when they are forgotten
 pub cleared-empty : (b : Board) → HasNoRecords b → cleared b ≡ b

@@ -82,9 +82,9 @@ module _ (entries : List TapeEntry) where
   to_clock-ended cut b =
       let last = stepped entries (clock_steps entries cut b) b in
       let all = stepped-clock entries (clock_steps entries cut b) b in
-      elim (steps-ended entries (is_at cut) (cut - b.wires.clock) b) [
+      elim (steps-ended entries (is_at cut) (cut - b.peripherals.clock) b) [
         | inl over ↦ over
-        | inr full ↦ at-clock last.cpu.jam cut last.wires.clock (omega arith)
+        | inr full ↦ at-clock last.cpu.jam cut last.peripherals.clock (omega arith)
       ]
 
   -- and so is one that ends with a window too
@@ -93,9 +93,9 @@ module _ (entries : List TapeEntry) where
   to_cut-ended cut wrap b =
       let last = stepped entries (cut_steps entries cut wrap b) b in
       let all = stepped-clock entries (cut_steps entries cut wrap b) b in
-      elim (steps-ended entries (is_cut cut wrap) (cut - b.wires.clock) b) [
+      elim (steps-ended entries (is_cut cut wrap) (cut - b.peripherals.clock) b) [
         | inl over ↦ over
-        | inr full ↦ cut-clock last.cpu.jam (is_none last.cpu.mid) cut wrap last.wires.clock (omega arith)
+        | inr full ↦ cut-clock last.cpu.jam (is_none last.cpu.mid) cut wrap last.peripherals.clock (omega arith)
       ]
 
   over-step : (limit n : ℕ) (b : Board) (t : Bool) → is_over limit b ≡ t
@@ -106,18 +106,18 @@ module _ (entries : List TapeEntry) where
   over-step limit n b false e rest = rest refl
 
   -- from the limit on a run to a boundary lasts to the end of the sequence
-  soon-over : (limit most : ℕ) (b : Board) → limit ≤ b.wires.clock → EndsWithin most b.cpu.mid
+  soon-over : (limit most : ℕ) (b : Board) → limit ≤ b.peripherals.clock → EndsWithin most b.cpu.mid
       → is_over limit (stepped entries (steps_until entries (is_over limit) most b) b) ≡ true
   unfolding steps_until stepped
-  soon-over limit zero b past within = within-none b.cpu.jam b.cpu.mid limit b.wires.clock within past
+  soon-over limit zero b past within = within-none b.cpu.jam b.cpu.mid limit b.peripherals.clock within past
   soon-over limit (suc most) b past within =
       over-step limit (steps_until entries (is_over limit) most (step entries b)) b (is_over limit b) refl
       (λ open_yet. soon-over limit most (step entries b) (let one = step-clock entries b in omega arith)
       (within-next most b.cpu.mid (step entries b).cpu.mid (step-at entries b) within
-      (not-boundary b.cpu.jam (is_none b.cpu.mid) limit b.wires.clock past open_yet)))
+      (not-boundary b.cpu.jam (is_none b.cpu.mid) limit b.peripherals.clock past open_yet)))
 
   -- a run to a boundary has steps enough
-  over-within : (limit far most : ℕ) (b : Board) → IsPlaced b → limit ≤ b.wires.clock + far → far + 6 ≤ most
+  over-within : (limit far most : ℕ) (b : Board) → IsPlaced b → limit ≤ b.peripherals.clock + far → far + 6 ≤ most
       → is_over limit (stepped entries (steps_until entries (is_over limit) most b) b) ≡ true
   unfolding steps_until
   over-within limit zero most b placed near few = soon-over limit most b (omega arith) (within-first most b.cpu.mid placed (omega arith))
@@ -130,23 +130,23 @@ module _ (entries : List TapeEntry) where
   pub to_boundary-over : (limit : ℕ) (b : Board) → IsPlaced b → is_over limit (to_boundary entries limit b) ≡ true
   unfolding to_boundary
   to_boundary-over limit b placed =
-      over-within limit (limit - b.wires.clock) ((limit - b.wires.clock) + 6) b placed (omega arith) (omega arith)
+      over-within limit (limit - b.peripherals.clock) ((limit - b.peripherals.clock) + 6) b placed (omega arith) (omega arith)
 
   -- it takes as many clocks as steps
-  pub to_boundary-clock : (limit : ℕ) (b : Board) → (to_boundary entries limit b).wires.clock ≡ b.wires.clock + boundary_steps entries limit b
+  pub to_boundary-clock : (limit : ℕ) (b : Board) → (to_boundary entries limit b).peripherals.clock ≡ b.peripherals.clock + boundary_steps entries limit b
   unfolding to_boundary
   to_boundary-clock limit b = stepped-clock entries (boundary_steps entries limit b) b
 
   -- a run to a boundary has six clocks after its limit at most
-  pub boundary_steps-few : (limit : ℕ) (b : Board) → boundary_steps entries limit b ≤ (limit - b.wires.clock) + 6
-  boundary_steps-few limit b = steps-few entries (is_over limit) ((limit - b.wires.clock) + 6) b
+  pub boundary_steps-few : (limit : ℕ) (b : Board) → boundary_steps entries limit b ≤ (limit - b.peripherals.clock) + 6
+  boundary_steps-few limit b = steps-few entries (is_over limit) ((limit - b.peripherals.clock) + 6) b
 
   -- a run to a clock has those up to its end at most
-  pub clock_steps-few : (cut : ℕ) (b : Board) → clock_steps entries cut b ≤ cut - b.wires.clock
-  clock_steps-few cut b = steps-few entries (is_at cut) (cut - b.wires.clock) b
+  pub clock_steps-few : (cut : ℕ) (b : Board) → clock_steps entries cut b ≤ cut - b.peripherals.clock
+  clock_steps-few cut b = steps-few entries (is_at cut) (cut - b.peripherals.clock) b
 
-  pub cut_steps-few : (cut wrap : ℕ) (b : Board) → cut_steps entries cut wrap b ≤ cut - b.wires.clock
-  cut_steps-few cut wrap b = steps-few entries (is_cut cut wrap) (cut - b.wires.clock) b
+  pub cut_steps-few : (cut wrap : ℕ) (b : Board) → cut_steps entries cut wrap b ≤ cut - b.peripherals.clock
+  cut_steps-few cut wrap b = steps-few entries (is_cut cut wrap) (cut - b.peripherals.clock) b
 
   -- a run to y takes as many steps as one to x and then one to y
   pub to_clock-split-steps : (x y : ℕ) (b : Board) → x ≤ y
@@ -157,8 +157,8 @@ module _ (entries : List TapeEntry) where
       let few = clock_steps-few x b in
       let all = stepped-clock entries n b in
       let rest = clock_steps-few y (stepped entries n b) in
-      steps-split entries (is_at y) (is_at x) (λ c e. at-later c.cpu.jam x y c.wires.clock h e) n (x - b.wires.clock)
-      (y - (stepped entries n b).wires.clock) (y - b.wires.clock) b refl (to_clock-ended y (stepped entries n b)) (omega arith)
+      steps-split entries (is_at y) (is_at x) (λ c e. at-later c.cpu.jam x y c.peripherals.clock h e) n (x - b.peripherals.clock)
+      (y - (stepped entries n b).peripherals.clock) (y - b.peripherals.clock) b refl (to_clock-ended y (stepped entries n b)) (omega arith)
 
   -- and leads to the same board
   pub to_clock-split : (x y : ℕ) (b : Board) → x ≤ y → to_clock entries y b ≡ to_clock entries y (to_clock entries x b)
@@ -176,8 +176,8 @@ module _ (entries : List TapeEntry) where
       let few = clock_steps-few x b in
       let all = stepped-clock entries n b in
       let rest = boundary_steps-few y (stepped entries n b) in
-      steps-split entries (is_over y) (is_at x) (λ c e. at-over c.cpu.jam (is_none c.cpu.mid) x y c.wires.clock h e) n (x - b.wires.clock)
-      ((y - (stepped entries n b).wires.clock) + 6) ((y - b.wires.clock) + 6) b refl
+      steps-split entries (is_over y) (is_at x) (λ c e. at-over c.cpu.jam (is_none c.cpu.mid) x y c.peripherals.clock h e) n (x - b.peripherals.clock)
+      ((y - (stepped entries n b).peripherals.clock) + 6) ((y - b.peripherals.clock) + 6) b refl
       (to_boundary-over y (stepped entries n b) (to_clock-placed entries x b placed)) (omega arith)
 
   pub boundary-clock : (x y : ℕ) (b : Board) → x ≤ y → IsPlaced b → to_boundary entries y b ≡ to_boundary entries y (to_clock entries x b)
@@ -196,11 +196,11 @@ module _ (entries : List TapeEntry) where
       let few = boundary_steps-few x b in
       let all = stepped-clock entries n b in
       let rest = boundary_steps-few y last in
-      steps-split entries (is_over y) (is_over x) (λ c e. over-later c.cpu.jam (is_none c.cpu.mid) x y c.wires.clock h e) n ((x - b.wires.clock) + 6)
-      ((y - last.wires.clock) + 6) ((y - b.wires.clock) + 6) b refl
+      steps-split entries (is_over y) (is_over x) (λ c e. over-later c.cpu.jam (is_none c.cpu.mid) x y c.peripherals.clock h e) n ((x - b.peripherals.clock) + 6)
+      ((y - last.peripherals.clock) + 6) ((y - b.peripherals.clock) + 6) b refl
       (to_boundary-over y last (to_boundary-placed entries x b placed))
-      (elim (over-or-before last.cpu.jam (is_none last.cpu.mid) x y last.wires.clock (to_boundary-over x b placed)) [
-        | inl over ↦ let none = steps-none entries (is_over y) ((y - last.wires.clock) + 6) last over in omega arith
+      (elim (over-or-before last.cpu.jam (is_none last.cpu.mid) x y last.peripherals.clock (to_boundary-over x b placed)) [
+        | inl over ↦ let none = steps-none entries (is_over y) ((y - last.peripherals.clock) + 6) last over in omega arith
         | inr before ↦ omega arith
       ])
 
@@ -219,8 +219,8 @@ module _ (entries : List TapeEntry) where
       let few = cut_steps-few cut wrap b in
       let all = stepped-clock entries n b in
       let rest = clock_steps-few cut (stepped entries n b) in
-      steps-split entries (is_at cut) (is_cut cut wrap) (λ c e. cut-at c.cpu.jam (is_none c.cpu.mid) cut wrap c.wires.clock e) n (cut - b.wires.clock)
-      (cut - (stepped entries n b).wires.clock) (cut - b.wires.clock) b refl (to_clock-ended cut (stepped entries n b)) (omega arith)
+      steps-split entries (is_at cut) (is_cut cut wrap) (λ c e. cut-at c.cpu.jam (is_none c.cpu.mid) cut wrap c.peripherals.clock e) n (cut - b.peripherals.clock)
+      (cut - (stepped entries n b).peripherals.clock) (cut - b.peripherals.clock) b refl (to_clock-ended cut (stepped entries n b)) (omega arith)
 
   pub to_clock-cut : (cut wrap : ℕ) (b : Board) → to_clock entries cut b ≡ to_clock entries cut (to_cut entries cut wrap b)
   unfolding to_clock to_cut

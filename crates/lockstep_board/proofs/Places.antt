@@ -12,7 +12,7 @@ use Rattle.cpu_core.proofs.LengthLemmas.{six_before_end}
 use Rattle.cpu_core.proofs.EndLemmas.{end-closes}
 use Rattle.cpu_core.proofs.PlaceLemmas.{given_paused}
 use Rattle.tape_ports.specs.declared.entry.TapeEntry.{TapeEntry}
-use Rattle.lockstep_board.specs.Wires.{Wires, ticked}
+use Rattle.lockstep_board.specs.Peripherals.{Peripherals, ticked}
 use Rattle.lockstep_board.specs.Lockstep.{Board, accessed, accessed_by, sequence_due, begun, at_fetch, after_access, step}
 use Rattle.lockstep_board.specs.Run.{stepped, to_clock, to_boundary, to_cut, clock_steps, boundary_steps, cut_steps, IsPlaced}
 
@@ -36,13 +36,13 @@ standing-one r q bytes v =
     subst (λ n. StandsAt n (standing r q (bytes ++ v ∷ [])).mid) longer
     (stopped-at (next_of r q (bytes ++ v ∷ [])) r q (bytes ++ v ∷ []) refl)
 
-accessed_by-at : (next : Next) (r : RegistersValue) (q : Sequence) (bytes : List ℕ) (w : Wires) → next_of r q bytes ≡ next
+accessed_by-at : (next : Next) (r : RegistersValue) (q : Sequence) (bytes : List ℕ) (w : Peripherals) → next_of r q bytes ≡ next
     → StandsAt (length bytes + 1) (accessed_by next r q bytes w).cpu.mid
 accessed_by-at (Read a) r q bytes w is = standing-one r q bytes _
 accessed_by-at (Write a v) r q bytes w is = standing-one r q bytes v
 accessed_by-at (End e) r q bytes w is = rw (end-closes r q bytes e is) tt
 
-accessed-at : (r : RegistersValue) (q : Sequence) (bytes : List ℕ) (w : Wires) → StandsAt (length bytes + 1) (accessed r q bytes w).cpu.mid
+accessed-at : (r : RegistersValue) (q : Sequence) (bytes : List ℕ) (w : Peripherals) → StandsAt (length bytes + 1) (accessed r q bytes w).cpu.mid
 unfolding accessed
 accessed-at r q bytes w = accessed_by-at (next_of r q bytes) r q bytes w refl
 
@@ -56,7 +56,7 @@ abbrev pub next_count : Option MidValue → ℕ
 next_count None = 1
 next_count (Some m) = length (given_by m) + 1
 
-after_access-at : (mid : Option MidValue) (c : CpuValue) (w : Wires) → StandsAt (next_count mid) (after_access mid c w).cpu.mid
+after_access-at : (mid : Option MidValue) (c : CpuValue) (w : Peripherals) → StandsAt (next_count mid) (after_access mid c w).cpu.mid
 unfolding at_fetch
 after_access-at None c w =
     let q = sequence_due c w in
@@ -66,7 +66,7 @@ after_access-at (Some m) c w = accessed-at (registers_of c) m.sequence (given_by
 -- a step makes one access more
 pub step-at : (entries : List TapeEntry) (b : Board) → StandsAt (next_count b.cpu.mid) (step entries b).cpu.mid
 unfolding step
-step-at entries b = after_access-at b.cpu.mid b.cpu (ticked entries b.wires)
+step-at entries b = after_access-at b.cpu.mid b.cpu (ticked entries b.peripherals)
 
 placed-at : (before after : Option MidValue) → StandsAt (next_count before) after → IfSome after (λ m. 1 ≤ length (given_by m))
 placed-at before None at = tt

@@ -41,15 +41,15 @@ by-steps entries asked n most b last r over few =
 
 -- the board at which a run is over is the one that its definition gives
 pub to_boundary-is : (entries : List TapeEntry) (limit n : ℕ) (b last : Board) → StepsTo entries (is_over limit) n b last
-    → is_over limit last ≡ true → n ≤ (limit - b.wires.clock) + 6 → to_boundary entries limit b ≡ last
+    → is_over limit last ≡ true → n ≤ (limit - b.peripherals.clock) + 6 → to_boundary entries limit b ≡ last
 unfolding to_boundary
-to_boundary-is entries limit n b last r over few = by-steps entries (is_over limit) n ((limit - b.wires.clock) + 6) b last r over few
+to_boundary-is entries limit n b last r over few = by-steps entries (is_over limit) n ((limit - b.peripherals.clock) + 6) b last r over few
 
 -- the same for a run to a clock or a window's end
 pub to_cut-is : (entries : List TapeEntry) (cut wrap n : ℕ) (b last : Board) → StepsTo entries (is_cut cut wrap) n b last
-    → is_cut cut wrap last ≡ true → n ≤ cut - b.wires.clock → to_cut entries cut wrap b ≡ last
+    → is_cut cut wrap last ≡ true → n ≤ cut - b.peripherals.clock → to_cut entries cut wrap b ≡ last
 unfolding to_cut
-to_cut-is entries cut wrap n b last r over few = by-steps entries (is_cut cut wrap) n (cut - b.wires.clock) b last r over few
+to_cut-is entries cut wrap n b last r over few = by-steps entries (is_cut cut wrap) n (cut - b.peripherals.clock) b last r over few
 
 -- inside a sequence a run to a boundary isn't over
 not-over : (limit : ℕ) (b : Board) → IsInside b → is_over limit b ≡ false

@@ -11,7 +11,7 @@ use Rattle.cpu_core.specs.Sequences.{next_of, start_of}
 use Rattle.cpu_core.specs.Places.{standing, stopped, given_by}
 use Rattle.cpu_core.proofs.EndLemmas.{end-closes}
 use Rattle.tape_ports.specs.declared.entry.TapeEntry.{TapeEntry}
-use Rattle.lockstep_board.specs.Wires.{Wires, ticked}
+use Rattle.lockstep_board.specs.Peripherals.{Peripherals, ticked}
 use Rattle.lockstep_board.specs.Lockstep.{Board, accessed, accessed_by, sequence_due, at_fetch, after_access, step}
 use Rattle.lockstep_board.specs.Run.{stepped, steps_until, is_jammed, is_over, boundary_steps, to_boundary, IsPlaced}
 use Rattle.lockstep_board.specs.Order.{Recorded, behind}
@@ -58,17 +58,17 @@ stopped-inside (Write a v) r q bytes is = refl
 standing-inside : (r : RegistersValue) (q : Sequence) (bytes : List ℕ) → RunsInside (standing r q bytes)
 standing-inside r q bytes = stopped-inside (next_of r q bytes) r q bytes refl
 
-accessed_by-inside : (next : Next) (r : RegistersValue) (q : Sequence) (bytes : List ℕ) (w : Wires) → next_of r q bytes ≡ next
+accessed_by-inside : (next : Next) (r : RegistersValue) (q : Sequence) (bytes : List ℕ) (w : Peripherals) → next_of r q bytes ≡ next
     → RunsInside (accessed_by next r q bytes w).cpu
 accessed_by-inside (Read a) r q bytes w is = standing-inside r q _
 accessed_by-inside (Write a v) r q bytes w is = standing-inside r q _
 accessed_by-inside (End e) r q bytes w is = rw (end-closes r q bytes e is) tt
 
-accessed-inside : (r : RegistersValue) (q : Sequence) (bytes : List ℕ) (w : Wires) → RunsInside (accessed r q bytes w).cpu
+accessed-inside : (r : RegistersValue) (q : Sequence) (bytes : List ℕ) (w : Peripherals) → RunsInside (accessed r q bytes w).cpu
 unfolding accessed
 accessed-inside r q bytes w = accessed_by-inside (next_of r q bytes) r q bytes w refl
 
-after_access-inside : (mid : Option MidValue) (c : CpuValue) (w : Wires) → RunsInside (after_access mid c w).cpu
+after_access-inside : (mid : Option MidValue) (c : CpuValue) (w : Peripherals) → RunsInside (after_access mid c w).cpu
 unfolding at_fetch
 after_access-inside None c w =
     let q = sequence_due c w in
@@ -78,7 +78,7 @@ after_access-inside (Some m) c w = accessed-inside (registers_of c) m.sequence (
 -- an undocumented opcode jams the processor at the end of its sequence
 pub step-inside : (entries : List TapeEntry) (b : Board) → RunsInside (step entries b).cpu
 unfolding step
-step-inside entries b = after_access-inside b.cpu.mid b.cpu (ticked entries b.wires)
+step-inside entries b = after_access-inside b.cpu.mid b.cpu (ticked entries b.peripherals)
 
 pub stepped-inside : (entries : List TapeEntry) (n : ℕ) (b : Board) → RunsInside b.cpu → RunsInside (stepped entries n b).cpu
 unfolding stepped
@@ -100,9 +100,9 @@ steps-some entries asked (suc most) b e some = rw e (omega arith)
 
 -- and one that isn't takes some
 pub to_boundary-later : (entries : List TapeEntry) (limit : ℕ) (b : Board) → is_over limit b ≡ false
-    → b.wires.clock < (to_boundary entries limit b).wires.clock
+    → b.peripherals.clock < (to_boundary entries limit b).peripherals.clock
 to_boundary-later entries limit b e =
-    let some = steps-some entries (is_over limit) ((limit - b.wires.clock) + 6) b e (omega arith) in
+    let some = steps-some entries (is_over limit) ((limit - b.peripherals.clock) + 6) b e (omega arith) in
     let clock = to_boundary-clock entries limit b in
     omega arith
 
@@ -110,30 +110,30 @@ to_boundary-later entries limit b e =
 pub to_boundary-at_boundary : (entries : List TapeEntry) (limit : ℕ) (b : Board) → IsPlaced b → RunsInside b.cpu → (to_boundary entries limit b).cpu.mid ≡ None
 to_boundary-at_boundary entries limit b placed inside =
     let last = to_boundary entries limit b in
-    over-boundary last.cpu.jam last.cpu.mid limit last.wires.clock (to_boundary-inside entries limit b inside) (to_boundary-over entries limit b placed)
+    over-boundary last.cpu.jam last.cpu.mid limit last.peripherals.clock (to_boundary-inside entries limit b inside) (to_boundary-over entries limit b placed)
 
 -- a jammed board's turn is itself
 pub turn-jammed : (entries : List TapeEntry) (b : Board) → is_jammed b ≡ true → turn entries b ≡ b
 turn-jammed entries b jammed =
-    to_boundary-none entries (b.wires.clock + 1) b (over-jam b.cpu.jam (is_none b.cpu.mid) (b.wires.clock + 1) b.wires.clock jammed)
+    to_boundary-none entries (b.peripherals.clock + 1) b (over-jam b.cpu.jam (is_none b.cpu.mid) (b.peripherals.clock + 1) b.peripherals.clock jammed)
 
 -- the turn of another moves the clock on
-pub turn-later : (entries : List TapeEntry) (b : Board) → b.cpu.jam ≡ None → b.wires.clock < (turn entries b).wires.clock
+pub turn-later : (entries : List TapeEntry) (b : Board) → b.cpu.jam ≡ None → b.peripherals.clock < (turn entries b).peripherals.clock
 turn-later entries b running =
-    to_boundary-later entries (b.wires.clock + 1) b
-    (open-clock b.cpu.jam (is_none b.cpu.mid) (b.wires.clock + 1) b.wires.clock running (omega arith))
+    to_boundary-later entries (b.peripherals.clock + 1) b
+    (open-clock b.cpu.jam (is_none b.cpu.mid) (b.peripherals.clock + 1) b.peripherals.clock running (omega arith))
 
 -- and ends at a boundary
 pub turn-boundary : (entries : List TapeEntry) (b : Board) → IsPlaced b → b.cpu.jam ≡ None → (turn entries b).cpu.mid ≡ None
 turn-boundary entries b placed running =
-    to_boundary-at_boundary entries (b.wires.clock + 1) b placed (running-inside b.cpu.jam b.cpu.mid running)
+    to_boundary-at_boundary entries (b.peripherals.clock + 1) b placed (running-inside b.cpu.jam b.cpu.mid running)
 
 pub turn-placed : (entries : List TapeEntry) (b : Board) → IsPlaced b → IsPlaced (turn entries b)
-turn-placed entries b placed = to_boundary-placed entries (b.wires.clock + 1) b placed
+turn-placed entries b placed = to_boundary-placed entries (b.peripherals.clock + 1) b placed
 
 -- a turn adds to the records made before
 pub turn-behind : (entries : List TapeEntry) (l : Recorded) (b : Board) → turn entries (behind l b) ≡ behind l (turn entries b)
-turn-behind entries l b = to_boundary-behind entries (b.wires.clock + 1) l b
+turn-behind entries l b = to_boundary-behind entries (b.peripherals.clock + 1) l b
 
 -- the same for n turns
 pub turned-jammed : (entries : List TapeEntry) (n : ℕ) (b : Board) → is_jammed b ≡ true → turned entries n b ≡ b
@@ -164,13 +164,13 @@ turned-add entries zero m b = rw (zero-add m) refl
 turned-add entries (suc n) m b = let e : suc n + m ≡ suc (n + m) = omega arith in rw e (turned-add entries n m (turn entries b))
 
 -- a run that isn't over and whose limit comes with the next clock, or before, is a turn
-pub to_boundary-turn : (entries : List TapeEntry) (limit : ℕ) (b : Board) → IsPlaced b → is_over limit b ≡ false → limit ≤ b.wires.clock + 1
+pub to_boundary-turn : (entries : List TapeEntry) (limit : ℕ) (b : Board) → IsPlaced b → is_over limit b ≡ false → limit ≤ b.peripherals.clock + 1
     → to_boundary entries limit b ≡ turn entries b
 to_boundary-turn entries limit b placed open_yet near =
     let last = to_boundary entries limit b in
     let later = to_boundary-later entries limit b open_yet in
-    let over = over-past last.cpu.jam (is_none last.cpu.mid) limit (b.wires.clock + 1) last.wires.clock (to_boundary-over entries limit b placed) (omega arith) in
-    sym (boundary-split entries limit (b.wires.clock + 1) b near placed ∙ to_boundary-none entries (b.wires.clock + 1) last over)
+    let over = over-past last.cpu.jam (is_none last.cpu.mid) limit (b.peripherals.clock + 1) last.peripherals.clock (to_boundary-over entries limit b placed) (omega arith) in
+    sym (boundary-split entries limit (b.peripherals.clock + 1) b near placed ∙ to_boundary-none entries (b.peripherals.clock + 1) last over)
 
 over-next : (entries : List TapeEntry) (limit n : ℕ) (b : Board) → is_over limit b ≡ false
     → ((k : ℕ) → k < n → is_over limit (turned entries k (turn entries b)) ≡ false) → (k : ℕ) → k < suc n → is_over limit (turned entries k b) ≡ false
@@ -191,21 +191,21 @@ turns-next entries limit b open_yet goes rest = record {
   over = over-next entries limit rest.count b open_yet rest.over;
 }
 
-turns-last : (entries : List TapeEntry) (limit : ℕ) (b : Board) → IsPlaced b → is_over limit b ≡ false → limit ≤ b.wires.clock + 1 → TurnsTo entries limit b
+turns-last : (entries : List TapeEntry) (limit : ℕ) (b : Board) → IsPlaced b → is_over limit b ≡ false → limit ≤ b.peripherals.clock + 1 → TurnsTo entries limit b
 turns-last entries limit b placed open_yet near =
     let here = to_boundary-turn entries limit b placed open_yet near in
     let over : is_over limit (turn entries b) ≡ true = subst (λ (c : Board). is_over limit c ≡ true) here (to_boundary-over entries limit b placed) in
     turns-next entries limit b open_yet (here ∙ sym (to_boundary-none entries limit (turn entries b) over)) (turns-none entries limit (turn entries b) over)
 
-turns-within : (entries : List TapeEntry) (far limit : ℕ) (b : Board) (over : Bool) → is_over limit b ≡ over → IsPlaced b → limit ≤ b.wires.clock + far
+turns-within : (entries : List TapeEntry) (far limit : ℕ) (b : Board) (over : Bool) → is_over limit b ≡ over → IsPlaced b → limit ≤ b.peripherals.clock + far
     → TurnsTo entries limit b
 turns-within entries far limit b true e placed near = turns-none entries limit b e
 turns-within entries zero limit b false e placed near = turns-last entries limit b placed e (omega arith)
 turns-within entries (suc far) limit b false e placed near =
-    elim (cases_lt b.wires.clock limit) [
+    elim (cases_lt b.peripherals.clock limit) [
       | inl before ↦ (
-          let later = turn-later entries b (open-jam b.cpu.jam (is_none b.cpu.mid) limit b.wires.clock e) in
-          turns-next entries limit b e (boundary-split entries (b.wires.clock + 1) limit b (omega arith) placed)
+          let later = turn-later entries b (open-jam b.cpu.jam (is_none b.cpu.mid) limit b.peripherals.clock e) in
+          turns-next entries limit b e (boundary-split entries (b.peripherals.clock + 1) limit b (omega arith) placed)
           (turns-within entries far limit (turn entries b) (is_over limit (turn entries b)) refl (turn-placed entries b placed) (omega arith))
           )
       | inr past ↦ turns-last entries limit b placed e (omega arith)

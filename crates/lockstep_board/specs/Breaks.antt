@@ -7,7 +7,7 @@ use Rattle.lockstep_board.specs.Run.{is_over, to_boundary}
 
 -- a turn is what is left of the sequence under way, or else one instruction or sequence; a jammed board stays as it is
 abbrev pub turn : List TapeEntry → Board → Board
-turn entries b = to_boundary entries (b.wires.clock + 1) b
+turn entries b = to_boundary entries (b.peripherals.clock + 1) b
 
 -- the board after n turns
 unfoldable pub turned : List TapeEntry → ℕ → Board → Board

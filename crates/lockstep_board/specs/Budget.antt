@@ -14,7 +14,7 @@ use Rattle.pokey_chip.specs.Tick.{pokey_tick}
 use Rattle.tape_ports.specs.declared.entry.TapeEntry.{TapeEntry}
 use Rattle.tape_ports.specs.Due.{due_at}
 use Rattle.lockstep_board.specs.Uses.{devices_read, devices_written, is_some_device}
-use Rattle.lockstep_board.specs.Wires.{Wires, applied, has_request, ticked}
+use Rattle.lockstep_board.specs.Peripherals.{Peripherals, applied, has_request, ticked}
 use Rattle.lockstep_board.specs.Lockstep.{Board, sequence_due, access_in, step}
 
 -- a read that reaches a device
@@ -39,12 +39,12 @@ device_access (Some access) = from_bool (reaches_device access)
 abbrev pub device_accesses : List TapeEntry → Board → ℕ
 device_accesses entries b = device_access (access_in entries b)
 
--- the wraps of the divider in the clock of these wires, one or none
-abbrev pub wraps : Wires → ℕ
+-- the wraps of the divider in the clock of these peripherals, one or none
+abbrev pub wraps : Peripherals → ℕ
 wraps w = from_bool (w.divider.phase + 1 == DIVIDER_PERIOD)
 
 -- the entries applied in it
-abbrev pub entries_applied : List TapeEntry → Wires → ℕ
+abbrev pub entries_applied : List TapeEntry → Peripherals → ℕ
 entries_applied entries w = length (due_at w.clock entries)
 
 -- a POKEY makes a request by a tick where it had none
@@ -52,10 +52,10 @@ abbrev pub requests_of : PokeyValue → ℕ
 requests_of p = from_bool (not (has_request p) && has_request (pokey_tick p))
 
 -- the POKEYs that make a request by the ticks of a clock whose entries are applied, where they are wired
-abbrev pub requests_made : Wires → ℕ
+abbrev pub requests_made : Peripherals → ℕ
 requests_made w = if w.wired then requests_of w.sound1 + requests_of w.sound2 else 0
 
-abbrev pub requests : List TapeEntry → Wires → ℕ
+abbrev pub requests : List TapeEntry → Peripherals → ℕ
 requests entries w = requests_made (applied (due_at w.clock entries) w)
 
 -- one for a reset
@@ -65,13 +65,13 @@ reset_count Interrupt = 0
 reset_count Opcode = 0
 
 -- a fetch begins a reset
-abbrev pub begins_reset : Option MidValue → CpuValue → Wires → ℕ
+abbrev pub begins_reset : Option MidValue → CpuValue → Peripherals → ℕ
 begins_reset None c w = reset_count (sequence_due c w)
 begins_reset (Some mid) c w = 0
 
 -- the reset sequences begun in a board's next clock, one or none
 abbrev pub resets_begun : List TapeEntry → Board → ℕ
-resets_begun entries b = begins_reset b.cpu.mid b.cpu (ticked entries b.wires)
+resets_begun entries b = begins_reset b.cpu.mid b.cpu (ticked entries b.peripherals)
 
 -- a count over the next n clocks of a board
 unfoldable pub counted : List TapeEntry → (Board → ℕ) → ℕ → Board → ℕ
@@ -79,13 +79,13 @@ counted entries of_clock zero b = 0
 counted entries of_clock (suc n) b = of_clock b + counted entries of_clock n (step entries b)
 
 -- the calls that a clock's wraps, entries and requests may cost
-unfoldable pub ticks_price : List TapeEntry → Wires → ℕ
+unfoldable pub ticks_price : List TapeEntry → Peripherals → ℕ
 ticks_price entries w = 5 * (wraps w + entries_applied entries w + requests entries w)
 
 -- the calls that a clock may cost: two for a device access, and five each for a wrap, an entry, a request of a wired POKEY
 -- and a reset
 unfoldable pub price : List TapeEntry → Board → ℕ
-price entries b = 2 * device_accesses entries b + 5 * resets_begun entries b + ticks_price entries b.wires
+price entries b = 2 * device_accesses entries b + 5 * resets_begun entries b + ticks_price entries b.peripherals
 
 -- the calls that the next n clocks may cost
 abbrev pub budget : List TapeEntry → ℕ → Board → ℕ

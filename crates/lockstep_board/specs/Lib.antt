@@ -8,4 +8,4 @@ pub mod Ranges
 pub mod Run
 pub mod Steps
 pub mod Uses
-pub mod Wires
+pub mod Peripherals

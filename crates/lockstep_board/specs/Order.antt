@@ -16,31 +16,31 @@ pub record Recorded : Type 0 where
 -- the records of a board
 abbrev pub records_of : Board → Recorded
 records_of b = record {
-  strokes = b.wires.strokes;
-  levels1 = b.wires.levels1;
-  levels2 = b.wires.levels2;
-  written = b.wires.written;
+  strokes = b.peripherals.strokes;
+  levels1 = b.peripherals.levels1;
+  levels2 = b.peripherals.levels2;
+  written = b.peripherals.written;
 }
 
 -- no record has been made since the last clearing
 pub record HasNoRecords (b : Board) : Type 0 where
-  pub strokes : b.wires.strokes ≡ []
-  pub levels1 : b.wires.levels1 ≡ []
-  pub levels2 : b.wires.levels2 ≡ []
-  pub written : b.wires.written ≡ []
+  pub strokes : b.peripherals.strokes ≡ []
+  pub levels1 : b.peripherals.levels1 ≡ []
+  pub levels2 : b.peripherals.levels2 ≡ []
+  pub written : b.peripherals.written ≡ []
 
 -- the board with its records forgotten
 abbrev pub cleared : Board → Board
-cleared b = record b { wires = record b.wires { strokes = []; levels1 = []; levels2 = []; written = [] } }
+cleared b = record b { peripherals = record b.peripherals { strokes = []; levels1 = []; levels2 = []; written = [] } }
 
 -- a board with records made before, each part's in front of those that it has
 abbrev pub behind : Recorded → Board → Board
 behind l b = record b {
-  wires = record b.wires {
-    strokes = l.strokes ++ b.wires.strokes;
-    levels1 = l.levels1 ++ b.wires.levels1;
-    levels2 = l.levels2 ++ b.wires.levels2;
-    written = l.written ++ b.wires.written;
+  peripherals = record b.peripherals {
+    strokes = l.strokes ++ b.peripherals.strokes;
+    levels1 = l.levels1 ++ b.peripherals.levels1;
+    levels2 = l.levels2 ++ b.peripherals.levels2;
+    written = l.written ++ b.peripherals.written;
   };
 }
 
@@ -54,12 +54,12 @@ pub record AreMadeBetween (from : ℕ) (l : Recorded) (to : ℕ) : Type 0 where
 -- A step adds to each part's records one at most, which is of its kind and of the clock of the step.
 pub record AddsOneClock (entries : List TapeEntry) (b : Board) : Type 0 where
   pub added : Recorded
-  pub made : AreMadeBetween b.wires.clock added (b.wires.clock + 1)
+  pub made : AreMadeBetween b.peripherals.clock added (b.peripherals.clock + 1)
   pub after : records_of (step entries b) ≡ record {
-    strokes = b.wires.strokes ++ added.strokes;
-    levels1 = b.wires.levels1 ++ added.levels1;
-    levels2 = b.wires.levels2 ++ added.levels2;
-    written = b.wires.written ++ added.written;
+    strokes = b.peripherals.strokes ++ added.strokes;
+    levels1 = b.peripherals.levels1 ++ added.levels1;
+    levels2 = b.peripherals.levels2 ++ added.levels2;
+    written = b.peripherals.written ++ added.written;
   }
   pub few_strokes : length added.strokes ≤ 1
   pub few_levels1 : length added.levels1 ≤ 1

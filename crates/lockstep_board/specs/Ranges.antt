@@ -8,7 +8,7 @@ use Rattle.board_base.specs.Pokey.{PokeyValue, IsPokey}
 use Rattle.board_base.specs.Vg.{VgValue, IsVg}
 use Rattle.cpu_core.specs.Ranges.{IsByte, IsProcessorInRange}
 use Rattle.rom_image.specs.declared.image.TheConstants.{PROGRAM_ROM_LEN}
-use Rattle.lockstep_board.specs.Wires.{Wires}
+use Rattle.lockstep_board.specs.Peripherals.{Peripherals}
 use Rattle.lockstep_board.specs.Lockstep.{Board}
 
 -- so many bytes
@@ -38,9 +38,9 @@ pub record IsEaromInRange (e : EaromValue) : Type 0 where
   pub out : IsByte e.out
   pub cells : All IsByte e.cells
 
--- wires in range: the output latch and the ports are bytes, the first port of six bits, each device is in range, and each
+-- peripherals in range: the output latch and the ports are bytes, the first port of six bits, each device is in range, and each
 -- memory has its bytes; of the clock nothing is said
-pub record AreWiresInRange (w : Wires) : Type 0 where
+pub record AreWiresInRange (w : Peripherals) : Type 0 where
   pub out : IsByte w.out
   pub in0 : w.in0 < 64
   pub in3 : IsByte w.in3
@@ -57,4 +57,4 @@ pub record AreWiresInRange (w : Wires) : Type 0 where
 -- a board in range
 pub record IsBoardInRange (b : Board) : Type 0 where
   pub cpu : IsProcessorInRange b.cpu
-  pub wires : AreWiresInRange b.wires
+  pub peripherals : AreWiresInRange b.peripherals

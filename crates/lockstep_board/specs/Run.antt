@@ -27,26 +27,26 @@ is_at_boundary b = is_none b.cpu.mid
 
 -- a run to a boundary is over with a jam, and else at the first boundary that isn't before the limit
 abbrev pub is_over : ℕ → Board → Bool
-is_over limit b = is_jammed b || (is_at_boundary b && nat_le limit b.wires.clock)
+is_over limit b = is_jammed b || (is_at_boundary b && nat_le limit b.peripherals.clock)
 
 -- a run to a clock is over with a jam, and else at that clock
 abbrev pub is_at : ℕ → Board → Bool
-is_at cut b = is_jammed b || nat_le cut b.wires.clock
+is_at cut b = is_jammed b || nat_le cut b.peripherals.clock
 
 -- a run to a clock that ends with a window too: at the first boundary that isn't before the divider's wrap
 abbrev pub is_cut : ℕ → ℕ → Board → Bool
-is_cut cut wrap b = is_jammed b || (nat_le cut b.wires.clock || (is_at_boundary b && nat_le wrap b.wires.clock))
+is_cut cut wrap b = is_jammed b || (nat_le cut b.peripherals.clock || (is_at_boundary b && nat_le wrap b.peripherals.clock))
 
 -- a sequence takes seven clocks at most, so that a run to a boundary ends within six clocks after its limit
 abbrev pub boundary_steps : List TapeEntry → ℕ → Board → ℕ
-boundary_steps entries limit b = steps_until entries (is_over limit) ((limit - b.wires.clock) + 6) b
+boundary_steps entries limit b = steps_until entries (is_over limit) ((limit - b.peripherals.clock) + 6) b
 
 -- a run to a clock takes as many steps as there are clocks to it, or fewer
 abbrev pub clock_steps : List TapeEntry → ℕ → Board → ℕ
-clock_steps entries cut b = steps_until entries (is_at cut) (cut - b.wires.clock) b
+clock_steps entries cut b = steps_until entries (is_at cut) (cut - b.peripherals.clock) b
 
 abbrev pub cut_steps : List TapeEntry → ℕ → ℕ → Board → ℕ
-cut_steps entries cut wrap b = steps_until entries (is_cut cut wrap) (cut - b.wires.clock) b
+cut_steps entries cut wrap b = steps_until entries (is_cut cut wrap) (cut - b.peripherals.clock) b
 
 -- the board at the end of a run to a boundary, of one to a clock, and of one to a clock or a window's end
 unfoldable pub to_boundary : List TapeEntry → ℕ → Board → Board
@@ -60,7 +60,7 @@ to_cut entries cut wrap b = stepped entries (cut_steps entries cut wrap b) b
 
 -- the clock of the divider's next wrap, when it is done
 abbrev pub wrap_of : Board → ℕ
-wrap_of b = b.wires.clock + (DIVIDER_PERIOD - b.wires.divider.phase)
+wrap_of b = b.peripherals.clock + (DIVIDER_PERIOD - b.peripherals.divider.phase)
 
 -- a run ends with the window too: at the first boundary after the divider's next wrap
 abbrev pub window_limit : ℕ → Board → ℕ
@@ -69,7 +69,7 @@ window_limit limit b = min limit (wrap_of b)
 -- why a run ended
 abbrev pub cause_at : Option ℕ → ℕ → Board → Stop
 cause_at (Some opcode) limit b = Jammed b.cpu.pc opcode
-cause_at None limit b = if nat_le limit b.wires.clock then Limit else Window
+cause_at None limit b = if nat_le limit b.peripherals.clock then Limit else Window
 
 abbrev pub cause_of : ℕ → Board → Stop
 cause_of limit b = cause_at b.cpu.jam limit b

@@ -63,7 +63,7 @@ pub fn places_of_runs()
 #[tactic(auto, using(crate::proofs::TurnLaws::turn_laws))]
 pub fn runs_are_turns()
     ensures runs { (entries : List TapeEntry) → (limit : ℕ) → (b : Board) → IsPlaced b → TurnsTo entries limit b }
-    ensures later { (entries : List TapeEntry) → (b : Board) → b.cpu.jam ≡ None → b.wires.clock < (turn entries b).wires.clock }
+    ensures later { (entries : List TapeEntry) → (b : Board) → b.cpu.jam ≡ None → b.peripherals.clock < (turn entries b).peripherals.clock }
     ensures boundary { (entries : List TapeEntry) → (b : Board) → IsPlaced b → b.cpu.jam ≡ None → (turn entries b).cpu.mid ≡ None }
     ensures jammed { (entries : List TapeEntry) → (b : Board) → is_jammed b ≡ true → turn entries b ≡ b }
     ensures records { (entries : List TapeEntry) → (n : ℕ) → (l : Recorded) → (b : Board) → turned entries n (behind l b) ≡ behind l (turned entries n b) }
@@ -90,12 +90,12 @@ pub fn earlier_records()
 #[tactic(auto, using(crate::proofs::InOrder::orders))]
 pub fn one_record_of_each_part()
     ensures step { (entries : List TapeEntry) → (b : Board) → AddsOneClock entries b }
-    ensures clock { (entries : List TapeEntry) → (from cut : ℕ) → (b : Board) → AreMadeBetween from (records_of b) b.wires.clock
-        → AreMadeBetween from (records_of (to_clock entries cut b)) (to_clock entries cut b).wires.clock }
-    ensures boundary { (entries : List TapeEntry) → (from limit : ℕ) → (b : Board) → AreMadeBetween from (records_of b) b.wires.clock
-        → AreMadeBetween from (records_of (to_boundary entries limit b)) (to_boundary entries limit b).wires.clock }
-    ensures cut { (entries : List TapeEntry) → (from cut wrap : ℕ) → (b : Board) → AreMadeBetween from (records_of b) b.wires.clock
-        → AreMadeBetween from (records_of (to_cut entries cut wrap b)) (to_cut entries cut wrap b).wires.clock }
+    ensures clock { (entries : List TapeEntry) → (from cut : ℕ) → (b : Board) → AreMadeBetween from (records_of b) b.peripherals.clock
+        → AreMadeBetween from (records_of (to_clock entries cut b)) (to_clock entries cut b).peripherals.clock }
+    ensures boundary { (entries : List TapeEntry) → (from limit : ℕ) → (b : Board) → AreMadeBetween from (records_of b) b.peripherals.clock
+        → AreMadeBetween from (records_of (to_boundary entries limit b)) (to_boundary entries limit b).peripherals.clock }
+    ensures cut { (entries : List TapeEntry) → (from cut wrap : ℕ) → (b : Board) → AreMadeBetween from (records_of b) b.peripherals.clock
+        → AreMadeBetween from (records_of (to_cut entries cut wrap b)) (to_cut entries cut wrap b).peripherals.clock }
 {}
 
 /// The device calls that a run may cost are two for each device access, and five for each wrap,
@@ -106,8 +106,8 @@ pub fn budget_in_parts()
     ensures parts { (entries : List TapeEntry) → (n : ℕ) → (b : Board)
         → budget entries n b
         ≡ 2 * counted entries (device_accesses entries) n b
-        + 5 * (counted entries (λ c. wraps c.wires) n b + counted entries (λ c. entries_applied entries c.wires) n b
-        + counted entries (λ c. requests entries c.wires) n b + counted entries (resets_begun entries) n b) }
+        + 5 * (counted entries (λ c. wraps c.peripherals) n b + counted entries (λ c. entries_applied entries c.peripherals) n b
+        + counted entries (λ c. requests entries c.peripherals) n b + counted entries (resets_begun entries) n b) }
     ensures sum { (entries : List TapeEntry) → (of_clock : Board → ℕ) → (n m : ℕ) → (b : Board)
         → counted entries of_clock (n + m) b ≡ counted entries of_clock n b + counted entries of_clock m (stepped entries n b) }
     ensures more { (entries : List TapeEntry) → (n m : ℕ) → (b : Board)
@@ -118,10 +118,10 @@ pub fn budget_in_parts()
 /// tells a law, and does nothing.
 #[tactic(auto, using(crate::proofs::Wraps::wrap_laws))]
 pub fn wraps_are_counted()
-    ensures phase { (entries : List TapeEntry) → (n : ℕ) → (b : Board) → b.wires.divider.phase < DIVIDER_PERIOD
-        → (stepped entries n b).wires.divider.phase < DIVIDER_PERIOD }
-    ensures wrap { (entries : List TapeEntry) → (n : ℕ) → (b : Board) → b.wires.divider.phase < DIVIDER_PERIOD
-        → DIVIDER_PERIOD - b.wires.divider.phase ≤ n → 1 ≤ counted entries (λ c. wraps c.wires) n b }
+    ensures phase { (entries : List TapeEntry) → (n : ℕ) → (b : Board) → b.peripherals.divider.phase < DIVIDER_PERIOD
+        → (stepped entries n b).peripherals.divider.phase < DIVIDER_PERIOD }
+    ensures wrap { (entries : List TapeEntry) → (n : ℕ) → (b : Board) → b.peripherals.divider.phase < DIVIDER_PERIOD
+        → DIVIDER_PERIOD - b.peripherals.divider.phase ≤ n → 1 ≤ counted entries (λ c. wraps c.peripherals) n b }
 {}
 
 /// A step keeps a board in its range, and so do some of them one after another: all that the types of

@@ -32,8 +32,8 @@ is-later c k p v is small = by_place (cases_lt k v.due)
     by_place : (k < v.due) ⊎ (v.due ≤ k) → k < v.due
     by_place (inl h) = h
     by_place (inr h) =
-        let now : due_at v.pace (pulse_of v) ≤ k = omega (arith, is.timed.due) in
-        absurd (omega (arith, late v.pace (pulse_of v) k is.timed.prescaler is.timed.some small now, is.paced_by k, is.next, is.some))
+        let now : due_at v.clock_source (pulse_of v) ≤ k = omega (arith, is.timed.due) in
+        absurd (omega (arith, late v.clock_source (pulse_of v) k is.timed.prescaler is.timed.some small now, is.paced_by k, is.next, is.some))
 
 -- a channel comes to the clock `at`, before which it isn't due
 module _ (c : Channel) (k at : ℕ) (p : PokeyValue) (v : Voice) (is : IsVoice c k p v) (later : k < at) (small : at ≤ 2 ^ 49) (due : at ≤ v.due) where

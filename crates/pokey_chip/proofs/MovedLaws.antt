@@ -25,7 +25,7 @@ use Rattle.pokey_chip.proofs.RegisterLaws.{poly4-after, poly5-after, poly9-after
 use Rattle.pokey_chip.proofs.StepLaws.{irqst-step, levels-same, long-after, pass-step, requests-none, tone-step}
 
 -- a move of n clocks that has done k of them, and comes to the clock `at` next
-pub record IsMoved (p : PokeyValue) (from n at : ℕ) (x y : TrailValue) (vs : Voices) (noise : Noise) (tones : Tones) (heard : Option ℕ) (last : List ℕ) (k : ℕ) : Type 0 where
+pub record IsMoved (p : PokeyValue) (from n at : ℕ) (x y : TrailValue) (vs : Voices) (noise : Noise) (tones : Tones) (last_on : Option ℕ) (last : List ℕ) (k : ℕ) : Type 0 where
   pub within : k ≤ n
   pub later : k < at
   pub settled : suc k < at → (times pokey_tick k p).last ≡ levels_of (times pokey_tick k p)
@@ -36,7 +36,7 @@ pub record IsMoved (p : PokeyValue) (from n at : ℕ) (x y : TrailValue) (vs : V
   pub irqst : requests_made tones.turned p.irqen p.irqst ≡ (times pokey_tick k p).irqst
   pub levels : last ≡ (times pokey_tick k p).last
   pub fits : All (λ level. level < 16) last
-  pub known : IfSome heard (λ on. last ≡ levels_on on p.audc)
+  pub known : IfSome last_on (λ on. last ≡ levels_on on p.audc)
   pub first : IsVoice First k p vs.first
   pub second : IsVoice Second k p vs.second
   pub third : IsVoice Third k p vs.third
@@ -96,8 +96,8 @@ module _ (p : PokeyValue) (from n : ℕ) (x : TrailValue) (vs : Voices) (noise :
   }
 
 -- from one underflow to the next
-module _ (p : PokeyValue) (from n at k : ℕ) (x y : TrailValue) (vs : Voices) (noise : Noise) (tones : Tones) (heard : Option ℕ) (last : List ℕ)
-    (is : IsMoved p from n at x y vs noise tones heard last k) (inside : at ≤ n) (early : n ≤ 2 ^ 49) where
+module _ (p : PokeyValue) (from n at k : ℕ) (x y : TrailValue) (vs : Voices) (noise : Noise) (tones : Tones) (last_on : Option ℕ) (last : List ℕ)
+    (is : IsMoved p from n at x y vs noise tones last_on last k) (inside : at ≤ n) (early : n ≤ 2 ^ 49) where
   small : at ≤ 2 ^ 49
   small = omega arith
 
@@ -231,8 +231,8 @@ module _ (p : PokeyValue) (from n at k : ℕ) (x y : TrailValue) (vs : Voices) (
     }
 
 -- the end of a move
-module _ (p : PokeyValue) (from n at k : ℕ) (x y : TrailValue) (vs : Voices) (noise : Noise) (tones : Tones) (heard : Option ℕ) (last : List ℕ)
-    (is : IsMoved p from n at x y vs noise tones heard last k) (end : n < at) (some : 1 ≤ n) where
+module _ (p : PokeyValue) (from n at k : ℕ) (x y : TrailValue) (vs : Voices) (noise : Noise) (tones : Tones) (last_on : Option ℕ) (last : List ℕ)
+    (is : IsMoved p from n at x y vs noise tones last_on last k) (end : n < at) (some : 1 ≤ n) where
   pub moved-records : Extended x y (levels_made from n p)
   moved-records =
       records-end p k at n vs is.within end some is.settled is.first is.second is.third is.fourth is.first_due is.second_due is.third_due is.fourth_due

@@ -9,8 +9,8 @@ use Rattle.board_base.proofs.TickLaws.{times-add}
 use Rattle.pokey_timer.specs.Prescaler.{pulsed, pulses}
 use Rattle.pokey_timer.proofs.Prescalers.{pulses-before, pulses-grow, pulses-reached}
 use Rattle.pokey_chip.specs.declared.channel.Channel.{Channel}
-use Rattle.pokey_chip.specs.declared.pace.Pace.{Pace}
-use Rattle.pokey_chip.specs.declared.pace.Pace.TheVariants.{Never, ChipClock, By28, By114}
+use Rattle.pokey_chip.specs.declared.clock_source.ClockSource.{ClockSource}
+use Rattle.pokey_chip.specs.declared.clock_source.ClockSource.TheVariants.{Never, ChipClock, By28, By114}
 use Rattle.pokey_chip.specs.declared.voice.Voice.{Voice}
 use Rattle.pokey_chip.specs.Moves.{due_at, pulse_at, pulse_of, step_of, IsEarly, IsPassed, IsTimed, IsVoice}
 use Rattle.pokey_chip.specs.Paces.{IsPace, paced}
@@ -30,20 +30,20 @@ pulses-few period count (suc n) = one-more (pulsed period _) (pulses period coun
     one-more true m n h = omega arith
     one-more false m n h = omega arith
 
-pub paced-few : (pace : Pace) (n : ℕ) → paced pace n ≤ n
+pub paced-few : (clock_source : ClockSource) (n : ℕ) → paced clock_source n ≤ n
 paced-few Never n = omega arith
 paced-few ChipClock n = omega arith
 paced-few (By28 count) n = pulses-few 28 count n
 paced-few (By114 count) n = pulses-few 114 count n
 
 -- before a pulse's clock fewer pulses come, and from then on as many or more
-pub early : (pace : Pace) (pulse j : ℕ) → IsPace pace → 1 ≤ pulse → j < due_at pace pulse → paced pace j < pulse
+pub early : (clock_source : ClockSource) (pulse j : ℕ) → IsPace clock_source → 1 ≤ pulse → j < due_at clock_source pulse → paced clock_source j < pulse
 early Never pulse j is some h = some
 early ChipClock pulse j is some h = h
 early (By28 count) pulse j is some h = pulses-before 28 count pulse j is h
 early (By114 count) pulse j is some h = pulses-before 114 count pulse j is h
 
-pub late : (pace : Pace) (pulse j : ℕ) → IsPace pace → 1 ≤ pulse → j ≤ 2 ^ 49 → due_at pace pulse ≤ j → pulse ≤ paced pace j
+pub late : (clock_source : ClockSource) (pulse j : ℕ) → IsPace clock_source → 1 ≤ pulse → j ≤ 2 ^ 49 → due_at clock_source pulse ≤ j → pulse ≤ paced clock_source j
 late Never pulse j is some small h = absurd (omega arith)
 late ChipClock pulse j is some small h = h
 late (By28 count) pulse j is some small h = omega (arith, pulses-reached 28 count pulse is some, pulses-grow 28 count (pulse * 28 - count) j h)
@@ -52,32 +52,32 @@ late (By114 count) pulse j is some small h = omega (arith, pulses-reached 114 co
 -- where a channel is due in a clock, its pulse is no later
 pub due-few : (v : Voice) (at : ℕ) → IsTimed v → at ≤ 2 ^ 49 → v.due ≡ at → pulse_of v ≤ at
 due-few v at timed small e =
-    let h : due_at v.pace (pulse_of v) ≤ at = omega (arith, timed.due) in
-    omega (arith, late v.pace (pulse_of v) at timed.prescaler timed.some small h, paced-few v.pace at)
+    let h : due_at v.clock_source (pulse_of v) ≤ at = omega (arith, timed.due) in
+    omega (arith, late v.clock_source (pulse_of v) at timed.prescaler timed.some small h, paced-few v.clock_source at)
 
 -- a step later it is due with the last pulse of its next period
-next-due : (pace : Pace) (pulse period : ℕ) → IsPace pace → 1 ≤ pulse → due_at pace pulse ≤ 2 ^ 49
-    → due_at pace pulse + step_of pace period ≡ due_at pace (pulse + period)
+next-due : (clock_source : ClockSource) (pulse period : ℕ) → IsPace clock_source → 1 ≤ pulse → due_at clock_source pulse ≤ 2 ^ 49
+    → due_at clock_source pulse + step_of clock_source period ≡ due_at clock_source (pulse + period)
 next-due Never pulse period is some small = absurd (omega arith)
 next-due ChipClock pulse period is some small = refl
 next-due (By28 count) pulse period is some small = omega (arith, is)
 next-due (By114 count) pulse period is some small = omega (arith, is)
 
-pub due-next : (v : Voice) (at : ℕ) → IsTimed v → at ≤ 2 ^ 49 → v.due ≡ at → at + v.step ≡ due_at v.pace (pulse_of v + v.period)
+pub due-next : (v : Voice) (at : ℕ) → IsTimed v → at ≤ 2 ^ 49 → v.due ≡ at → at + v.step ≡ due_at v.clock_source (pulse_of v + v.period)
 due-next v at timed small e =
-    let h : due_at v.pace (pulse_of v) ≤ 2 ^ 49 = omega (arith, timed.due) in
-    omega (arith, timed.due, timed.step, next-due v.pace (pulse_of v) v.period timed.prescaler timed.some h)
+    let h : due_at v.clock_source (pulse_of v) ≤ 2 ^ 49 = omega (arith, timed.due) in
+    omega (arith, timed.due, timed.step, next-due v.clock_source (pulse_of v) v.period timed.prescaler timed.some h)
 
 -- and that pulse comes with the clock a step later
-pub pulse-next : (pace : Pace) (due none period : ℕ) → due ≡ due_at pace (pulse_at pace due none) → due ≤ 2 ^ 49
-    → pulse_at pace (due + step_of pace period) none ≡ pulse_at pace due none + period
+pub pulse-next : (clock_source : ClockSource) (due none period : ℕ) → due ≡ due_at clock_source (pulse_at clock_source due none) → due ≤ 2 ^ 49
+    → pulse_at clock_source (due + step_of clock_source period) none ≡ pulse_at clock_source due none + period
 pulse-next Never due none period e small = absurd (omega arith)
 pulse-next ChipClock due none period e small = refl
 pulse-next (By28 count) due none period e small = omega arith
 pulse-next (By114 count) due none period e small = omega arith
 
 -- a pulse comes with its clock
-pub pulse-due : (pace : Pace) (pulse : ℕ) → IsPace pace → 1 ≤ pulse → pulse_at pace (due_at pace pulse) pulse ≡ pulse
+pub pulse-due : (clock_source : ClockSource) (pulse : ℕ) → IsPace clock_source → 1 ≤ pulse → pulse_at clock_source (due_at clock_source pulse) pulse ≡ pulse
 pulse-due Never pulse is some = refl
 pulse-due ChipClock pulse is some = refl
 pulse-due (By28 count) pulse is some = omega (arith, is)
@@ -87,12 +87,12 @@ equal-by : (a b : ℕ) → (a == b) ≡ true → a ≡ b
 equal-by a b e = grind (arith, nat_tests)
 
 passed-by : (b : Bool) (v : Voice) (at due : ℕ) → (v.due == at) ≡ b → IsTimed v → at ≤ 2 ^ 49 → due ≡ (if b then v.due + v.step else v.due) → IsPassed at v (record v { due = due })
-passed-by false v at due other timed small e = rw e (record { timed = timed; pace = refl; period = refl; pulse = rw other refl })
+passed-by false v at due other timed small e = rw e (record { timed = timed; clock_source = refl; period = refl; pulse = rw other refl })
 passed-by true v at due now timed small e =
     let here : v.due ≡ at = equal-by v.due at now in
     let early : v.due ≤ 2 ^ 49 = omega arith in
-    let pulse : pulse_at v.pace (v.due + v.step) v.first ≡ pulse_of v + v.period
-    = ap (λ (s : ℕ). pulse_at v.pace (v.due + s) v.first) timed.step ∙ pulse-next v.pace v.due v.first v.period timed.due early in
+    let pulse : pulse_at v.clock_source (v.due + v.step) v.first ≡ pulse_of v + v.period
+    = ap (λ (s : ℕ). pulse_at v.clock_source (v.due + s) v.first) timed.step ∙ pulse-next v.clock_source v.due v.first v.period timed.due early in
     let few : pulse_of v ≤ at = due-few v at timed small here in
     rw e (record {
       timed = record {
@@ -102,9 +102,9 @@ passed-by true v at due now timed small e =
         low = timed.low;
         high = timed.high;
         step = timed.step;
-        due = ap (λ (d : ℕ). d + v.step) here ∙ due-next v at timed small here ∙ ap (due_at v.pace) (sym pulse);
+        due = ap (λ (d : ℕ). d + v.step) here ∙ due-next v at timed small here ∙ ap (due_at v.clock_source) (sym pulse);
       };
-      pace = refl;
+      clock_source = refl;
       period = refl;
       pulse = rw now pulse;
     })
@@ -114,7 +114,7 @@ pub passed : (v : Voice) (at due : ℕ) → IsTimed v → at ≤ 2 ^ 49 → due 
 passed v at due timed small e = passed-by (v.due == at) v at due refl timed small e
 
 -- where the pulse is near, its clock is
-pub near : (pace : Pace) (due none n : ℕ) → pulse_at pace due none ≤ paced pace n + 65542 → n ≤ 2 ^ 49 → IsEarly pace due
+pub near : (clock_source : ClockSource) (due none n : ℕ) → pulse_at clock_source due none ≤ paced clock_source n + 65542 → n ≤ 2 ^ 49 → IsEarly clock_source due
 near Never due none n few small = tt
 near ChipClock due none n few small = tt
 near (By28 count) due none n few small = omega (arith, pulses-few 28 count n)
@@ -143,8 +143,8 @@ module _ (c : Channel) (k : ℕ) (p : PokeyValue) (v : Voice) (is : IsVoice c k 
   -- before it is due a channel has no underflow
   pub none-before : (m : ℕ) → k + m < v.due → HasNoUnderflow (times pokey_tick k p) c m
   none-before m h =
-      let soon : k + m < due_at v.pace (pulse_of v) = omega (arith, is.timed.due) in
-      let few : paced v.pace (k + m) < pulse_of v = early v.pace (pulse_of v) (k + m) is.timed.prescaler is.timed.some soon in
+      let soon : k + m < due_at v.clock_source (pulse_of v) = omega (arith, is.timed.due) in
+      let few : paced v.clock_source (k + m) < pulse_of v = early v.clock_source (pulse_of v) (k + m) is.timed.prescaler is.timed.some soon in
       omega (arith, few, pulses_of-add c k m p, is.paced_by (k + m), is.next)
 
   -- and it goes on with the same pulse
@@ -193,13 +193,13 @@ module _ (c : Channel) (j : ℕ) (p : PokeyValue) (v : Voice) (is : IsVoice c j 
     where
       by_place : (suc j < v.due) ⊎ (v.due ≤ suc j) → underflows (base_pulses (times pokey_tick j p)) (times pokey_tick j p) c ≡ (v.due == suc j)
       by_place (inl h) =
-          let later : suc j < due_at v.pace (pulse_of v) = omega (arith, is.timed.due) in
-          let few : paced v.pace (suc j) < pulse_of v = early v.pace (pulse_of v) (suc j) is.timed.prescaler is.timed.some later in
+          let later : suc j < due_at v.clock_source (pulse_of v) = omega (arith, is.timed.due) in
+          let few : paced v.clock_source (suc j) < pulse_of v = early v.clock_source (pulse_of v) (suc j) is.timed.prescaler is.timed.some later in
           let sum : pulses_of c (suc j) p ≡ pulses_of c j p + from_bool (has_pulse c (times pokey_tick j p)) = refl in
           no-underflow c (times pokey_tick j p) (omega (arith, few, sum, is.paced_by (suc j), is.next)) ∙ sym (later-test v.due (suc j) h)
       by_place (inr h) =
-          let now : due_at v.pace (pulse_of v) ≤ suc j = omega (arith, is.timed.due) in
-          let many : pulse_of v ≤ paced v.pace (suc j) = late v.pace (pulse_of v) (suc j) is.timed.prescaler is.timed.some small now in
+          let now : due_at v.clock_source (pulse_of v) ≤ suc j = omega (arith, is.timed.due) in
+          let many : pulse_of v ≤ paced v.clock_source (suc j) = late v.clock_source (pulse_of v) (suc j) is.timed.prescaler is.timed.some small now in
           let sum : pulses_of c (suc j) p ≡ pulses_of c j p + from_bool (has_pulse c (times pokey_tick j p)) = refl in
           underflow-is (base_pulses (times pokey_tick j p)) (times pokey_tick j p) c
           ∙ last-taken (has_pulse c (times pokey_tick j p)) (left_of c (times pokey_tick j p)) is.some (omega (arith, many, sum, is.paced_by (suc j), is.next))
@@ -226,7 +226,7 @@ module _ (c : Channel) (j : ℕ) (p : PokeyValue) (v : Voice) (is : IsVoice c j 
       (counted-next (has_pulse c (times pokey_tick j p)) (left_of c (times pokey_tick j p)) v.period (pulses_of c j p) (pulse_of v) is.next is.some) in
       record {
         timed = passed.timed;
-        paced_by = λ n. is.paced_by n ∙ ap (λ (pace : Pace). paced pace n) (sym passed.pace);
+        paced_by = λ n. is.paced_by n ∙ ap (λ (clock_source : ClockSource). paced clock_source n) (sym passed.clock_source);
         period = passed.period ∙ is.period;
         next = sum ∙ ap (λ (b : Bool). if b then pulse_of v + v.period else pulse_of v) due-is ∙ sym passed.pulse;
         some = rw left-then range.0;

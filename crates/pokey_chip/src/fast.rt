@@ -18,12 +18,12 @@ pub type FastPokey = Device<PokeyState, ByUnderflows>;
 /// From one underflow to the next.
 pub struct ByUnderflows;
 
-/// Records the levels of a clock where other channels are on than were `heard`, or nothing is known of
+/// Records the levels of a clock where other channels are on than were `last_on`, or nothing is known of
 /// those, and the levels changed.
 #[inline(always)]
 #[tactic(auto, using(crate::proofs::RecordLemmas::quiet))]
 fn record_levels(
-    heard: Option<u8>,
+    last_on: Option<u8>,
     on: u8,
     last: &mut [u8; 4],
     audc: &[u8; 4],
@@ -31,12 +31,12 @@ fn record_levels(
     trail: &mut Trail,
 )
     requires room { 1 ≤ trail.old.spare }
-    requires heard { IfSome heard (λ before. last.old ≡ levels_on before audc.now) }
+    requires last_on { IfSome last_on (λ before. last.old ≡ levels_on before audc.now) }
     ensures last { last.new ≡ levels_on on audc.now }
     ensures records { Extended trail.old trail.new (change clock last.old (levels_on on audc.now)) }
     ensures few { trail.old.spare ≤ trail.new.spare + 1 }
 {
-    if let Some(before) = heard {
+    if let Some(before) = last_on {
         if before == on {
             return;
         }
@@ -61,14 +61,14 @@ impl Moves for ByUnderflows {
         let mut noise = Noise::of(&start);
         let mut tones = Tones::of(&start);
         let mut last = start.last;
-        let mut heard = None;
+        let mut last_on = None;
         let mut at = 1;
         while at <= n {
             noise = noise.reaching(&start, at);
             tones = tones.after(&tuning, noise.outputs(&start, at), voices.due(at));
             let on = tones.on(&tuning);
-            record_levels(heard, on, &mut last, &start.audc, from + (at - 1), trail);
-            heard = Some(on);
+            record_levels(last_on, on, &mut last, &start.audc, from + (at - 1), trail);
+            last_on = Some(on);
             voices = voices.after(at);
             at = voices.soonest();
         }

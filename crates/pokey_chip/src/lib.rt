@@ -6,13 +6,13 @@
 
 mod bits;
 mod channel;
+mod clock_source;
 mod control;
 mod counts;
 mod device;
 pub mod fast;
 pub mod laws;
 mod noise;
-mod pace;
 pub mod plain;
 mod quiet;
 mod registers;

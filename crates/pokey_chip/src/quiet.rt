@@ -3,7 +3,7 @@ ghost use Rattle.pokey_chip.specs.Quiet.{AnswersEachLag, IsEverQuiet, IsQuietBef
 ghost use Rattle.pokey_chip.specs.Pulses.{asks, FirstFails, HasNoUnderflow, MakesNoRequest, NoneRequests};
 
 use crate::channel::Channel;
-use crate::pace::Pace;
+use crate::clock_source::ClockSource;
 use bit_words::is_set;
 use board_base::{PRESCALER_BASE, PRESCALER_LINE, PokeyState, sooner};
 use pokey_timer::clocks_to_underflow;
@@ -13,11 +13,11 @@ fn underflow_in(state: &PokeyState, channel: Channel) -> Option<u64>
     ensures { FirstFails (HasNoUnderflow state.now channel) result }
 {
     let left = state.left[channel.index()];
-    match Pace::of(state, channel) {
-        Pace::Never => None,
-        Pace::ChipClock => Some(u64::from(left)),
-        Pace::By28 { count } => Some(clocks_to_underflow(left, count, PRESCALER_BASE)),
-        Pace::By114 { count } => Some(clocks_to_underflow(left, count, PRESCALER_LINE)),
+    match ClockSource::of(state, channel) {
+        ClockSource::Never => None,
+        ClockSource::ChipClock => Some(u64::from(left)),
+        ClockSource::By28 { count } => Some(clocks_to_underflow(left, count, PRESCALER_BASE)),
+        ClockSource::By114 { count } => Some(clocks_to_underflow(left, count, PRESCALER_LINE)),
     }
 }
 

@@ -5,7 +5,7 @@ ghost use Rattle.pokey_chip.specs.Moves.{due_at, pulse_at, step_of, IsEarly, IsL
 ghost use Rattle.pokey_chip.specs.Paces.{IsPace};
 
 use crate::channel::Channel;
-use crate::pace::Pace;
+use crate::clock_source::ClockSource;
 use crate::tones::four_bits;
 use board_base::{CLOCK_END, LONGEST_PERIOD, PRESCALER_BASE, PRESCALER_LINE, PokeyState};
 
@@ -13,7 +13,7 @@ use board_base::{CLOCK_END, LONGEST_PERIOD, PRESCALER_BASE, PRESCALER_LINE, Poke
 /// in pulses and in clocks, and the clock of its next underflow, counted from the start of the move.
 #[derive(Clone, Copy)]
 pub struct Voice {
-    pub pace: Pace,
+    pub clock_source: ClockSource,
     pub first: u64,
     pub period: u32,
     pub step: u64,
@@ -22,45 +22,45 @@ pub struct Voice {
 
 /// The clock with which a pulse comes.
 #[inline(always)]
-fn clock_of(pace: Pace, pulse: u64) -> u64
-    requires prescaler { IsPace pace }
+fn clock_of(clock_source: ClockSource, pulse: u64) -> u64
+    requires prescaler { IsPace clock_source }
     requires some { 1 ≤ pulse }
     requires few { pulse ≤ CLOCK_END + LONGEST_PERIOD }
-    ensures { result ≡ due_at pace pulse }
+    ensures { result ≡ due_at clock_source pulse }
 {
-    match pace {
-        Pace::Never => u64::MAX,
-        Pace::ChipClock => pulse,
-        Pace::By28 { count } => pulse * u64::from(PRESCALER_BASE) - u64::from(count),
-        Pace::By114 { count } => pulse * u64::from(PRESCALER_LINE) - u64::from(count),
+    match clock_source {
+        ClockSource::Never => u64::MAX,
+        ClockSource::ChipClock => pulse,
+        ClockSource::By28 { count } => pulse * u64::from(PRESCALER_BASE) - u64::from(count),
+        ClockSource::By114 { count } => pulse * u64::from(PRESCALER_LINE) - u64::from(count),
     }
 }
 
 /// The pulse that comes with a clock; another number where none comes.
 #[inline(always)]
-fn pulse_at(pace: Pace, due: u64, none: u64) -> u64
-    requires { IsEarly pace due }
-    ensures { result ≡ pulse_at pace due none }
+fn pulse_at(clock_source: ClockSource, due: u64, none: u64) -> u64
+    requires { IsEarly clock_source due }
+    ensures { result ≡ pulse_at clock_source due none }
 {
-    match pace {
-        Pace::Never => none,
-        Pace::ChipClock => due,
-        Pace::By28 { count } => (due + u64::from(count)) / u64::from(PRESCALER_BASE),
-        Pace::By114 { count } => (due + u64::from(count)) / u64::from(PRESCALER_LINE),
+    match clock_source {
+        ClockSource::Never => none,
+        ClockSource::ChipClock => due,
+        ClockSource::By28 { count } => (due + u64::from(count)) / u64::from(PRESCALER_BASE),
+        ClockSource::By114 { count } => (due + u64::from(count)) / u64::from(PRESCALER_LINE),
     }
 }
 
 /// The clocks in which so many pulses come, after one of them; none where none does.
 #[inline(always)]
-fn clocks_between(pace: Pace, pulses: u32) -> u64
-    ensures { result ≡ step_of pace pulses }
+fn clocks_between(clock_source: ClockSource, pulses: u32) -> u64
+    ensures { result ≡ step_of clock_source pulses }
 {
     let pulses = u64::from(pulses);
-    match pace {
-        Pace::Never => 0,
-        Pace::ChipClock => pulses,
-        Pace::By28 { .. } => pulses * u64::from(PRESCALER_BASE),
-        Pace::By114 { .. } => pulses * u64::from(PRESCALER_LINE),
+    match clock_source {
+        ClockSource::Never => 0,
+        ClockSource::ChipClock => pulses,
+        ClockSource::By28 { .. } => pulses * u64::from(PRESCALER_BASE),
+        ClockSource::By114 { .. } => pulses * u64::from(PRESCALER_LINE),
     }
 }
 
@@ -71,15 +71,15 @@ impl Voice {
     fn of(state: &PokeyState, channel: Channel) -> Voice
         ensures { IsVoice channel 0 state.now result }
     {
-        let pace = Pace::of(state, channel);
+        let clock_source = ClockSource::of(state, channel);
         let period = channel.period(&state.audf, state.audctl);
         let first = u64::from(state.left[channel.index()]);
         Voice {
-            pace,
+            clock_source,
             first,
             period,
-            step: clocks_between(pace, period),
-            due: clock_of(pace, first),
+            step: clocks_between(clock_source, period),
+            due: clock_of(clock_source, first),
         }
     }
 
@@ -120,7 +120,7 @@ impl Voice {
         ensures low { 1 ≤ result }
         ensures high { result ≤ LONGEST_PERIOD }
     {
-        (pulse_at(self.pace, self.due, self.first) - self.pace.pulses(n)) as u32
+        (pulse_at(self.clock_source, self.due, self.first) - self.clock_source.pulses(n)) as u32
     }
 }
 

@@ -66,7 +66,7 @@ at-clock before now all first rest clock parts sooner later is =
     ∙ at-come before first clock sooner
     ∙ is
 
-none-made : (b : Board) → HasNoRecords b → AreMadeBetween b.wires.clock (records_of b) b.wires.clock
+none-made : (b : Board) → HasNoRecords b → AreMadeBetween b.peripherals.clock (records_of b) b.peripherals.clock
 none-made b none = rw (none.strokes, none.levels1, none.levels2, none.written) (record {
   strokes = omega arith;
   levels1 = omega arith;
@@ -87,7 +87,7 @@ shifted f g from a (suc n) same =
 module _ (entries : List TapeEntry) (b : Board) (none : HasNoRecords b) where
   -- the weight of a clock, by the records of the whole run, is that of the board after it
   weight-at : (n i : ℕ) → i < n
-      → weight b.wires.sound1.last b.wires.sound2.last (stepped entries n b).wires.levels1 (stepped entries n b).wires.levels2 (b.wires.clock + i)
+      → weight b.peripherals.sound1.last b.peripherals.sound2.last (stepped entries n b).peripherals.levels1 (stepped entries n b).peripherals.levels2 (b.peripherals.clock + i)
       ≡ weight_of (stepped entries (suc i) b)
   unfolding weight
   weight-at n i inside =
@@ -100,22 +100,22 @@ module _ (entries : List TapeEntry) (b : Board) (none : HasNoRecords b) where
       ∙ stepped-add entries (suc i) m b
       ∙ ap (stepped entries m) (sym (behind-cleared there))
       ∙ stepped-behind entries m (records_of there) (cleared there) in
-      let clock : there.wires.clock ≡ b.wires.clock + suc i = stepped-clock entries (suc i) b in
-      let same : there.wires.clock ≡ (b.wires.clock + i) + 1 = omega arith in
-      let first = stepped-made entries b.wires.clock (suc i) b (none-made b none) in
-      let later = stepped-made entries there.wires.clock m (cleared there)
+      let clock : there.peripherals.clock ≡ b.peripherals.clock + suc i = stepped-clock entries (suc i) b in
+      let same : there.peripherals.clock ≡ (b.peripherals.clock + i) + 1 = omega arith in
+      let first = stepped-made entries b.peripherals.clock (suc i) b (none-made b none) in
+      let later = stepped-made entries there.peripherals.clock m (cleared there)
       (none-made (cleared there) (record { strokes = refl; levels1 = refl; levels2 = refl; written = refl })) in
       let told = told-run entries (suc i) b none in
-      let one = at-clock b.wires.sound1.last there.wires.sound1.last (stepped entries n b).wires.levels1 there.wires.levels1 rest.wires.levels1 (b.wires.clock + i)
-      (ap (λ (c : Board). c.wires.levels1) whole)
-      (rw (sym same) (before-made Pokey1 b.wires.clock there.wires.clock there.wires.levels1 first.levels1))
-      (rw (sym same) (made-from Pokey1 there.wires.clock rest.wires.clock rest.wires.levels1 later.levels1)) told.last1 in
-      let two = at-clock b.wires.sound2.last there.wires.sound2.last (stepped entries n b).wires.levels2 there.wires.levels2 rest.wires.levels2 (b.wires.clock + i)
-      (ap (λ (c : Board). c.wires.levels2) whole)
-      (rw (sym same) (before-made Pokey2 b.wires.clock there.wires.clock there.wires.levels2 first.levels2))
-      (rw (sym same) (made-from Pokey2 there.wires.clock rest.wires.clock rest.wires.levels2 later.levels2)) told.last2 in
-      ap (λ l. sum l + sum (levels_at b.wires.sound2.last (stepped entries n b).wires.levels2 (b.wires.clock + i))) one
-      ∙ ap (λ l. sum there.wires.sound1.last + sum l) two
+      let one = at-clock b.peripherals.sound1.last there.peripherals.sound1.last (stepped entries n b).peripherals.levels1 there.peripherals.levels1 rest.peripherals.levels1 (b.peripherals.clock + i)
+      (ap (λ (c : Board). c.peripherals.levels1) whole)
+      (rw (sym same) (before-made Pokey1 b.peripherals.clock there.peripherals.clock there.peripherals.levels1 first.levels1))
+      (rw (sym same) (made-from Pokey1 there.peripherals.clock rest.peripherals.clock rest.peripherals.levels1 later.levels1)) told.last1 in
+      let two = at-clock b.peripherals.sound2.last there.peripherals.sound2.last (stepped entries n b).peripherals.levels2 there.peripherals.levels2 rest.peripherals.levels2 (b.peripherals.clock + i)
+      (ap (λ (c : Board). c.peripherals.levels2) whole)
+      (rw (sym same) (before-made Pokey2 b.peripherals.clock there.peripherals.clock there.peripherals.levels2 first.levels2))
+      (rw (sym same) (made-from Pokey2 there.peripherals.clock rest.peripherals.clock rest.peripherals.levels2 later.levels2)) told.last2 in
+      ap (λ l. sum l + sum (levels_at b.peripherals.sound2.last (stepped entries n b).peripherals.levels2 (b.peripherals.clock + i))) one
+      ∙ ap (λ l. sum there.peripherals.sound1.last + sum l) two
 
   -- and so are the sums of groups
   group-inside : (n per k : ℕ) → k < n / per → k * per + per ≤ n
@@ -126,39 +126,39 @@ module _ (entries : List TapeEntry) (b : Board) (none : HasNoRecords b) where
       omega arith
 
   sample-at : (n per k : ℕ) → k * per + per ≤ n
-      → sum (weights b.wires.sound1.last b.wires.sound2.last (stepped entries n b).wires.levels1 (stepped entries n b).wires.levels2 (b.wires.clock + k * per) per)
+      → sum (weights b.peripherals.sound1.last b.peripherals.sound2.last (stepped entries n b).peripherals.levels1 (stepped entries n b).peripherals.levels2 (b.peripherals.clock + k * per) per)
       ≡ board_sample entries per b k
   sample-at n per k inside =
-      ap sum (shifted _ (λ i. weight_of (stepped entries (suc i) b)) b.wires.clock (k * per) per
+      ap sum (shifted _ (λ i. weight_of (stepped entries (suc i) b)) b.peripherals.clock (k * per) per
       (λ i low high. weight-at n i (omega (arith, high, inside))))
 
   pub run-sampled : (limit per : ℕ) (m : MixerValue) → 1 ≤ per → IsMixerOf b per m
-      → bytes_of (samples_of m (to_boundary entries limit b).wires.levels1 (to_boundary entries limit b).wires.levels2 (to_boundary entries limit b).wires.clock)
+      → bytes_of (samples_of m (to_boundary entries limit b).peripherals.levels1 (to_boundary entries limit b).peripherals.levels2 (to_boundary entries limit b).peripherals.clock)
       ≡ sampled_bytes entries limit per b
   unfolding to_boundary board_samples sampled_bytes run_samples
   run-sampled limit per m some is =
       let n = boundary_steps entries limit b in
       let last = stepped entries n b in
-      let clock : last.wires.clock ≡ b.wires.clock + n = stepped-clock entries n b in
-      let count : last.wires.clock - b.wires.clock ≡ n = omega arith in
+      let clock : last.peripherals.clock ≡ b.peripherals.clock + n = stepped-clock entries n b in
+      let count : last.peripherals.clock - b.peripherals.clock ≡ n = omega arith in
       rw is
       (ap bytes_of
-      (makes_run (record { clock = b.wires.clock; per = per; sound1 = b.wires.sound1.last; sound2 = b.wires.sound2.last; sum = 0; count = 0 }) some refl refl
-      last.wires.levels1 last.wires.levels2 last.wires.clock
-      ∙ ap (λ c. map (λ k. sum (weights b.wires.sound1.last b.wires.sound2.last last.wires.levels1 last.wires.levels2 (b.wires.clock + k * per) per))
+      (makes_run (record { clock = b.peripherals.clock; per = per; sound1 = b.peripherals.sound1.last; sound2 = b.peripherals.sound2.last; sum = 0; count = 0 }) some refl refl
+      last.peripherals.levels1 last.peripherals.levels2 last.peripherals.clock
+      ∙ ap (λ c. map (λ k. sum (weights b.peripherals.sound1.last b.peripherals.sound2.last last.peripherals.levels1 last.peripherals.levels2 (b.peripherals.clock + k * per) per))
       (range_with_len 0 (c / per))) count
       ∙ map-range-same _ (board_sample entries per b) 0 (n / per)
       (λ k low high. sample-at n per k (group-inside n per k (omega (arith, high))))))
 
   -- the records of a run may be mixed
-  pub run-room : (limit per : ℕ) (m : MixerValue) → limit ≤ CLOCK_LIMIT → b.wires.clock ≤ CLOCK_LIMIT + 16 → IsMixerOf b per m
-      → CanMix m b.wires.clock (records_of (to_boundary entries limit b)) (to_boundary entries limit b).wires.clock
+  pub run-room : (limit per : ℕ) (m : MixerValue) → limit ≤ CLOCK_LIMIT → b.peripherals.clock ≤ CLOCK_LIMIT + 16 → IsMixerOf b per m
+      → CanMix m b.peripherals.clock (records_of (to_boundary entries limit b)) (to_boundary entries limit b).peripherals.clock
   unfolding to_boundary
   run-room limit per m low start is =
       let n = boundary_steps entries limit b in
-      let clock : (stepped entries n b).wires.clock ≡ b.wires.clock + n = stepped-clock entries n b in
+      let clock : (stepped entries n b).peripherals.clock ≡ b.peripherals.clock + n = stepped-clock entries n b in
       let few = boundary_steps-few entries limit b in
-      let made = stepped-made entries b.wires.clock n b (none-made b none) in
+      let made = stepped-made entries b.peripherals.clock n b (none-made b none) in
       record {
         here = ap (λ (v : MixerValue). v.clock) is;
         to = omega arith;

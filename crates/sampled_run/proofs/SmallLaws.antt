@@ -25,8 +25,8 @@ levels-light p is =
 
 board-light : (b : Board) → IsBoardInRange b → weight_of b ≤ 120
 board-light b is =
-    let one = levels-light b.wires.sound1 is.wires.sound1.device in
-    let two = levels-light b.wires.sound2 is.wires.sound2.device in
+    let one = levels-light b.peripherals.sound1 is.peripherals.sound1.device in
+    let two = levels-light b.peripherals.sound2 is.peripherals.sound2.device in
     omega (arith, one, two)
 
 module _ (entries : List TapeEntry) (b : Board) (bytes : All (λ entry. IsByte entry.value) entries) (is : IsBoardInRange b) where

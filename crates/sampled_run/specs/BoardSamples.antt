@@ -9,7 +9,7 @@ use Rattle.sound_pcm.specs.Samples.{bytes_of}
 
 -- the weight of a board: the sum of the eight levels that its POKEYs put out
 abbrev pub weight_of : Board → ℕ
-weight_of b = sum b.wires.sound1.last + sum b.wires.sound2.last
+weight_of b = sum b.peripherals.sound1.last + sum b.peripherals.sound2.last
 
 -- sample k is the sum of the weights after each of `per` clocks, from clock k * per of the run on
 abbrev pub board_sample : List TapeEntry → ℕ → Board → ℕ → ℕ
@@ -26,7 +26,7 @@ sampled_bytes entries limit per b = bytes_of (board_samples entries limit per b)
 -- a mixer that begins a group of `per` clocks where a board stands, with the levels that its POKEYs put out
 abbrev pub IsMixerOf : Board → ℕ → MixerValue → Type 0
 IsMixerOf b per m =
-    m ≡ record { clock = b.wires.clock; per = per; sound1 = b.wires.sound1.last; sound2 = b.wires.sound2.last; sum = 0; count = 0 }
+    m ≡ record { clock = b.peripherals.clock; per = per; sound1 = b.peripherals.sound1.last; sound2 = b.peripherals.sound2.last; sum = 0; count = 0 }
 
 -- no sample is above the sum of eight levels of 15 over the longest group
 abbrev pub AreSmallSamples : List ℕ → Type 0

@@ -10,7 +10,7 @@ use Rattle.board_base.proofs.RecordLaws.{made-within}
 use Rattle.std.proofs.lemmas.List.Elements.{All-nil, All-cons}
 use Rattle.lockstep_board.specs.Lockstep.{Board}
 use Rattle.lockstep_board.specs.Order.{Recorded}
-use Rattle.board_watch.specs.Watch.{TakesInParts}
+use Rattle.board_watch.specs.RecordObserver.{TakesInParts}
 use Rattle.sound_pcm.specs.Mixing.{MixerValue, mixed, samples_of}
 use Rattle.sound_pcm.specs.Samples.{bytes_of}
 use Rattle.sound_pcm.specs.WholeRun.{AreBefore, IsCut}

@@ -10,7 +10,7 @@ ghost use Rattle.sampled_run.specs.BoardSamples.{sampled_bytes, IsMixerOf};
 ghost use Rattle.sampled_run.specs.Sampling.{CanMix, IsSamplerOf, sampled_in_parts, sampler_after, samples_in};
 
 use board_base::{BoardState, CLOCK_LIMIT, PokeyState, Trails};
-use board_watch::{SyncedMachine, Until, Watch};
+use board_watch::{RecordObserver, SyncedMachine, Until};
 use catchup_engine::Machine;
 use outside_io::{Sink, SinkFault};
 use sound_pcm::Mixer;
@@ -22,7 +22,7 @@ pub struct Sampler {
     mixer: Mixer,
 }
 
-impl Watch for Sampler {
+impl RecordObserver for Sampler {
     ghost can_take = { λ s from records upto. CanMix s.mixer from records upto };
 
     ghost tells = { samples_in };
@@ -67,7 +67,7 @@ fn mixer_at<M: Machine>(synced: &SyncedMachine<'_, M>, per: u32) -> Mixer
     requires some { 1 ≤ per }
     requires longest { per ≤ MAX_PER }
     ensures mixer { IsMixerOf (value_of synced.now).board per result }
-    ensures clock { (value_of synced.now).board.wires.clock ≤ CLOCK_LIMIT + 16 }
+    ensures clock { (value_of synced.now).board.peripherals.clock ≤ CLOCK_LIMIT + 16 }
 {
     let mut state = BoardState::power_on();
     synced.machine().state(&mut state);
@@ -83,7 +83,7 @@ impl Sampler {
         requires some { 1 ≤ per }
         requires longest { per ≤ MAX_PER }
         ensures begins { IsSamplerOf (value_of synced.now).board per result }
-        ensures clock { (value_of synced.now).board.wires.clock ≤ CLOCK_LIMIT + 16 }
+        ensures clock { (value_of synced.now).board.peripherals.clock ≤ CLOCK_LIMIT + 16 }
     {
         Sampler {
             mixer: mixer_at(synced, per),

@@ -6,7 +6,7 @@ use crate::STATE_LEN;
 use crate::check::first_fault;
 use crate::decode::decode;
 use crate::fault::StateFault;
-use crate::state_laws::keep_ranges;
+use crate::state_laws::lemma_ranges;
 use board_base::BoardState;
 
 /// Reads a saved board, of version 1 or 2. Its processor is jammed by an undocumented opcode,
@@ -26,7 +26,7 @@ pub fn read(bytes: &[u8]) -> Result<BoardState, StateFault>
     match first_fault(version, file) {
         Ok(()) => {
             let state = decode(file);
-            keep_ranges(&state); // each part is in range
+            lemma_ranges(&state); // each part is in range
             Ok(state)
         }
         Err(at) => Err(StateFault::Field(at)),

@@ -28,7 +28,7 @@ pub fn state_numbers()
 
 /// Each part of a board is in range, as its type keeps it. The reads stand for the prover: each
 /// opens the part that it reads.
-pub fn keep_ranges(state: &BoardState)
+pub fn lemma_ranges(state: &BoardState)
     requires undocumented { IfSome state.now.cpu.jam (λ o. row_of o ≡ None) }
     requires place { IfSome state.now.cpu.mid (λ _. IsMiddle state.now.cpu) }
     ensures { IsWhole state.now }

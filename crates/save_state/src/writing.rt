@@ -7,7 +7,7 @@ ghost use Rattle.save_state.specs.Reading.{IsWhole, HasFields};
 ghost use Rattle.save_state.specs.StateBytes.{head_rows, clock_rows, register_rows, jam_rows, divider_rows, sequence_rows, place_rows, vg_rows, pokey_rows, earom_rows, state_bytes};
 
 use crate::STATE_LEN;
-use crate::state_laws::keep_ranges;
+use crate::state_laws::lemma_ranges;
 use board_base::{BoardState, CpuState, DividerState, EaromState, PokeyState, VgState};
 
 /// Writes bytes from the offset `at` on, and returns the offset after them.
@@ -127,7 +127,7 @@ pub fn write(state: &BoardState, out: &mut [u8; STATE_LEN])
     ensures fields { HasFields 2 out.new state.now }
     ensures range { IsWhole state.now }
 {
-    keep_ranges(state); // each part is in range
+    lemma_ranges(state); // each part is in range
     let at = put_processor(out, 0, state.clock, &state.cpu);
     let at = put(out, at, &[state.out, state.in0, state.in3, state.in4]);
     let at = put_divider(out, at, &state.divider);

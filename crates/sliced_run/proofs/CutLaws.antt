@@ -59,7 +59,7 @@ module _ (entries : List TapeEntry) where
       from-behind (λ b. ending_text wanted.cost calls (to_boundary entries limit b))
       (λ l c. ap (ending_text wanted.cost calls) (to_boundary-behind entries limit l c) ∙ ending-behind wanted.cost calls l (to_boundary entries limit c)) b in
       let saved = from-behind (λ b. saved_bytes (to_boundary entries limit b)) (saved-end-behind limit) b in
-      let cells = from-behind (λ b. (to_boundary entries limit b).wires.earom.cells) (λ l c. ap (λ (d : Board). d.wires.earom.cells) (to_boundary-behind entries limit l c)) b in
+      let cells = from-behind (λ b. (to_boundary entries limit b).peripherals.earom.cells) (λ l c. ap (λ (d : Board). d.peripherals.earom.cells) (to_boundary-behind entries limit l c)) b in
       rw (text, ending, saved, cells) refl
 
 -- a run in slices under way, so many cuts after its start

@@ -45,10 +45,10 @@ clock-behind entries l b =
     let next = lockstep.step entries b in
     rw (
       step-behind entries l b,
-      added-behind l.strokes b.wires.strokes next.wires.strokes,
-      added-behind l.levels1 b.wires.levels1 next.wires.levels1,
-      added-behind l.levels2 b.wires.levels2 next.wires.levels2,
-      added-behind l.written b.wires.written next.wires.written,
+      added-behind l.strokes b.peripherals.strokes next.peripherals.strokes,
+      added-behind l.levels1 b.peripherals.levels1 next.peripherals.levels1,
+      added-behind l.levels2 b.peripherals.levels2 next.peripherals.levels2,
+      added-behind l.written b.peripherals.written next.peripherals.written,
     ) refl
 
 -- records made before aren't in it
@@ -78,10 +78,10 @@ unfolding records_of_clock
 clock-adds entries b one =
     let next = lockstep.step entries b in
     rw (
-      added-after b.wires.strokes one.added.strokes next.wires.strokes (ap (λ (r : Recorded). r.strokes) one.after),
-      added-after b.wires.levels1 one.added.levels1 next.wires.levels1 (ap (λ (r : Recorded). r.levels1) one.after),
-      added-after b.wires.levels2 one.added.levels2 next.wires.levels2 (ap (λ (r : Recorded). r.levels2) one.after),
-      added-after b.wires.written one.added.written next.wires.written (ap (λ (r : Recorded). r.written) one.after),
+      added-after b.peripherals.strokes one.added.strokes next.peripherals.strokes (ap (λ (r : Recorded). r.strokes) one.after),
+      added-after b.peripherals.levels1 one.added.levels1 next.peripherals.levels1 (ap (λ (r : Recorded). r.levels1) one.after),
+      added-after b.peripherals.levels2 one.added.levels2 next.peripherals.levels2 (ap (λ (r : Recorded). r.levels2) one.after),
+      added-after b.peripherals.written one.added.written next.peripherals.written (ap (λ (r : Recorded). r.written) one.after),
     ) refl
 
 made_by-append : (part : Part) (xs ys : List PartRecord) → made_by part (xs ++ ys) ≡ made_by part xs ++ made_by part ys
@@ -179,10 +179,10 @@ rising-part part t from to (r ∷ records) low high m =
 
 module _ (entries : List TapeEntry) where
   -- the records of a clock are in order
-  rising-clock : (b : lockstep.Board) → Rising (4 * b.wires.clock) (records_of_clock entries b) (4 * (b.wires.clock + 1))
+  rising-clock : (b : lockstep.Board) → Rising (4 * b.peripherals.clock) (records_of_clock entries b) (4 * (b.peripherals.clock + 1))
   rising-clock b =
       let one = adds-one entries b in
-      let t = b.wires.clock in
+      let t = b.peripherals.clock in
       rw (clock-adds entries b one)
       (rising-append (4 * t) (4 * t + 1) (4 * (t + 1)) (from_part Generator one.added.strokes) _
       (rising-part Generator t (4 * t) (4 * t + 1) one.added.strokes (omega arith) (omega arith) one.made.strokes)
@@ -193,13 +193,13 @@ module _ (entries : List TapeEntry) where
       (rising-part Board t (4 * t + 3) (4 * (t + 1)) one.added.written (omega arith) (omega arith) one.made.written))))
 
   -- and so are those of n clocks
-  rising-list : (n to : ℕ) (b : lockstep.Board) → b.wires.clock + n ≡ to → Rising (4 * b.wires.clock) (one_list entries n b) (4 * to)
+  rising-list : (n to : ℕ) (b : lockstep.Board) → b.peripherals.clock + n ≡ to → Rising (4 * b.peripherals.clock) (one_list entries n b) (4 * to)
   unfolding one_list
   rising-list zero to b e = omega arith
   rising-list (suc n) to b e =
       let next = lockstep.step entries b in
       let one = step-clock entries b in
-      rising-append (4 * b.wires.clock) (4 * (b.wires.clock + 1)) (4 * to) (records_of_clock entries b) (one_list entries n next)
+      rising-append (4 * b.peripherals.clock) (4 * (b.peripherals.clock + 1)) (4 * to) (records_of_clock entries b) (one_list entries n next)
       (rising-clock b)
       (subst (λ c. Rising (4 * c) (one_list entries n next) (4 * to)) one (rising-list n to next (omega arith)))
 
@@ -230,11 +230,11 @@ in_order-rising from to (made ∷ records) r =
 -- the one list is in order
 pub one_list-in_order : (entries : List TapeEntry) (n : ℕ) (b : lockstep.Board) → IsInOrder (one_list entries n b)
 one_list-in_order entries n b =
-    in_order-rising (4 * b.wires.clock) (4 * (b.wires.clock + n)) (one_list entries n b) (rising-list entries n (b.wires.clock + n) b refl)
+    in_order-rising (4 * b.peripherals.clock) (4 * (b.peripherals.clock + n)) (one_list entries n b) (rising-list entries n (b.peripherals.clock + n) b refl)
 
 -- the four lists, merged, are the one list
 pub stepped-merged : (entries : List TapeEntry) (n : ℕ) (b : lockstep.Board) → HasNoRecords b → (last : lockstep.Board) → last ≡ stepped entries n b
-    → merged last.wires.strokes last.wires.levels1 last.wires.levels2 last.wires.written ≡ one_list entries n b
+    → merged last.peripherals.strokes last.peripherals.levels1 last.peripherals.levels2 last.peripherals.written ≡ one_list entries n b
 stepped-merged entries n b none last is =
     rw (
       is,

@@ -33,10 +33,10 @@ module _ (entries : List TapeEntry) where
       let after = end_of entries until b in
       let made = run-made entries until b none in
       record {
-        vector = trail-made Generator b.wires.clock after.wires.clock after.wires.strokes made.strokes;
-        sound1 = trail-made Pokey1 b.wires.clock after.wires.clock after.wires.levels1 made.levels1;
-        sound2 = trail-made Pokey2 b.wires.clock after.wires.clock after.wires.levels2 made.levels2;
-        board = trail-made Board b.wires.clock after.wires.clock after.wires.written made.written;
+        vector = trail-made Generator b.peripherals.clock after.peripherals.clock after.peripherals.strokes made.strokes;
+        sound1 = trail-made Pokey1 b.peripherals.clock after.peripherals.clock after.peripherals.levels1 made.levels1;
+        sound2 = trail-made Pokey2 b.peripherals.clock after.peripherals.clock after.peripherals.levels2 made.levels2;
+        board = trail-made Board b.peripherals.clock after.peripherals.clock after.peripherals.written made.written;
       }
 
   -- what is written of them

@@ -7,7 +7,7 @@ use Rattle.catchup_engine.specs.EngineValue.{EngineValue, counted_on}
 use Rattle.lockstep_board.specs.Order.{HasNoRecords, cleared, Recorded, behind}
 use Rattle.lockstep_board.specs.Lockstep.{Board}
 use Rattle.lockstep_board.specs.Run.{to_clock, to_boundary}
-use Rattle.lockstep_board.specs.Wires.{board_of, reloaded}
+use Rattle.lockstep_board.specs.Peripherals.{board_of, reloaded}
 use Rattle.board_watch.specs.declared.until.Until.TheVariants.{Clock, Boundary}
 use Rattle.board_watch.specs.Windows.{end_of}
 use Rattle.sliced_run.specs.LastLine.{last_text}
@@ -15,22 +15,22 @@ use Rattle.sliced_run.specs.Slices.{saved_bytes, cost_line, ending_text}
 use Rattle.lockstep_board.proofs.Ended.{cleared-empty}
 use Rattle.board_watch.proofs.WatchLaws.{from-behind}
 
--- a board that is read back over the same wires is the same board
+-- a board that is read back over the same peripherals is the same board
 pub reload-same : (b : Board) → HasNoRecords b
-    → (let again : Board = record { cpu = b.cpu; wires = reloaded b.wires (board_of b.cpu b.wires) } in again) ≡ b
+    → (let again : Board = record { cpu = b.cpu; peripherals = reloaded b.peripherals (board_of b.cpu b.peripherals) } in again) ≡ b
 reload-same b none =
-    ap (λ (memory : List ℕ). let again : Board = record { cpu = b.cpu; wires = record (cleared b).wires { memory = memory } } in again)
-    (take-append-drop VECTOR_RAM_LEN b.wires.memory)
+    ap (λ (memory : List ℕ). let again : Board = record { cpu = b.cpu; peripherals = record (cleared b).peripherals { memory = memory } } in again)
+    (take-append-drop VECTOR_RAM_LEN b.peripherals.memory)
     ∙ cleared-empty b none
 
 -- an engine that has taken on its own board again has five device calls more
 pub loaded-same : (now after : EngineValue) (s : BoardValue) → HasNoRecords now.board
-    → after ≡ (let e : EngineValue = record now { board = record { cpu = s.cpu; wires = reloaded now.board.wires s }; calls = counted_on now.calls 5 } in e)
-    → s ≡ board_of now.board.cpu now.board.wires
+    → after ≡ (let e : EngineValue = record now { board = record { cpu = s.cpu; peripherals = reloaded now.board.peripherals s }; calls = counted_on now.calls 5 } in e)
+    → s ≡ board_of now.board.cpu now.board.peripherals
     → after ≡ (let e : EngineValue = record now { calls = counted_on now.calls 5 } in e)
 loaded-same now after s none loaded same =
     loaded
-    ∙ ap (λ (s : BoardValue). let e : EngineValue = record now { board = record { cpu = s.cpu; wires = reloaded now.board.wires s }; calls = counted_on now.calls 5 } in e) same
+    ∙ ap (λ (s : BoardValue). let e : EngineValue = record now { board = record { cpu = s.cpu; peripherals = reloaded now.board.peripherals s }; calls = counted_on now.calls 5 } in e) same
     ∙ ap (λ (b : Board). let e : EngineValue = record now { board = b; calls = counted_on now.calls 5 } in e) (reload-same now.board none)
 
 -- records aren't saved
@@ -65,5 +65,5 @@ ending-behind cost calls l b = ap (λ text. text ++ cost_line cost calls) (last_
 pub ending-cleared : (cost : Bool) (calls : ℕ) (b now : Board) → now ≡ cleared b → ending_text cost calls now ≡ ending_text cost calls b
 ending-cleared cost calls b now is = ap (ending_text cost calls) is ∙ from-behind (ending_text cost calls) (ending-behind cost calls) b
 
-pub cells-cleared : (b now : Board) (held : List ℕ) → now ≡ cleared b → held ≡ now.wires.earom.cells → held ≡ b.wires.earom.cells
-cells-cleared b now held is kept = kept ∙ ap (λ (n : Board). n.wires.earom.cells) is
+pub cells-cleared : (b now : Board) (held : List ℕ) → now ≡ cleared b → held ≡ now.peripherals.earom.cells → held ≡ b.peripherals.earom.cells
+cells-cleared b now held is kept = kept ∙ ap (λ (n : Board). n.peripherals.earom.cells) is

@@ -28,13 +28,13 @@ module _ (entries : List TapeEntry) (limit : ℕ) (wanted : Wanted) (calls : ℕ
       let first = sending (slice_text entries (Boundary limit) b) in
       let ending = sending (ending_text wanted.cost calls last) in
       let board = storing wanted.save (saved_bytes last) in
-      let cells = storing wanted.earom last.wires.earom.cells in
+      let cells = storing wanted.earom last.peripherals.earom.cells in
       rw (
         text_of-append first (ending ++ (board ++ cells)),
         text_of-append ending (board ++ cells),
         text_of-append board cells,
         text_of-storing wanted.save (saved_bytes last),
-        text_of-storing wanted.earom last.wires.earom.cells,
+        text_of-storing wanted.earom last.peripherals.earom.cells,
         text_of-sending (slice_text entries (Boundary limit) b),
         text_of-sending (ending_text wanted.cost calls last),
       ) (ap (λ text. slice_text entries (Boundary limit) b ++ text) (append-nil (ending_text wanted.cost calls last)))

@@ -6,7 +6,7 @@ use Rattle.std.proofs.lemmas.List.Concat.{flat_map-append}
 use Rattle.log_text.proofs.PartLaws.{log_in_parts, merged_in_parts}
 use Rattle.log_text.specs.LogText.{PartRecord, merged}
 use Rattle.log_text.specs.RecordBytes.{records_bytes}
-use Rattle.board_watch.specs.Watch.{AreParts, TakesInParts}
+use Rattle.board_watch.specs.RecordObserver.{AreParts, TakesInParts}
 use Rattle.lockstep_board.specs.Order.{Recorded}
 use Rattle.sliced_run.specs.declared.log_writer.LogWriter.{LogWriter}
 use Rattle.sliced_run.specs.declared.record_writer.RecordWriter.{RecordWriter}

@@ -15,9 +15,9 @@ added before after = drop (length before) after
 unfoldable pub records_of_clock : List TapeEntry → lockstep.Board → List PartRecord
 records_of_clock entries b =
     let next = lockstep.step entries b in
-    from_part Generator (added b.wires.strokes next.wires.strokes)
-    ++ (from_part Pokey1 (added b.wires.levels1 next.wires.levels1)
-    ++ (from_part Pokey2 (added b.wires.levels2 next.wires.levels2) ++ from_part Board (added b.wires.written next.wires.written)))
+    from_part Generator (added b.peripherals.strokes next.peripherals.strokes)
+    ++ (from_part Pokey1 (added b.peripherals.levels1 next.peripherals.levels1)
+    ++ (from_part Pokey2 (added b.peripherals.levels2 next.peripherals.levels2) ++ from_part Board (added b.peripherals.written next.peripherals.written)))
 
 -- the records of n clocks, one clock after another
 unfoldable pub one_list : List TapeEntry → ℕ → lockstep.Board → List PartRecord
@@ -30,4 +30,4 @@ run_list entries limit b = one_list entries (boundary_steps entries limit b) b
 
 -- the lines of the records that stand in the four lists of a board
 unfoldable pub text_of_lists : lockstep.Board → List ℕ
-text_of_lists b = merged_text b.wires.strokes b.wires.levels1 b.wires.levels2 b.wires.written
+text_of_lists b = merged_text b.peripherals.strokes b.peripherals.levels1 b.peripherals.levels2 b.peripherals.written

@@ -9,7 +9,7 @@ use Rattle.lockstep_board.specs.Budget.{counted, device_accesses, entries_applie
 use Rattle.catchup_engine.specs.EngineValue.{counted_on}
 use Rattle.lockstep_board.specs.Lockstep.{Board}
 use Rattle.lockstep_board.specs.Run.{boundary_steps, to_clock, to_boundary}
-use Rattle.lockstep_board.specs.Wires.{board_of}
+use Rattle.lockstep_board.specs.Peripherals.{board_of}
 use Rattle.board_watch.specs.declared.until.Until.TheVariants.{Clock, Boundary}
 use Rattle.outside_io.specs.Shelf.{Kept}
 use Rattle.outside_io.specs.Events.{Event, DidFirst, sending, storing}
@@ -18,7 +18,7 @@ use Rattle.sliced_run.specs.Slice.{slice_text}
 
 -- the bytes of a board, saved
 unfoldable pub saved_bytes : Board → List ℕ
-saved_bytes b = state_bytes (board_of b.cpu b.wires)
+saved_bytes b = state_bytes (board_of b.cpu b.peripherals)
 
 -- what a run is asked to store and to tell besides its log: the board under a name, the cells of the EAROM under a name, and
 -- the device calls
@@ -48,7 +48,7 @@ last_events entries limit wanted calls b =
     let last = to_boundary entries limit b in
     sending (slice_text entries (Boundary limit) b)
     ++ (sending (ending_text wanted.cost calls last)
-    ++ (storing wanted.save (saved_bytes last) ++ storing wanted.earom last.wires.earom.cells))
+    ++ (storing wanted.save (saved_bytes last) ++ storing wanted.earom last.peripherals.earom.cells))
 
 -- all slices: a cut above the limit falls on it
 unfoldable pub run_events : List TapeEntry → ℕ → Wanted → ℕ → List ℕ → Board → List Event
@@ -67,9 +67,9 @@ unfoldable pub run_budget : List TapeEntry → ℕ → ℕ → Board → ℕ
 run_budget entries limit slices b =
     let n = boundary_steps entries limit b in
     2 * counted entries (device_accesses entries) n b
-    + 10 * (counted entries (λ c. wraps c.wires) n b + slices)
-    + 5 * (counted entries (λ c. entries_applied entries c.wires) n b + counted entries (resets_begun entries) n b
-    + counted entries (λ c. requests entries c.wires) n b)
+    + 10 * (counted entries (λ c. wraps c.peripherals) n b + slices)
+    + 5 * (counted entries (λ c. entries_applied entries c.peripherals) n b + counted entries (resets_begun entries) n b
+    + counted entries (λ c. requests entries c.peripherals) n b)
     + 5
 
 -- the device calls after a run with so many cuts, where there were some before it: five for each load at least, or the

@@ -8,7 +8,7 @@ ghost use Rattle.sliced_run.specs.Slice.{AreTrails, slice_text, text_of_records}
 ghost use Rattle.sliced_run.specs.LogParts.{log-taken_in_parts};
 
 use board_base::{CLOCK_LIMIT, Trails};
-use board_watch::{SyncedMachine, Until, Watch};
+use board_watch::{RecordObserver, SyncedMachine, Until};
 use catchup_engine::Machine;
 use log_text::write_merged;
 use outside_io::{Sink, SinkFault};
@@ -18,7 +18,7 @@ use tape_ports::Tape;
 #[derive(Clone, Copy, Debug, PartialEq, Eq)]
 pub struct LogWriter;
 
-impl Watch for LogWriter {
+impl RecordObserver for LogWriter {
     ghost can_take = { λ _ _ records _. AreTrails records };
 
     ghost tells = { λ _ records _. text_of_records records };

@@ -2,7 +2,7 @@ ghost use Rattle.sliced_run.specs.Slice.{AreTrails, bytes_of_records};
 ghost use Rattle.sliced_run.specs.LogParts.{records-taken_in_parts};
 
 use board_base::Trails;
-use board_watch::Watch;
+use board_watch::RecordObserver;
 use log_text::write_records;
 use outside_io::{Sink, SinkFault};
 
@@ -10,7 +10,7 @@ use outside_io::{Sink, SinkFault};
 #[derive(Clone, Copy, Debug, PartialEq, Eq)]
 pub struct RecordWriter;
 
-impl Watch for RecordWriter {
+impl RecordObserver for RecordWriter {
     ghost can_take = { λ _ _ records _. AreTrails records };
 
     ghost tells = { λ _ records _. bytes_of_records records };

@@ -106,7 +106,7 @@ fn write_ending<M: Machine, O: Sink>(
 
 /// The cells of the EAROM.
 fn cells_of<M: Machine>(synced: &SyncedMachine<'_, M>) -> [u8; 64]
-    ensures { result ≡ (value_of synced.now).board.wires.earom.cells }
+    ensures { result ≡ (value_of synced.now).board.peripherals.earom.cells }
 {
     let mut state = BoardState::power_on();
     synced.machine().state(&mut state);

@@ -22,10 +22,10 @@ module _ (entries : List TapeEntry) where
   step-few n b few =
       let one = adds-one entries b in
       record {
-        strokes = one-longer n b.wires.strokes one.added.strokes _ (ap (λ (l : Recorded). l.strokes) one.after) one.few_strokes few.strokes;
-        levels1 = one-longer n b.wires.levels1 one.added.levels1 _ (ap (λ (l : Recorded). l.levels1) one.after) one.few_levels1 few.levels1;
-        levels2 = one-longer n b.wires.levels2 one.added.levels2 _ (ap (λ (l : Recorded). l.levels2) one.after) one.few_levels2 few.levels2;
-        written = one-longer n b.wires.written one.added.written _ (ap (λ (l : Recorded). l.written) one.after) one.few_written few.written;
+        strokes = one-longer n b.peripherals.strokes one.added.strokes _ (ap (λ (l : Recorded). l.strokes) one.after) one.few_strokes few.strokes;
+        levels1 = one-longer n b.peripherals.levels1 one.added.levels1 _ (ap (λ (l : Recorded). l.levels1) one.after) one.few_levels1 few.levels1;
+        levels2 = one-longer n b.peripherals.levels2 one.added.levels2 _ (ap (λ (l : Recorded). l.levels2) one.after) one.few_levels2 few.levels2;
+        written = one-longer n b.peripherals.written one.added.written _ (ap (λ (l : Recorded). l.written) one.after) one.few_written few.written;
       }
 
   -- and m steps make m
@@ -49,12 +49,12 @@ none-few b none = rw (none.strokes, none.levels1, none.levels2, none.written) (r
 
 -- a run to a boundary of a board without records makes one of each part a clock at most
 pub run-few : (entries : List TapeEntry) (limit : ℕ) (b : Board) → HasNoRecords b
-    → AreFew ((to_boundary entries limit b).wires.clock - b.wires.clock) (records_of (to_boundary entries limit b))
+    → AreFew ((to_boundary entries limit b).peripherals.clock - b.peripherals.clock) (records_of (to_boundary entries limit b))
 unfolding to_boundary
 run-few entries limit b none =
     let n = boundary_steps entries limit b in
     let clock = to_boundary-clock entries limit b in
-    let same : (stepped entries n b).wires.clock - b.wires.clock ≡ 0 + n = omega arith in
+    let same : (stepped entries n b).peripherals.clock - b.peripherals.clock ≡ 0 + n = omega arith in
     rw same (stepped-few entries 0 n b (none-few b none))
 
 -- they may be counted

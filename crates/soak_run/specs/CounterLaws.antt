@@ -4,7 +4,7 @@ use Rattle.std.proofs.Common.{refl, ap, sym, ◌∙◌, arith, length-append}
 use Rattle.std.proofs.Math.Bool.{cond}
 use Rattle.std.proofs.lemmas.List.Sums.{sum_by-append}
 use Rattle.lockstep_board.specs.Order.{Recorded}
-use Rattle.board_watch.specs.Watch.{TakesInParts, joined}
+use Rattle.board_watch.specs.RecordObserver.{TakesInParts, joined}
 use Rattle.soak_run.specs.declared.summary.Summary.{Summary}
 use Rattle.soak_run.specs.Counter.{CounterValue, HasRoom, count_of, counted}
 use Rattle.soak_run.specs.Summary.{is_latch, is_levels, is_reset, is_stroke, strength_of, summary_of, together}

@@ -22,4 +22,4 @@ soak_text s clock =
 
 -- The lines of a run to the first boundary that isn't before the limit: of all records that the board has there.
 abbrev pub run_text : List TapeEntry → ℕ → Board → List ℕ
-run_text entries limit b = let last = to_boundary entries limit b in soak_text (summary_of (records_of last)) last.wires.clock
+run_text entries limit b = let last = to_boundary entries limit b in soak_text (summary_of (records_of last)) last.peripherals.clock

@@ -4,7 +4,7 @@ use Rattle.std.specs.List.{count_by, sum_by}
 use Rattle.board_base.specs.declared.record.Record.{Record}
 use Rattle.board_base.specs.declared.record.Record.TheVariants.{Stroke, Levels, Latch, WatchdogReset}
 use Rattle.lockstep_board.specs.Order.{Recorded}
-use Rattle.board_watch.specs.Watch.{recorded}
+use Rattle.board_watch.specs.RecordObserver.{recorded}
 use Rattle.soak_run.specs.declared.summary.Summary.{Summary}
 use Rattle.soak_run.specs.declared.summary.Tally.{Tally}
 

@@ -1,12 +1,12 @@
 ghost use Rattle.std.specs.Prelude.{◌≡◌, []};
-ghost use Rattle.board_watch.specs.Watch.{recorded};
+ghost use Rattle.board_watch.specs.RecordObserver.{recorded};
 ghost use Rattle.soak_run.specs.Counter.{HasRoom, count_of, counted};
 ghost use Rattle.soak_run.specs.CounterLaws.{counted_in_parts};
 ghost use Rattle.soak_run.specs.Summary.{no_records, summary_of};
 
 use crate::summary::Summary;
 use board_base::Trails;
-use board_watch::Watch;
+use board_watch::RecordObserver;
 use outside_io::{Sink, SinkFault};
 use std::marker::Model;
 
@@ -61,7 +61,7 @@ impl Counter {
     }
 }
 
-impl Watch for Counter {
+impl RecordObserver for Counter {
     ghost can_take = { λ c _ records _. HasRoom c records };
 
     ghost tells = { λ _ _ _. [] };

@@ -1,7 +1,7 @@
 ghost use Rattle.std.specs.Prelude.{◌≡◌, ℕ, ◌+◌, List, [], ◌∷◌, ◌++◌, length, ◌≤◌};
 ghost use Rattle.board_base.specs.declared.record.Record as declared_record;
 ghost use Rattle.soak_run.specs.Sizes.{AreFew, IsSmall, IsSmallTally, most_records};
-ghost use Rattle.board_watch.specs.Watch.{recorded};
+ghost use Rattle.board_watch.specs.RecordObserver.{recorded};
 ghost use Rattle.soak_run.specs.Summary.{no_records, summary_of, tally_of, together};
 
 use board_base::{Record, Trails};

@@ -46,10 +46,10 @@ after-clocks p trace pc room = after-test (trace.count == 0) p trace pc refl roo
 
 -- the trace of a turn tells all of its clocks
 trace-count : (entries : List TapeEntry) (limit : ℕ) (b : Board) → is_over limit b ≡ false
-    → (step_trace entries b).count ≡ boundary_steps entries (b.wires.clock + 1) b
+    → (step_trace entries b).count ≡ boundary_steps entries (b.peripherals.clock + 1) b
 unfolding step_trace trace_of
 trace-count entries limit b open_yet =
-    let n = boundary_steps entries (b.wires.clock + 1) b in
+    let n = boundary_steps entries (b.peripherals.clock + 1) b in
     ap (λ (jam : Option ℕ). (if is_some jam then no_trace else trace_of entries n b).count) (over-running limit b open_yet).running
 
 told-clocks : (entries : List TapeEntry) (limit n : ℕ) (p : ProfileValue) (b : Board)
@@ -77,7 +77,7 @@ turns-add entries limit (suc n) b placed open_yet =
 record AreAll (entries : List TapeEntry) (limit : ℕ) (b : Board) : Type 0 where
   board : to_boundary entries limit b ≡ turned entries (run_turns entries limit b) b
   open_yet : (k : ℕ) → k < run_turns entries limit b → is_over limit (turned entries k b) ≡ false
-  clocks : turns_steps entries (run_turns entries limit b) b ≡ (to_boundary entries limit b).wires.clock - b.wires.clock
+  clocks : turns_steps entries (run_turns entries limit b) b ≡ (to_boundary entries limit b).peripherals.clock - b.peripherals.clock
 
 run-turns : (entries : List TapeEntry) (limit : ℕ) (b : Board) → IsPlaced b → AreAll entries limit b
 run-turns entries limit b placed =
@@ -87,8 +87,8 @@ run-turns entries limit b placed =
     let all = turns-add entries limit to.count b placed to.over in
     let same : to.count ≡ run_turns entries limit b = omega arith in
     let board : to_boundary entries limit b ≡ turned entries (run_turns entries limit b) b = to.board ∙ ap (λ n. turned entries n b) same in
-    let clock : (to_boundary entries limit b).wires.clock ≡ b.wires.clock + turns_steps entries (run_turns entries limit b) b =
-    ap (λ (c : Board). c.wires.clock) (board ∙ turned-steps entries (run_turns entries limit b) b)
+    let clock : (to_boundary entries limit b).peripherals.clock ≡ b.peripherals.clock + turns_steps entries (run_turns entries limit b) b =
+    ap (λ (c : Board). c.peripherals.clock) (board ∙ turned-steps entries (run_turns entries limit b) b)
     ∙ stepped-clock entries (turns_steps entries (run_turns entries limit b) b) b in
     record {
       board = board;
@@ -218,7 +218,7 @@ last-fits p fits = let some = fits.is.some in fits.each (length p.routines - 1) 
 -- a turn of a board in range ends at an address
 turn-in_range : (entries : List TapeEntry) (b : Board) → All (λ entry. IsByte entry.value) entries → IsBoardInRange b → IsBoardInRange (turn entries b)
 unfolding to_boundary
-turn-in_range entries b bytes range = stepped-in_range entries (boundary_steps entries (b.wires.clock + 1) b) b bytes range
+turn-in_range entries b bytes range = stepped-in_range entries (boundary_steps entries (b.peripherals.clock + 1) b) b bytes range
 
 told-adds : (entries : List TapeEntry) (limit n : ℕ) (p : ProfileValue) (b : Board) → All (λ entry. IsByte entry.value) entries → IsBoardInRange b
     → ((k : ℕ) → k < n → is_over limit (turned entries k b) ≡ false) → p.clocks + turns_steps entries n b < 2 ^ 64

@@ -24,9 +24,9 @@ pub all_told : (entries : List TapeEntry) (limit : ℕ) (b : Board) → AllStrok
 unfolding run_events run_frames
 all_told entries limit b none =
     let last = to_boundary entries limit b in
-    let order = to_boundary-made entries b.wires.clock limit b (made-none b none) in
-    let made : All (Makes Generator) last.wires.strokes = (trail-made Generator b.wires.clock last.wires.clock last.wires.strokes order.strokes).kinds in
-    each_stroke_in_one_frame (begun 0 b.wires.clock) last.wires.strokes (run_marks entries limit b) made ∙ zero-add (length last.wires.strokes)
+    let order = to_boundary-made entries b.peripherals.clock limit b (made-none b none) in
+    let made : All (Makes Generator) last.peripherals.strokes = (trail-made Generator b.peripherals.clock last.peripherals.clock last.peripherals.strokes order.strokes).kinds in
+    each_stroke_in_one_frame (begun 0 b.peripherals.clock) last.peripherals.strokes (run_marks entries limit b) made ∙ zero-add (length last.peripherals.strokes)
 
 -- numbers that don't fall, behind others that are none above them
 rising-cons : (x : ℕ) (xs : List ℕ) → All (λ y. x ≤ y) xs → IsNonDecreasing xs → IsNonDecreasing (x ∷ xs)
@@ -53,13 +53,13 @@ marks-rise : (entries : List TapeEntry) (n : ℕ) (b : Board) → IsNonDecreasin
 unfolding accesses_of
 marks-rise entries zero b = subst IsNonDecreasing (sym marks-nothing) rising-none
 marks-rise entries (suc n) b =
-    let at = b.wires.clock in
+    let at = b.peripherals.clock in
     let next = step entries b in
     let one = step-clock entries b in
     let first = accesses_in at (access_in entries b) in
     let rest = accesses_of entries n next in
     let low : All (λ mark. at ≤ mark) (marks_of rest) =
-    All-weaker (λ mark. (next.wires.clock ≤ mark) × (mark < next.wires.clock + n)) (λ mark. at ≤ mark)
+    All-weaker (λ mark. (next.peripherals.clock ≤ mark) × (mark < next.peripherals.clock + n)) (λ mark. at ≤ mark)
     (λ mark both. let above = both.0 in omega (arith, above, one)) (marks_of rest) (marks-within entries n next) in
     subst IsNonDecreasing (sym (marks-append first rest))
     (rising-behind at (marks_of first) (marks_of rest) (one-mark at (access_in entries b)) low (marks-rise entries n next))
@@ -68,7 +68,7 @@ pub frames_of_a_run : (entries : List TapeEntry) (limit : ℕ) (b : Board) → F
 unfolding run_events run_frames run_marks
 frames_of_a_run entries limit b none =
     let last = to_boundary entries limit b in
-    let order = to_boundary-made entries b.wires.clock limit b (made-none b none) in
-    each_frame_has_its_strokes b.wires.clock last.wires.strokes (run_marks entries limit b)
-    (trail-made Generator b.wires.clock last.wires.clock last.wires.strokes order.strokes).clocks
+    let order = to_boundary-made entries b.peripherals.clock limit b (made-none b none) in
+    each_frame_has_its_strokes b.peripherals.clock last.peripherals.strokes (run_marks entries limit b)
+    (trail-made Generator b.peripherals.clock last.peripherals.clock last.peripherals.strokes order.strokes).clocks
     (marks-rise entries (boundary_steps entries limit b) b)

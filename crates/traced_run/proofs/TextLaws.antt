@@ -28,13 +28,13 @@ last-cleared b None = refl
 -- the frames that ended, the one under way, and the last line
 pub framed-is : (entries : List TapeEntry) (limit : ℕ) (b : Board) → HasNoRecords b
     → framed_text entries limit b
-    ≡ frames_text (ended (begun 0 b.wires.clock) (run_events entries limit (cleared b)))
-    ++ (frame_text (under_way (begun 0 b.wires.clock) (run_events entries limit (cleared b)))
+    ≡ frames_text (ended (begun 0 b.peripherals.clock) (run_events entries limit (cleared b)))
+    ++ (frame_text (under_way (begun 0 b.peripherals.clock) (run_events entries limit (cleared b)))
     ++ last_text (cleared (to_boundary entries limit b)) (to_boundary entries limit b).cpu.jam)
 unfolding framed_text run_frames frames_text
 framed-is entries limit b none =
     let events = run_events entries limit b in
-    let first = begun 0 b.wires.clock in
+    let first = begun 0 b.peripherals.clock in
     let last = to_boundary entries limit b in
     let one : frames_text (under_way first events ∷ []) ≡ frame_text (under_way first events) =
     flat_map-cons frame_text (under_way first events) [] ∙ append-nil (frame_text (under_way first events)) in
@@ -56,13 +56,13 @@ pub last-told : (entries : List TapeEntry) (limit : ℕ) (b now : Board) → now
     → last_text now now.cpu.jam ≡ last_text (cleared (to_boundary entries limit b)) (to_boundary entries limit b).cpu.jam
 last-told entries limit b now is = ap (λ (c : Board). last_text c c.cpu.jam) is
 
-module _ (entries : List TapeEntry) (limit : ℕ) (b : Board) (none : HasNoRecords b) (frames : FrameValue) (is : frames ≡ begun 0 b.wires.clock)
+module _ (entries : List TapeEntry) (limit : ℕ) (b : Board) (none : HasNoRecords b) (frames : FrameValue) (is : frames ≡ begun 0 b.peripherals.clock)
     (out0 out1 : Option (List ℕ)) where
   abbrev lines : List ℕ
-  lines = frames_text (ended (begun 0 b.wires.clock) (run_events entries limit (cleared b)))
+  lines = frames_text (ended (begun 0 b.peripherals.clock) (run_events entries limit (cleared b)))
 
   abbrev one_line : List ℕ
-  one_line = frame_text (under_way (begun 0 b.wires.clock) (run_events entries limit (cleared b)))
+  one_line = frame_text (under_way (begun 0 b.peripherals.clock) (run_events entries limit (cleared b)))
 
   abbrev end_line : List ℕ
   end_line = last_text (cleared (to_boundary entries limit b)) (to_boundary entries limit b).cpu.jam

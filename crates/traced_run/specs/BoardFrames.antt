@@ -17,11 +17,11 @@ run_marks entries limit b = marks_of (accesses_of entries (boundary_steps entrie
 
 -- its strokes and these marks in one list by clock
 unfoldable pub run_events : List TapeEntry → ℕ → Board → List Event
-run_events entries limit b = by_clock (to_boundary entries limit b).wires.strokes (run_marks entries limit b)
+run_events entries limit b = by_clock (to_boundary entries limit b).peripherals.strokes (run_marks entries limit b)
 
 -- the frames of the run: the first begins where it begins, and each mark begins the next
 unfoldable pub run_frames : List TapeEntry → ℕ → Board → List FrameValue
-run_frames entries limit b = frames_of (begun 0 b.wires.clock) (run_events entries limit b)
+run_frames entries limit b = frames_of (begun 0 b.peripherals.clock) (run_events entries limit b)
 
 -- their lines, and then the last line of the run
 unfoldable pub framed_text : List TapeEntry → ℕ → Board → List ℕ
@@ -32,7 +32,7 @@ framed_text entries limit b =
 -- the strokes of the run.
 abbrev pub AllStrokesAreTold : List TapeEntry → ℕ → Board → Type 0
 AllStrokesAreTold entries limit b =
-    HasNoRecords b → sum_by (λ f. f.strokes) (run_frames entries limit b) ≡ length (to_boundary entries limit b).wires.strokes
+    HasNoRecords b → sum_by (λ f. f.strokes) (run_frames entries limit b) ≡ length (to_boundary entries limit b).peripherals.strokes
 
 -- The frames of a run from a board without records: one more than the marks, and each with exactly the strokes of the run that
 -- are above its mark and up to the next one.
@@ -40,4 +40,4 @@ abbrev pub FramesHaveTheirStrokes : List TapeEntry → ℕ → Board → Type 0
 FramesHaveTheirStrokes entries limit b =
     HasNoRecords b
     → run_frames entries limit b
-    ≡ map (frame_at b.wires.clock (to_boundary entries limit b).wires.strokes (run_marks entries limit b)) (range_with_len 0 (length (run_marks entries limit b) + 1))
+    ≡ map (frame_at b.peripherals.clock (to_boundary entries limit b).peripherals.strokes (run_marks entries limit b)) (range_with_len 0 (length (run_marks entries limit b) + 1))

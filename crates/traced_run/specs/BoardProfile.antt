@@ -20,7 +20,7 @@ turns_until entries limit (suc most) b =
 
 -- a turn takes a clock at least, and what is left of a sequence is one that may begin at the limit or behind it
 abbrev pub run_turns : List TapeEntry → ℕ → Board → ℕ
-run_turns entries limit b = turns_until entries limit ((limit - b.wires.clock) + 1) b
+run_turns entries limit b = turns_until entries limit ((limit - b.peripherals.clock) + 1) b
 
 -- a profile of nothing, with one routine on its list
 abbrev pub no_profile : ℕ → ProfileValue
@@ -39,7 +39,7 @@ profiled_text entries limit b =
 abbrev pub AllClocksAreTold : List TapeEntry → ℕ → Board → Type 0
 AllClocksAreTold entries limit b =
     limit ≤ CLOCK_LIMIT → IsPlaced b
-    → (run_profile entries limit b).clocks ≡ (to_boundary entries limit b).wires.clock - b.wires.clock
+    → (run_profile entries limit b).clocks ≡ (to_boundary entries limit b).peripherals.clock - b.peripherals.clock
 
 -- The clocks of all addresses add up to those of the profile.
 abbrev pub AddressesAddUp : List TapeEntry → ℕ → Board → Type 0

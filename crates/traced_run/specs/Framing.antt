@@ -35,10 +35,10 @@ keeps_marks f = not (length f.marks == 0)
 pub record CanFrame (f : FramerValue) (limit : ℕ) (b : Board) : Type 0 where
   pub marks : f.marks ≡ []
   pub low : limit ≤ CLOCK_LIMIT
-  pub clock : b.wires.clock ≤ CLOCK_LIMIT + 23
-  pub inside : IsSome b.cpu.mid → b.wires.clock ≤ CLOCK_LIMIT + 16
-  pub number : f.frames.number ≤ b.wires.clock
-  pub strokes : f.frames.strokes ≤ b.wires.clock
+  pub clock : b.peripherals.clock ≤ CLOCK_LIMIT + 23
+  pub inside : IsSome b.cpu.mid → b.peripherals.clock ≤ CLOCK_LIMIT + 16
+  pub number : f.frames.number ≤ b.peripherals.clock
+  pub strokes : f.frames.strokes ≤ b.peripherals.clock
 
 -- so that neither comes to the end of its count
 pub record HasNumbers (f : FramerValue) : Type 0 where
@@ -54,13 +54,13 @@ abbrev pub part_framed : FramerValue → Recorded → List ℕ
 part_framed f records = frames_text (ended f.frames (part_events f records))
 
 -- and the framer behind them
-abbrev pub behind_part : FramerValue → Recorded → FramerValue
-behind_part f records = record { frames = under_way f.frames (part_events f records); marks = [] }
+abbrev pub after_part : FramerValue → Recorded → FramerValue
+after_part f records = record { frames = under_way f.frames (part_events f records); marks = [] }
 
 -- the lines of the frames that end in a run, from a board whose records are forgotten
 abbrev pub run_framed_text : FramerValue → List TapeEntry → ℕ → Board → List ℕ
 run_framed_text f entries limit b = frames_text (ended f.frames (run_events entries limit (cleared b)))
 
 -- and the framer behind it
-abbrev pub behind_run : FramerValue → List TapeEntry → ℕ → Board → FramerValue
-behind_run f entries limit b = record f { frames = under_way f.frames (run_events entries limit (cleared b)) }
+abbrev pub after_run : FramerValue → List TapeEntry → ℕ → Board → FramerValue
+after_run f entries limit b = record f { frames = under_way f.frames (run_events entries limit (cleared b)) }

@@ -18,13 +18,13 @@ use Rattle.lockstep_board.proofs.Ends.{to_boundary-clock}
 use Rattle.lockstep_board.proofs.InOrder.{stepped-made, to_boundary-made}
 use Rattle.lockstep_board.proofs.Runs.{steps-none}
 use Rattle.lockstep_board.proofs.TurnLaws.{to_boundary-none}
-use Rattle.board_watch.specs.Follow.{FollowsInParts, IsFollowedInParts, StandsStill}
+use Rattle.board_watch.specs.TurnObserver.{FollowsInParts, IsFollowedInParts, StandsStill}
 use Rattle.frame_list.specs.Events.{by_clock, mark_at, marks_in, marks_of, stroke_of, through}
 use Rattle.frame_list.specs.Frames.{FrameValue, IsBefore, begun, ended, frames_text, under_way}
 use Rattle.frame_list.proofs.FrameLaws.{strokes-most, strokes-number, under_way-append}
 use Rattle.frame_list.proofs.WholeLaws.{parts_make_the_whole}
 use Rattle.traced_run.specs.BoardFrames.{run_events, run_marks}
-use Rattle.traced_run.specs.Framing.{FramerValue, behind_part, behind_run, framer_told, has_marks, keeps_marks, part_framed, run_framed_text, CanFrame, HasNumbers}
+use Rattle.traced_run.specs.Framing.{FramerValue, after_part, after_run, framer_told, has_marks, keeps_marks, part_framed, run_framed_text, CanFrame, HasNumbers}
 use Rattle.traced_run.specs.MarkLaws.{marks-append, marks-few, marks-within, run_marks-cleared, turn-marks, unmarked}
 use Rattle.traced_run.specs.PartLaws.{accesses-add, cleared-none, end-behind, made-none, open-later, strokes-before, strokes-few, strokes-from, turned-low, turned-steps, turns-go, turns_steps}
 
@@ -71,7 +71,7 @@ unfolding told turned accesses_of turns_steps marks_of stepped to_boundary
 kept-turns entries limit zero w b none open_yet goes = record { frames = refl; marks = sym none }
 kept-turns entries limit (suc zero) w b none open_yet goes =
     let one = kept-one entries w b none in
-    let n = boundary_steps entries (b.wires.clock + 1) b in
+    let n = boundary_steps entries (b.peripherals.clock + 1) b in
     record {
       frames = one.frames;
       marks =
@@ -82,7 +82,7 @@ kept-turns entries limit (suc zero) w b none open_yet goes =
 kept-turns entries limit (suc (suc m)) w b none open_yet goes =
     let one = kept-one entries w b none in
     let v = told_once framer_told entries w b in
-    let n = boundary_steps entries (b.wires.clock + 1) b in
+    let n = boundary_steps entries (b.peripherals.clock + 1) b in
     let next = turn entries b in
     let still : v.marks ≡ [] = empty-marks v.marks (goes 1 (omega arith) (omega arith)) in
     let rest : Kept entries (suc m) v (told framer_told entries (suc m) v next) next =
@@ -134,22 +134,22 @@ module _ (entries : List TapeEntry) (limit n : ℕ) (b : Board) (placed : IsPlac
   abbrev made : List ℕ
   made = marks_of (accesses_of entries (turns_steps entries n b) b)
 
-  there-clock : there.wires.clock ≡ b.wires.clock + turns_steps entries n b
-  there-clock = ap (λ (c : Board). c.wires.clock) (turned-steps entries n b) ∙ stepped-clock entries (turns_steps entries n b) b
+  there-clock : there.peripherals.clock ≡ b.peripherals.clock + turns_steps entries n b
+  there-clock = ap (λ (c : Board). c.peripherals.clock) (turned-steps entries n b) ∙ stepped-clock entries (turns_steps entries n b) b
 
   whole : to_boundary entries limit b ≡ to_boundary entries limit there
   whole = turns-go entries limit n b placed open_yet
 
   -- the strokes
-  whole-strokes : (to_boundary entries limit b).wires.strokes ≡ there.wires.strokes ++ rest.wires.strokes
-  whole-strokes = ap (λ (c : Board). c.wires.strokes) (whole ∙ end-behind entries limit there)
+  whole-strokes : (to_boundary entries limit b).peripherals.strokes ≡ there.peripherals.strokes ++ rest.peripherals.strokes
+  whole-strokes = ap (λ (c : Board). c.peripherals.strokes) (whole ∙ end-behind entries limit there)
 
   -- the marks
   whole-steps : boundary_steps entries limit b ≡ turns_steps entries n b + boundary_steps entries limit there
   whole-steps =
       let here = to_boundary-clock entries limit b in
       let later = to_boundary-clock entries limit there in
-      let same : (to_boundary entries limit b).wires.clock ≡ (to_boundary entries limit there).wires.clock = ap (λ (c : Board). c.wires.clock) whole in
+      let same : (to_boundary entries limit b).peripherals.clock ≡ (to_boundary entries limit there).peripherals.clock = ap (λ (c : Board). c.peripherals.clock) whole in
       let clock = there-clock in
       omega arith
 
@@ -164,57 +164,57 @@ module _ (entries : List TapeEntry) (limit n : ℕ) (b : Board) (placed : IsPlac
       ∙ ap (λ (c : Board). made ++ marks_of (accesses_of entries m c)) (sym (turned-steps entries n b))
       ∙ ap (λ l. made ++ l) (sym (run_marks-cleared entries limit there))
 
-  whole-events : run_events entries limit b ≡ by_clock (there.wires.strokes ++ rest.wires.strokes) (made ++ run_marks entries limit (cleared there))
+  whole-events : run_events entries limit b ≡ by_clock (there.peripherals.strokes ++ rest.peripherals.strokes) (made ++ run_marks entries limit (cleared there))
   unfolding run_events
   whole-events =
       ap (λ l. by_clock l (run_marks entries limit b)) whole-strokes
-      ∙ ap (by_clock (there.wires.strokes ++ rest.wires.strokes)) whole-marks
+      ∙ ap (by_clock (there.peripherals.strokes ++ rest.peripherals.strokes)) whole-marks
 
   -- what comes up to the board, and what comes from it on
-  strokes-sooner : All (λ s. clock_of s < there.wires.clock) there.wires.strokes
+  strokes-sooner : All (λ s. clock_of s < there.peripherals.clock) there.peripherals.strokes
   strokes-sooner =
       let k = turns_steps entries n b in
-      let order = stepped-made entries b.wires.clock k b (made-none b none) in
-      subst (λ (c : Board). All (λ s. clock_of s < c.wires.clock) c.wires.strokes) (sym (turned-steps entries n b))
-      (strokes-before b.wires.clock (stepped entries k b).wires.clock (stepped entries k b).wires.strokes order.strokes)
+      let order = stepped-made entries b.peripherals.clock k b (made-none b none) in
+      subst (λ (c : Board). All (λ s. clock_of s < c.peripherals.clock) c.peripherals.strokes) (sym (turned-steps entries n b))
+      (strokes-before b.peripherals.clock (stepped entries k b).peripherals.clock (stepped entries k b).peripherals.strokes order.strokes)
 
-  strokes-later : All (λ s. there.wires.clock ≤ clock_of s) rest.wires.strokes
+  strokes-later : All (λ s. there.peripherals.clock ≤ clock_of s) rest.peripherals.strokes
   strokes-later =
-      let order = to_boundary-made entries there.wires.clock limit (cleared there) (made-none (cleared there) (cleared-none there)) in
-      strokes-from there.wires.clock rest.wires.clock rest.wires.strokes order.strokes
+      let order = to_boundary-made entries there.peripherals.clock limit (cleared there) (made-none (cleared there) (cleared-none there)) in
+      strokes-from there.peripherals.clock rest.peripherals.clock rest.peripherals.strokes order.strokes
 
-  marks-sooner : All (λ mark. mark < there.wires.clock) made
+  marks-sooner : All (λ mark. mark < there.peripherals.clock) made
   marks-sooner =
       let clock = there-clock in
-      All-weaker (λ mark. (b.wires.clock ≤ mark) × (mark < b.wires.clock + turns_steps entries n b)) (λ mark. mark < there.wires.clock)
+      All-weaker (λ mark. (b.peripherals.clock ≤ mark) × (mark < b.peripherals.clock + turns_steps entries n b)) (λ mark. mark < there.peripherals.clock)
       (λ mark both. (let high = both.1 in omega arith)) made (marks-within entries (turns_steps entries n b) b)
 
-  marks-later : All (λ mark. there.wires.clock ≤ mark) (run_marks entries limit (cleared there))
+  marks-later : All (λ mark. there.peripherals.clock ≤ mark) (run_marks entries limit (cleared there))
   unfolding run_marks
   marks-later =
       let m = boundary_steps entries limit (cleared there) in
-      All-weaker (λ mark. (there.wires.clock ≤ mark) × (mark < there.wires.clock + m)) (λ mark. there.wires.clock ≤ mark) (λ mark both. both.0)
+      All-weaker (λ mark. (there.peripherals.clock ≤ mark) × (mark < there.peripherals.clock + m)) (λ mark. there.peripherals.clock ≤ mark) (λ mark both. both.0)
       (marks_of (accesses_of entries m (cleared there))) (marks-within entries m (cleared there))
 
-  pub part-before : IsBefore there.wires.strokes made rest.wires.strokes (run_marks entries limit (cleared there))
+  pub part-before : IsBefore there.peripherals.strokes made rest.peripherals.strokes (run_marks entries limit (cleared there))
   part-before = record {
     marks =
-        All-weaker (λ mark. mark < there.wires.clock) (λ mark. All (λ stroke. mark < clock_of stroke) rest.wires.strokes)
-        (λ mark sooner. All-weaker (λ s. there.wires.clock ≤ clock_of s) (λ s. mark < clock_of s) (λ s later. omega (arith, sooner, later)) rest.wires.strokes strokes-later)
+        All-weaker (λ mark. mark < there.peripherals.clock) (λ mark. All (λ stroke. mark < clock_of stroke) rest.peripherals.strokes)
+        (λ mark sooner. All-weaker (λ s. there.peripherals.clock ≤ clock_of s) (λ s. mark < clock_of s) (λ s later. omega (arith, sooner, later)) rest.peripherals.strokes strokes-later)
         made marks-sooner;
     strokes =
-        All-weaker (λ s. clock_of s < there.wires.clock) (λ s. All (λ mark. clock_of s ≤ mark) (run_marks entries limit (cleared there)))
-        (λ s sooner. All-weaker (λ mark. there.wires.clock ≤ mark) (λ mark. clock_of s ≤ mark) (λ mark later. omega (arith, sooner, later))
+        All-weaker (λ s. clock_of s < there.peripherals.clock) (λ s. All (λ mark. clock_of s ≤ mark) (run_marks entries limit (cleared there)))
+        (λ s sooner. All-weaker (λ mark. there.peripherals.clock ≤ mark) (λ mark. clock_of s ≤ mark) (λ mark later. omega (arith, sooner, later))
         (run_marks entries limit (cleared there)) marks-later)
-        there.wires.strokes strokes-sooner;
+        there.peripherals.strokes strokes-sooner;
   }
 
-  strokes-there : length there.wires.strokes ≤ turns_steps entries n b
+  strokes-there : length there.peripherals.strokes ≤ turns_steps entries n b
   strokes-there =
       let k = turns_steps entries n b in
       let few = strokes-few entries k b in
-      let same : length there.wires.strokes ≡ length (stepped entries k b).wires.strokes = ap (λ (c : Board). length c.wires.strokes) (turned-steps entries n b) in
-      let nothing : length b.wires.strokes ≡ 0 = ap (λ (l : List Record). length l) none.strokes in
+      let same : length there.peripherals.strokes ≡ length (stepped entries k b).peripherals.strokes = ap (λ (c : Board). length c.peripherals.strokes) (turned-steps entries n b) in
+      let nothing : length b.peripherals.strokes ≡ 0 = ap (λ (l : List Record). length l) none.strokes in
       omega arith
 
 -- a frame in numbers that the clocks bound
@@ -226,7 +226,7 @@ numbers-small w limit b may =
 part-framed-so : (w : FramerValue) (entries : List TapeEntry) (limit part n : ℕ) (b : Board) → part ≤ limit → IsPlaced b → HasNoRecords b
     → CanFrame w limit b → ((k : ℕ) → k < n → is_over part (turned entries k b) ≡ false)
     → ((k : ℕ) → 1 ≤ k → k < n → keeps_marks (told framer_told entries k w b) ≡ false)
-    → IsFollowedInParts framer_told keeps_marks (λ f _ limit b. CanFrame f limit b) run_framed_text behind_run (λ f _. HasNumbers f) part_framed behind_part
+    → IsFollowedInParts framer_told keeps_marks (λ f _ limit b. CanFrame f limit b) run_framed_text after_run (λ f _. HasNumbers f) part_framed after_part
     w (told framer_told entries n w b) entries limit b (turned entries n b)
 unfolding run_events
 part-framed-so w entries limit part n b low placed none may open_part goes =
@@ -238,7 +238,7 @@ part-framed-so w entries limit part n b low placed none may open_part goes =
     let kept = kept-turns entries part n w b may.marks open_part goes in
     let clock = there-clock entries limit n b placed none open_yet in
     let stands = turned-low entries limit n b may.low placed open_yet (record { clock = may.clock; inside = may.inside }) in
-    let few = events-few w.frames c.wires.strokes made in
+    let few = events-few w.frames c.peripherals.strokes made in
     let fewer = marks-few entries (turns_steps entries n b) b in
     let strokes = strokes-there entries limit n b placed none open_yet in
     let numbers = numbers-small w limit b may in
@@ -246,15 +246,15 @@ part-framed-so w entries limit part n b low placed none may open_part goes =
     let counted = may.strokes in
     let more = few.number in
     let drawn = few.strokes in
-    let events : by_clock c.wires.strokes v.marks ≡ by_clock c.wires.strokes made = ap (by_clock c.wires.strokes) (sym kept.marks) in
-    let behind : under_way v.frames (by_clock c.wires.strokes v.marks) ≡ under_way w.frames (by_clock c.wires.strokes made) =
-    ap (λ (f : FrameValue). under_way f (by_clock c.wires.strokes v.marks)) kept.frames ∙ ap (under_way w.frames) events in
-    let lines : ended v.frames (by_clock c.wires.strokes v.marks) ≡ ended w.frames (by_clock c.wires.strokes made) =
-    ap (λ (f : FrameValue). ended f (by_clock c.wires.strokes v.marks)) kept.frames ∙ ap (ended w.frames) events in
+    let events : by_clock c.peripherals.strokes v.marks ≡ by_clock c.peripherals.strokes made = ap (by_clock c.peripherals.strokes) (sym kept.marks) in
+    let behind : under_way v.frames (by_clock c.peripherals.strokes v.marks) ≡ under_way w.frames (by_clock c.peripherals.strokes made) =
+    ap (λ (f : FrameValue). under_way f (by_clock c.peripherals.strokes v.marks)) kept.frames ∙ ap (under_way w.frames) events in
+    let lines : ended v.frames (by_clock c.peripherals.strokes v.marks) ≡ ended w.frames (by_clock c.peripherals.strokes made) =
+    ap (λ (f : FrameValue). ended f (by_clock c.peripherals.strokes v.marks)) kept.frames ∙ ap (ended w.frames) events in
     let all : run_events entries limit (cleared b)
-    ≡ by_clock (c.wires.strokes ++ last.wires.strokes) (made ++ run_marks entries limit (cleared c)) =
+    ≡ by_clock (c.peripherals.strokes ++ last.peripherals.strokes) (made ++ run_marks entries limit (cleared c)) =
     ap (run_events entries limit) (cleared-empty b none) ∙ whole-events entries limit n b placed none open_yet in
-    let parts = parts_make_the_whole w.frames c.wires.strokes made last.wires.strokes (run_marks entries limit (cleared c))
+    let parts = parts_make_the_whole w.frames c.peripherals.strokes made last.peripherals.strokes (run_marks entries limit (cleared c))
     (part-before entries limit n b placed none open_yet) in
     record {
       room = record {
@@ -272,23 +272,23 @@ part-framed-so w entries limit part n b low placed none may open_part goes =
       text =
           ap (λ l. frames_text (ended w.frames l)) all
           ∙ parts.text
-          ∙ ap (λ l. frames_text l ++ frames_text (ended (under_way w.frames (by_clock c.wires.strokes made)) (run_events entries limit (cleared c)))) (sym lines)
-          ∙ ap (λ (f : FrameValue). frames_text (ended v.frames (by_clock c.wires.strokes v.marks)) ++ frames_text (ended f (run_events entries limit (cleared c)))) (sym behind);
+          ∙ ap (λ l. frames_text l ++ frames_text (ended (under_way w.frames (by_clock c.peripherals.strokes made)) (run_events entries limit (cleared c)))) (sym lines)
+          ∙ ap (λ (f : FrameValue). frames_text (ended v.frames (by_clock c.peripherals.strokes v.marks)) ++ frames_text (ended f (run_events entries limit (cleared c)))) (sym behind);
       state =
           ap (λ l. let f : FramerValue = record w { frames = under_way w.frames l } in f) all
           ∙ ap (λ (g : FrameValue). let f : FramerValue = record w { frames = g } in f) parts.frame
           ∙ ap (λ (g : FrameValue). let f : FramerValue = record w { frames = under_way g (run_events entries limit (cleared c)) } in f) (sym behind)
           ∙ ap (λ (l : List ℕ). let f : FramerValue = record {
-            frames = under_way (under_way v.frames (by_clock c.wires.strokes v.marks)) (run_events entries limit (cleared c));
+            frames = under_way (under_way v.frames (by_clock c.peripherals.strokes v.marks)) (run_events entries limit (cleared c));
             marks = l;
           } in f) may.marks;
     }
 
-pub framed_in_parts : FollowsInParts framer_told keeps_marks (λ f _ limit b. CanFrame f limit b) run_framed_text behind_run (λ f _. HasNumbers f) part_framed behind_part
+pub framed_in_parts : FollowsInParts framer_told keeps_marks (λ f _ limit b. CanFrame f limit b) run_framed_text after_run (λ f _. HasNumbers f) part_framed after_part
 framed_in_parts w v entries limit part b c low placed none may run =
-    subst (λ (f : FramerValue). IsFollowedInParts framer_told keeps_marks (λ f _ limit b. CanFrame f limit b) run_framed_text behind_run (λ f _. HasNumbers f) part_framed behind_part
+    subst (λ (f : FramerValue). IsFollowedInParts framer_told keeps_marks (λ f _ limit b. CanFrame f limit b) run_framed_text after_run (λ f _. HasNumbers f) part_framed after_part
     w f entries limit b c) (sym run.tracer)
-    (subst (λ (d : Board). IsFollowedInParts framer_told keeps_marks (λ f _ limit b. CanFrame f limit b) run_framed_text behind_run (λ f _. HasNumbers f) part_framed behind_part
+    (subst (λ (d : Board). IsFollowedInParts framer_told keeps_marks (λ f _ limit b. CanFrame f limit b) run_framed_text after_run (λ f _. HasNumbers f) part_framed after_part
     w (told framer_told entries run.count w b) entries limit b d) (sym run.board)
     (part-framed-so w entries limit part run.count b low placed none may run.over run.goes_on))
 
@@ -297,11 +297,11 @@ over-events : (entries : List TapeEntry) (limit : ℕ) (b : Board) → is_over l
 unfolding run_events run_marks accesses_of marks_of by_clock
 over-events entries limit b over =
     let here : to_boundary entries limit (cleared b) ≡ cleared b = to_boundary-none entries limit (cleared b) over in
-    let steps : boundary_steps entries limit (cleared b) ≡ 0 = steps-none entries (is_over limit) ((limit - b.wires.clock) + 6) (cleared b) over in
-    ap (λ (c : Board). by_clock c.wires.strokes (run_marks entries limit (cleared b))) here
+    let steps : boundary_steps entries limit (cleared b) ≡ 0 = steps-none entries (is_over limit) ((limit - b.peripherals.clock) + 6) (cleared b) over in
+    ap (λ (c : Board). by_clock c.peripherals.strokes (run_marks entries limit (cleared b))) here
     ∙ ap (λ n. by_clock [] (marks_of (accesses_of entries n (cleared b)))) steps
 
-pub framed_still : StandsStill run_framed_text behind_run
+pub framed_still : StandsStill run_framed_text after_run
 unfolding ended under_way frames_text
 framed_still w entries limit b over =
     let none = over-events entries limit b over in

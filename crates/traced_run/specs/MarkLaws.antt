@@ -90,10 +90,10 @@ none-times (suc n) = All-cons (λ access. starts_generator access ≡ false) no_
 
 -- the marks of a turn are those of its trace
 pub turn-marks : (entries : List TapeEntry) (limit : ℕ) (b : Board) → is_over limit b ≡ false
-    → marks_of (accesses_of entries (boundary_steps entries (b.wires.clock + 1) b) b) ≡ marks_in (step_trace entries b)
+    → marks_of (accesses_of entries (boundary_steps entries (b.peripherals.clock + 1) b) b) ≡ marks_in (step_trace entries b)
 unfolding step_trace trace_of
 turn-marks entries limit b open_yet =
-    let n = boundary_steps entries (b.wires.clock + 1) b in
+    let n = boundary_steps entries (b.peripherals.clock + 1) b in
     let made = accesses_of entries n b in
     let here : marks_of (take n (seven_of made)) ≡ marks_of made =
     marks-front n made (drop (length made) (replicate 7 no_access)) (accesses-few entries n b)
@@ -119,13 +119,13 @@ one-mark clock (Some access) = by_start access
 
 -- the marks of n clocks are of these clocks
 pub marks-within : (entries : List TapeEntry) (n : ℕ) (b : Board)
-    → All (λ mark. (b.wires.clock ≤ mark) × (mark < b.wires.clock + n)) (marks_of (accesses_of entries n b))
+    → All (λ mark. (b.peripherals.clock ≤ mark) × (mark < b.peripherals.clock + n)) (marks_of (accesses_of entries n b))
 unfolding accesses_of
 marks-within entries zero b =
-    subst (All (λ mark. (b.wires.clock ≤ mark) × (mark < b.wires.clock + 0))) (sym marks-nothing)
-    (All-nil (λ mark. (b.wires.clock ≤ mark) × (mark < b.wires.clock + 0)))
+    subst (All (λ mark. (b.peripherals.clock ≤ mark) × (mark < b.peripherals.clock + 0))) (sym marks-nothing)
+    (All-nil (λ mark. (b.peripherals.clock ≤ mark) × (mark < b.peripherals.clock + 0)))
 marks-within entries (suc n) b =
-    let at = b.wires.clock in
+    let at = b.peripherals.clock in
     let one = step-clock entries b in
     let first = accesses_in at (access_in entries b) in
     let rest = accesses_of entries n (step entries b) in
@@ -133,7 +133,7 @@ marks-within entries (suc n) b =
     (All-append (λ mark. (at ≤ mark) × (mark < at + suc n)) (marks_of first) (marks_of rest)
     (All-weaker (λ mark. mark ≡ at) (λ mark. (at ≤ mark) × (mark < at + suc n)) (λ mark same. ((omega arith), (omega arith))) (marks_of first)
     (one-mark at (access_in entries b)))
-    (All-weaker (λ mark. ((step entries b).wires.clock ≤ mark) × (mark < (step entries b).wires.clock + n)) (λ mark. (at ≤ mark) × (mark < at + suc n))
+    (All-weaker (λ mark. ((step entries b).peripherals.clock ≤ mark) × (mark < (step entries b).peripherals.clock + n)) (λ mark. (at ≤ mark) × (mark < at + suc n))
     (λ mark both. (let low = both.0 in let high = both.1 in ((omega arith), (omega arith)))) (marks_of rest) (marks-within entries n (step entries b))))
 
 -- they are no more than the accesses

@@ -19,7 +19,7 @@ use Rattle.lockstep_board.specs.Order.{HasNoRecords, cleared, Recorded, AreMadeB
 use Rattle.lockstep_board.specs.Lockstep.{Board, access_in, sequence_due, step}
 use Rattle.lockstep_board.specs.Run.{boundary_steps, is_jammed, is_over, stepped, to_boundary, IsPlaced}
 use Rattle.catchup_engine.specs.Trace.{TraceValue, accesses_in, accesses_of, no_trace, sequence_at, step_trace, trace_of}
-use Rattle.lockstep_board.specs.Wires.{Wires, applied, devices_ticked, line_of, port_set, ticked}
+use Rattle.lockstep_board.specs.Peripherals.{Peripherals, applied, devices_ticked, line_of, port_set, ticked}
 use Rattle.lockstep_board.proofs.Behind.{access_in-behind, behind-cleared, boundary_steps-behind, step-behind, to_boundary-behind}
 use Rattle.lockstep_board.proofs.Ends.{boundary-split, boundary_steps-few, to_boundary-clock, to_boundary-over}
 use Rattle.lockstep_board.proofs.InOrder.{adds-one}
@@ -33,7 +33,7 @@ over-later jam boundary x y clock h e = grind (arith, nat_tests)
 
 -- a run that isn't over to a limit isn't over to a later one
 pub open-later : (x y : ℕ) (b : Board) → x ≤ y → is_over x b ≡ false → is_over y b ≡ false
-open-later x y b low open_yet = over-later b.cpu.jam (is_none b.cpu.mid) x y b.wires.clock low open_yet
+open-later x y b low open_yet = over-later b.cpu.jam (is_none b.cpu.mid) x y b.peripherals.clock low open_yet
 
 -- a first board of some turns, and those behind it
 pub first-turn : (P : Board → Type 0) (entries : List TapeEntry) (n : ℕ) (b : Board)
@@ -49,21 +49,21 @@ later-turns P entries n b all k few = all (suc k) (omega (arith, few))
 -- the steps of n turns
 unfoldable pub turns_steps : List TapeEntry → ℕ → Board → ℕ
 turns_steps entries zero b = 0
-turns_steps entries (suc n) b = boundary_steps entries (b.wires.clock + 1) b + turns_steps entries n (turn entries b)
+turns_steps entries (suc n) b = boundary_steps entries (b.peripherals.clock + 1) b + turns_steps entries n (turn entries b)
 
 pub turned-steps : (entries : List TapeEntry) (n : ℕ) (b : Board) → turned entries n b ≡ stepped entries (turns_steps entries n b) b
 unfolding turned stepped to_boundary turns_steps
 turned-steps entries zero b = refl
 turned-steps entries (suc n) b =
     turned-steps entries n (turn entries b)
-    ∙ sym (stepped-add entries (boundary_steps entries (b.wires.clock + 1) b) (turns_steps entries n (turn entries b)) b)
+    ∙ sym (stepped-add entries (boundary_steps entries (b.peripherals.clock + 1) b) (turns_steps entries n (turn entries b)) b)
 
 -- where a run isn't over, it goes on behind the next turn
 pub turn-goes : (entries : List TapeEntry) (limit : ℕ) (b : Board) → IsPlaced b → is_over limit b ≡ false
     → to_boundary entries limit b ≡ to_boundary entries limit (turn entries b)
 turn-goes entries limit b placed open_yet =
-    elim (cases_lt b.wires.clock limit) [
-      | inl before ↦ boundary-split entries (b.wires.clock + 1) limit b (omega arith) placed
+    elim (cases_lt b.peripherals.clock limit) [
+      | inl before ↦ boundary-split entries (b.peripherals.clock + 1) limit b (omega arith) placed
       | inr past ↦ (
           let here : to_boundary entries limit b ≡ turn entries b = to_boundary-turn entries limit b placed open_yet (omega arith) in
           let over = subst (λ (c : Board). is_over limit c ≡ true) here (to_boundary-over entries limit b placed) in
@@ -82,8 +82,8 @@ turns-go entries limit (suc n) b placed open_yet =
 
 -- inside a sequence a board stands sixteen clocks behind the limit at most, and else seven more
 pub record StandsLow (b : Board) : Type 0 where
-  pub clock : b.wires.clock ≤ CLOCK_LIMIT + 23
-  pub inside : IsSome b.cpu.mid → b.wires.clock ≤ CLOCK_LIMIT + 16
+  pub clock : b.peripherals.clock ≤ CLOCK_LIMIT + 23
+  pub inside : IsSome b.cpu.mid → b.peripherals.clock ≤ CLOCK_LIMIT + 16
 
 none-inside : (mid : Option MidValue) (n : ℕ) → mid ≡ None → IsSome mid → n ≤ CLOCK_LIMIT + 16
 none-inside None n is some = cc
@@ -102,14 +102,14 @@ turn-low entries limit b low placed open_yet stands = by_mid b.cpu.mid refl
     by_mid : (mid : Option MidValue) → b.cpu.mid ≡ mid → StandsLow (turn entries b)
     by_mid None is =
         let before = (over-running limit b open_yet).before is in
-        let clock = to_boundary-clock entries (b.wires.clock + 1) b in
-        let few = boundary_steps-few entries (b.wires.clock + 1) b in
-        record { clock = omega arith; inside = none-inside last.cpu.mid last.wires.clock boundary }
+        let clock = to_boundary-clock entries (b.peripherals.clock + 1) b in
+        let few = boundary_steps-few entries (b.peripherals.clock + 1) b in
+        record { clock = omega arith; inside = none-inside last.cpu.mid last.peripherals.clock boundary }
     by_mid (Some m) is =
-        let before : b.wires.clock ≤ CLOCK_LIMIT + 16 = stands.inside (rw is (search rules)) in
-        let clock = to_boundary-clock entries (b.wires.clock + 1) b in
-        let few = boundary_steps-few entries (b.wires.clock + 1) b in
-        record { clock = omega arith; inside = none-inside last.cpu.mid last.wires.clock boundary }
+        let before : b.peripherals.clock ≤ CLOCK_LIMIT + 16 = stands.inside (rw is (search rules)) in
+        let clock = to_boundary-clock entries (b.peripherals.clock + 1) b in
+        let few = boundary_steps-few entries (b.peripherals.clock + 1) b in
+        record { clock = omega arith; inside = none-inside last.cpu.mid last.peripherals.clock boundary }
 
 pub turned-low : (entries : List TapeEntry) (limit n : ℕ) (b : Board) → limit ≤ CLOCK_LIMIT → IsPlaced b
     → ((k : ℕ) → k < n → is_over limit (turned entries k b) ≡ false) → StandsLow b → StandsLow (turned entries n b)
@@ -126,7 +126,7 @@ unfolding accesses_of stepped
 accesses-add entries zero m b = rw (zero-add m) refl
 accesses-add entries (suc n) m b =
     let e : suc n + m ≡ suc (n + m) = omega arith in
-    let first = accesses_in b.wires.clock (access_in entries b) in
+    let first = accesses_in b.peripherals.clock (access_in entries b) in
     rw e (ap (λ l. first ++ l) (accesses-add entries n m (step entries b))
     ∙ sym (append_assoc first (accesses_of entries n (step entries b)) (accesses_of entries m (stepped entries n (step entries b)))))
 
@@ -149,21 +149,21 @@ pub accesses-few : (entries : List TapeEntry) (n : ℕ) (b : Board) → length (
 unfolding accesses_of
 accesses-few entries zero b = omega arith
 accesses-few entries (suc n) b =
-    let one = access-few b.wires.clock (access_in entries b) in
+    let one = access-few b.peripherals.clock (access_in entries b) in
     let rest = accesses-few entries n (step entries b) in
-    let both = length-append (accesses_in b.wires.clock (access_in entries b)) (accesses_of entries n (step entries b)) in
+    let both = length-append (accesses_in b.peripherals.clock (access_in entries b)) (accesses_of entries n (step entries b)) in
     omega arith
 
 -- and one stroke
-pub strokes-few : (entries : List TapeEntry) (n : ℕ) (b : Board) → length (stepped entries n b).wires.strokes ≤ length b.wires.strokes + n
+pub strokes-few : (entries : List TapeEntry) (n : ℕ) (b : Board) → length (stepped entries n b).peripherals.strokes ≤ length b.peripherals.strokes + n
 unfolding stepped
 strokes-few entries zero b = omega arith
 strokes-few entries (suc n) b =
     let one = adds-one entries b in
     let few = one.few_strokes in
-    let here : length (step entries b).wires.strokes ≡ length (b.wires.strokes ++ one.added.strokes) =
+    let here : length (step entries b).peripherals.strokes ≡ length (b.peripherals.strokes ++ one.added.strokes) =
     ap (λ (l : Recorded). length l.strokes) one.after in
-    let both = length-append b.wires.strokes one.added.strokes in
+    let both = length-append b.peripherals.strokes one.added.strokes in
     let rest = strokes-few entries n (step entries b) in
     omega arith
 
@@ -181,7 +181,7 @@ strokes-from from to (s ∷ strokes) made =
     (strokes-from (clock_of s) to strokes made.3))
 
 -- no records are records in order
-pub made-none : (b : Board) → HasNoRecords b → AreMadeBetween b.wires.clock (records_of b) b.wires.clock
+pub made-none : (b : Board) → HasNoRecords b → AreMadeBetween b.peripherals.clock (records_of b) b.peripherals.clock
 made-none b none = rw (none.strokes, none.levels1, none.levels2, none.written) (record {
   strokes = omega arith;
   levels1 = omega arith;
@@ -199,7 +199,7 @@ end-behind entries limit b =
     ap (to_boundary entries limit) (sym (behind-cleared b)) ∙ to_boundary-behind entries limit (records_of b) (cleared b)
 
 -- nor the sequence that comes next
-abbrev front : Recorded → Wires → Wires
+abbrev front : Recorded → Peripherals → Peripherals
 front l w = record w {
   strokes = l.strokes ++ w.strokes;
   levels1 = l.levels1 ++ w.levels1;
@@ -208,41 +208,41 @@ front l w = record w {
 }
 
 -- the divider and both POKEYs, which it depends on, stand as they do without records
-record DueAlike (w v : Wires) : Type 0 where
+record DueAlike (w v : Peripherals) : Type 0 where
   divider : w.divider ≡ v.divider
   wired : w.wired ≡ v.wired
   sound1 : w.sound1 ≡ v.sound1
   sound2 : w.sound2 ≡ v.sound2
 
-port_set-front : (p : Port) (value : ℕ) (l : Recorded) (w : Wires) → port_set p value (front l w) ≡ front l (port_set p value w)
+port_set-front : (p : Port) (value : ℕ) (l : Recorded) (w : Peripherals) → port_set p value (front l w) ≡ front l (port_set p value w)
 port_set-front port.In0 value l w = refl
 port_set-front port.In3 value l w = refl
 port_set-front port.In4 value l w = refl
 port_set-front (port.Pot1 which) value l w = refl
 port_set-front (port.Pot2 which) value l w = refl
 
-applied-front : (entries : List TapeEntry) (l : Recorded) (w : Wires) → applied entries (front l w) ≡ front l (applied entries w)
+applied-front : (entries : List TapeEntry) (l : Recorded) (w : Peripherals) → applied entries (front l w) ≡ front l (applied entries w)
 unfolding applied
 applied-front [] l w = refl
 applied-front (entry ∷ entries) l w =
     ap (applied entries) (port_set-front entry.port entry.value l w) ∙ applied-front entries l (port_set entry.port entry.value w)
 
-ticked-alike : (entries : List TapeEntry) (l : Recorded) (w : Wires) → DueAlike (ticked entries (front l w)) (ticked entries w)
+ticked-alike : (entries : List TapeEntry) (l : Recorded) (w : Peripherals) → DueAlike (ticked entries (front l w)) (ticked entries w)
 unfolding ticked devices_ticked
 ticked-alike entries l w =
     let same = applied-front (due_at w.clock entries) l w in
     record {
-      divider = ap (λ (v : Wires). (devices_ticked v).divider) same;
-      wired = ap (λ (v : Wires). (devices_ticked v).wired) same;
-      sound1 = ap (λ (v : Wires). (devices_ticked v).sound1) same;
-      sound2 = ap (λ (v : Wires). (devices_ticked v).sound2) same;
+      divider = ap (λ (v : Peripherals). (devices_ticked v).divider) same;
+      wired = ap (λ (v : Peripherals). (devices_ticked v).wired) same;
+      sound1 = ap (λ (v : Peripherals). (devices_ticked v).sound1) same;
+      sound2 = ap (λ (v : Peripherals). (devices_ticked v).sound2) same;
     }
 
-due-alike : (c : CpuValue) (w v : Wires) → DueAlike w v → sequence_due c w ≡ sequence_due c v
+due-alike : (c : CpuValue) (w v : Peripherals) → DueAlike w v → sequence_due c w ≡ sequence_due c v
 unfolding line_of
 due-alike c w v alike = rw (alike.divider, alike.wired, alike.sound1, alike.sound2) refl
 
-sequence-behind : (entries : List TapeEntry) (mid : Option MidValue) (c : CpuValue) (l : Recorded) (w : Wires)
+sequence-behind : (entries : List TapeEntry) (mid : Option MidValue) (c : CpuValue) (l : Recorded) (w : Peripherals)
     → sequence_at mid c (ticked entries (front l w)) ≡ sequence_at mid c (ticked entries w)
 sequence-behind entries None c l w = due-alike c (ticked entries (front l w)) (ticked entries w) (ticked-alike entries l w)
 sequence-behind entries (Some mid) c l w = refl
@@ -251,12 +251,12 @@ sequence-behind entries (Some mid) c l w = refl
 pub trace-behind : (entries : List TapeEntry) (l : Recorded) (b : Board) → step_trace entries (behind l b) ≡ step_trace entries b
 unfolding step_trace trace_of
 trace-behind entries l b =
-    let n = boundary_steps entries (b.wires.clock + 1) b in
-    let steps : boundary_steps entries (b.wires.clock + 1) (behind l b) ≡ n = boundary_steps-behind entries (b.wires.clock + 1) l b in
+    let n = boundary_steps entries (b.peripherals.clock + 1) b in
+    let steps : boundary_steps entries (b.peripherals.clock + 1) (behind l b) ≡ n = boundary_steps-behind entries (b.peripherals.clock + 1) l b in
     let access : access_in entries (behind l b) ≡ access_in entries b = access_in-behind entries l b in
-    let sequence : sequence_at b.cpu.mid b.cpu (ticked entries (front l b.wires)) ≡ sequence_at b.cpu.mid b.cpu (ticked entries b.wires) =
-    sequence-behind entries b.cpu.mid b.cpu l b.wires in
+    let sequence : sequence_at b.cpu.mid b.cpu (ticked entries (front l b.peripherals)) ≡ sequence_at b.cpu.mid b.cpu (ticked entries b.peripherals) =
+    sequence-behind entries b.cpu.mid b.cpu l b.peripherals in
     let accesses : accesses_of entries n (behind l b) ≡ accesses_of entries n b = accesses-behind entries n l b in
-    let told : trace_of entries (boundary_steps entries (b.wires.clock + 1) (behind l b)) (behind l b) ≡ trace_of entries n b =
+    let told : trace_of entries (boundary_steps entries (b.peripherals.clock + 1) (behind l b)) (behind l b) ≡ trace_of entries n b =
     ap (λ k. trace_of entries k (behind l b)) steps ∙ rw (sequence, access, accesses) refl in
     ap (λ (t : TraceValue). if is_jammed b then no_trace else t) told

@@ -13,5 +13,5 @@ abbrev pub profiler_told : Profiler → TraceValue → ℕ → Profiler
 profiler_told p trace pc = record { profile = after p.profile trace pc }
 
 -- and of all turns of a run
-abbrev pub behind_run : Profiler → List TapeEntry → ℕ → Board → Profiler
-behind_run p entries limit b = record { profile = told after entries (run_turns entries limit b) p.profile b }
+abbrev pub after_run : Profiler → List TapeEntry → ℕ → Board → Profiler
+after_run p entries limit b = record { profile = told after entries (run_turns entries limit b) p.profile b }

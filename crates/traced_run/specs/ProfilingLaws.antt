@@ -13,11 +13,11 @@ use Rattle.catchup_engine.specs.Traced.{told, told_once}
 use Rattle.lockstep_board.proofs.Behind.{behind-cleared}
 use Rattle.catchup_engine.proofs.Traces.{over-running}
 use Rattle.lockstep_board.proofs.TurnLaws.{turn-behind, turn-boundary, turn-later, turn-placed}
-use Rattle.board_watch.specs.Follow.{FollowsInParts, StandsStill}
+use Rattle.board_watch.specs.TurnObserver.{FollowsInParts, StandsStill}
 use Rattle.cycle_profile.specs.Profile.{ProfileValue, after}
 use Rattle.traced_run.specs.declared.profiling.Profiler.{Profiler}
 use Rattle.traced_run.specs.BoardProfile.{run_turns, turns_until}
-use Rattle.traced_run.specs.Profiling.{behind_run, profiler_told}
+use Rattle.traced_run.specs.Profiling.{after_run, profiler_told}
 use Rattle.traced_run.specs.PartLaws.{first-turn, later-turns, open-later, trace-behind}
 
 -- a run that is over takes no turn
@@ -27,7 +27,7 @@ turns-over entries limit zero b over = refl
 turns-over entries limit (suc most) b over = rw over refl
 
 pub run_turns-over : (entries : List TapeEntry) (limit : ℕ) (b : Board) → is_over limit b ≡ true → run_turns entries limit b ≡ 0
-run_turns-over entries limit b over = turns-over entries limit ((limit - b.wires.clock) + 1) b over
+run_turns-over entries limit b over = turns-over entries limit ((limit - b.peripherals.clock) + 1) b over
 
 turns-open : (entries : List TapeEntry) (limit most : ℕ) (b : Board) → is_over limit b ≡ false
     → turns_until entries limit (suc most) b ≡ suc (turns_until entries limit most (turn entries b))
@@ -43,8 +43,8 @@ late-over jam None limit clock boundary late = late-test jam limit clock late
     late-test jam limit clock late = grind (arith, nat_tests)
 late-over jam (Some m) limit clock boundary late = cc
 
-late : (limit : ℕ) (b : Board) → b.cpu.mid ≡ None → limit ≤ b.wires.clock → is_over limit b ≡ true
-late limit b boundary far = late-over b.cpu.jam b.cpu.mid limit b.wires.clock boundary far
+late : (limit : ℕ) (b : Board) → b.cpu.mid ≡ None → limit ≤ b.peripherals.clock → is_over limit b ≡ true
+late limit b boundary far = late-over b.cpu.jam b.cpu.mid limit b.peripherals.clock boundary far
 
 -- two numbers of turns that are enough behind the next turn are enough before it
 enough-next : (entries : List TapeEntry) (limit most more : ℕ) (b : Board) (t : Bool) → is_over limit b ≡ t
@@ -56,7 +56,7 @@ enough-next entries limit most more b false open_yet rest =
 
 -- at a boundary as many turns are enough as there are clocks to the limit
 turns-enough : (entries : List TapeEntry) (limit most more : ℕ) (b : Board) → IsPlaced b → b.cpu.mid ≡ None
-    → limit ≤ b.wires.clock + most → limit ≤ b.wires.clock + more → turns_until entries limit most b ≡ turns_until entries limit more b
+    → limit ≤ b.peripherals.clock + most → limit ≤ b.peripherals.clock + more → turns_until entries limit most b ≡ turns_until entries limit more b
 turns-enough entries limit zero more b placed boundary near far =
     turns-over entries limit zero b over ∙ sym (turns-over entries limit more b over)
   where
@@ -81,10 +81,10 @@ run_turns-open entries limit b placed open_yet =
     let running = (over-running limit b open_yet).running in
     let later = turn-later entries b running in
     let next = turn entries b in
-    let most : (limit - b.wires.clock) + 1 ≡ suc (limit - b.wires.clock) = omega arith in
+    let most : (limit - b.peripherals.clock) + 1 ≡ suc (limit - b.peripherals.clock) = omega arith in
     ap (λ m. turns_until entries limit m b) most
-    ∙ turns-open entries limit (limit - b.wires.clock) b open_yet
-    ∙ ap suc (turns-enough entries limit (limit - b.wires.clock) ((limit - next.wires.clock) + 1) next (turn-placed entries b placed)
+    ∙ turns-open entries limit (limit - b.peripherals.clock) b open_yet
+    ∙ ap suc (turns-enough entries limit (limit - b.peripherals.clock) ((limit - next.peripherals.clock) + 1) next (turn-placed entries b placed)
     (turn-boundary entries b placed running) (omega arith) (omega arith))
 
 -- the turns of a run don't ask for its records
@@ -99,7 +99,7 @@ turns-behind entries limit (suc most) l b =
 
 run_turns-cleared : (entries : List TapeEntry) (limit : ℕ) (b : Board) → run_turns entries limit (cleared b) ≡ run_turns entries limit b
 run_turns-cleared entries limit b =
-    sym (turns-behind entries limit ((limit - b.wires.clock) + 1) (records_of b) (cleared b)) ∙ ap (run_turns entries limit) (behind-cleared b)
+    sym (turns-behind entries limit ((limit - b.peripherals.clock) + 1) (records_of b) (cleared b)) ∙ ap (run_turns entries limit) (behind-cleared b)
 
 -- nor does one that is told of them
 told-behind : {T : Type 0} (next : T → TraceValue → ℕ → T) (entries : List TapeEntry) (n : ℕ) (w : T) (l : Recorded) (b : Board)
@@ -140,7 +140,7 @@ profile-split entries limit (suc n) p b placed open_yet =
 
 profiled-so : (w : Profiler) (entries : List TapeEntry) (limit part n : ℕ) (b : Board) → part ≤ limit → IsPlaced b
     → ((k : ℕ) → k < n → is_over part (turned entries k b) ≡ false)
-    → behind_run w entries limit b ≡ behind_run (told profiler_told entries n w b) entries limit (cleared (turned entries n b))
+    → after_run w entries limit b ≡ after_run (told profiler_told entries n w b) entries limit (cleared (turned entries n b))
 profiled-so w entries limit part n b low placed open_part =
     let c = turned entries n b in
     let p = told after entries n w.profile b in
@@ -151,18 +151,18 @@ profiled-so w entries limit part n b low placed open_part =
     ∙ ap (λ k. told after entries k p (cleared c)) (sym (run_turns-cleared entries limit c))
     ∙ ap (λ (q : ProfileValue). told after entries (run_turns entries limit (cleared c)) q (cleared c)) (sym same))
 
-pub profiled_in_parts : FollowsInParts profiler_told (λ _. false) (λ _ _ _ _. Unit {0}) (λ _ _ _ _. []) behind_run (λ _ _. Unit {0}) (λ _ _. []) (λ p _. p)
+pub profiled_in_parts : FollowsInParts profiler_told (λ _. false) (λ _ _ _ _. Unit {0}) (λ _ _ _ _. []) after_run (λ _ _. Unit {0}) (λ _ _. []) (λ p _. p)
 profiled_in_parts w v entries limit part b c low placed none may run = record {
   room = tt;
   rest = tt;
   text = refl;
   state =
       profiled-so w entries limit part run.count b low placed run.over
-      ∙ ap (λ (d : Board). behind_run (told profiler_told entries run.count w b) entries limit (cleared d)) (sym run.board)
-      ∙ ap (λ (f : Profiler). behind_run f entries limit (cleared c)) (sym run.tracer);
+      ∙ ap (λ (d : Board). after_run (told profiler_told entries run.count w b) entries limit (cleared d)) (sym run.board)
+      ∙ ap (λ (f : Profiler). after_run f entries limit (cleared c)) (sym run.tracer);
 }
 
-pub profiled_still : StandsStill {F = Profiler} (λ _ _ _ _. []) behind_run
+pub profiled_still : StandsStill {F = Profiler} (λ _ _ _ _. []) after_run
 unfolding told
 profiled_still w entries limit b over = record {
   text = refl;

@@ -7,12 +7,12 @@ ghost use Rattle.lockstep_board.specs.Run.{to_boundary};
 ghost use Rattle.board_watch.specs.SyncedMachine.{loan_of, value_of};
 ghost use Rattle.frame_list.specs.Frames.{begun};
 ghost use Rattle.traced_run.specs.BoardFrames.{framed_text};
-ghost use Rattle.traced_run.specs.Framing.{behind_part, behind_run, framer_told, keeps_marks, part_framed, run_framed_text, CanFrame, HasNumbers};
+ghost use Rattle.traced_run.specs.Framing.{after_part, after_run, framer_told, keeps_marks, part_framed, run_framed_text, CanFrame, HasNumbers};
 ghost use Rattle.traced_run.specs.FramingLaws.{framed_in_parts, framed_still};
 
 use arrayvec::ArrayVec;
 use board_base::{BoardState, CLOCK_LIMIT, Trails};
-use board_watch::{Follow, SyncedMachine};
+use board_watch::{SyncedMachine, TurnObserver};
 use catchup_engine::{Machine, Tracer, TurnNote};
 use frame_list::{Frames, has_starts, start_clocks};
 use outside_io::{Sink, SinkFault};
@@ -51,18 +51,18 @@ impl Tracer for Framer {
     }
 }
 
-impl Follow for Framer {
+impl TurnObserver for Framer {
     ghost can_follow = { λ f _ limit b. CanFrame f limit b };
 
     ghost tells = { run_framed_text };
 
-    ghost behind_run = { behind_run };
+    ghost after_run = { after_run };
 
     ghost can_take = { λ f _. HasNumbers f };
 
     ghost part_tells = { part_framed };
 
-    ghost behind_part = { behind_part };
+    ghost after_part = { after_part };
 
     fn take_part<O: Sink>(&mut self, trails: &Trails<'_>, out: &mut O) -> Result<(), SinkFault> {
         self.frames.take_marks(&self.marks, trails, out)?;
@@ -77,9 +77,9 @@ impl Follow for Framer {
 
 /// A framer whose first frame begins where the board of a synchronised machine stands.
 fn framer_at<M: Machine>(synced: &SyncedMachine<'_, M>) -> Framer
-    ensures frames { result.frames ≡ begun 0 (value_of synced.now).board.wires.clock }
+    ensures frames { result.frames ≡ begun 0 (value_of synced.now).board.peripherals.clock }
     ensures marks { result.marks ≡ [] }
-    ensures clock { (value_of synced.now).board.wires.clock ≤ CLOCK_LIMIT + 16 }
+    ensures clock { (value_of synced.now).board.peripherals.clock ≤ CLOCK_LIMIT + 16 }
 {
     let mut state = BoardState::power_on();
     synced.machine().state(&mut state);

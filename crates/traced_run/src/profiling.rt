@@ -6,11 +6,11 @@ ghost use Rattle.lockstep_board.specs.Order.{cleared};
 ghost use Rattle.lockstep_board.specs.Run.{to_boundary};
 ghost use Rattle.board_watch.specs.SyncedMachine.{loan_of, value_of};
 ghost use Rattle.traced_run.specs.BoardProfile.{no_profile, profiled_text};
-ghost use Rattle.traced_run.specs.Profiling.{behind_run, profiler_told};
+ghost use Rattle.traced_run.specs.Profiling.{after_run, profiler_told};
 ghost use Rattle.traced_run.specs.ProfilingLaws.{profiled_in_parts, profiled_still};
 
 use board_base::{CLOCK_LIMIT, Trails};
-use board_watch::{Follow, SyncedMachine};
+use board_watch::{SyncedMachine, TurnObserver};
 use catchup_engine::{Machine, Tracer, TurnNote};
 use cycle_profile::Profile;
 use outside_io::{Sink, SinkFault};
@@ -34,18 +34,18 @@ impl Tracer for Profiler {
     }
 }
 
-impl Follow for Profiler {
+impl TurnObserver for Profiler {
     ghost can_follow = { λ _ _ _ _. Unit };
 
     ghost tells = { λ _ _ _ _. [] };
 
-    ghost behind_run = { behind_run };
+    ghost after_run = { after_run };
 
     ghost can_take = { λ _ _. Unit };
 
     ghost part_tells = { λ _ _. [] };
 
-    ghost behind_part = { λ p _. p };
+    ghost after_part = { λ p _. p };
 
     fn take_part<O: Sink>(&mut self, _trails: &Trails<'_>, _out: &mut O) -> Result<(), SinkFault> {
         Ok(())

@@ -2,17 +2,17 @@
 ghost use Rattle.std.specs.Prelude.{◌≡◌, ◌+◌, ◌-◌, ◌*◌, ◌^◌, ◌≤◌, ◌<◌, true, false, min, nat_le};
 ghost use Rattle.board_base.specs.Ticks.{times};
 ghost use Rattle.irq_watchdog.specs.Tick.{divider_tick};
-ghost use Rattle.device_lanes.specs.Lags.{lags};
+ghost use Rattle.catchup_devices.specs.Lags.{lags};
 ghost use Rattle.lockstep_board.specs.Budget.{ticks_price, wraps};
-ghost use Rattle.catchup_engine.specs.Calm.{LeavesLines};
+ghost use Rattle.catchup_engine.specs.Horizon.{LeavesLines};
 ghost use Rattle.catchup_engine.specs.Quiet.{passed};
 ghost use Rattle.catchup_engine.specs.Bus.{Does, Fits, begin_price, done_clock, in_clock};
-ghost use Rattle.lockstep_board.specs.Wires.{devices_ticked, ticked};
+ghost use Rattle.lockstep_board.specs.Peripherals.{devices_ticked, ticked};
 
-use crate::bus::{BoardBus, TRAIL_ROOM, WHOLE};
+use crate::bus::{BoardBus, MAX_SEQUENCE_CLOCKS, TRAIL_ROOM};
 use avg_device::VectorUnit;
 use board_base::{CLOCK_END, DIVIDER_PERIOD};
-use device_lanes::Lane;
+use catchup_devices::CatchUp;
 use earom_cells::CellUnit;
 use irq_watchdog::DividerUnit;
 use pokey_chip::SoundUnit;
@@ -20,25 +20,25 @@ use tape_ports::Tape;
 
 /// Moves a divider up to a clock, by one call and by none where it stands there.
 #[tactic(auto, using(board_base::proofs::TickLaws::level))]
-pub(super) fn level_divider<D: DividerUnit>(divider: &mut Lane<D>, clock: u64)
+pub(super) fn catch_up_divider<D: DividerUnit>(divider: &mut CatchUp<D>, clock: u64)
     requires before { divider.old.done ≤ clock }
     ensures done { divider.new.done ≡ clock }
     ensures state { D.device divider.new.unit ≡ times divider_tick (clock - divider.old.done) (D.device divider.old.unit) }
     ensures calls { D.calls divider.new.unit ≤ D.calls divider.old.unit + lags divider.old.done clock }
     ensures more { min (D.calls divider.old.unit) (2 ^ 64 - 1) ≤ D.calls divider.new.unit }
 {
-    divider.level(clock, |unit, clocks| unit.advance(clocks));
+    divider.catch_up(clock, |unit, clocks| unit.advance(clocks));
 }
 
 impl<V: VectorUnit, P: SoundUnit, C: CellUnit, D: DividerUnit> BoardBus<V, P, C, D> {
     /// The clocks done.
-    #[tactic(auto, using(crate::proofs::DividerLaws::lines, crate::proofs::DividerLaws::next_lines), unfolding(lockstep_board::specs::Wires::devices_ticked))]
+    #[tactic(auto, using(crate::proofs::DividerLaws::lines, crate::proofs::DividerLaws::next_lines), unfolding(lockstep_board::specs::Peripherals::devices_ticked))]
     pub fn clock(&self) -> u64
-        ensures value { result ≡ self.now.wires.clock }
+        ensures value { result ≡ self.now.peripherals.clock }
         ensures last { result ≤ CLOCK_END }
         ensures rooms { (TRAIL_ROOM ≤ self.now.rooms.vector) × (TRAIL_ROOM ≤ self.now.rooms.sound1) × (TRAIL_ROOM ≤ self.now.rooms.sound2) × (TRAIL_ROOM ≤ self.now.rooms.board) }
         ensures until { result ≤ self.now.until }
-        ensures ticks { result < self.now.event_at → LeavesLines self.now.wires }
+        ensures ticks { result < self.now.event_at → LeavesLines self.now.peripherals }
     {
         self.clock
     }
@@ -47,9 +47,9 @@ impl<V: VectorUnit, P: SoundUnit, C: CellUnit, D: DividerUnit> BoardBus<V, P, C,
     #[inline(always)]
     #[tactic(auto, using(crate::proofs::DividerLaws::lines))]
     pub fn clock_after(&self, clocks: u64) -> u64
-        requires quiet { self.now.wires.clock + clocks ≤ self.now.event_at }
-        ensures value { result ≡ self.now.wires.clock + clocks }
-        ensures wrap { self.now.wires.divider.phase + (self.now.event_at - self.now.wires.clock) < DIVIDER_PERIOD }
+        requires quiet { self.now.peripherals.clock + clocks ≤ self.now.event_at }
+        ensures value { result ≡ self.now.peripherals.clock + clocks }
+        ensures wrap { self.now.peripherals.divider.phase + (self.now.event_at - self.now.peripherals.clock) < DIVIDER_PERIOD }
     {
         self.clock + clocks
     }
@@ -57,8 +57,8 @@ impl<V: VectorUnit, P: SoundUnit, C: CellUnit, D: DividerUnit> BoardBus<V, P, C,
     /// The clock of the divider's next wrap, when it is done.
     #[tactic(auto, using(crate::proofs::DividerLaws::lines))]
     pub fn next_wrap(&self) -> u64
-        ensures exact { result ≡ self.now.wires.clock + (DIVIDER_PERIOD - self.now.wires.divider.phase) }
-        ensures ahead { self.now.wires.clock < result }
+        ensures exact { result ≡ self.now.peripherals.clock + (DIVIDER_PERIOD - self.now.peripherals.divider.phase) }
+        ensures ahead { self.now.peripherals.clock < result }
     {
         self.wrap_at
     }
@@ -67,32 +67,33 @@ impl<V: VectorUnit, P: SoundUnit, C: CellUnit, D: DividerUnit> BoardBus<V, P, C,
     /// divider doesn't wrap.
     #[inline(always)]
     pub fn is_quiet(&self) -> bool
-        ensures { result ≡ nat_le (self.now.wires.clock + WHOLE) self.now.event_at }
+        ensures { result ≡ nat_le (self.now.peripherals.clock + MAX_SEQUENCE_CLOCKS) self.now.event_at }
     {
-        self.clock + u64::from(WHOLE) <= self.event_at
+        self.clock + u64::from(MAX_SEQUENCE_CLOCKS) <= self.event_at
     }
 
     /// The clock before which a whole sequence may begin in which nothing comes of itself.
     #[inline(always)]
-    #[tactic(auto, using(crate::proofs::DividerLaws::lines, crate::proofs::DividerLaws::next_lines), unfolding(lockstep_board::specs::Wires::devices_ticked))]
+    #[tactic(auto, using(crate::proofs::DividerLaws::lines, crate::proofs::DividerLaws::next_lines), unfolding(lockstep_board::specs::Peripherals::devices_ticked))]
     pub fn quiet_until(&self) -> u64
         ensures value { result ≡ self.now.event_at - 6 }
-        ensures ticks { self.now.wires.clock < self.now.event_at → LeavesLines self.now.wires }
+        ensures ticks { self.now.peripherals.clock < self.now.event_at → LeavesLines self.now.peripherals }
     {
-        self.event_at.saturating_sub(u64::from(WHOLE) - 1)
+        self.event_at
+            .saturating_sub(u64::from(MAX_SEQUENCE_CLOCKS) - 1)
     }
 
     /// The ticks of a clock, which counts as done then. Only a wrap moves a device.
-    #[tactic(auto, using(board_base::proofs::TickLaws::next_clock, pokey_chip::proofs::RecordLemmas::lagging, crate::proofs::DividerLaws::lines), unfolding(lockstep_board::specs::Wires::devices_ticked))]
+    #[tactic(auto, using(board_base::proofs::TickLaws::next_clock, pokey_chip::proofs::RecordLemmas::lagging, crate::proofs::DividerLaws::lines), unfolding(lockstep_board::specs::Peripherals::devices_ticked))]
     pub(super) fn tick(&mut self)
         requires begun { self.old.begun ≡ false }
-        requires clock { self.old.wires.clock < CLOCK_END }
-        requires room { self.old.wires.clock < self.old.until }
-        ensures does { Does self.old self.new (done_clock (devices_ticked self.old.wires)) (5 * wraps self.old.wires) }
+        requires clock { self.old.peripherals.clock < CLOCK_END }
+        requires room { self.old.peripherals.clock < self.old.until }
+        ensures does { Does self.old self.new (done_clock (devices_ticked self.old.peripherals)) (5 * wraps self.old.peripherals) }
     {
         self.clock += 1;
         if self.clock == self.wrap_at {
-            level_divider(&mut self.divider, self.clock);
+            catch_up_divider(&mut self.divider, self.clock);
             self.wrap_at = self.clock + self.divider.unit.quiet();
         }
     }
@@ -101,13 +102,13 @@ impl<V: VectorUnit, P: SoundUnit, C: CellUnit, D: DividerUnit> BoardBus<V, P, C,
     #[inline(always)]
     #[tactic(auto, using(crate::proofs::QuietLaws::later_devices, crate::proofs::DividerLaws::lines), unfolding(crate::specs::Quiet::later, crate::specs::Quiet::passed))]
     pub fn pass(&mut self, clocks: u64)
-        requires quiet { self.old.wires.clock + clocks ≤ self.old.event_at }
-        requires clock { self.old.wires.clock + clocks ≤ CLOCK_END }
-        requires room { self.old.wires.clock + clocks ≤ self.old.until }
+        requires quiet { self.old.peripherals.clock + clocks ≤ self.old.event_at }
+        requires clock { self.old.peripherals.clock + clocks ≤ CLOCK_END }
+        requires room { self.old.peripherals.clock + clocks ≤ self.old.until }
         requires begun { self.old.begun ≡ false }
         ensures value { self.new ≡ passed clocks self.old }
-        ensures irq { self.new.wires.divider.irq ≡ self.old.wires.divider.irq }
-        ensures pending { self.new.wires.divider.pending ≡ self.old.wires.divider.pending }
+        ensures irq { self.new.peripherals.divider.irq ≡ self.old.peripherals.divider.irq }
+        ensures pending { self.new.peripherals.divider.pending ≡ self.old.peripherals.divider.pending }
     {
         self.clock += clocks;
     }
@@ -117,15 +118,15 @@ impl<V: VectorUnit, P: SoundUnit, C: CellUnit, D: DividerUnit> BoardBus<V, P, C,
     pub fn begin(&mut self, tape: &Tape)
         requires fits { Fits tape.now self.old }
         requires begun { self.old.begun ≡ false }
-        requires clock { self.old.wires.clock < CLOCK_END }
-        requires room { self.old.wires.clock < self.old.until }
-        ensures value { self.new ≡ record self.old { wires = done_clock (ticked tape.now.entries self.old.wires); begun = true; next = self.new.next; event_at = self.new.event_at; lagging = self.new.lagging; until = self.new.until; calls = self.new.calls } }
+        requires clock { self.old.peripherals.clock < CLOCK_END }
+        requires room { self.old.peripherals.clock < self.old.until }
+        ensures value { self.new ≡ record self.old { peripherals = done_clock (ticked tape.now.entries self.old.peripherals); begun = true; next = self.new.next; event_at = self.new.event_at; lagging = self.new.lagging; until = self.new.until; calls = self.new.calls } }
         ensures fits { Fits tape.now self.new }
         ensures until { self.old.until ≤ self.new.until }
-        ensures calls { self.new.calls ≤ self.old.calls + ticks_price tape.now.entries self.old.wires }
+        ensures calls { self.new.calls ≤ self.old.calls + ticks_price tape.now.entries self.old.peripherals }
         ensures more { self.old.calls ≤ self.new.calls }
-        ensures one { self.new.wires.clock ≡ self.old.wires.clock + 1 }
-        ensures written { self.new.wires.written ≡ self.old.wires.written }
+        ensures one { self.new.peripherals.clock ≡ self.old.peripherals.clock + 1 }
+        ensures written { self.new.peripherals.written ≡ self.old.peripherals.written }
     {
         self.clock_with_events(tape);
         self.begun = true;
@@ -136,14 +137,14 @@ impl<V: VectorUnit, P: SoundUnit, C: CellUnit, D: DividerUnit> BoardBus<V, P, C,
     #[tactic(auto, using(crate::proofs::ClockLaws::clocks), unfolding(crate::specs::Bus::in_clock))]
     pub(super) fn enter(&mut self, tape: &Tape)
         requires fits { Fits tape.now self.old }
-        requires clock { self.old.wires.clock < CLOCK_END }
-        requires room { self.old.wires.clock < self.old.until }
-        ensures value { self.new ≡ record self.old { wires = done_clock (in_clock tape.now.entries self.old.begun self.old.wires); begun = false; next = self.new.next; event_at = self.new.event_at; lagging = self.new.lagging; until = self.new.until; calls = self.new.calls } }
+        requires clock { self.old.peripherals.clock < CLOCK_END }
+        requires room { self.old.peripherals.clock < self.old.until }
+        ensures value { self.new ≡ record self.old { peripherals = done_clock (in_clock tape.now.entries self.old.begun self.old.peripherals); begun = false; next = self.new.next; event_at = self.new.event_at; lagging = self.new.lagging; until = self.new.until; calls = self.new.calls } }
         ensures fits { Fits tape.now self.new }
         ensures until { self.old.until ≤ self.new.until }
-        ensures calls { self.new.calls ≤ self.old.calls + begin_price tape.now.entries self.old.begun self.old.wires }
+        ensures calls { self.new.calls ≤ self.old.calls + begin_price tape.now.entries self.old.begun self.old.peripherals }
         ensures more { self.old.calls ≤ self.new.calls }
-        ensures begun { 1 ≤ self.new.wires.clock }
+        ensures begun { 1 ≤ self.new.peripherals.clock }
     {
         if self.begun {
             self.begun = false;

@@ -1,14 +1,14 @@
 //! A board over an image, and another one in its place.
 ghost use Rattle.std.specs.Prelude.{◌≡◌, ◌+◌, ◌-◌, ◌≤◌, ◌^◌, false, length, drop, take, min, IfOk, ◌++◌, []};
 ghost use Rattle.catchup_engine.specs.Lags.{lagging_of, none_lags};
-ghost use Rattle.catchup_engine.specs.NewBoard.{IsNew, wires_over};
-ghost use Rattle.lockstep_board.specs.Wires.{reloaded, wires_of};
+ghost use Rattle.catchup_engine.specs.NewBoard.{IsNew, peripherals_over};
+ghost use Rattle.lockstep_board.specs.Peripherals.{reloaded, peripherals_of};
 
 use crate::bus::{BoardBus, TRAIL_ROOM};
 use crate::devices::Devices;
 use avg_device::VectorUnit;
 use board_base::{BoardState, OutOfMemory, Trail, VECTOR_ROM_LEN, VectorMemory};
-use device_lanes::{Lane, SoundLane, VectorLane};
+use catchup_devices::{CatchUp, SoundCatchUp, VectorCatchUp};
 use earom_cells::CellUnit;
 use irq_watchdog::DividerUnit;
 use pokey_chip::SoundUnit;
@@ -75,7 +75,7 @@ fn new_bytes(alloc: Global, image: &Image, state: &BoardState) -> Result<BoardBy
 }
 
 impl<V: VectorUnit, P: SoundUnit, C: CellUnit, D: DividerUnit> BoardBus<V, P, C, D> {
-    /// The wires of a board over an image. All the memory that the board ever needs is taken here.
+    /// The peripherals of a board over an image. All the memory that the board ever needs is taken here.
     pub fn new(
         alloc: Global,
         image: &Image,
@@ -83,7 +83,7 @@ impl<V: VectorUnit, P: SoundUnit, C: CellUnit, D: DividerUnit> BoardBus<V, P, C,
         devices: Devices<V, P, C, D>,
         wired: bool,
     ) -> Result<BoardBus<V, P, C, D>, OutOfMemory>
-        ensures wires { IfOk result (λ bus. bus.wires ≡ wires_of image.now wired state.now) }
+        ensures peripherals { IfOk result (λ bus. bus.peripherals ≡ peripherals_of image.now wired state.now) }
         ensures between { IfOk result (λ bus. bus.begun ≡ false) }
         ensures settled { IfOk result (λ bus. bus.lagging ≡ none_lags) }
         ensures calls { IfOk result (λ bus. bus.calls ≡ min (V.calls devices.vector + P.calls devices.sound1 + P.calls devices.sound2
@@ -94,8 +94,8 @@ impl<V: VectorUnit, P: SoundUnit, C: CellUnit, D: DividerUnit> BoardBus<V, P, C,
         Ok(BoardBus::from_parts(trails, bytes, state, devices, wired))
     }
 
-    /// The wires of a board with these trails and bytes.
-    #[tactic(auto, using(board_base::proofs::TickLaws::level, crate::proofs::SettledLaws::brought))]
+    /// The peripherals of a board with these trails and bytes.
+    #[tactic(auto, using(board_base::proofs::TickLaws::level, crate::proofs::SettledLaws::synced))]
     fn from_parts(
         trails: EmptyTrails,
         bytes: BoardBytes,
@@ -109,7 +109,7 @@ impl<V: VectorUnit, P: SoundUnit, C: CellUnit, D: DividerUnit> BoardBus<V, P, C,
         requires written { IsNew trails.written }
         requires ram { bytes.ram.items ≡ state.now.ram }
         requires program { length bytes.program.items ≡ PROGRAM_ROM_LEN }
-        ensures wires { result.wires ≡ wires_over wired state.now bytes.memory bytes.program.items }
+        ensures peripherals { result.peripherals ≡ peripherals_over wired state.now bytes.memory bytes.program.items }
         ensures between { result.begun ≡ false }
         ensures settled { result.lagging ≡ none_lags }
         ensures calls { result.calls ≡ min (V.calls devices.vector + P.calls devices.sound1 + P.calls devices.sound2
@@ -127,14 +127,14 @@ impl<V: VectorUnit, P: SoundUnit, C: CellUnit, D: DividerUnit> BoardBus<V, P, C,
         divider.load(&state.divider);
         let wrap_at = clock + divider.quiet();
         BoardBus {
-            vector: VectorLane::new(vector, &state.vg, clock, trails.vector),
-            sound1: SoundLane::new(sound1, &state.sound1, clock, wired, trails.sound1),
-            sound2: SoundLane::new(sound2, &state.sound2, clock, wired, trails.sound2),
-            cells: Lane {
+            vector: VectorCatchUp::new(vector, &state.vg, clock, trails.vector),
+            sound1: SoundCatchUp::new(sound1, &state.sound1, clock, wired, trails.sound1),
+            sound2: SoundCatchUp::new(sound2, &state.sound2, clock, wired, trails.sound2),
+            cells: CatchUp {
                 unit: cells,
                 done: clock,
             },
-            divider: Lane {
+            divider: CatchUp {
                 unit: divider,
                 done: clock,
             },
@@ -155,15 +155,15 @@ impl<V: VectorUnit, P: SoundUnit, C: CellUnit, D: DividerUnit> BoardBus<V, P, C,
     }
 
     /// Takes on another board over the same image.
-    #[tactic(auto, using(board_base::proofs::TickLaws::level, crate::proofs::SettledLaws::settled, crate::proofs::SettledLaws::brought, crate::proofs::MemoryLaws::loads))]
+    #[tactic(auto, using(board_base::proofs::TickLaws::level, crate::proofs::SettledLaws::settled, crate::proofs::SettledLaws::synced, crate::proofs::MemoryLaws::loads))]
     pub fn load(&mut self, state: &BoardState)
         requires settled { lagging_of self.old.lagging ≡ 0 }
         requires between { self.old.begun ≡ false }
-        requires strokes { self.old.wires.strokes ≡ [] }
-        requires levels1 { self.old.wires.levels1 ≡ [] }
-        requires levels2 { self.old.wires.levels2 ≡ [] }
-        requires written { self.old.wires.written ≡ [] }
-        ensures value { self.new ≡ record self.old { wires = reloaded self.old.wires state.now; event_at = 0; lagging = none_lags; until = self.new.until; calls = self.new.calls } }
+        requires strokes { self.old.peripherals.strokes ≡ [] }
+        requires levels1 { self.old.peripherals.levels1 ≡ [] }
+        requires levels2 { self.old.peripherals.levels2 ≡ [] }
+        requires written { self.old.peripherals.written ≡ [] }
+        ensures value { self.new ≡ record self.old { peripherals = reloaded self.old.peripherals state.now; event_at = 0; lagging = none_lags; until = self.new.until; calls = self.new.calls } }
         ensures calls { self.new.calls ≡ min (self.old.calls + 5) (2 ^ 64 - 1) }
     {
         let done = state.clock;

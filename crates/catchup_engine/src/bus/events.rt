@@ -6,7 +6,7 @@ ghost use Rattle.tape_ports.specs.Tape.{IsTape};
 ghost use Rattle.lockstep_board.specs.Budget.{ticks_price};
 ghost use Rattle.catchup_engine.specs.Events.{deadlines_of, next_event_of};
 ghost use Rattle.catchup_engine.specs.Bus.{ComesNext, Does, Fits, IsTapePlace, done_clock};
-ghost use Rattle.lockstep_board.specs.Wires.{applied, ticked};
+ghost use Rattle.lockstep_board.specs.Peripherals.{applied, ticked};
 
 use crate::bus::BoardBus;
 use avg_device::VectorUnit;
@@ -21,7 +21,7 @@ impl<V: VectorUnit, P: SoundUnit, C: CellUnit, D: DividerUnit> BoardBus<V, P, C,
     /// Applies entries of the tape, in their order.
     fn apply(&mut self, entries: &[TapeEntry])
         requires ports { All (λ entry. IsPort entry.port) entries.now }
-        ensures does { Does self.old self.new (applied entries.now self.old.wires) (5 * length entries.now) }
+        ensures does { Does self.old self.new (applied entries.now self.old.peripherals) (5 * length entries.now) }
     {
         for entry in entries {
             self.set_port(*entry);
@@ -31,10 +31,10 @@ impl<V: VectorUnit, P: SoundUnit, C: CellUnit, D: DividerUnit> BoardBus<V, P, C,
     /// Applies the entries of the present clock.
     fn apply_due(&mut self, tape: &Tape)
         requires fits { Fits tape.now self.old }
-        ensures value { self.new ≡ record self.old { wires = applied (due_at self.old.wires.clock tape.now.entries) self.old.wires; next = self.new.next; lagging = self.new.lagging; until = self.new.until; calls = self.new.calls } }
-        ensures next { IsTapePlace tape.now (self.old.wires.clock + 1) self.new.next }
+        ensures value { self.new ≡ record self.old { peripherals = applied (due_at self.old.peripherals.clock tape.now.entries) self.old.peripherals; next = self.new.next; lagging = self.new.lagging; until = self.new.until; calls = self.new.calls } }
+        ensures next { IsTapePlace tape.now (self.old.peripherals.clock + 1) self.new.next }
         ensures until { self.old.until ≤ self.new.until }
-        ensures calls { self.new.calls ≤ self.old.calls + 5 * length (due_at self.old.wires.clock tape.now.entries) }
+        ensures calls { self.new.calls ≤ self.old.calls + 5 * length (due_at self.old.peripherals.clock tape.now.entries) }
         ensures more { self.old.calls ≤ self.new.calls }
     {
         let after = tape.first_from(self.clock + 1);
@@ -44,16 +44,16 @@ impl<V: VectorUnit, P: SoundUnit, C: CellUnit, D: DividerUnit> BoardBus<V, P, C,
     }
 
     /// Does a clock's entries and ticks, whether something comes in it or not.
-    #[tactic(auto, using(crate::proofs::EventLaws::events), unfolding(lockstep_board::specs::Wires::ticked, lockstep_board::specs::Budget::ticks_price))]
+    #[tactic(auto, using(crate::proofs::EventLaws::events), unfolding(lockstep_board::specs::Peripherals::ticked, lockstep_board::specs::Budget::ticks_price))]
     pub(super) fn clock_with_events(&mut self, tape: &Tape)
         requires fits { Fits tape.now self.old }
         requires begun { self.old.begun ≡ false }
-        requires clock { self.old.wires.clock < CLOCK_END }
-        requires room { self.old.wires.clock < self.old.until }
-        ensures value { self.new ≡ record self.old { wires = done_clock (ticked tape.now.entries self.old.wires); next = self.new.next; event_at = self.new.event_at; lagging = self.new.lagging; until = self.new.until; calls = self.new.calls } }
+        requires clock { self.old.peripherals.clock < CLOCK_END }
+        requires room { self.old.peripherals.clock < self.old.until }
+        ensures value { self.new ≡ record self.old { peripherals = done_clock (ticked tape.now.entries self.old.peripherals); next = self.new.next; event_at = self.new.event_at; lagging = self.new.lagging; until = self.new.until; calls = self.new.calls } }
         ensures fits { Fits tape.now self.new }
         ensures until { self.old.until ≤ self.new.until }
-        ensures calls { self.new.calls ≤ self.old.calls + ticks_price tape.now.entries self.old.wires }
+        ensures calls { self.new.calls ≤ self.old.calls + ticks_price tape.now.entries self.old.peripherals }
         ensures more { self.old.calls ≤ self.new.calls }
     {
         self.apply_due(tape);
@@ -64,7 +64,7 @@ impl<V: VectorUnit, P: SoundUnit, C: CellUnit, D: DividerUnit> BoardBus<V, P, C,
     /// Looks for the next event, where the entries past are those of the clocks done.
     pub(super) fn look_ahead(&mut self, tape: &Tape)
         requires begun { self.old.begun ≡ false }
-        requires place { IsTapePlace tape.now self.old.wires.clock self.old.next }
+        requires place { IsTapePlace tape.now self.old.peripherals.clock self.old.next }
         ensures value { self.new ≡ record self.old { event_at = self.new.event_at } }
         ensures fits { Fits tape.now self.new }
     {

@@ -2,7 +2,7 @@
 ghost use Rattle.std.specs.Prelude.{◌≡◌, ◌&&◌, not, ◌+◌, ◌-◌, ◌≤◌, ◌<◌, ◌||◌, length, ◌++◌, ◌∷◌, []};
 ghost use Rattle.catchup_engine.specs.Bus.{Does, at_clock};
 ghost use Rattle.irq_watchdog.specs.Tick.{reset_taken};
-ghost use Rattle.lockstep_board.specs.Wires.{devices_ticked, line_of, reset_begun};
+ghost use Rattle.lockstep_board.specs.Peripherals.{devices_ticked, line_of, reset_begun};
 
 use crate::bus::BoardBus;
 use avg_device::VectorUnit;
@@ -13,31 +13,33 @@ use pokey_chip::SoundUnit;
 
 impl<V: VectorUnit, P: SoundUnit, C: CellUnit, D: DividerUnit> BoardBus<V, P, C, D> {
     /// The interrupt line.
-    #[tactic(auto, using(crate::proofs::DividerLaws::lines), unfolding(lockstep_board::specs::Wires::line_of))]
+    #[tactic(auto, using(crate::proofs::DividerLaws::lines), unfolding(lockstep_board::specs::Peripherals::line_of))]
     pub fn line(&self) -> bool
-        ensures { result ≡ line_of self.now.wires }
+        ensures { result ≡ line_of self.now.peripherals }
     {
-        self.divider.unit.irq() || self.sound1.pulls(self.clock) || self.sound2.pulls(self.clock)
+        self.divider.unit.irq()
+            || self.sound1.asserts_irq(self.clock)
+            || self.sound2.asserts_irq(self.clock)
     }
 
     /// The interrupt line after the next clock's ticks, where nothing comes in it.
     #[inline(always)]
-    #[tactic(auto, using(crate::proofs::DividerLaws::next_lines), unfolding(lockstep_board::specs::Wires::line_of, lockstep_board::specs::Wires::devices_ticked))]
+    #[tactic(auto, using(crate::proofs::DividerLaws::next_lines), unfolding(lockstep_board::specs::Peripherals::line_of, lockstep_board::specs::Peripherals::devices_ticked))]
     pub fn next_line(&self) -> bool
-        requires quiet { self.now.wires.clock < self.now.event_at }
-        requires clock { self.now.wires.clock < CLOCK_END }
-        ensures { result ≡ line_of (devices_ticked self.now.wires) }
+        requires quiet { self.now.peripherals.clock < self.now.event_at }
+        requires clock { self.now.peripherals.clock < CLOCK_END }
+        ensures { result ≡ line_of (devices_ticked self.now.peripherals) }
     {
         self.divider.unit.irq()
-            || self.sound1.pulls_next(self.clock)
-            || self.sound2.pulls_next(self.clock)
+            || self.sound1.asserts_irq_next(self.clock)
+            || self.sound2.asserts_irq_next(self.clock)
     }
 
     /// Whether the interrupt line is let go until something comes of itself: no POKEY is wired to it.
     #[inline(always)]
     #[tactic(auto, using(crate::proofs::DividerLaws::lines))]
-    pub fn is_silent(&self) -> bool
-        ensures { result ≡ (not self.now.wires.wired && not self.now.wires.divider.irq) }
+    pub fn irq_idle(&self) -> bool
+        ensures { result ≡ (not self.now.peripherals.wired && not self.now.peripherals.divider.irq) }
     {
         !self.sound1.wired && !self.divider.unit.irq()
     }
@@ -45,34 +47,34 @@ impl<V: VectorUnit, P: SoundUnit, C: CellUnit, D: DividerUnit> BoardBus<V, P, C,
     /// The reset that is pending.
     #[tactic(auto, using(crate::proofs::DividerLaws::lines))]
     pub fn pending(&self) -> Pending
-        ensures { result ≡ self.now.wires.divider.pending }
+        ensures { result ≡ self.now.peripherals.divider.pending }
     {
         self.divider.unit.pending()
     }
 
     /// The reset that is pending after the next clock's ticks, where nothing comes in it.
     #[inline(always)]
-    #[tactic(auto, using(crate::proofs::DividerLaws::next_lines), unfolding(lockstep_board::specs::Wires::devices_ticked))]
+    #[tactic(auto, using(crate::proofs::DividerLaws::next_lines), unfolding(lockstep_board::specs::Peripherals::devices_ticked))]
     pub fn next_pending(&self) -> Pending
-        requires quiet { self.now.wires.clock < self.now.event_at }
-        ensures { result ≡ (devices_ticked self.now.wires).divider.pending }
+        requires quiet { self.now.peripherals.clock < self.now.event_at }
+        ensures { result ≡ (devices_ticked self.now.peripherals).divider.pending }
     {
         self.divider.unit.pending()
     }
 
     /// Begins the pending reset, in the clock that counts as done: one by the watchdog halts the
     /// generator, clears the output latch and is recorded.
-    #[tactic(auto, using(board_base::proofs::TickLaws::level, crate::proofs::DividerLaws::lines), unfolding(lockstep_board::specs::Wires::reset_begun))]
+    #[tactic(auto, using(board_base::proofs::TickLaws::level, crate::proofs::DividerLaws::lines), unfolding(lockstep_board::specs::Peripherals::reset_begun))]
     pub fn begin_reset(&mut self)
-        requires room { length self.old.wires.written < self.old.rooms.board }
-        requires begun { 1 ≤ self.old.wires.clock }
-        ensures does { Does self.old self.new (at_clock self.old.wires.clock (reset_begun (at_clock (self.old.wires.clock - 1) self.old.wires))) 4 }
-        ensures few { length self.new.wires.written ≤ length self.old.wires.written + 1 }
-        ensures clock { self.new.wires.clock ≡ self.old.wires.clock }
+        requires room { length self.old.peripherals.written < self.old.rooms.board }
+        requires begun { 1 ≤ self.old.peripherals.clock }
+        ensures does { Does self.old self.new (at_clock self.old.peripherals.clock (reset_begun (at_clock (self.old.peripherals.clock - 1) self.old.peripherals))) 4 }
+        ensures few { length self.new.peripherals.written ≤ length self.old.peripherals.written + 1 }
+        ensures clock { self.new.peripherals.clock ≡ self.old.peripherals.clock }
     {
         let pending = self.take_reset();
         if let Pending::Watchdog = pending {
-            self.bring_vector();
+            self.sync_vector();
             self.reset_vector();
             self.record_reset();
         }
@@ -81,8 +83,8 @@ impl<V: VectorUnit, P: SoundUnit, C: CellUnit, D: DividerUnit> BoardBus<V, P, C,
     /// Tells the divider that its pending reset is being taken, and which it is.
     #[tactic(auto, using(crate::proofs::DividerLaws::latches))]
     fn take_reset(&mut self) -> Pending
-        ensures pending { result ≡ self.old.wires.divider.pending }
-        ensures does { Does self.old self.new (record self.old.wires { divider = reset_taken self.old.wires.divider }) 2 }
+        ensures pending { result ≡ self.old.peripherals.divider.pending }
+        ensures does { Does self.old self.new (record self.old.peripherals { divider = reset_taken self.old.peripherals.divider }) 2 }
     {
         let pending = self.divider.unit.pending();
         self.divider.unit.taken();
@@ -91,12 +93,12 @@ impl<V: VectorUnit, P: SoundUnit, C: CellUnit, D: DividerUnit> BoardBus<V, P, C,
 
     /// Clears the output latch, and records the watchdog's reset.
     fn record_reset(&mut self)
-        requires room { length self.old.wires.written < self.old.rooms.board }
-        requires begun { 1 ≤ self.old.wires.clock }
+        requires room { length self.old.peripherals.written < self.old.rooms.board }
+        requires begun { 1 ≤ self.old.peripherals.clock }
         ensures { self.new ≡ record self.old {
-          wires = record self.old.wires {
+          peripherals = record self.old.peripherals {
             out = 0;
-            written = self.old.wires.written ++ Record.WatchdogReset (self.old.wires.clock - 1) ∷ [];
+            written = self.old.peripherals.written ++ Record.WatchdogReset (self.old.peripherals.clock - 1) ∷ [];
           };
         } }
     {

@@ -8,7 +8,7 @@ ghost use Rattle.catchup_engine.specs.Lags.{lagging_at};
 ghost use Rattle.catchup_engine.specs.Bus.{Does, at_clock, is_private};
 ghost use Rattle.lockstep_board.specs.Memory.{memory_byte};
 ghost use Rattle.avg_device.specs.Tick.{vg_reset};
-ghost use Rattle.lockstep_board.specs.Wires.{Wires, byte_put, byte_read, in0_byte};
+ghost use Rattle.lockstep_board.specs.Peripherals.{Peripherals, byte_put, byte_read, in0_byte};
 
 use crate::bus::{BoardBus, PROGRAM_START};
 use avg_device::VectorUnit;
@@ -26,7 +26,7 @@ impl<V: VectorUnit, P: SoundUnit, C: CellUnit, D: DividerUnit> BoardBus<V, P, C,
     fn read_in0(&self) -> u8
         requires generator { self.now.lagging.vector ≡ 0 }
         requires divider { self.now.lagging.divider ≡ 0 }
-        ensures { result ≡ in0_byte self.now.wires }
+        ensures { result ≡ in0_byte self.now.peripherals }
     {
         let halted = if self.vector.unit.halted() { 64 } else { 0 };
         let bit3k = if self.divider.unit.bit3k() { 128 } else { 0 };
@@ -36,8 +36,8 @@ impl<V: VectorUnit, P: SoundUnit, C: CellUnit, D: DividerUnit> BoardBus<V, P, C,
     /// VGRST: halts the generator.
     #[tactic(auto, using(board_base::proofs::TickLaws::level, crate::proofs::SettledLaws::settled))]
     pub(super) fn reset_vector(&mut self)
-        requires level { self.old.lagging.vector ≡ 0 }
-        ensures does { Does self.old self.new (record self.old.wires { vg = vg_reset self.old.wires.vg }) 1 }
+        requires current { self.old.lagging.vector ≡ 0 }
+        ensures does { Does self.old self.new (record self.old.peripherals { vg = vg_reset self.old.peripherals.vg }) 1 }
     {
         self.vector.unit.reset();
     }
@@ -45,12 +45,12 @@ impl<V: VectorUnit, P: SoundUnit, C: CellUnit, D: DividerUnit> BoardBus<V, P, C,
     /// Sets the output latch, and records it.
     #[inline(never)]
     fn latch(&mut self, value: u8)
-        requires room { length self.old.wires.written < self.old.rooms.board }
-        requires begun { 1 ≤ self.old.wires.clock }
+        requires room { length self.old.peripherals.written < self.old.rooms.board }
+        requires begun { 1 ≤ self.old.peripherals.clock }
         ensures { self.new ≡ record self.old {
-          wires = record self.old.wires {
+          peripherals = record self.old.peripherals {
             out = value;
-            written = self.old.wires.written ++ Record.Latch (self.old.wires.clock - 1) value ∷ [];
+            written = self.old.peripherals.written ++ Record.Latch (self.old.peripherals.clock - 1) value ∷ [];
           };
         } }
     {
@@ -63,7 +63,7 @@ impl<V: VectorUnit, P: SoundUnit, C: CellUnit, D: DividerUnit> BoardBus<V, P, C,
     #[inline(always)]
     pub fn ram_byte(&self, k: u16) -> u8
         requires { k < RAM_LEN }
-        ensures { result ≡ slice_index self.now.wires.ram k }
+        ensures { result ≡ slice_index self.now.peripherals.ram k }
     {
         self.ram[k as usize]
     }
@@ -72,7 +72,7 @@ impl<V: VectorUnit, P: SoundUnit, C: CellUnit, D: DividerUnit> BoardBus<V, P, C,
     #[inline(always)]
     pub fn program_byte(&self, k: u16) -> u8
         requires { k < PROGRAM_ROM_LEN }
-        ensures { result ≡ slice_index self.now.wires.program k }
+        ensures { result ≡ slice_index self.now.peripherals.program k }
     {
         self.program[k as usize]
     }
@@ -81,7 +81,7 @@ impl<V: VectorUnit, P: SoundUnit, C: CellUnit, D: DividerUnit> BoardBus<V, P, C,
     #[inline(always)]
     pub fn program_at(&self, addr: u16) -> u8
         requires { PROGRAM_START ≤ addr }
-        ensures { result ≡ slice_index self.now.wires.program (addr - PROGRAM_START) }
+        ensures { result ≡ slice_index self.now.peripherals.program (addr - PROGRAM_START) }
     {
         self.program[usize::from(addr) - usize::from(PROGRAM_START)]
     }
@@ -91,7 +91,7 @@ impl<V: VectorUnit, P: SoundUnit, C: CellUnit, D: DividerUnit> BoardBus<V, P, C,
     #[inline(always)]
     pub fn private_byte(&self, addr: u16) -> u8
         requires { is_private addr ≡ true }
-        ensures { (w : Wires) → w.ram ≡ self.now.wires.ram → w.program ≡ self.now.wires.program → result ≡ byte_read addr w }
+        ensures { (w : Peripherals) → w.ram ≡ self.now.peripherals.ram → w.program ≡ self.now.peripherals.program → result ≡ byte_read addr w }
     {
         if addr >= PROGRAM_START {
             self.program_at(addr)
@@ -104,7 +104,7 @@ impl<V: VectorUnit, P: SoundUnit, C: CellUnit, D: DividerUnit> BoardBus<V, P, C,
     #[inline(always)]
     pub fn put_ram(&mut self, k: u16, value: u8)
         requires { k < RAM_LEN }
-        ensures { self.new ≡ record self.old { wires = record self.old.wires { ram = slice_set self.old.wires.ram k value } } }
+        ensures { self.new ≡ record self.old { peripherals = record self.old.peripherals { ram = slice_set self.old.peripherals.ram k value } } }
     {
         self.ram[k as usize] = value;
     }
@@ -112,8 +112,8 @@ impl<V: VectorUnit, P: SoundUnit, C: CellUnit, D: DividerUnit> BoardBus<V, P, C,
     /// The byte that a read of an address gives, in the clock that counts as done.
     #[inline(never)]
     pub fn byte(&mut self, addr: u16) -> u8
-        ensures byte { result ≡ byte_read addr (at_clock (self.old.wires.clock - 1) self.old.wires) }
-        ensures does { Does self.old self.new self.old.wires (2 * from_bool (reaches_device (read_of addr result))) }
+        ensures byte { result ≡ byte_read addr (at_clock (self.old.peripherals.clock - 1) self.old.peripherals) }
+        ensures does { Does self.old self.new self.old.peripherals (2 * from_bool (reaches_device (read_of addr result))) }
         ensures current { lagging_at (row_of addr).reads self.new.lagging ≡ 0 }
     {
         self.byte_by(addr, row(addr))
@@ -121,15 +121,15 @@ impl<V: VectorUnit, P: SoundUnit, C: CellUnit, D: DividerUnit> BoardBus<V, P, C,
 
     /// The byte that a read of an address gives, by the address's row of the map.
     #[inline(always)]
-    #[tactic(auto, using(board_base::proofs::TickLaws::level, crate::proofs::SettledLaws::settled, crate::proofs::SettledLaws::brought), unfolding(lockstep_board::specs::Wires::byte_read, lockstep_board::specs::Budget::reaches_device))]
+    #[tactic(auto, using(board_base::proofs::TickLaws::level, crate::proofs::SettledLaws::settled, crate::proofs::SettledLaws::synced), unfolding(lockstep_board::specs::Peripherals::byte_read, lockstep_board::specs::Budget::reaches_device))]
     pub fn byte_by(&mut self, addr: u16, row: Row) -> u8
         requires row { row ≡ row_of addr }
         requires inside { IsWithin row }
-        ensures byte { result ≡ byte_read addr (at_clock (self.old.wires.clock - 1) self.old.wires) }
-        ensures does { Does self.old self.new self.old.wires (2 * from_bool (reaches_device (read_of addr result))) }
+        ensures byte { result ≡ byte_read addr (at_clock (self.old.peripherals.clock - 1) self.old.peripherals) }
+        ensures does { Does self.old self.new self.old.peripherals (2 * from_bool (reaches_device (read_of addr result))) }
         ensures current { lagging_at (row_of addr).reads self.new.lagging ≡ 0 }
     {
-        self.bring(devices_read(row.reads));
+        self.sync(devices_read(row.reads));
         match row.reads {
             Reads::Ram => self.ram_byte(row.offset),
             Reads::VectorRam => self.memory.byte(row.offset),
@@ -148,27 +148,27 @@ impl<V: VectorUnit, P: SoundUnit, C: CellUnit, D: DividerUnit> BoardBus<V, P, C,
     /// Writes a byte to an address, in the clock that counts as done.
     #[inline(never)]
     pub fn put(&mut self, addr: u16, value: u8)
-        requires room { length self.old.wires.written < self.old.rooms.board }
-        requires begun { 1 ≤ self.old.wires.clock }
-        ensures does { Does self.old self.new (at_clock self.old.wires.clock (byte_put addr value (at_clock (self.old.wires.clock - 1) self.old.wires))) (2 * from_bool (reaches_device (write_of addr value))) }
-        ensures few { length self.new.wires.written ≤ length self.old.wires.written + 1 }
+        requires room { length self.old.peripherals.written < self.old.rooms.board }
+        requires begun { 1 ≤ self.old.peripherals.clock }
+        ensures does { Does self.old self.new (at_clock self.old.peripherals.clock (byte_put addr value (at_clock (self.old.peripherals.clock - 1) self.old.peripherals))) (2 * from_bool (reaches_device (write_of addr value))) }
+        ensures few { length self.new.peripherals.written ≤ length self.old.peripherals.written + 1 }
     {
         self.put_by(addr, row(addr), value);
     }
 
     /// Writes a byte to an address, by the address's row of the map.
     #[inline(always)]
-    #[tactic(auto, using(board_base::proofs::TickLaws::level, crate::proofs::SettledLaws::settled, crate::proofs::DividerLaws::latches), unfolding(lockstep_board::specs::Wires::byte_put, lockstep_board::specs::Budget::reaches_device))]
+    #[tactic(auto, using(board_base::proofs::TickLaws::level, crate::proofs::SettledLaws::settled, crate::proofs::DividerLaws::latches), unfolding(lockstep_board::specs::Peripherals::byte_put, lockstep_board::specs::Budget::reaches_device))]
     pub fn put_by(&mut self, addr: u16, row: Row, value: u8)
         requires row { row ≡ row_of addr }
         requires inside { IsWithin row }
-        requires room { length self.old.wires.written < self.old.rooms.board }
-        requires begun { 1 ≤ self.old.wires.clock }
-        ensures does { Does self.old self.new (at_clock self.old.wires.clock (byte_put addr value (at_clock (self.old.wires.clock - 1) self.old.wires))) (2 * from_bool (reaches_device (write_of addr value))) }
-        ensures few { length self.new.wires.written ≤ length self.old.wires.written + 1 }
+        requires room { length self.old.peripherals.written < self.old.rooms.board }
+        requires begun { 1 ≤ self.old.peripherals.clock }
+        ensures does { Does self.old self.new (at_clock self.old.peripherals.clock (byte_put addr value (at_clock (self.old.peripherals.clock - 1) self.old.peripherals))) (2 * from_bool (reaches_device (write_of addr value))) }
+        ensures few { length self.new.peripherals.written ≤ length self.old.peripherals.written + 1 }
     {
         // the divider's interrupt and watchdog are the same before its ticks and after them
-        self.bring(DeviceSet {
+        self.sync(DeviceSet {
             divider: false,
             ..devices_written(row.writes)
         });
@@ -191,7 +191,7 @@ impl<V: VectorUnit, P: SoundUnit, C: CellUnit, D: DividerUnit> BoardBus<V, P, C,
     /// The byte at an address of the RAM, the vector RAM or a ROM.
     #[tactic(auto, unfolding(lockstep_board::specs::Memory::memory_byte))]
     pub fn byte_at(&self, addr: u16) -> Option<u8>
-        ensures { result ≡ memory_byte addr self.now.wires }
+        ensures { result ≡ memory_byte addr self.now.peripherals }
     {
         let row = row(addr);
         match row.reads {

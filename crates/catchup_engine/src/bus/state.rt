@@ -1,9 +1,9 @@
-//! The board at rest: its devices brought to the present, its state, and its records.
+//! The board at rest: its devices synced, its state, and its records.
 ghost use Rattle.std.specs.Prelude.{◌≡◌, ◌+◌, ◌≤◌, ◌<◌, ◌==◌, IsSome, []};
 ghost use Rattle.catchup_engine.specs.Lags.{all_lag, lagging_among, lagging_of, none_lags, with_brought};
-ghost use Rattle.lockstep_board.specs.Wires.{board_of};
+ghost use Rattle.lockstep_board.specs.Peripherals.{board_of};
 
-use crate::bus::clocking::level_divider;
+use crate::bus::clocking::catch_up_divider;
 use crate::bus::{BoardBus, TRAIL_ROOM};
 use avg_device::VectorUnit;
 use board_base::{BoardState, CLOCK_LIMIT, CpuState, DIVIDER_PERIOD, Trails};
@@ -14,44 +14,44 @@ use pokey_chip::SoundUnit;
 
 impl<V: VectorUnit, P: SoundUnit, C: CellUnit, D: DividerUnit> BoardBus<V, P, C, D> {
     /// Brings the generator to the present, by one call where it lags and by none where it stands there.
-    #[tactic(auto, using(board_base::proofs::TickLaws::level, crate::proofs::SettledLaws::brought))]
-    pub(super) fn bring_vector(&mut self)
+    #[tactic(auto, using(board_base::proofs::TickLaws::level, crate::proofs::SettledLaws::synced))]
+    pub(super) fn sync_vector(&mut self)
         ensures value { self.new ≡ record self.old { lagging = record self.old.lagging { vector = 0 }; until = self.new.until; calls = self.new.calls } }
         ensures until { self.old.until ≤ self.new.until }
         ensures calls { self.new.calls ≤ self.old.calls + self.old.lagging.vector }
         ensures more { self.old.calls ≤ self.new.calls }
         ensures few { self.old.lagging.vector ≤ 1 }
     {
-        self.vector.level(&self.memory, self.clock);
+        self.vector.catch_up(&self.memory, self.clock);
     }
 
     /// Brings POKEY 1 to the present, by one call where it lags and by none where it stands there.
-    #[tactic(auto, using(board_base::proofs::TickLaws::level, crate::proofs::SettledLaws::brought))]
-    pub(super) fn bring_sound1(&mut self)
+    #[tactic(auto, using(board_base::proofs::TickLaws::level, crate::proofs::SettledLaws::synced))]
+    pub(super) fn sync_sound1(&mut self)
         ensures value { self.new ≡ record self.old { lagging = record self.old.lagging { sound1 = 0 }; until = self.new.until; calls = self.new.calls } }
         ensures until { self.old.until ≤ self.new.until }
         ensures calls { self.new.calls ≤ self.old.calls + self.old.lagging.sound1 }
         ensures more { self.old.calls ≤ self.new.calls }
         ensures few { self.old.lagging.sound1 ≤ 1 }
     {
-        self.sound1.level(self.clock);
+        self.sound1.catch_up(self.clock);
     }
 
     /// Brings POKEY 2 to the present, by one call where it lags and by none where it stands there.
-    #[tactic(auto, using(board_base::proofs::TickLaws::level, crate::proofs::SettledLaws::brought))]
-    pub(super) fn bring_sound2(&mut self)
+    #[tactic(auto, using(board_base::proofs::TickLaws::level, crate::proofs::SettledLaws::synced))]
+    pub(super) fn sync_sound2(&mut self)
         ensures value { self.new ≡ record self.old { lagging = record self.old.lagging { sound2 = 0 }; until = self.new.until; calls = self.new.calls } }
         ensures until { self.old.until ≤ self.new.until }
         ensures calls { self.new.calls ≤ self.old.calls + self.old.lagging.sound2 }
         ensures more { self.old.calls ≤ self.new.calls }
         ensures few { self.old.lagging.sound2 ≤ 1 }
     {
-        self.sound2.level(self.clock);
+        self.sound2.catch_up(self.clock);
     }
 
     /// Brings the EAROM to the present, by one call where it lags and by none where it stands there.
-    #[tactic(auto, using(board_base::proofs::TickLaws::level, crate::proofs::SettledLaws::brought))]
-    pub(super) fn bring_cells(&mut self)
+    #[tactic(auto, using(board_base::proofs::TickLaws::level, crate::proofs::SettledLaws::synced))]
+    pub(super) fn sync_cells(&mut self)
         ensures value { self.new ≡ record self.old { lagging = record self.old.lagging { cells = 0 }; until = self.new.until; calls = self.new.calls } }
         ensures until { self.old.until ≤ self.new.until }
         ensures calls { self.new.calls ≤ self.old.calls + self.old.lagging.cells }
@@ -59,24 +59,24 @@ impl<V: VectorUnit, P: SoundUnit, C: CellUnit, D: DividerUnit> BoardBus<V, P, C,
         ensures few { self.old.lagging.cells ≤ 1 }
     {
         self.cells
-            .level(self.clock, |cells, clocks| cells.advance(clocks));
+            .catch_up(self.clock, |cells, clocks| cells.advance(clocks));
     }
 
     /// Brings the divider to the present, by one call where it lags and by none where it stands there.
-    #[tactic(auto, using(board_base::proofs::TickLaws::level, crate::proofs::DividerLaws::lines, crate::proofs::SettledLaws::brought))]
-    pub(super) fn bring_divider(&mut self)
+    #[tactic(auto, using(board_base::proofs::TickLaws::level, crate::proofs::DividerLaws::lines, crate::proofs::SettledLaws::synced))]
+    pub(super) fn sync_divider(&mut self)
         ensures value { self.new ≡ record self.old { lagging = record self.old.lagging { divider = 0 }; until = self.new.until; calls = self.new.calls } }
         ensures until { self.old.until ≤ self.new.until }
         ensures calls { self.new.calls ≤ self.old.calls + self.old.lagging.divider }
         ensures more { self.old.calls ≤ self.new.calls }
         ensures few { self.old.lagging.divider ≤ 1 }
     {
-        level_divider(&mut self.divider, self.clock);
+        catch_up_divider(&mut self.divider, self.clock);
     }
 
     /// Brings these devices to the present. One that stands there already isn't called.
     #[inline(always)]
-    pub(super) fn bring(&mut self, devices: DeviceSet)
+    pub(super) fn sync(&mut self, devices: DeviceSet)
         ensures value { self.new ≡ record self.old { lagging = with_brought devices self.old.lagging; until = self.new.until; calls = self.new.calls } }
         ensures until { self.old.until ≤ self.new.until }
         ensures calls { self.new.calls ≤ self.old.calls + lagging_among devices self.old.lagging }
@@ -84,19 +84,19 @@ impl<V: VectorUnit, P: SoundUnit, C: CellUnit, D: DividerUnit> BoardBus<V, P, C,
         ensures few { lagging_among devices self.old.lagging ≤ lagging_among devices all_lag }
     {
         if devices.vector {
-            self.bring_vector();
+            self.sync_vector();
         }
         if devices.sound1 {
-            self.bring_sound1();
+            self.sync_sound1();
         }
         if devices.sound2 {
-            self.bring_sound2();
+            self.sync_sound2();
         }
         if devices.cells {
-            self.bring_cells();
+            self.sync_cells();
         }
         if devices.divider {
-            self.bring_divider();
+            self.sync_divider();
         }
     }
 
@@ -108,14 +108,14 @@ impl<V: VectorUnit, P: SoundUnit, C: CellUnit, D: DividerUnit> BoardBus<V, P, C,
         ensures more { self.old.calls ≤ self.new.calls }
         ensures few { lagging_of self.old.lagging ≤ 5 }
     {
-        self.bring(ALL_DEVICES);
+        self.sync(ALL_DEVICES);
     }
 
     /// Whether the generator is halted.
     #[tactic(auto, using(board_base::proofs::TickLaws::level, crate::proofs::SettledLaws::settled))]
     pub fn is_halted(&self) -> bool
         requires settled { lagging_of self.now.lagging ≡ 0 }
-        ensures { result ≡ self.now.wires.vg.halted }
+        ensures { result ≡ self.now.peripherals.vg.halted }
     {
         self.vector.unit.halted()
     }
@@ -148,9 +148,9 @@ impl<V: VectorUnit, P: SoundUnit, C: CellUnit, D: DividerUnit> BoardBus<V, P, C,
     #[tactic(auto, using(board_base::proofs::TickLaws::level, crate::proofs::SettledLaws::settled))]
     pub fn state(&self, cpu: &CpuState, into: &mut BoardState)
         requires settled { lagging_of self.now.lagging ≡ 0 }
-        requires clock { self.now.wires.clock ≤ CLOCK_LIMIT + 16 }
-        requires middle { IsSome cpu.now.mid → self.now.wires.clock ≤ CLOCK_LIMIT }
-        ensures { into.new ≡ board_of cpu.now self.now.wires }
+        requires clock { self.now.peripherals.clock ≤ CLOCK_LIMIT + 16 }
+        requires middle { IsSome cpu.now.mid → self.now.peripherals.clock ≤ CLOCK_LIMIT }
+        ensures { into.new ≡ board_of cpu.now self.now.peripherals }
     {
         into.clock = self.clock;
         into.cpu = *cpu;
@@ -170,10 +170,10 @@ impl<V: VectorUnit, P: SoundUnit, C: CellUnit, D: DividerUnit> BoardBus<V, P, C,
     /// The records of each part since the last clearing.
     #[tactic(auto, using(board_base::proofs::TickLaws::level, crate::proofs::SettledLaws::settled))]
     pub fn trails(&self) -> Trails<'_>
-        ensures vector { lagging_of self.now.lagging ≡ 0 → result.vector.now.records ≡ self.now.wires.strokes }
-        ensures sound1 { lagging_of self.now.lagging ≡ 0 → result.sound1.now.records ≡ self.now.wires.levels1 }
-        ensures sound2 { lagging_of self.now.lagging ≡ 0 → result.sound2.now.records ≡ self.now.wires.levels2 }
-        ensures board { result.board.now.records ≡ self.now.wires.written }
+        ensures vector { lagging_of self.now.lagging ≡ 0 → result.vector.now.records ≡ self.now.peripherals.strokes }
+        ensures sound1 { lagging_of self.now.lagging ≡ 0 → result.sound1.now.records ≡ self.now.peripherals.levels1 }
+        ensures sound2 { lagging_of self.now.lagging ≡ 0 → result.sound2.now.records ≡ self.now.peripherals.levels2 }
+        ensures board { result.board.now.records ≡ self.now.peripherals.written }
         ensures rooms { self.now.rooms ≡ record { vector = result.vector.now.room; sound1 = result.sound1.now.room; sound2 = result.sound2.now.room; board = result.board.now.room } }
     {
         Trails {
@@ -188,7 +188,7 @@ impl<V: VectorUnit, P: SoundUnit, C: CellUnit, D: DividerUnit> BoardBus<V, P, C,
     #[tactic(auto, using(board_base::proofs::TickLaws::level, crate::proofs::SettledLaws::settled))]
     pub fn clear_trails(&mut self)
         requires settled { lagging_of self.old.lagging ≡ 0 }
-        ensures value { self.new ≡ record self.old { wires = record self.old.wires { strokes = []; levels1 = []; levels2 = []; written = [] }; until = self.new.until } }
+        ensures value { self.new ≡ record self.old { peripherals = record self.old.peripherals { strokes = []; levels1 = []; levels2 = []; written = [] }; until = self.new.until } }
     {
         self.vector.trail.clear();
         self.sound1.trail.clear();
@@ -198,12 +198,12 @@ impl<V: VectorUnit, P: SoundUnit, C: CellUnit, D: DividerUnit> BoardBus<V, P, C,
 
     /// Each trail of a device has room for the clocks of a window where it is empty. It does nothing.
     #[tactic(auto, using(crate::proofs::SettledLaws::settled))]
-    pub fn has_room(&self)
+    pub fn lemma_room(&self)
         requires settled { lagging_of self.now.lagging ≡ 0 }
-        requires strokes { self.now.wires.strokes ≡ [] }
-        requires levels1 { self.now.wires.levels1 ≡ [] }
-        requires levels2 { self.now.wires.levels2 ≡ [] }
-        ensures { self.now.wires.clock + TRAIL_ROOM ≤ self.now.until }
+        requires strokes { self.now.peripherals.strokes ≡ [] }
+        requires levels1 { self.now.peripherals.levels1 ≡ [] }
+        requires levels2 { self.now.peripherals.levels2 ≡ [] }
+        ensures { self.now.peripherals.clock + TRAIL_ROOM ≤ self.now.until }
     {
         // opens the model
         let _clock = self.clock;
@@ -212,7 +212,7 @@ impl<V: VectorUnit, P: SoundUnit, C: CellUnit, D: DividerUnit> BoardBus<V, P, C,
     #[tactic(auto, using(board_base::proofs::TickLaws::level, crate::proofs::SettledLaws::settled))]
     pub fn lemma_phase(&self)
         requires settled { lagging_of self.now.lagging ≡ 0 }
-        ensures { self.now.wires.divider.phase < DIVIDER_PERIOD }
+        ensures { self.now.peripherals.divider.phase < DIVIDER_PERIOD }
     {
         // opens the model
         let _clock = self.clock;

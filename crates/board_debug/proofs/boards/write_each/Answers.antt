@@ -2,7 +2,7 @@ use Rattle.std.proofs.Common.{refl, ap, ◌∙◌, get_or, arith}
 use Rattle.lockstep_board.specs.Order.{cleared}
 use Rattle.lockstep_board.specs.Lockstep.{Board}
 use Rattle.lockstep_board.specs.Run.{to_clock}
-use Rattle.lockstep_board.specs.Wires.{board_of}
+use Rattle.lockstep_board.specs.Peripherals.{board_of}
 use Rattle.catchup_engine.specs.EngineValue.{EngineValue}
 use Rattle.keyframes.specs.Seeking.{run_start}
 use Rattle.board_debug.proofs.BoardsLaws.{board-last, board-on}
@@ -27,7 +27,7 @@ returns-in_default-clause-taken g c =
     (board-on c.args.tape.now.entries c.args.clocks.now c.loop-clock.clock-index 0 (run_start c.args.keys.now.kept (g.M.Machine.value c.args.synced.now.machine.now).board)
     (run_start c.keep_each.new.keys.kept (g.M.Machine.value c.loop-clock.synced.machine.now).board) (g.M.Machine.value c.go_to.new.synced.machine.now).board c.state.new.into c.loop-clock-test.true c.go_to.ensures.board
     c.loop-clock.invariant.same
-    (c.state.ensures.board ∙ ap (λ (e : EngineValue). board_of e.board.cpu e.board.wires) c.machine.ensures.value))
+    (c.state.ensures.board ∙ ap (λ (e : EngineValue). board_of e.board.cpu e.board.peripherals) c.machine.ensures.value))
     c.in_default.ensures.taken c.loop-clock.invariant.text
 
 pub loop-clock-preserved : goal.loop-clock-preserved
@@ -36,7 +36,7 @@ loop-clock-preserved g c = record {
       (board-on c.args.tape.now.entries c.args.clocks.now c.loop-clock.clock-index 0 (run_start c.args.keys.now.kept (g.M.Machine.value c.args.synced.now.machine.now).board)
       (run_start c.keep_each.new.keys.kept (g.M.Machine.value c.loop-clock.synced.machine.now).board) (g.M.Machine.value c.go_to.new.synced.machine.now).board c.state.new.into c.loop-clock-test.true c.go_to.ensures.board
       c.loop-clock.invariant.same
-      (c.state.ensures.board ∙ ap (λ (e : EngineValue). board_of e.board.cpu e.board.wires) c.machine.ensures.value))
+      (c.state.ensures.board ∙ ap (λ (e : EngineValue). board_of e.board.cpu e.board.peripherals) c.machine.ensures.value))
       c.in-Ok.ensures.taken c.loop-clock.invariant.text;
   faults = c.in-Ok.ensures.cause ∙ c.loop-clock.invariant.faults;
   loan = c.go_to.ensures.loan ∙ c.loop-clock.invariant.loan;
@@ -49,7 +49,7 @@ loop-clock-preserved g c = record {
       let clock = get_or c.args.clocks.now c.loop-clock.clock-index 0 in
       let inv = c.loop-clock.invariant in
       let board = c.go_to.ensures.board ∙ ap (λ (from : Board). cleared (to_clock entries clock from)) inv.same in
-      let start = ap (λ (from : Board). from.wires.clock) inv.same in
+      let start = ap (λ (from : Board). from.peripherals.clock) inv.same in
       let free =
       reached-free entries b (g.M.Machine.value c.go_to.new.synced.machine.now).board c.keep_each.new.keys.kept clock (g.M.Machine.value c.loop-clock.synced.machine.now).done (g.M.Machine.value c.go_to.new.synced.machine.now).done
       (inv.reached room c.loop-clock.clock-index 0 c.loop-clock-test.true) board c.go_to.ensures.done
@@ -70,7 +70,7 @@ returns-in_default-clause-done g c = λ room most all.
     let clock = get_or c.args.clocks.now c.loop-clock.clock-index 0 in
     let inv = c.loop-clock.invariant in
     let board = c.go_to.ensures.board ∙ ap (λ (from : Board). cleared (to_clock entries clock from)) inv.same in
-    let start = ap (λ (from : Board). from.wires.clock) inv.same in
+    let start = ap (λ (from : Board). from.peripherals.clock) inv.same in
     let free =
     reached-free entries b (g.M.Machine.value c.go_to.new.synced.machine.now).board c.keep_each.new.keys.kept clock (g.M.Machine.value c.loop-clock.synced.machine.now).done (g.M.Machine.value c.go_to.new.synced.machine.now).done
     (inv.reached room c.loop-clock.clock-index 0 c.loop-clock-test.true) board c.go_to.ensures.done

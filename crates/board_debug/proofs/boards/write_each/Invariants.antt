@@ -14,8 +14,8 @@ invariant-loop-clock g l = record {
   loan : l.synced.machine.ghost_name ≡ l.fn.synced.machine.ghost_name;
   same : run_start l.keys.kept (g.M.Machine.value l.synced.machine.now).board ≡ run_start l.fn.keys.kept (g.M.Machine.value l.fn.synced.machine.now).board;
   along : Along l.keys.kept l.fn.tape.entries (run_start l.keys.kept (g.M.Machine.value l.synced.machine.now).board);
-  reached : HasRoom l.fn.keys (length l.fn.clocks) → All (λ clock. (run_start l.fn.keys.kept (g.M.Machine.value l.fn.synced.machine.now).board).wires.clock ≤ clock
+  reached : HasRoom l.fn.keys (length l.fn.clocks) → All (λ clock. (run_start l.fn.keys.kept (g.M.Machine.value l.fn.synced.machine.now).board).peripherals.clock ≤ clock
       → IsReached l.fn.tape.entries (run_start l.fn.keys.kept (g.M.Machine.value l.fn.synced.machine.now).board) l.keys.kept clock) l.fn.clocks;
   done : HasRoom l.fn.keys (length l.fn.clocks) → (most : ℕ) → All (λ clock. clock ≤ most) l.fn.clocks
-      → (g.M.Machine.value l.synced.machine.now).done ≤ (g.M.Machine.value l.fn.synced.machine.now).done + (most - (run_start l.fn.keys.kept (g.M.Machine.value l.fn.synced.machine.now).board).wires.clock);
+      → (g.M.Machine.value l.synced.machine.now).done ≤ (g.M.Machine.value l.fn.synced.machine.now).done + (most - (run_start l.fn.keys.kept (g.M.Machine.value l.fn.synced.machine.now).board).peripherals.clock);
 }

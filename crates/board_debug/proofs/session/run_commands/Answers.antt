@@ -1,6 +1,6 @@
 use Rattle.std.proofs.Common.{◌+◌, get_or, drop, refl, sym, ap, subst, ◌∙◌}
 use Rattle.debug_script.specs.declared.command.Command.TheVariants.{Break}
-use Rattle.debug_script.specs.Stops.{Fit, StopsValue}
+use Rattle.debug_script.specs.Breakpoints.{Fit, StopsValue}
 use Rattle.board_debug.specs.Session.{session_board, session_text}
 use Rattle.board_debug.proofs.ListingLaws.{none-taken, piece-cut, piece-taken, whole-taken}
 use Rattle.board_debug.proofs.SessionLaws.{board-last, board-on, fit-now, text-last, text-now, text-on}

@@ -1,5 +1,5 @@
 use Rattle.std.proofs.Common.{◌≡◌, drop}
-use Rattle.debug_script.specs.Stops.{Fit, no_stops}
+use Rattle.debug_script.specs.Breakpoints.{Fit, no_stops}
 use Rattle.board_debug.specs.Session.{session_board, session_text}
 use Rattle.board_debug.proofs.ListingLaws.{TakenUpTo}
 use Rattle.board_debug.proofs.session.run_commands.Given as goal

@@ -9,4 +9,4 @@ invariant-turns g l = record {
 }
 
 abbrev pub decreases-turns : goal.decreases-turns
-decreases-turns g l = l.end - (g.M.Machine.value l.synced.machine.now).board.wires.clock
+decreases-turns g l = l.end - (g.M.Machine.value l.synced.machine.now).board.peripherals.clock

@@ -12,4 +12,4 @@ invariant-windows g l = record {
 }
 
 abbrev pub decreases-windows : goal.decreases-windows
-decreases-windows g l = l.end - (g.M.Machine.value l.synced.machine.now).board.wires.clock
+decreases-windows g l = l.end - (g.M.Machine.value l.synced.machine.now).board.peripherals.clock

@@ -8,19 +8,19 @@ use Rattle.board_stretch.proofs.watching.watch_within.Goals as goal
 pub windows-init : goal.windows-init
 windows-init g c = record {
   same = refl;
-  kept = keeps-start g.W.Watch.can_take g.W.Watch.tells g.W.Watch.next c.args.room _ _ _ _ c.requires.room c.in_ok-told.ensures;
+  kept = keeps-start g.W.RecordObserver.can_take g.W.RecordObserver.tells g.W.RecordObserver.next c.args.room _ _ _ _ c.requires.room c.in_ok-told.ensures;
 }
 
 pub window-requires-clause-room : goal.window-requires-clause-room
 window-requires-clause-room g c =
-    keeps-room _ _ _ g.met.W.Watch.in_parts c.args.tape.now.entries c.args.until _ _ (g.M.Machine.value c.windows.synced.machine.now).board _ _ _
+    keeps-room _ _ _ g.met.W.RecordObserver.in_parts c.args.tape.now.entries c.args.until _ _ (g.M.Machine.value c.windows.synced.machine.now).board _ _ _
     c.windows.invariant.kept c.windows.synced.is_synced.placed c.windows.synced.is_synced.empty
 
 pub windows-preserved : goal.windows-preserved
 windows-preserved g c = record {
   same = c.window.ensures.same ∙ c.windows.invariant.same;
   kept =
-      keeps-window _ _ _ g.met.W.Watch.in_parts c.args.tape.now.entries c.args.until _ _ (g.M.Machine.value c.windows.synced.machine.now).board _ _ _
+      keeps-window _ _ _ g.met.W.RecordObserver.in_parts c.args.tape.now.entries c.args.until _ _ (g.M.Machine.value c.windows.synced.machine.now).board _ _ _
       c.windows.invariant.kept c.windows.synced.is_synced.placed c.windows.synced.is_synced.empty (g.M.Machine.value c.window.new.self.machine.now).board _ _ _ _
       c.window.ensures.board c.in-Ok.ensures.next c.clear.ensures (ap Some c.bytes.ensures ∙ c.in-Ok.ensures.taken)
       (λ room text before. ok-holds _ _ _ c.in_ok-take.was (c.take.ensures room text before));

@@ -2,7 +2,7 @@ use Rattle.std.proofs.Common.{◌+◌, ◌-◌, ap, ◌∙◌, arith}
 use Rattle.cpu_core.specs.Course.{read_of}
 use Rattle.catchup_engine.specs.Notes.{with_reached}
 use Rattle.catchup_engine.specs.Trace.{access_at}
-use Rattle.catchup_engine.proofs.CalmLaws.{passed-keeps}
+use Rattle.catchup_engine.proofs.HorizonLaws.{passed-keeps}
 use Rattle.catchup_engine.proofs.NotedSteps.{noted-read}
 use Rattle.catchup_engine.proofs.QuietLaws.{counted-more, told-begun}
 use Rattle.catchup_engine.proofs.noted.read_noted.Goals as goal
@@ -16,7 +16,7 @@ pass-requires-clause-room g c = (counted-more c.args._tape.now c.args.made c.arg
 pub overflow_sub-access : goal.overflow_sub-access
 overflow_sub-access g c =
     let begun = told-begun c.args.made c.args.bus.now c.pass.new.self c.pass.ensures.value in
-    let same = ap (λ b. b.wires.clock) c.byte_by-value.ensures.does.value in
+    let same = ap (λ b. b.peripherals.clock) c.byte_by-value.ensures.does.value in
     let is = c.clock.ensures.value in
     omega (arith, begun, same, is)
 

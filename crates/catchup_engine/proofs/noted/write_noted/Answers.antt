@@ -2,7 +2,7 @@ use Rattle.std.proofs.Common.{◌+◌, ◌-◌, ap, ◌∙◌, arith}
 use Rattle.cpu_core.specs.Course.{write_of}
 use Rattle.catchup_engine.specs.Notes.{with_reached}
 use Rattle.catchup_engine.specs.Trace.{access_at}
-use Rattle.catchup_engine.proofs.CalmLaws.{passed-keeps}
+use Rattle.catchup_engine.proofs.HorizonLaws.{passed-keeps}
 use Rattle.catchup_engine.proofs.NotedSteps.{noted-written}
 use Rattle.catchup_engine.proofs.QuietLaws.{counted-more, told-begun, told-room}
 use Rattle.catchup_engine.proofs.noted.write_noted.Goals as goal
@@ -22,7 +22,7 @@ put_by-requires-clause-begun g c = told-begun c.args.made c.args.bus.now c.pass.
 pub overflow_sub-access : goal.overflow_sub-access
 overflow_sub-access g c =
     let begun = told-begun c.args.made c.args.bus.now c.pass.new.self c.pass.ensures.value in
-    let same = ap (λ b. b.wires.clock) c.put_by.ensures.does.value in
+    let same = ap (λ b. b.peripherals.clock) c.put_by.ensures.does.value in
     let is = c.clock.ensures.value in
     omega (arith, begun, same, is)
 

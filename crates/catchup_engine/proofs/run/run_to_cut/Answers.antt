@@ -13,13 +13,13 @@ loop-bus-init g c = record {
 
 -- a turn that isn't to go past the cut
 turned : (g : Given.Over) (c : goal.Else-is_none g)
-    → AtCut c.args.tape.now.entries c.args.cut c.args.wrap c.args.cpu c.args.bus.now c.turn_slowly-cpu.new.bus c.turn_slowly-cpu.result
+    → AtCut c.args.tape.now.entries c.args.cut c.args.wrap c.args.cpu c.args.bus.now c.step_slow-cpu.new.bus c.step_slow-cpu.result
 turned g c =
     let open_yet : is_cut c.args.cut c.args.wrap (over_bus c.loop-bus.cpu c.loop-bus.bus) ≡ false = sym c.is_stopped.ensures ∙ c.loop-bus-test.true in
     let here = c.clock.ensures.value in
     let within = c.clocks_to-clocks.ensures.within in
-    cut-goes_on c.args.tape.now.entries c.args.cut c.args.wrap c.clocks_to-clocks.result c.args.cpu c.args.bus.now c.loop-bus.bus c.turn_slowly-cpu.new.bus c.loop-bus.cpu
-    c.turn_slowly-cpu.result c.requires.cut c.loop-bus.invariant.at open_yet (omega arith) (rw here at c.clocks_to-clocks.ensures.all) c.turn_slowly-cpu.ensures.turned
+    cut-goes_on c.args.tape.now.entries c.args.cut c.args.wrap c.clocks_to-clocks.result c.args.cpu c.args.bus.now c.loop-bus.bus c.step_slow-cpu.new.bus c.loop-bus.cpu
+    c.step_slow-cpu.result c.requires.cut c.loop-bus.invariant.at open_yet (omega arith) (rw here at c.clocks_to-clocks.ensures.all) c.step_slow-cpu.ensures.turned
 
 pub loop-bus-preserved-then-is_none : goal.loop-bus-preserved-then-is_none
 loop-bus-preserved-then-is_none g c =
@@ -27,17 +27,17 @@ loop-bus-preserved-then-is_none g c =
     let here = c.clock.ensures.value in
     let within = c.clocks_to-clocks.ensures.within in
     let at =
-    cut-goes_on c.args.tape.now.entries c.args.cut c.args.wrap c.clocks_to-clocks.result c.args.cpu c.args.bus.now c.loop-bus.bus c.turn_slowly-cpu.new.bus c.loop-bus.cpu
-    c.turn_slowly-cpu.result c.requires.cut c.loop-bus.invariant.at open_yet (omega arith) (rw here at c.clocks_to-clocks.ensures.all) c.turn_slowly-cpu.ensures.turned in
+    cut-goes_on c.args.tape.now.entries c.args.cut c.args.wrap c.clocks_to-clocks.result c.args.cpu c.args.bus.now c.loop-bus.bus c.step_slow-cpu.new.bus c.loop-bus.cpu
+    c.step_slow-cpu.result c.requires.cut c.loop-bus.invariant.at open_yet (omega arith) (rw here at c.clocks_to-clocks.ensures.all) c.step_slow-cpu.ensures.turned in
     record {
       at =
-          cut-turns c.args.tape.now.entries c.args.cut c.args.wrap c.min-near.result c.args.cpu c.args.bus.now c.turn_slowly-cpu.new.bus c.run_turns-cpu.new.bus
-          c.turn_slowly-cpu.result c.run_turns-cpu.result (c.min-near.ensures ∙ ap (min c.args.wrap) c.saturating_sub.ensures) at c.run_turns-cpu.ensures.runs;
+          cut-turns c.args.tape.now.entries c.args.cut c.args.wrap c.min-near.result c.args.cpu c.args.bus.now c.step_slow-cpu.new.bus c.run_turns-cpu.new.bus
+          c.step_slow-cpu.result c.run_turns-cpu.result (c.min-near.ensures ∙ ap (min c.args.wrap) c.saturating_sub.ensures) at c.run_turns-cpu.ensures.runs;
       fits = c.run_turns-cpu.ensures.fits;
     }
 
 pub loop-bus-preserved : goal.loop-bus-preserved
-loop-bus-preserved g c = record { at = turned g c; fits = c.turn_slowly-cpu.ensures.fits }
+loop-bus-preserved g c = record { at = turned g c; fits = c.step_slow-cpu.ensures.fits }
 
 pub returns : goal.returns
 returns g c = record {

@@ -10,4 +10,4 @@ invariant-loop-bus g l = record {
 }
 
 abbrev pub decreases-loop-bus : goal.decreases-loop-bus
-decreases-loop-bus g l = l.cut - l.bus.wires.clock
+decreases-loop-bus g l = l.cut - l.bus.peripherals.clock

@@ -17,12 +17,12 @@ loop-cpu-preserved g c =
     sym c.is_at_break.ensures ∙ c.loop-cpu-test.true in
     record {
       on =
-          turns-join c.args.tape.now.entries c.args.limit (g.B.Breaks.addresses c.args.breaks.now) c.args.cpu c.args.bus.now c.turn_slowly-cpu.new.bus c.run_quietly-cpu.new.bus
-          c.turn_slowly-cpu.result c.run_quietly-cpu.result
-          (turns-go_on c.args.tape.now.entries c.args.limit (g.B.Breaks.addresses c.args.breaks.now) c.args.cpu c.args.bus.now c.loop-cpu.bus c.turn_slowly-cpu.new.bus c.loop-cpu.cpu
-          c.turn_slowly-cpu.result c.requires.limit c.loop-cpu.invariant.on open_yet c.turn_slowly-cpu.ensures.turned)
-          c.run_quietly-cpu.ensures.runs.on;
-      fits = c.run_quietly-cpu.ensures.fits;
+          turns-join c.args.tape.now.entries c.args.limit (g.B.Breaks.addresses c.args.breaks.now) c.args.cpu c.args.bus.now c.step_slow-cpu.new.bus c.run_fast-cpu.new.bus
+          c.step_slow-cpu.result c.run_fast-cpu.result
+          (turns-go_on c.args.tape.now.entries c.args.limit (g.B.Breaks.addresses c.args.breaks.now) c.args.cpu c.args.bus.now c.loop-cpu.bus c.step_slow-cpu.new.bus c.loop-cpu.cpu
+          c.step_slow-cpu.result c.requires.limit c.loop-cpu.invariant.on open_yet c.step_slow-cpu.ensures.turned)
+          c.run_fast-cpu.ensures.runs.on;
+      fits = c.run_fast-cpu.ensures.fits;
     }
 
 pub returns : goal.returns

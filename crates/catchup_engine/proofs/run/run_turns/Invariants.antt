@@ -10,4 +10,4 @@ invariant-loop-cpu g l = record {
 }
 
 abbrev pub decreases-loop-cpu : goal.decreases-loop-cpu
-decreases-loop-cpu g l = l.limit - l.bus.wires.clock
+decreases-loop-cpu g l = l.limit - l.bus.peripherals.clock

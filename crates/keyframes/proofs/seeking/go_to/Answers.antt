@@ -34,7 +34,7 @@ pub returns-clause-done : goal.returns-clause-done
 returns-clause-done g c = λ k d h low.
     let found = c.start_index-nearest.ensures in
     let most = greatest c.args.keys.now.kept c.args.clock c.start_index-nearest.result found.rising found.within found.nearest found.first k d h low in
-    let from = ap (λ (b : Board). b.wires.clock) (c.load_kept.ensures.board d) in
+    let from = ap (λ (b : Board). b.peripherals.clock) (c.load_kept.ensures.board d) in
     let same = c.load_kept.ensures.done in
     let rose = c.run_on.ensures.done in
     omega (arith, most, from, same, rose)
@@ -48,7 +48,7 @@ returns-clause-before g c = λ before.
     let later = not-before-first kept c.args.clock c.start_index-nearest.result found.rising found.within found.nearest found.first d in
     let stays = before-first kept c.args.tape.now.entries (run_start kept e) (g.M.Machine.value c.run_on.new.synced.machine.now).board c.args.clock d c.requires.along
     (returns-clause-board g c) before in
-    let from = ap (λ (b : Board). b.wires.clock) (c.load_kept.ensures.board d) in
+    let from = ap (λ (b : Board). b.peripherals.clock) (c.load_kept.ensures.board d) in
     let same = c.load_kept.ensures.done in
     let rose = c.run_on.ensures.done in
     omega (arith, later, stays, from, same, rose)

@@ -4,7 +4,7 @@ use Rattle.cpu_core.specs.Places.{IsMiddle}
 use Rattle.cpu_table.specs.Opcodes.{row_of}
 use Rattle.keyframes.proofs.AddLaws.{adds-board}
 use Rattle.catchup_engine.specs.EngineValue.{EngineValue}
-use Rattle.lockstep_board.specs.Wires.{board_of}
+use Rattle.lockstep_board.specs.Peripherals.{board_of}
 use Rattle.keyframes.proofs.SeekLaws.{along-kept, last-clock, start-kept}
 use Rattle.keyframes.proofs.seeking.keep_board.Goals as goal
 
@@ -28,18 +28,18 @@ returns-then-last-clock-clause-along g c = λ entries b along on_run.
     (record {
       undocumented = subst (λ (b : BoardValue). IfSome b.cpu.jam (λ o. row_of o ≡ None)) (sym c.state.ensures.board) c.state.ensures.undocumented;
       place = subst (λ (b : BoardValue). IfSome b.cpu.mid (λ _. IsMiddle b.cpu)) (sym c.state.ensures.board) c.state.ensures.place;
-    }) (c.state.ensures.board ∙ ap (λ (e : EngineValue). board_of e.board.cpu e.board.wires) c.machine-machine.ensures.value) on_run along
+    }) (c.state.ensures.board ∙ ap (λ (e : EngineValue). board_of e.board.cpu e.board.peripherals) c.machine-machine.ensures.value) on_run along
 
 pub returns-then-last-clock-clause-roomy : goal.returns-then-last-clock-clause-roomy
 returns-then-last-clock-clause-roomy g c = λ roomy.
     inl (adds-board c.args.keys.now c.keep.ensures.0 c.keep.new.self c.state.new.into (g.M.Machine.value c.args.synced.now.machine.now).board
     c.keep.ensures.1 c.keep.ensures.2
-    (c.state.ensures.board ∙ ap (λ (e : EngineValue). board_of e.board.cpu e.board.wires) c.machine-machine.ensures.value) roomy)
+    (c.state.ensures.board ∙ ap (λ (e : EngineValue). board_of e.board.cpu e.board.peripherals) c.machine-machine.ensures.value) roomy)
 
 pub returns-else-last-clock-clause-roomy : goal.returns-else-last-clock-clause-roomy
 returns-else-last-clock-clause-roomy g c = λ roomy.
     inr (
       refl,
-      last-clock (λ n. (g.M.Machine.value c.args.synced.now.machine.now).board.wires.clock ≤ n) c.args.keys.now.kept c.len.result c.clock_of-last.result c.len.ensures
-          c.clock_of-last.ensures (omega (arith, c.if-last-clock.false, c.clock.ensures, ap (λ (e : EngineValue). e.board.wires.clock) c.machine-machine.ensures.value)),
+      last-clock (λ n. (g.M.Machine.value c.args.synced.now.machine.now).board.peripherals.clock ≤ n) c.args.keys.now.kept c.len.result c.clock_of-last.result c.len.ensures
+          c.clock_of-last.ensures (omega (arith, c.if-last-clock.false, c.clock.ensures, ap (λ (e : EngineValue). e.board.peripherals.clock) c.machine-machine.ensures.value)),
     )

@@ -13,5 +13,5 @@ returns-clause-done g c =
     let before = (g.M.Machine.value c.args.synced.now.machine.now).board in
     let done = c.window.ensures.done in
     let later = stepped-clock c.args.tape.now.entries (cut_steps c.args.tape.now.entries c.args.clock (wrap_of before) before) before in
-    let clock = ap (λ (b : Board). b.wires.clock) c.window.ensures.board in
+    let clock = ap (λ (b : Board). b.peripherals.clock) c.window.ensures.board in
     omega (arith, done, later, clock)

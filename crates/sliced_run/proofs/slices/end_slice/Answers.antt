@@ -16,7 +16,7 @@ returns-in_default-clause-stopped g c =
     let lines = slice_text c.args.tape.now.entries (Boundary c.args.limit) (g.M.Machine.value c.args.synced.now.machine.now).board in
     let ending = ending_text c.args.cost (g.M.Machine.value c.run_slice.new.synced.machine.now).calls last in
     let board = storing (option_map (λ name. name.now) c.args.save) (saved_bytes last) in
-    let cells = storing (option_map (λ name. name.now) c.args.earom) last.wires.earom.cells in
+    let cells = storing (option_map (λ name. name.now) c.args.earom) last.peripherals.earom.cells in
     let out0 = g.O.Sink.taken c.args.out.now in
     let out1 = g.O.Sink.taken c.run_slice.new.out in
     let stores0 = g.S.Shelf.stores c.args.shelf.now in
@@ -30,7 +30,7 @@ returns-in_default-write_ending-clause-stopped g c =
     let lines = slice_text c.args.tape.now.entries (Boundary c.args.limit) (g.M.Machine.value c.args.synced.now.machine.now).board in
     let ending = ending_text c.args.cost (g.M.Machine.value c.run_slice.new.synced.machine.now).calls last in
     let board = storing (option_map (λ name. name.now) c.args.save) (saved_bytes last) in
-    let cells = storing (option_map (λ name. name.now) c.args.earom) last.wires.earom.cells in
+    let cells = storing (option_map (λ name. name.now) c.args.earom) last.peripherals.earom.cells in
     let out0 = g.O.Sink.taken c.args.out.now in
     let out1 = g.O.Sink.taken c.run_slice.new.out in
     let out2 = g.O.Sink.taken c.write_ending.new.out in
@@ -49,7 +49,7 @@ returns-in_default-store_under-clause-stopped g c =
     let lines = slice_text c.args.tape.now.entries (Boundary c.args.limit) (g.M.Machine.value c.args.synced.now.machine.now).board in
     let ending = ending_text c.args.cost (g.M.Machine.value c.run_slice.new.synced.machine.now).calls last in
     let board = storing (option_map (λ name. name.now) c.args.save) (saved_bytes last) in
-    let cells = storing (option_map (λ name. name.now) c.args.earom) last.wires.earom.cells in
+    let cells = storing (option_map (λ name. name.now) c.args.earom) last.peripherals.earom.cells in
     let out0 = g.O.Sink.taken c.args.out.now in
     let out1 = g.O.Sink.taken c.run_slice.new.out in
     let out2 = g.O.Sink.taken c.write_ending.new.out in
@@ -70,7 +70,7 @@ returns-in_default-store_under-2-clause-stopped g c =
     let lines = slice_text c.args.tape.now.entries (Boundary c.args.limit) (g.M.Machine.value c.args.synced.now.machine.now).board in
     let ending = ending_text c.args.cost (g.M.Machine.value c.run_slice.new.synced.machine.now).calls last in
     let board = storing (option_map (λ name. name.now) c.args.save) (saved_bytes last) in
-    let cells = storing (option_map (λ name. name.now) c.args.earom) last.wires.earom.cells in
+    let cells = storing (option_map (λ name. name.now) c.args.earom) last.peripherals.earom.cells in
     let out0 = g.O.Sink.taken c.args.out.now in
     let out1 = g.O.Sink.taken c.run_slice.new.out in
     let out2 = g.O.Sink.taken c.write_ending.new.out in
@@ -95,7 +95,7 @@ returns-clause-done g c =
     let lines = slice_text c.args.tape.now.entries (Boundary c.args.limit) (g.M.Machine.value c.args.synced.now.machine.now).board in
     let ending = ending_text c.args.cost (g.M.Machine.value c.run_slice.new.synced.machine.now).calls last in
     let board = storing (option_map (λ name. name.now) c.args.save) (saved_bytes last) in
-    let cells = storing (option_map (λ name. name.now) c.args.earom) last.wires.earom.cells in
+    let cells = storing (option_map (λ name. name.now) c.args.earom) last.peripherals.earom.cells in
     let out0 = g.O.Sink.taken c.args.out.now in
     let out1 = g.O.Sink.taken c.run_slice.new.out in
     let out2 = g.O.Sink.taken c.write_ending.new.out in
@@ -112,7 +112,7 @@ returns-clause-done g c =
     (did-sending ending out1 out2 stores0 stores0 (rw text at c.in-Ok-write_ending.ensures.taken) refl)
     (did-then board cells out2 out2 out2 stores0 stores1 stores2
     (did-storing (option_map (λ name. name.now) c.args.save) (saved_bytes last) c.of.result.bytes out2 out2 stores0 stores1 held refl c.in-Ok-store_under.ensures.stored)
-    (did-storing (option_map (λ name. name.now) c.args.earom) last.wires.earom.cells c.cells_of.result out2 out2 stores1 stores2 held_cells refl c.in-Ok-store_under-2.ensures.stored)))
+    (did-storing (option_map (λ name. name.now) c.args.earom) last.peripherals.earom.cells c.cells_of.result out2 out2 stores1 stores2 held_cells refl c.in-Ok-store_under-2.ensures.stored)))
 
 pub returns-clause-board : goal.returns-clause-board
 returns-clause-board g c = at-end c.args.tape.now.entries c.args.limit (g.M.Machine.value c.args.synced.now.machine.now).board (g.M.Machine.value c.run_slice.new.synced.machine.now).board c.in-Ok.ensures.board

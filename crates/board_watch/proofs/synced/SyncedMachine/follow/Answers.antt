@@ -13,7 +13,7 @@ parts-init g c = record {
 pub returns-in_default-clause-taken : goal.returns-in_default-clause-taken
 returns-in_default-clause-taken g c =
     let p = c.in_default.ensures.part in
-    cut-part _ _ _ _ _ _ _ _ g.met.F.Follow.in_parts c.args.tape.now.entries c.args.limit _ (g.M.Machine.value c.parts.self.machine.now).board p.0 _ _ p.1 _ _ _ _ _
+    cut-part _ _ _ _ _ _ _ _ g.met.F.TurnObserver.in_parts c.args.tape.now.entries c.args.limit _ (g.M.Machine.value c.parts.self.machine.now).board p.0 _ _ p.1 _ _ _ _ _
     c.parts.invariant.followed c.parts.self.is_synced.placed c.parts.self.is_synced.empty p.2 p.3
 
 pub parts-smaller : goal.parts-smaller
@@ -28,7 +28,7 @@ parts-preserved g c =
     record {
       same = c.part.ensures.same ∙ c.parts.invariant.same;
       followed =
-          followed-part _ _ _ _ _ _ _ _ g.met.F.Follow.in_parts c.args.tape.now.entries c.args.limit _ (g.M.Machine.value c.parts.self.machine.now).board p.0 (g.M.Machine.value c.part.new.self.machine.now).board
+          followed-part _ _ _ _ _ _ _ _ g.met.F.TurnObserver.in_parts c.args.tape.now.entries c.args.limit _ (g.M.Machine.value c.parts.self.machine.now).board p.0 (g.M.Machine.value c.part.new.self.machine.now).board
           _ _ p.1 c.part.new.follower _ _ _ _ _ _ c.parts.invariant.followed c.parts.self.is_synced.placed c.parts.self.is_synced.empty p.2 p.5 p.4 p.3 c.in-Ok.ensures.cause;
     }
 
@@ -37,10 +37,10 @@ returns-in_default-stop g c =
     let p = c.in-Ok.ensures.part in
     let there = (g.M.Machine.value c.part.new.self.machine.now).board in
     let followed =
-    followed-part _ _ _ _ _ _ _ _ g.met.F.Follow.in_parts c.args.tape.now.entries c.args.limit _ (g.M.Machine.value c.parts.self.machine.now).board p.0 there
+    followed-part _ _ _ _ _ _ _ _ g.met.F.TurnObserver.in_parts c.args.tape.now.entries c.args.limit _ (g.M.Machine.value c.parts.self.machine.now).board p.0 there
     _ _ p.1 c.part.new.follower _ _ _ _ _ _ c.parts.invariant.followed c.parts.self.is_synced.placed c.parts.self.is_synced.empty p.2 p.5 p.4 p.3 c.in-Ok.ensures.cause in
     let over = over-stop c.args.limit there c.part.ensures.boundary (λ w. c.in_default-stop.not-Window (c.in-Ok.ensures.stop ∙ w)) in
-    let all = followed-over _ _ _ g.met.F.Follow.stands_still c.args.tape.now.entries c.args.limit _ there _ c.part.new.follower _ _ _ _ followed over in
+    let all = followed-over _ _ _ g.met.F.TurnObserver.stands_still c.args.tape.now.entries c.args.limit _ there _ c.part.new.follower _ _ _ _ followed over in
     record {
       same = c.part.ensures.same ∙ c.parts.invariant.same;
       taken = all.0;

@@ -7,19 +7,19 @@ use Rattle.board_watch.proofs.synced.SyncedMachine.watch.Goals as goal
 pub windows-init : goal.windows-init
 windows-init g c = record {
   same = refl;
-  watched = watched-start g.W.Watch.can_take g.W.Watch.tells g.W.Watch.next _ _ _ _ _ c.requires.room;
+  watched = watched-start g.W.RecordObserver.can_take g.W.RecordObserver.tells g.W.RecordObserver.next _ _ _ _ _ c.requires.room;
   paid = omega arith;
   more = omega arith;
 }
 
 pub window-requires-clause-room : goal.window-requires-clause-room
 window-requires-clause-room g c =
-    room-window _ _ _ g.met.W.Watch.in_parts c.args.tape.now.entries c.args.until _ (g.M.Machine.value c.windows.self.machine.now).board _ _ _ _ _ _
+    room-window _ _ _ g.met.W.RecordObserver.in_parts c.args.tape.now.entries c.args.until _ (g.M.Machine.value c.windows.self.machine.now).board _ _ _ _ _ _
     c.windows.invariant.watched c.windows.self.is_synced.placed c.windows.self.is_synced.empty
 
 pub returns-in_default-clause-taken : goal.returns-in_default-clause-taken
 returns-in_default-clause-taken g c =
-    cut-window _ _ _ g.met.W.Watch.in_parts c.args.tape.now.entries c.args.until _ (g.M.Machine.value c.windows.self.machine.now).board _ _ _ _ _ _
+    cut-window _ _ _ g.met.W.RecordObserver.in_parts c.args.tape.now.entries c.args.until _ (g.M.Machine.value c.windows.self.machine.now).board _ _ _ _ _ _
     c.windows.invariant.watched c.windows.self.is_synced.placed c.windows.self.is_synced.empty _ c.in_default.ensures.taken
 
 pub returns-in_default-clause-calls : goal.returns-in_default-clause-calls
@@ -40,7 +40,7 @@ windows-preserved g c =
     record {
       same = c.window.ensures.same ∙ c.windows.invariant.same;
       watched =
-          watched-window _ _ _ g.met.W.Watch.in_parts c.args.tape.now.entries c.args.until _ (g.M.Machine.value c.windows.self.machine.now).board _ _ _ _ _ _
+          watched-window _ _ _ g.met.W.RecordObserver.in_parts c.args.tape.now.entries c.args.until _ (g.M.Machine.value c.windows.self.machine.now).board _ _ _ _ _ _
           c.windows.invariant.watched c.windows.self.is_synced.placed c.windows.self.is_synced.empty (g.M.Machine.value c.window.new.self.machine.now).board _ _ _
           c.window.ensures.board c.in-Ok.ensures.next c.in-Ok.ensures.taken c.in-Ok.ensures.cause;
       paid = omega arith;

@@ -6,7 +6,7 @@ use Rattle.board_watch.proofs.synced.SyncedMachine.watch.Given as goal
 abbrev pub invariant-windows : goal.invariant-windows
 invariant-windows g l = record {
   same : l.self.machine.ghost_name ≡ l.fn.self.machine.ghost_name;
-  watched : Watched g.W.Watch.can_take g.W.Watch.tells g.W.Watch.next (g.M.Machine.value l.self.machine.now).board.wires.clock (end_of l.tape.entries l.fn.until (g.M.Machine.value l.fn.self.machine.now).board)
+  watched : Watched g.W.RecordObserver.can_take g.W.RecordObserver.tells g.W.RecordObserver.next (g.M.Machine.value l.self.machine.now).board.peripherals.clock (end_of l.tape.entries l.fn.until (g.M.Machine.value l.fn.self.machine.now).board)
       (end_of l.tape.entries l.fn.until (g.M.Machine.value l.self.machine.now).board) l.fn.watcher l.watcher (g.O.Sink.taken l.fn.out) (g.O.Sink.taken l.out)
       (g.O.Sink.faults l.fn.out) (g.O.Sink.faults l.out);
   paid : (g.M.Machine.value l.self.machine.now).calls + price_to l.tape.entries l.fn.until (g.M.Machine.value l.self.machine.now).board
@@ -15,4 +15,4 @@ invariant-windows g l = record {
 }
 
 abbrev pub decreases-windows : goal.decreases-windows
-decreases-windows g l = clock_in l.fn.until - (g.M.Machine.value l.self.machine.now).board.wires.clock
+decreases-windows g l = clock_in l.fn.until - (g.M.Machine.value l.self.machine.now).board.peripherals.clock

@@ -2,7 +2,7 @@ use Rattle.std.proofs.Common.{◌+◌, ◌-◌, length, ap, refl, arith}
 use Rattle.cpu_core.specs.Course.{read_of}
 use Rattle.catchup_engine.specs.Quiet.{passed}
 use Rattle.catchup_engine.specs.Trace.{access_at}
-use Rattle.catchup_engine.proofs.CalmLaws.{keeps-refl}
+use Rattle.catchup_engine.proofs.HorizonLaws.{keeps-refl}
 use Rattle.catchup_engine.proofs.NotedSteps.{plain-reached, program-plain, ram-plain, reached-most}
 use Rattle.catchup_engine.proofs.QuietLaws.{program-reads, ram-reads}
 use Rattle.catchup_engine.proofs.noted.NotedBusBus.read.Goals as goal
@@ -17,7 +17,7 @@ returns-then-addr-ge-PROGRAM_START g c =
     c.ranges.addr.fits c.program_at.ensures in
     let left = is.room in
     let reached =
-    plain-reached c.args.self.now.reached.now ((passed (q.made + 1) q.bus.now).wires.clock - 1) (read_of c.args.addr c.program_at.result)
+    plain-reached c.args.self.now.reached.now ((passed (q.made + 1) q.bus.now).peripherals.clock - 1) (read_of c.args.addr c.program_at.result)
     (program-plain c.args.addr c.program_at.result c.if-addr-ge-PROGRAM_START.true c.ranges.addr.fits) in
     record {
       step = (refl, refl, keeps-refl q.bus.now, record { step = is.step; reached = reached });
@@ -34,7 +34,7 @@ returns-then-addr g c =
     ram-reads c.args.tape.now q.made c.args.addr c.ram_byte.result q.bus.now c.requires.fits.0 (omega (arith, room)) c.if-addr.true c.ram_byte.ensures in
     let left = is.room in
     let reached =
-    plain-reached c.args.self.now.reached.now ((passed (q.made + 1) q.bus.now).wires.clock - 1) (read_of c.args.addr c.ram_byte.result)
+    plain-reached c.args.self.now.reached.now ((passed (q.made + 1) q.bus.now).peripherals.clock - 1) (read_of c.args.addr c.ram_byte.result)
     (ram-plain c.args.addr c.ram_byte.result c.if-addr.true) in
     record {
       step = (refl, refl, keeps-refl q.bus.now, record { step = is.step; reached = reached });
@@ -45,7 +45,7 @@ returns-then-addr g c =
 pub returns-else-addr-clause-room : goal.returns-else-addr-clause-room
 returns-else-addr-clause-room g c =
     let l = c.args.self.now.reached.now in
-    let most = reached-most l (access_at ((passed 0 c.read_noted.new.bus).wires.clock - 1) (read_of c.args.addr c.read_noted.result)) (length l) (omega arith) in
+    let most = reached-most l (access_at ((passed 0 c.read_noted.new.bus).peripherals.clock - 1) (read_of c.args.addr c.read_noted.result)) (length l) (omega arith) in
     let same = ap length c.read_noted.ensures.noted.reached in
     let room = c.read_noted.ensures.room in
     omega (arith, most, same, room)

@@ -1,4 +1,4 @@
-use Rattle.catchup_engine.proofs.CalmLaws.{passed-keeps}
+use Rattle.catchup_engine.proofs.HorizonLaws.{passed-keeps}
 use Rattle.catchup_engine.proofs.quiet.QuietBus.tell.Goals as goal
 
 pub returns-clause-lines : goal.returns-clause-lines

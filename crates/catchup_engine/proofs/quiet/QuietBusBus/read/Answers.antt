@@ -2,7 +2,7 @@ use Rattle.std.proofs.Common.{refl, ◌*◌}
 use Rattle.std.specs.Int.{from_bool}
 use Rattle.cpu_core.specs.Course.{read_of}
 use Rattle.lockstep_board.specs.Budget.{reaches_device}
-use Rattle.catchup_engine.proofs.CalmLaws.{keeps-refl, keeps-then, read-keeps}
+use Rattle.catchup_engine.proofs.HorizonLaws.{keeps-refl, keeps-then, read-keeps}
 use Rattle.catchup_engine.proofs.QuietLaws.{counted-more, device-reads, program-reads, ram-reads}
 use Rattle.catchup_engine.proofs.quiet.QuietBusBus.read.Goals as goal
 

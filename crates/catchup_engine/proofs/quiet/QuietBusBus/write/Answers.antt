@@ -2,7 +2,7 @@ use Rattle.std.proofs.Common.{refl, ◌*◌}
 use Rattle.std.specs.Int.{from_bool}
 use Rattle.cpu_core.specs.Course.{write_of}
 use Rattle.lockstep_board.specs.Budget.{reaches_device}
-use Rattle.catchup_engine.proofs.CalmLaws.{keeps-then, put-keeps, ram-keeps}
+use Rattle.catchup_engine.proofs.HorizonLaws.{keeps-then, put-keeps, ram-keeps}
 use Rattle.catchup_engine.proofs.QuietLaws.{counted-more, device-writes, ram-writes, told-begun, told-room}
 use Rattle.catchup_engine.proofs.quiet.QuietBusBus.write.Goals as goal
 

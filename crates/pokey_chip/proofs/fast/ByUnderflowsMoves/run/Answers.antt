@@ -36,7 +36,7 @@ loop-at-init c = (
 -- the loop's invariant once the underflows of a clock are done
 done : (c : goal.After-soonest-at) → IsMoved c.args.state.now c.args.from c.args.n c.soonest-at.result c.args.trail.now c.record_levels.new.trail c.after-voices.result c.reaching-noise.result c.after-tones.result (Some c.on-on.result) c.record_levels.new.last c.loop-at.at
 done c =
-    moved c.args.state.now c.args.from c.args.n c.loop-at.at c.loop-at.invariant.0 c.args.trail.now c.loop-at.trail c.loop-at.voices c.loop-at.noise c.loop-at.tones c.loop-at.heard c.loop-at.last c.loop-at.invariant.1 (omega arith) (omega arith)
+    moved c.args.state.now c.args.from c.args.n c.loop-at.at c.loop-at.invariant.0 c.args.trail.now c.loop-at.trail c.loop-at.voices c.loop-at.noise c.loop-at.tones c.loop-at.last_on c.loop-at.last c.loop-at.invariant.1 (omega arith) (omega arith)
     c.of-tuning.result c.outputs.result c.due.result c.on-on.result c.soonest-at.result c.record_levels.new.trail c.after-voices.result c.reaching-noise.result c.after-tones.result c.record_levels.new.last
     c.of-tuning.ensures c.reaching-noise.ensures.noise c.reaching-noise.ensures.since
     c.outputs.ensures.four c.outputs.ensures.five c.outputs.ensures.long
@@ -68,7 +68,7 @@ put_counts-requires-clause-fourth c =
     is-left Fourth c.loop-at.invariant.0 c.loop-at.at c.args.n c.args.state.now c.loop-at.voices.fourth c.loop-at.invariant.1.fourth c.loop-at.invariant.1.within (omega arith) c.loop-at.invariant.1.fourth_due
 
 pub returns-clause-records : goal.returns-clause-records
-returns-clause-records c = moved-records c.args.state.now c.args.from c.args.n c.loop-at.at c.loop-at.invariant.0 c.args.trail.now c.loop-at.trail c.loop-at.voices c.loop-at.noise c.loop-at.tones c.loop-at.heard c.loop-at.last c.loop-at.invariant.1 (omega arith) (omega arith)
+returns-clause-records c = moved-records c.args.state.now c.args.from c.args.n c.loop-at.at c.loop-at.invariant.0 c.args.trail.now c.loop-at.trail c.loop-at.voices c.loop-at.noise c.loop-at.tones c.loop-at.last_on c.loop-at.last c.loop-at.invariant.1 (omega arith) (omega arith)
 
 small-pot : (c : goal.After-put_counts) → c.args.state.now.pot ≤ 228
 small-pot c =
@@ -77,6 +77,6 @@ small-pot c =
 
 pub returns-clause-state : goal.returns-clause-state
 returns-clause-state c =
-    moved-state c.args.state.now c.args.from c.args.n c.loop-at.at c.loop-at.invariant.0 c.args.trail.now c.loop-at.trail c.loop-at.voices c.loop-at.noise c.loop-at.tones c.loop-at.heard c.loop-at.last c.loop-at.invariant.1 (omega arith) (omega arith)
+    moved-state c.args.state.now c.args.from c.args.n c.loop-at.at c.loop-at.invariant.0 c.args.trail.now c.loop-at.trail c.loop-at.voices c.loop-at.noise c.loop-at.tones c.loop-at.last_on c.loop-at.last c.loop-at.invariant.1 (omega arith) (omega arith)
     c.args.state.now c.put_tones.new.state c.put_counts.new.state (small-pot c) refl
     (rw c.put.ensures at c.put_tones.ensures) c.put_counts.ensures

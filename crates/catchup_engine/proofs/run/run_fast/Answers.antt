@@ -1,7 +1,7 @@
 use Rattle.std.proofs.Common.{arith, sym, ◌∙◌}
 use Rattle.catchup_engine.proofs.BreaksOn.{turns-join, turns-start}
-use Rattle.catchup_engine.proofs.CalmRuns.{goes-before, goes-on-tells, room-kept}
-use Rattle.catchup_engine.proofs.run.run_quietly.Goals as goal
+use Rattle.catchup_engine.proofs.HorizonRuns.{goes-before, goes-on-tells, room-kept}
+use Rattle.catchup_engine.proofs.run.run_fast.Goals as goal
 
 pub loop-cpu-init : goal.loop-cpu-init
 loop-cpu-init g c = record {
@@ -9,13 +9,13 @@ loop-cpu-init g c = record {
   fits = c.requires.fits;
 }
 
-pub run_calmly-cpu-requires-clause-room : goal.run_calmly-cpu-requires-clause-room
-run_calmly-cpu-requires-clause-room g c =
+pub run_to_horizon-cpu-requires-clause-room : goal.run_to_horizon-cpu-requires-clause-room
+run_to_horizon-cpu-requires-clause-room g c =
     room-kept c.args.tape.now c.args.limit (g.B.Breaks.addresses c.args.breaks.now) c.args.cpu c.loop-cpu.cpu c.args.bus.now c.loop-cpu.bus c.requires.limit c.requires.room
     c.loop-cpu.invariant.on
 
-pub run_calmly-cpu-requires-clause-goes_on : goal.run_calmly-cpu-requires-clause-goes_on
-run_calmly-cpu-requires-clause-goes_on g c =
+pub run_to_horizon-cpu-requires-clause-goes_on : goal.run_to_horizon-cpu-requires-clause-goes_on
+run_to_horizon-cpu-requires-clause-goes_on g c =
     goes-on-tells c.args.tape.now c.args.limit (g.B.Breaks.addresses c.args.breaks.now) c.loop-cpu.cpu c.loop-cpu.bus (sym c.goes_on.ensures ∙ c.loop-cpu-test.true)
 
 pub loop-cpu-smaller : goal.loop-cpu-smaller
@@ -24,13 +24,13 @@ loop-cpu-smaller g c =
     goes-on-tells c.args.tape.now c.args.limit (g.B.Breaks.addresses c.args.breaks.now) c.loop-cpu.cpu c.loop-cpu.bus (sym c.goes_on.ensures ∙ c.loop-cpu-test.true) in
     let before = goes-before c.args.tape.now c.args.limit (g.B.Breaks.addresses c.args.breaks.now) c.loop-cpu.cpu c.loop-cpu.bus goes in
     let early = before.clock in
-    let later = c.run_calmly-cpu.ensures.later in
+    let later = c.run_to_horizon-cpu.ensures.later in
     omega arith
 
 pub loop-cpu-preserved : goal.loop-cpu-preserved
 loop-cpu-preserved g c = record {
   on =
-      turns-join c.args.tape.now.entries c.args.limit (g.B.Breaks.addresses c.args.breaks.now) c.args.cpu c.args.bus.now c.loop-cpu.bus c.run_calmly-cpu.new.bus c.loop-cpu.cpu
-      c.run_calmly-cpu.result c.loop-cpu.invariant.on c.run_calmly-cpu.ensures.on;
-  fits = c.run_calmly-cpu.ensures.fits;
+      turns-join c.args.tape.now.entries c.args.limit (g.B.Breaks.addresses c.args.breaks.now) c.args.cpu c.args.bus.now c.loop-cpu.bus c.run_to_horizon-cpu.new.bus c.loop-cpu.cpu
+      c.run_to_horizon-cpu.result c.loop-cpu.invariant.on c.run_to_horizon-cpu.ensures.on;
+  fits = c.run_to_horizon-cpu.ensures.fits;
 }

@@ -1,8 +1,8 @@
 //! Boundaries at which nothing but the clock has to be looked at.
 ghost use Rattle.std.specs.Prelude.{◌≡◌, ◌-◌, ◌<◌, min};
 ghost use Rattle.board_base.specs.declared.divider.Pending.TheVariants.{Nothing};
-ghost use Rattle.catchup_engine.specs.Calm.{IsCalm};
-ghost use Rattle.lockstep_board.specs.Wires.{devices_ticked};
+ghost use Rattle.catchup_engine.specs.Horizon.{IsHorizon};
+ghost use Rattle.lockstep_board.specs.Peripherals.{devices_ticked};
 
 use crate::bus::BoardBus;
 use avg_device::VectorUnit;
@@ -13,7 +13,7 @@ use pokey_chip::SoundUnit;
 /// What is known of the boundaries up to a clock: no run ends at them, nothing comes of itself in the
 /// clocks of a sequence that begins there, and no reset is pending.
 #[derive(Clone, Copy)]
-pub(crate) struct Calm {
+pub(crate) struct Horizon {
     /// The clock before which a boundary is one of them.
     pub until: u64,
     /// Whether the interrupt line is let go in them all.
@@ -22,18 +22,18 @@ pub(crate) struct Calm {
 
 /// The boundaries from one on whose fetch reads an opcode. It is asked for once between two events.
 #[inline(never)]
-#[tactic(auto, using(crate::proofs::CalmLaws::calm))]
-pub(crate) fn calm_since<V: VectorUnit, P: SoundUnit, C: CellUnit, D: DividerUnit>(
+#[tactic(auto, using(crate::proofs::HorizonLaws::horizon))]
+pub(crate) fn horizon_from<V: VectorUnit, P: SoundUnit, C: CellUnit, D: DividerUnit>(
     bus: &BoardBus<V, P, C, D>,
     limit: u64,
-) -> Calm
-    requires quiet { bus.now.wires.clock < bus.now.event_at }
-    requires pending { (devices_ticked bus.now.wires).divider.pending ≡ Nothing }
-    ensures calm { IsCalm limit result bus.now }
+) -> Horizon
+    requires quiet { bus.now.peripherals.clock < bus.now.event_at }
+    requires pending { (devices_ticked bus.now.peripherals).divider.pending ≡ Nothing }
+    ensures horizon { IsHorizon limit result bus.now }
     ensures until { result.until ≡ min limit (bus.now.event_at - 6) }
 {
-    Calm {
+    Horizon {
         until: limit.min(bus.quiet_until()),
-        silent: bus.is_silent(),
+        silent: bus.irq_idle(),
     }
 }

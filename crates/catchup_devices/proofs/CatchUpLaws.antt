@@ -8,8 +8,8 @@ use Rattle.avg_device.proofs.ManyTicks.{vg_made-few}
 use Rattle.pokey_chip.proofs.RecordLemmas.{length-levels, levels-zero}
 use Rattle.pokey_chip.specs.Tick.{pokey_tick}
 use Rattle.pokey_chip.specs.Quiet.{AnswersEachLag}
-use Rattle.device_lanes.specs.Lags.{AsksAt}
-use Rattle.lockstep_board.specs.Wires.{has_request}
+use Rattle.catchup_devices.specs.Lags.{AsksAt}
+use Rattle.lockstep_board.specs.Peripherals.{has_request}
 
 -- a POKEY's answer is as good when it was moved
 pub asks-moved : (done to at : ℕ) (p : PokeyValue) → done ≤ to → AsksAt done at p → AsksAt to at (times pokey_tick (to - done) p)
@@ -49,13 +49,13 @@ asks-after : (done at clock : ℕ) (p : PokeyValue) → AsksAt done at p → don
     → nat_le at (clock + 1) ≡ has_request (pokey_tick (times pokey_tick (clock - done) p))
 asks-after done at clock p asks h last = not-again (nat_le at (clock + 1)) ∙ ap not (sym (request-after done at clock p asks h last))
 
--- whether it pulls the interrupt line after the next tick, where it is wired to it
-pub pulls-next : (wired : Bool) (done at clock : ℕ) (p : PokeyValue) → wired ≡ true → (wired ≡ true → AsksAt done at p) → done ≤ clock → clock < 2 ^ 49
+-- whether it asserts the interrupt line after the next tick, where it is wired to it
+pub asserts_irq-next : (wired : Bool) (done at clock : ℕ) (p : PokeyValue) → wired ≡ true → (wired ≡ true → AsksAt done at p) → done ≤ clock → clock < 2 ^ 49
     → nat_le at (clock + 1) ≡ (wired && has_request (pokey_tick (times pokey_tick (clock - done) p)))
-pulls-next true done at clock p is asks h last = asks-after done at clock p (asks refl) h last
-pulls-next false done at clock p is asks h last = cc
+asserts_irq-next true done at clock p is asks h last = asks-after done at clock p (asks refl) h last
+asserts_irq-next false done at clock p is asks h last = cc
 
-pub ruleset next_requests = pulls-next
+pub ruleset next_requests = asserts_irq-next
 
 pub ruleset generator = (level, vg_made-few)
 

@@ -3,29 +3,29 @@ ghost use Rattle.std.specs.Prelude.{◌≡◌, ◌+◌, ◌-◌, ◌^◌, ◌≤
 ghost use Rattle.board_base.specs.Counts.{Counted};
 ghost use Rattle.board_base.specs.Ticks.{made, ticks};
 ghost use Rattle.avg_device.specs.Tick.{vg_gives, vg_tick};
-ghost use Rattle.device_lanes.specs.Lags.{lags};
+ghost use Rattle.catchup_devices.specs.Lags.{lags};
 
 use avg_device::VectorUnit;
 use board_base::{CLOCK_END, Trail, VectorMemory, VgState};
 
 /// A generator that was moved up to the clock `done`, and its strokes.
 #[derive(Drop)]
-pub struct VectorLane<V: VectorUnit> {
+pub struct VectorCatchUp<V: VectorUnit> {
     pub unit: V,
     pub done: u64,
     pub trail: Trail,
 }
 
-impl<V: VectorUnit> VectorLane<V> {
+impl<V: VectorUnit> VectorCatchUp<V> {
     /// A generator in a state at a clock.
-    pub fn new(mut unit: V, state: &VgState, clock: u64, trail: Trail) -> VectorLane<V>
+    pub fn new(mut unit: V, state: &VgState, clock: u64, trail: Trail) -> VectorCatchUp<V>
         ensures done { result.done ≡ clock }
         ensures state { V.device result.unit ≡ state.now }
         ensures trail { result.trail ≡ trail }
         ensures counted { Counted (V.calls unit) (V.calls result.unit) }
     {
         unit.load(state);
-        VectorLane {
+        VectorCatchUp {
             unit,
             done: clock,
             trail,
@@ -44,8 +44,8 @@ impl<V: VectorUnit> VectorLane<V> {
     }
 
     /// Moves it up to a clock.
-    #[tactic(auto, using(crate::proofs::LaneLaws::generator))]
-    pub fn level(&mut self, memory: &VectorMemory, clock: u64)
+    #[tactic(auto, using(crate::proofs::CatchUpLaws::generator))]
+    pub fn catch_up(&mut self, memory: &VectorMemory, clock: u64)
         requires before { self.old.done ≤ clock }
         requires room { clock ≤ self.old.done + self.old.trail.spare }
         requires clocks { clock ≤ CLOCK_END }

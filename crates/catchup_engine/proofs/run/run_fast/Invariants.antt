@@ -1,7 +1,7 @@
 use Rattle.std.proofs.Common.{◌-◌}
 use Rattle.catchup_engine.specs.Bus.{Fits}
 use Rattle.catchup_engine.specs.Runs.{TurnsOn}
-use Rattle.catchup_engine.proofs.run.run_quietly.Given as goal
+use Rattle.catchup_engine.proofs.run.run_fast.Given as goal
 
 abbrev pub invariant-loop-cpu : goal.invariant-loop-cpu
 invariant-loop-cpu g l = record {
@@ -10,4 +10,4 @@ invariant-loop-cpu g l = record {
 }
 
 abbrev pub decreases-loop-cpu : goal.decreases-loop-cpu
-decreases-loop-cpu g l = l.limit - l.bus.wires.clock
+decreases-loop-cpu g l = l.limit - l.bus.peripherals.clock

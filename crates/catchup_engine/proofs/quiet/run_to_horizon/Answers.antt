@@ -4,34 +4,34 @@ use Rattle.board_base.specs.Cpu.{CpuValue}
 use Rattle.cpu_alu.specs.Flags.{is_masked}
 use Rattle.cpu_core.specs.Registers.{registers_of}
 use Rattle.lockstep_board.specs.Breaks.{is_at_any}
-use Rattle.lockstep_board.specs.Wires.{devices_ticked}
+use Rattle.lockstep_board.specs.Peripherals.{devices_ticked}
 use Rattle.catchup_engine.specs.Quiet.{passed}
 use Rattle.catchup_engine.specs.Runs.{over_bus}
-use Rattle.catchup_engine.proofs.CalmLaws.{none-pending, runs-keep}
-use Rattle.catchup_engine.proofs.CalmRuns.{and-else, and-then, calm-goes, calm-room, calm-smaller, calm-starts}
+use Rattle.catchup_engine.proofs.HorizonLaws.{none-pending, runs-keep}
+use Rattle.catchup_engine.proofs.HorizonRuns.{and-else, and-then, horizon-goes, horizon-room, horizon-smaller, horizon-starts}
 use Rattle.catchup_engine.proofs.OpcodeLaws.{reads-opcode}
 use Rattle.catchup_engine.proofs.QuietLaws.{quiet-runs}
-use Rattle.catchup_engine.proofs.quiet.run_calmly.Goals as goal
+use Rattle.catchup_engine.proofs.quiet.run_to_horizon.Goals as goal
 
-pub calm_since-calm-requires-clause-quiet : goal.calm_since-calm-requires-clause-quiet
-calm_since-calm-requires-clause-quiet g c = (reads-opcode c.args.cpu c.args.bus.now c.requires.goes_on.reads).reads.quiet
+pub horizon_from-horizon-requires-clause-quiet : goal.horizon_from-horizon-requires-clause-quiet
+horizon_from-horizon-requires-clause-quiet g c = (reads-opcode c.args.cpu c.args.bus.now c.requires.goes_on.reads).reads.quiet
 
-pub calm_since-calm-requires-clause-pending : goal.calm_since-calm-requires-clause-pending
-calm_since-calm-requires-clause-pending g c =
-    none-pending c.args.cpu (devices_ticked c.args.bus.now.wires) (reads-opcode c.args.cpu c.args.bus.now c.requires.goes_on.reads).reads.due
+pub horizon_from-horizon-requires-clause-pending : goal.horizon_from-horizon-requires-clause-pending
+horizon_from-horizon-requires-clause-pending g c =
+    none-pending c.args.cpu (devices_ticked c.args.bus.now.peripherals) (reads-opcode c.args.cpu c.args.bus.now c.requires.goes_on.reads).reads.due
 
 pub loop-goes_on-init : goal.loop-goes_on-init
 loop-goes_on-init g c = record {
   at =
-      rw (c.new-quiet.ensures.none, c.new-quiet.ensures.bus) (calm-starts c.args.tape.now c.args.limit (g.B.Breaks.addresses c.args.breaks.now) c.calm_since-calm.result c.args.cpu
-      c.args.bus.now c.requires.limit c.requires.range c.requires.between c.requires.room c.requires.fits c.requires.goes_on c.calm_since-calm.ensures.calm
-      c.calm_since-calm.ensures.until);
+      rw (c.new-quiet.ensures.none, c.new-quiet.ensures.bus) (horizon-starts c.args.tape.now c.args.limit (g.B.Breaks.addresses c.args.breaks.now) c.horizon_from-horizon.result c.args.cpu
+      c.args.bus.now c.requires.limit c.requires.range c.requires.between c.requires.room c.requires.fits c.requires.goes_on c.horizon_from-horizon.ensures.horizon
+      c.horizon_from-horizon.ensures.until);
   same = refl;
 }
 
 pub instruction-fetched-requires-clause-room : goal.instruction-fetched-requires-clause-room
 instruction-fetched-requires-clause-room g c =
-    calm-room c.args.tape.now c.args.limit (g.B.Breaks.addresses c.args.breaks.now) c.calm_since-calm.result c.args.cpu c.loop-goes_on.cpu c.args.bus.now
+    horizon-room c.args.tape.now c.args.limit (g.B.Breaks.addresses c.args.breaks.now) c.horizon_from-horizon.result c.args.cpu c.loop-goes_on.cpu c.args.bus.now
     c.loop-goes_on.quiet.bus.now c.loop-goes_on.quiet.made c.loop-goes_on.goes_on c.loop-goes_on-test.true c.requires.limit c.requires.room c.loop-goes_on.invariant.at
 
 pub loop-goes_on-smaller-then-lasts : goal.loop-goes_on-smaller-then-lasts
@@ -39,7 +39,7 @@ loop-goes_on-smaller-then-lasts g c =
     let seen =
     quiet-runs c.args.tape.now.entries (λ s. s.bus.now) (λ s. s.made) (λ s. s.bus.ghost_name) (λ x a b h. (h.0, h.2)) (registers_of c.loop-goes_on.cpu) Opcode
     c.loop-goes_on.quiet c.instruction-fetched.new.bus c.instruction-fetched.new.self c.instruction-fetched.ensures.runs in
-    calm-smaller c.args.tape.now c.args.limit (g.B.Breaks.addresses c.args.breaks.now) c.calm_since-calm.result c.args.cpu c.loop-goes_on.cpu
+    horizon-smaller c.args.tape.now c.args.limit (g.B.Breaks.addresses c.args.breaks.now) c.horizon_from-horizon.result c.args.cpu c.loop-goes_on.cpu
     c.instruction-fetched.new.self c.args.bus.now c.loop-goes_on.quiet.bus.now c.instruction-fetched.new.bus.bus.now c.loop-goes_on.quiet.made
     c.instruction-fetched.new.bus.made c.loop-goes_on.goes_on c.loop-goes_on-test.true c.loop-goes_on.invariant.at seen.1 c.instruction-fetched.ensures.boundary
 
@@ -55,13 +55,13 @@ loop-goes_on-preserved-then-lasts g c =
     let t = c.instruction-fetched.new.bus.bus.now in
     let n = c.instruction-fetched.new.bus.made in
     let f = c.instruction-fetched.new.self in
-    let calm = c.calm_since-calm.result in
+    let horizon = c.horizon_from-horizon.result in
     record {
       at =
-          calm-goes c.args.tape.now c.args.limit addresses calm c.args.cpu c.loop-goes_on.cpu f c.args.bus.now c.loop-goes_on.quiet.bus.now t c.loop-goes_on.quiet.made n
+          horizon-goes c.args.tape.now c.args.limit addresses horizon c.args.cpu c.loop-goes_on.cpu f c.args.bus.now c.loop-goes_on.quiet.bus.now t c.loop-goes_on.quiet.made n
           c.loop-goes_on.goes_on _ c.loop-goes_on-test.true c.requires.limit c.loop-goes_on.invariant.at seen.1 c.instruction-fetched.ensures.boundary
           c.instruction-fetched.ensures.fits lines (λ _. c.lasts.ensures.wrap)
-          (and-then (nat_lt (t.wires.clock + n) calm.until && (is_none f.jam && (calm.silent || is_masked f.p))) (is_at_any addresses (over_bus f (passed n t))) c.has.result
+          (and-then (nat_lt (t.peripherals.clock + n) horizon.until && (is_none f.jam && (horizon.silent || is_masked f.p))) (is_at_any addresses (over_bus f (passed n t))) c.has.result
           (sym c.lasts.ensures.value ∙ c.if-lasts.true)
           (ap (λ (k : CpuValue). is_at_any addresses (over_bus k (passed n t))) (sym (c.behind-cpu.view_is ∙ c.state.ensures.value)) ∙ sym c.has.ensures));
       same = seen.0 ∙ c.loop-goes_on.invariant.same;
@@ -72,7 +72,7 @@ loop-goes_on-smaller g c =
     let seen =
     quiet-runs c.args.tape.now.entries (λ s. s.bus.now) (λ s. s.made) (λ s. s.bus.ghost_name) (λ x a b h. (h.0, h.2)) (registers_of c.loop-goes_on.cpu) Opcode
     c.loop-goes_on.quiet c.instruction-fetched.new.bus c.instruction-fetched.new.self c.instruction-fetched.ensures.runs in
-    calm-smaller c.args.tape.now c.args.limit (g.B.Breaks.addresses c.args.breaks.now) c.calm_since-calm.result c.args.cpu c.loop-goes_on.cpu
+    horizon-smaller c.args.tape.now c.args.limit (g.B.Breaks.addresses c.args.breaks.now) c.horizon_from-horizon.result c.args.cpu c.loop-goes_on.cpu
     c.instruction-fetched.new.self c.args.bus.now c.loop-goes_on.quiet.bus.now c.instruction-fetched.new.bus.bus.now c.loop-goes_on.quiet.made
     c.instruction-fetched.new.bus.made c.loop-goes_on.goes_on c.loop-goes_on-test.true c.loop-goes_on.invariant.at seen.1 c.instruction-fetched.ensures.boundary
 
@@ -88,13 +88,13 @@ loop-goes_on-preserved g c =
     let t = c.instruction-fetched.new.bus.bus.now in
     let n = c.instruction-fetched.new.bus.made in
     let f = c.instruction-fetched.new.self in
-    let calm = c.calm_since-calm.result in
+    let horizon = c.horizon_from-horizon.result in
     record {
       at =
-          calm-goes c.args.tape.now c.args.limit addresses calm c.args.cpu c.loop-goes_on.cpu f c.args.bus.now c.loop-goes_on.quiet.bus.now t c.loop-goes_on.quiet.made n
+          horizon-goes c.args.tape.now c.args.limit addresses horizon c.args.cpu c.loop-goes_on.cpu f c.args.bus.now c.loop-goes_on.quiet.bus.now t c.loop-goes_on.quiet.made n
           c.loop-goes_on.goes_on _ c.loop-goes_on-test.true c.requires.limit c.loop-goes_on.invariant.at seen.1 c.instruction-fetched.ensures.boundary
           c.instruction-fetched.ensures.fits lines (λ _. c.lasts.ensures.wrap)
-          (and-else (nat_lt (t.wires.clock + n) calm.until && (is_none f.jam && (calm.silent || is_masked f.p))) c.lasts.result (is_at_any addresses (over_bus f (passed n t)))
+          (and-else (nat_lt (t.peripherals.clock + n) horizon.until && (is_none f.jam && (horizon.silent || is_masked f.p))) c.lasts.result (is_at_any addresses (over_bus f (passed n t)))
           c.if-lasts.false);
       same = seen.0 ∙ c.loop-goes_on.invariant.same;
     }

@@ -1,4 +1,4 @@
--- A run over calm boundaries, of whose clocks the bus has yet to be told.
+-- A run up to the horizon, of whose clocks the bus has yet to be told.
 use Rattle.std.proofs.Common.{◌≡◌, ℕ, ◌+◌, ◌-◌, ◌≤◌, ◌<◌, Bool, true, false, not, ◌&&◌, ◌||◌, is_none, min, nat_lt, List, None, refl, ap, arith}
 use Rattle.std.proofs.lemmas.Bool.{and_parts, or_parts}
 use Rattle.board_base.specs.declared.board.TheConstants.{CLOCK_LIMIT}
@@ -11,35 +11,35 @@ use Rattle.cpu_core.specs.Sequences.{Runs}
 use Rattle.tape_ports.specs.Tape.{TapeValue}
 use Rattle.lockstep_board.specs.Breaks.{is_at_any}
 use Rattle.lockstep_board.specs.Run.{is_over}
-use Rattle.catchup_engine.specs.declared.bus.TheConstants.{WHOLE}
-use Rattle.catchup_engine.specs.declared.calm.Calm.{Calm}
+use Rattle.catchup_engine.specs.declared.bus.TheConstants.{MAX_SEQUENCE_CLOCKS}
+use Rattle.catchup_engine.specs.declared.horizon.Horizon.{Horizon}
 use Rattle.catchup_engine.specs.Bus.{BusStep, BusValue, Fits, room_of}
-use Rattle.catchup_engine.specs.Calm.{AreCalm, IsCalm, KeepsLines}
+use Rattle.catchup_engine.specs.Horizon.{HoldsAhead, IsHorizon, KeepsLines}
 use Rattle.catchup_engine.specs.Quiet.{IsCounted, later, passed, quiet_room}
 use Rattle.catchup_engine.specs.Runs.{GoesOn, HasRoomTo, IsInRange, TurnsOn, over_bus}
 use Rattle.catchup_engine.specs.Turn.{TurnedBus, reads_opcode}
 use Rattle.catchup_engine.proofs.BreaksOn.{turns-go_on, turns-start}
-use Rattle.catchup_engine.proofs.CalmLaws.{are-kept, calm-goes_on, lasts-tells, passed-leaves, passed-lines}
+use Rattle.catchup_engine.proofs.HorizonLaws.{are-kept, horizon-goes_on, lasts-tells, passed-leaves, passed-lines}
 use Rattle.catchup_engine.proofs.OpcodeLaws.{reads-opcode}
 use Rattle.catchup_engine.proofs.QuietLaws.{counted-start, passed-zero}
 use Rattle.catchup_engine.proofs.RunsOn.{open-before}
 use Rattle.catchup_engine.proofs.Turns.{opcode-turn}
 
 -- from c and s such a run led to e and t, with so many clocks that t has yet to be told of; where it is to go on, it goes on
-pub record AtCalm (tape : TapeValue) (limit : ℕ) (addresses : List ℕ) (calm : Calm) (c : CpuValue) (s : BusValue) (made : ℕ) (t : BusValue) (e : CpuValue) (more : Bool) : Type 0 where
+pub record AtHorizon (tape : TapeValue) (limit : ℕ) (addresses : List ℕ) (horizon : Horizon) (c : CpuValue) (s : BusValue) (made : ℕ) (t : BusValue) (e : CpuValue) (more : Bool) : Type 0 where
   pub on : TurnsOn tape.entries limit addresses c s (passed made t) e
   pub counted : IsCounted tape made t
-  pub are : AreCalm limit calm t
+  pub are : HoldsAhead limit horizon t
   pub goes : more ≡ true → GoesOn limit addresses e (passed made t)
-  pub later : more ≡ false → s.wires.clock < (passed made t).wires.clock
+  pub later : more ≡ false → s.peripherals.clock < (passed made t).peripherals.clock
 
 module _ (tape : TapeValue) (limit : ℕ) (addresses : List ℕ) where
   -- what is known where it goes on
   pub record Before (c : CpuValue) (s : BusValue) : Type 0 where
     pub boundary : c.mid ≡ None
     pub running : c.jam ≡ None
-    pub clock : s.wires.clock < limit
-    pub quiet : s.wires.clock + WHOLE ≤ s.event_at
+    pub clock : s.peripherals.clock < limit
+    pub quiet : s.peripherals.clock + MAX_SEQUENCE_CLOCKS ≤ s.event_at
 
   pub goes-before : (c : CpuValue) (s : BusValue) → GoesOn limit addresses c s → Before c s
   goes-before c s goes =
@@ -49,7 +49,7 @@ module _ (tape : TapeValue) (limit : ℕ) (addresses : List ℕ) where
       record { boundary = reads.reads.boundary; running = before.running; clock = before.clock; quiet = reads.quiet }
 
   pub room-before : (c e : CpuValue) (s t : BusValue) → limit ≤ CLOCK_LIMIT → HasRoomTo limit s → TurnsOn tape.entries limit addresses c s t e
-      → t.wires.clock < limit → WHOLE ≤ room_of t
+      → t.peripherals.clock < limit → MAX_SEQUENCE_CLOCKS ≤ room_of t
   room-before c e s t last room on early =
       let clock = on.run.clock in
       let written = on.run.written in
@@ -57,9 +57,9 @@ module _ (tape : TapeValue) (limit : ℕ) (addresses : List ℕ) where
       let rooms : t.rooms.board ≡ s.rooms.board = ap (λ r. r.board) on.run.goes.rooms in
       omega arith
 
-  pub calm-starts : (calm : Calm) (c : CpuValue) (s : BusValue) → limit ≤ CLOCK_LIMIT → IsInRange c s → s.begun ≡ false → HasRoomTo limit s → Fits tape s
-      → GoesOn limit addresses c s → IsCalm limit calm s → calm.until ≡ min limit (s.event_at - 6) → AtCalm tape limit addresses calm c s 0 s c true
-  calm-starts calm c s last range between room fits goes known until =
+  pub horizon-starts : (horizon : Horizon) (c : CpuValue) (s : BusValue) → limit ≤ CLOCK_LIMIT → IsInRange c s → s.begun ≡ false → HasRoomTo limit s → Fits tape s
+      → GoesOn limit addresses c s → IsHorizon limit horizon s → horizon.until ≡ min limit (s.event_at - 6) → AtHorizon tape limit addresses horizon c s 0 s c true
+  horizon-starts horizon c s last range between room fits goes known until =
       let before = goes-before c s goes in
       let early = before.clock in
       let quiet = before.quiet in
@@ -72,10 +72,10 @@ module _ (tape : TapeValue) (limit : ℕ) (addresses : List ℕ) where
         later = λ no. cc;
       }
 
-  pub calm-room : (calm : Calm) (c e : CpuValue) (s t : BusValue) (made : ℕ) (more : Bool) → more ≡ true → limit ≤ CLOCK_LIMIT → HasRoomTo limit s
-      → AtCalm tape limit addresses calm c s made t e more → WHOLE ≤ quiet_room made t
+  pub horizon-room : (horizon : Horizon) (c e : CpuValue) (s t : BusValue) (made : ℕ) (more : Bool) → more ≡ true → limit ≤ CLOCK_LIMIT → HasRoomTo limit s
+      → AtHorizon tape limit addresses horizon c s made t e more → MAX_SEQUENCE_CLOCKS ≤ quiet_room made t
   unfolding passed later
-  calm-room calm c e s t made more on_yet last room at =
+  horizon-room horizon c e s t made more on_yet last room at =
       let before = goes-before e (passed made t) (at.goes on_yet) in
       let early = before.clock in
       let quiet = before.quiet in
@@ -83,59 +83,59 @@ module _ (tape : TapeValue) (limit : ℕ) (addresses : List ℕ) where
       omega arith
 
   -- an instruction is a turn
-  pub calm-turn : (calm : Calm) (c e f : CpuValue) (s t u : BusValue) (made n : ℕ) (more : Bool) → more ≡ true → AtCalm tape limit addresses calm c s made t e more
+  pub horizon-turn : (horizon : Horizon) (c e f : CpuValue) (s t u : BusValue) (made n : ℕ) (more : Bool) → more ≡ true → AtHorizon tape limit addresses horizon c s made t e more
       → Runs (BusStep tape.entries) (registers_of e) Opcode (passed made t) (passed n u) f → f.mid ≡ None
       → TurnedBus tape.entries 7 e (passed made t) (passed n u) f
-  calm-turn calm c e f s t u made n more on_yet at runs boundary =
+  horizon-turn horizon c e f s t u made n more on_yet at runs boundary =
       let goes = at.goes on_yet in
       opcode-turn tape e (passed made t) (passed n u) f (reads-opcode e (passed made t) goes.reads).reads at.on.run.goes.between at.counted.fits runs boundary
 
   -- it goes on where the clocks and the flags tell so
-  tells-on : (calm : Calm) (f : CpuValue) (u : BusValue) (n : ℕ) (more : Bool) → f.mid ≡ None → IsCounted tape n u → AreCalm limit calm u
-      → (more ≡ true → u.wires.divider.phase + (u.event_at - u.wires.clock) < DIVIDER_PERIOD)
-      → (more ≡ true → ((nat_lt (u.wires.clock + n) calm.until && (is_none f.jam && (calm.silent || is_masked f.p))) && not (is_at_any addresses (over_bus f (passed n u)))) ≡ true)
+  tells-on : (horizon : Horizon) (f : CpuValue) (u : BusValue) (n : ℕ) (more : Bool) → f.mid ≡ None → IsCounted tape n u → HoldsAhead limit horizon u
+      → (more ≡ true → u.peripherals.divider.phase + (u.event_at - u.peripherals.clock) < DIVIDER_PERIOD)
+      → (more ≡ true → ((nat_lt (u.peripherals.clock + n) horizon.until && (is_none f.jam && (horizon.silent || is_masked f.p))) && not (is_at_any addresses (over_bus f (passed n u)))) ≡ true)
       → more ≡ true → GoesOn limit addresses f (passed n u)
   unfolding passed later
-  tells-on calm f u n more boundary counted are wrap is on_yet =
-      let lasts = nat_lt (u.wires.clock + n) calm.until && (is_none f.jam && (calm.silent || is_masked f.p)) in
+  tells-on horizon f u n more boundary counted are wrap is on_yet =
+      let lasts = nat_lt (u.peripherals.clock + n) horizon.until && (is_none f.jam && (horizon.silent || is_masked f.p)) in
       let both = and_parts lasts (not (is_at_any addresses (over_bus f (passed n u)))) (is on_yet) in
-      let tells = lasts-tells (u.wires.clock + n) calm.until (is_none f.jam) calm.silent (is_masked f.p) both.0 in
+      let tells = lasts-tells (u.peripherals.clock + n) horizon.until (is_none f.jam) horizon.silent (is_masked f.p) both.0 in
       let early = tells.0 in
       let quiet = are.quiet in
       let lines = passed-lines n u counted.quiet (wrap on_yet) in
-      calm-goes_on limit addresses calm f (passed n u) boundary early (are-kept limit calm u (passed n u) lines are)
+      horizon-goes_on limit addresses horizon f (passed n u) boundary early (are-kept limit horizon u (passed n u) lines are)
       (passed-leaves n u (omega arith) (wrap on_yet)) tells.1 tells.2 (not-true (is_at_any addresses (over_bus f (passed n u))) both.1)
     where
       not-true : (b : Bool) → not b ≡ true → b ≡ false
       not-true false e = refl
       not-true true e = cc
 
-  pub calm-goes : (calm : Calm) (c e f : CpuValue) (s t u : BusValue) (made n : ℕ) (more then : Bool) → more ≡ true → limit ≤ CLOCK_LIMIT → AtCalm tape limit addresses calm c s made t e more
+  pub horizon-goes : (horizon : Horizon) (c e f : CpuValue) (s t u : BusValue) (made n : ℕ) (more then : Bool) → more ≡ true → limit ≤ CLOCK_LIMIT → AtHorizon tape limit addresses horizon c s made t e more
       → Runs (BusStep tape.entries) (registers_of e) Opcode (passed made t) (passed n u) f → f.mid ≡ None → IsCounted tape n u → KeepsLines t u
-      → (then ≡ true → u.wires.divider.phase + (u.event_at - u.wires.clock) < DIVIDER_PERIOD)
-      → (then ≡ true → ((nat_lt (u.wires.clock + n) calm.until && (is_none f.jam && (calm.silent || is_masked f.p))) && not (is_at_any addresses (over_bus f (passed n u)))) ≡ true)
-      → AtCalm tape limit addresses calm c s n u f then
-  calm-goes calm c e f s t u made n more then on_yet last at runs boundary counted lines wrap is =
+      → (then ≡ true → u.peripherals.divider.phase + (u.event_at - u.peripherals.clock) < DIVIDER_PERIOD)
+      → (then ≡ true → ((nat_lt (u.peripherals.clock + n) horizon.until && (is_none f.jam && (horizon.silent || is_masked f.p))) && not (is_at_any addresses (over_bus f (passed n u)))) ≡ true)
+      → AtHorizon tape limit addresses horizon c s n u f then
+  horizon-goes horizon c e f s t u made n more then on_yet last at runs boundary counted lines wrap is =
       let goes = at.goes on_yet in
-      let turned = calm-turn calm c e f s t u made n more on_yet at runs boundary in
-      let are = are-kept limit calm t u lines at.are in
+      let turned = horizon-turn horizon c e f s t u made n more on_yet at runs boundary in
+      let are = are-kept limit horizon t u lines at.are in
       let so_far = at.on.run.clock in
       let clock = turned.turned.clock in
       record {
         on = turns-go_on tape.entries limit addresses c s (passed made t) (passed n u) e f last at.on goes.open_yet turned;
         counted = counted;
         are = are;
-        goes = tells-on calm f u n then boundary counted are wrap is;
+        goes = tells-on horizon f u n then boundary counted are wrap is;
         later = λ _. omega arith;
       }
 
-  pub calm-smaller : (calm : Calm) (c e f : CpuValue) (s t u : BusValue) (made n : ℕ) (more : Bool) → more ≡ true → AtCalm tape limit addresses calm c s made t e more
+  pub horizon-smaller : (horizon : Horizon) (c e f : CpuValue) (s t u : BusValue) (made n : ℕ) (more : Bool) → more ≡ true → AtHorizon tape limit addresses horizon c s made t e more
       → Runs (BusStep tape.entries) (registers_of e) Opcode (passed made t) (passed n u) f → f.mid ≡ None
-      → limit - (passed n u).wires.clock < limit - (passed made t).wires.clock
-  calm-smaller calm c e f s t u made n more on_yet at runs boundary =
+      → limit - (passed n u).peripherals.clock < limit - (passed made t).peripherals.clock
+  horizon-smaller horizon c e f s t u made n more on_yet at runs boundary =
       let before = goes-before e (passed made t) (at.goes on_yet) in
       let early = before.clock in
-      let turned = calm-turn calm c e f s t u made n more on_yet at runs boundary in
+      let turned = horizon-turn horizon c e f s t u made n more on_yet at runs boundary in
       let clock = turned.turned.clock in
       omega arith
 

@@ -1,4 +1,4 @@
--- The lockstep board without its processor: what stands on the wires between two clocks, and the records made since the
+-- The lockstep board without its processor: its peripherals between two clocks, and the records made since the
 -- last clearing. The map and the order within a clock are this project's own profile.
 use Rattle.std.specs.Prelude.{ℕ, ◌+◌, ◌%◌, List, [], ◌∷◌, ◌++◌, Bool, not, ◌&&◌, ◌||◌, ◌==◌, if◌then◌else◌, take, drop, slice_index, slice_set}
 use Rattle.board_base.specs.declared.vector_memory.TheConstants.{VECTOR_RAM_LEN, VECTOR_ROM_LEN}
@@ -29,7 +29,7 @@ use Rattle.tape_ports.specs.Due.{due_at}
 
 -- the clocks done, whether the POKEYs reach the interrupt line, the output latch and the ports, the devices, the memories
 -- as the processor and the generator see them, and the four lists of records
-pub record Wires : Type 0 where
+pub record Peripherals : Type 0 where
   pub clock : ℕ
   pub wired : Bool
   pub out : ℕ
@@ -50,7 +50,7 @@ pub record Wires : Type 0 where
   pub written : List Record
 
 -- what an entry of the tape sets: of IN0 the tape has bits 0 to 5
-abbrev pub port_set : Port → ℕ → Wires → Wires
+abbrev pub port_set : Port → ℕ → Peripherals → Peripherals
 port_set port.In0 value w = record w { in0 = value % 64 }
 port_set port.In3 value w = record w { in3 = value }
 port_set port.In4 value w = record w { in4 = value }
@@ -58,12 +58,12 @@ port_set (port.Pot1 which) value w = record w { sound1 = pot_set which value w.s
 port_set (port.Pot2 which) value w = record w { sound2 = pot_set which value w.sound2 }
 
 -- entries are applied in their order
-unfoldable pub applied : List TapeEntry → Wires → Wires
+unfoldable pub applied : List TapeEntry → Peripherals → Peripherals
 applied [] w = w
 applied (entry ∷ entries) w = applied entries (port_set entry.port entry.value w)
 
 -- the divider ticks, then the generator over the memory as it stands, POKEY 1, POKEY 2 and the EAROM
-unfoldable pub devices_ticked : Wires → Wires
+unfoldable pub devices_ticked : Peripherals → Peripherals
 devices_ticked w = record w {
   divider = divider_tick w.divider;
   vg = vg_tick w.memory w.clock w.vg;
@@ -76,7 +76,7 @@ devices_ticked w = record w {
 }
 
 -- the tape's entries of this clock are applied, and then the devices tick
-unfoldable pub ticked : List TapeEntry → Wires → Wires
+unfoldable pub ticked : List TapeEntry → Peripherals → Peripherals
 ticked entries w = devices_ticked (applied (due_at w.clock entries) w)
 
 -- a POKEY has a request where IRQST isn't all ones
@@ -84,15 +84,15 @@ abbrev pub has_request : PokeyValue → Bool
 has_request p = not (p.irqst == 7)
 
 -- the interrupt line: the latch, and where they are wired the requests of both POKEYs
-unfoldable pub line_of : Wires → Bool
+unfoldable pub line_of : Peripherals → Bool
 line_of w = w.divider.irq || w.wired && (has_request w.sound1 || has_request w.sound2)
 
 -- IN0: the port's bits 0 to 5, bit 6 where the generator is halted, and the 3 kHz line as bit 7
-abbrev pub in0_byte : Wires → ℕ
+abbrev pub in0_byte : Peripherals → ℕ
 in0_byte w = w.in0 + (if w.vg.halted then 64 else 0) + (if line_3k w.divider then 128 else 0)
 
 -- the byte that a read gives, by an offset in a memory or a register's number; the open bus gives FF
-abbrev pub byte_in : Reads → ℕ → Wires → ℕ
+abbrev pub byte_in : Reads → ℕ → Peripherals → ℕ
 byte_in reads.Ram k w = slice_index w.ram k
 byte_in reads.VectorRam k w = slice_index w.memory k
 byte_in reads.VectorRom k w = slice_index w.memory (VECTOR_RAM_LEN + k)
@@ -106,11 +106,11 @@ byte_in reads.In4 k w = w.in4
 byte_in reads.Open k w = 255
 
 -- the byte that a read of an address gives
-unfoldable pub byte_read : ℕ → Wires → ℕ
+unfoldable pub byte_read : ℕ → Peripherals → ℕ
 byte_read address w = byte_in (row_of address).reads (row_of address).offset w
 
 -- what a write does, by an offset, a register's number or a cell's
-abbrev pub put_in : Writes → ℕ → ℕ → Wires → Wires
+abbrev pub put_in : Writes → ℕ → ℕ → Peripherals → Peripherals
 put_in writes.Ram k value w = record w { ram = slice_set w.ram k value }
 put_in writes.VectorRam k value w = record w { memory = slice_set w.memory k value }
 put_in writes.Sound1 reg value w = record w { sound1 = register_written reg value w.sound1 }
@@ -125,12 +125,12 @@ put_in writes.WatchdogClear k value w = record w { divider = watchdog_cleared w.
 put_in writes.Ignored k value w = w
 
 -- what a write to an address does
-unfoldable pub byte_put : ℕ → ℕ → Wires → Wires
+unfoldable pub byte_put : ℕ → ℕ → Peripherals → Peripherals
 byte_put address value w = put_in (row_of address).writes (row_of address).offset value w
 
 -- what the first clock of a reset does besides its read: one by the watchdog halts the generator, clears the output latch
 -- without a record of a write to it, and is recorded itself
-abbrev pub reset_by : Pending → Wires → Wires
+abbrev pub reset_by : Pending → Peripherals → Peripherals
 reset_by Watchdog w = record w {
   out = 0;
   divider = reset_taken w.divider;
@@ -141,12 +141,12 @@ reset_by Power w = record w { divider = reset_taken w.divider }
 reset_by Nothing w = record w { divider = reset_taken w.divider }
 
 -- the pending reset is begun
-unfoldable pub reset_begun : Wires → Wires
+unfoldable pub reset_begun : Peripherals → Peripherals
 reset_begun w = reset_by w.divider.pending w
 
--- the wires of a board over an image, with no records yet: the vector ROM stands behind the vector RAM
-abbrev pub wires_of : List ℕ → Bool → BoardValue → Wires
-wires_of image wired b = record {
+-- the peripherals of a board over an image, with no records yet: the vector ROM stands behind the vector RAM
+abbrev pub peripherals_of : List ℕ → Bool → BoardValue → Peripherals
+peripherals_of image wired b = record {
   clock = b.clock;
   wired = wired;
   out = b.out;
@@ -167,8 +167,8 @@ wires_of image wired b = record {
   written = [];
 }
 
--- the wires of another board over the same image
-abbrev pub reloaded : Wires → BoardValue → Wires
+-- the peripherals of another board over the same image
+abbrev pub reloaded : Peripherals → BoardValue → Peripherals
 reloaded w b = record {
   clock = b.clock;
   wired = w.wired;
@@ -190,8 +190,8 @@ reloaded w b = record {
   written = [];
 }
 
--- a board of these wires and this processor
-abbrev pub board_of : CpuValue → Wires → BoardValue
+-- a board of these peripherals and this processor
+abbrev pub board_of : CpuValue → Peripherals → BoardValue
 board_of c w = record {
   clock = w.clock;
   cpu = c;

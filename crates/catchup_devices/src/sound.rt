@@ -4,8 +4,8 @@ ghost use Rattle.board_base.specs.Counts.{Counted};
 ghost use Rattle.board_base.specs.Ticks.{times};
 ghost use Rattle.pokey_chip.specs.Registers.{pot_set, register_read, register_written};
 ghost use Rattle.pokey_chip.specs.Tick.{levels_made, pokey_tick};
-ghost use Rattle.device_lanes.specs.Lags.{lags, AsksAt};
-ghost use Rattle.lockstep_board.specs.Wires.{has_request};
+ghost use Rattle.catchup_devices.specs.Lags.{lags, AsksAt};
+ghost use Rattle.lockstep_board.specs.Peripherals.{has_request};
 
 use board_base::{CLOCK_END, PokeyState, Trail};
 use pokey_chip::SoundUnit;
@@ -13,7 +13,7 @@ use pokey_chip::SoundUnit;
 /// A POKEY that was moved up to the clock `done`, its levels, whether its timer requests reach the
 /// interrupt line, and where they do, the clock from which on it makes one.
 #[derive(Drop)]
-pub struct SoundLane<P: SoundUnit> {
+pub struct SoundCatchUp<P: SoundUnit> {
     pub unit: P,
     pub done: u64,
     pub wired: bool,
@@ -21,7 +21,7 @@ pub struct SoundLane<P: SoundUnit> {
     pub trail: Trail,
 }
 
-impl<P: SoundUnit> SoundLane<P> {
+impl<P: SoundUnit> SoundCatchUp<P> {
     /// A POKEY in a state at a clock.
     pub fn new(
         mut unit: P,
@@ -29,7 +29,7 @@ impl<P: SoundUnit> SoundLane<P> {
         clock: u64,
         wired: bool,
         trail: Trail,
-    ) -> SoundLane<P>
+    ) -> SoundCatchUp<P>
         requires clocks { clock ≤ CLOCK_END }
         ensures done { result.done ≡ clock }
         ensures wired { result.wired ≡ wired }
@@ -39,15 +39,15 @@ impl<P: SoundUnit> SoundLane<P> {
         ensures counted { Counted (P.calls unit) (P.calls result.unit) }
     {
         unit.load(state);
-        let mut lane = SoundLane {
+        let mut catch_up = SoundCatchUp {
             unit,
             done: clock,
             wired,
             request_at: 0,
             trail,
         };
-        lane.ask();
-        lane
+        catch_up.ask();
+        catch_up
     }
 
     /// Takes on a state at a clock.
@@ -66,8 +66,8 @@ impl<P: SoundUnit> SoundLane<P> {
     }
 
     /// Moves it up to a clock.
-    #[tactic(auto, using(crate::proofs::LaneLaws::pokey))]
-    pub fn level(&mut self, clock: u64)
+    #[tactic(auto, using(crate::proofs::CatchUpLaws::pokey))]
+    pub fn catch_up(&mut self, clock: u64)
         requires before { self.old.done ≤ clock }
         requires room { clock ≤ self.old.done + self.old.trail.spare }
         requires clocks { clock ≤ CLOCK_END }
@@ -144,7 +144,7 @@ impl<P: SoundUnit> SoundLane<P> {
     }
 
     /// Asks it from which clock on it makes a request.
-    #[tactic(auto, using(crate::proofs::LaneLaws::asking))]
+    #[tactic(auto, using(crate::proofs::CatchUpLaws::asking))]
     fn ask(&mut self)
         requires clocks { self.old.done ≤ CLOCK_END }
         ensures unit { self.new.unit ≡ self.old.unit }
@@ -159,9 +159,9 @@ impl<P: SoundUnit> SoundLane<P> {
         };
     }
 
-    /// Whether it pulls the interrupt line at a clock.
+    /// Whether it asserts the interrupt line at a clock.
     #[inline(always)]
-    pub fn pulls(&self, clock: u64) -> bool
+    pub fn asserts_irq(&self, clock: u64) -> bool
         requires clock { clock ≤ CLOCK_END }
         requires before { self.now.done ≤ clock }
         ensures { (self.now.wired ≡ true → AsksAt self.now.done self.now.request_at (P.device self.now.unit))
@@ -170,10 +170,10 @@ impl<P: SoundUnit> SoundLane<P> {
         self.wired && self.request_at <= clock
     }
 
-    /// Whether it pulls the interrupt line after the ticks of the clock that comes next after so many.
+    /// Whether it asserts the interrupt line after the ticks of the clock that comes next after so many.
     #[inline(always)]
-    #[tactic(auto, using(crate::proofs::LaneLaws::next_requests))]
-    pub fn pulls_next(&self, clock: u64) -> bool
+    #[tactic(auto, using(crate::proofs::CatchUpLaws::next_requests))]
+    pub fn asserts_irq_next(&self, clock: u64) -> bool
         requires clock { clock < CLOCK_END }
         requires before { self.now.done ≤ clock }
         ensures { (self.now.wired ≡ true → AsksAt self.now.done self.now.request_at (P.device self.now.unit))

@@ -2,34 +2,34 @@ use Rattle.std.proofs.Common.{◌+◌, ◌-◌, [], length, ap, sym, ◌∙◌, 
 use Rattle.board_base.specs.Cpu.{CpuValue}
 use Rattle.catchup_engine.specs.Notes.{noting}
 use Rattle.catchup_engine.specs.Quiet.{passed, quiet_room}
-use Rattle.lockstep_board.specs.Wires.{byte_read, devices_ticked}
-use Rattle.catchup_engine.proofs.CalmLaws.{none-pending}
-use Rattle.catchup_engine.proofs.CalmRuns.{calm-room}
+use Rattle.lockstep_board.specs.Peripherals.{byte_read, devices_ticked}
+use Rattle.catchup_engine.proofs.HorizonLaws.{none-pending}
+use Rattle.catchup_engine.proofs.HorizonRuns.{horizon-room}
 use Rattle.catchup_engine.proofs.NotedRuns.{noted-by, noted-goes, noted-short, noted-smaller, noted-starts}
 use Rattle.catchup_engine.proofs.Notes.{opcode_note}
 use Rattle.catchup_engine.proofs.OpcodeLaws.{reads-opcode}
-use Rattle.catchup_engine.proofs.noted.trace_calmly.Goals as goal
+use Rattle.catchup_engine.proofs.noted.trace_to_horizon.Goals as goal
 
-pub calm_since-calm-requires-clause-quiet : goal.calm_since-calm-requires-clause-quiet
-calm_since-calm-requires-clause-quiet g c = (reads-opcode c.args.cpu c.args.bus.now c.requires.goes_on.reads).reads.quiet
+pub horizon_from-horizon-requires-clause-quiet : goal.horizon_from-horizon-requires-clause-quiet
+horizon_from-horizon-requires-clause-quiet g c = (reads-opcode c.args.cpu c.args.bus.now c.requires.goes_on.reads).reads.quiet
 
-pub calm_since-calm-requires-clause-pending : goal.calm_since-calm-requires-clause-pending
-calm_since-calm-requires-clause-pending g c =
-    none-pending c.args.cpu (devices_ticked c.args.bus.now.wires) (reads-opcode c.args.cpu c.args.bus.now c.requires.goes_on.reads).reads.due
+pub horizon_from-horizon-requires-clause-pending : goal.horizon_from-horizon-requires-clause-pending
+horizon_from-horizon-requires-clause-pending g c =
+    none-pending c.args.cpu (devices_ticked c.args.bus.now.peripherals) (reads-opcode c.args.cpu c.args.bus.now c.requires.goes_on.reads).reads.due
 
 pub loop-goes_on-init : goal.loop-goes_on-init
 loop-goes_on-init g c = record {
   at =
-      rw (c.new.ensures.none, c.new.ensures.bus) (noted-starts g.T.Tracer.next g.T.Tracer.has_enough c.args.tape.now c.args.limit c.calm_since-calm.result c.args.cpu
+      rw (c.new.ensures.none, c.new.ensures.bus) (noted-starts g.T.Tracer.next g.T.Tracer.has_enough c.args.tape.now c.args.limit c.horizon_from-horizon.result c.args.cpu
       c.args.bus.now c.args.tracer.now c.requires.limit c.requires.range c.requires.between c.requires.room c.requires.fits c.requires.goes_on c.requires.opcode
-      c.calm_since-calm.ensures.calm c.calm_since-calm.ensures.until);
+      c.horizon_from-horizon.ensures.horizon c.horizon_from-horizon.ensures.until);
   bus = refl;
   reached = refl;
 }
 
 pub instruction-fetched-requires-clause-room : goal.instruction-fetched-requires-clause-room
 instruction-fetched-requires-clause-room g c =
-    let room = calm-room c.args.tape.now c.args.limit [] c.calm_since-calm.result c.args.cpu c.loop-goes_on.cpu c.args.bus.now c.loop-goes_on.noted.quiet.bus.now
+    let room = horizon-room c.args.tape.now c.args.limit [] c.horizon_from-horizon.result c.args.cpu c.loop-goes_on.cpu c.args.bus.now c.loop-goes_on.noted.quiet.bus.now
     c.loop-goes_on.noted.quiet.made c.loop-goes_on.goes_on c.loop-goes_on-test.true c.requires.limit c.requires.room c.loop-goes_on.invariant.at.at in
     let none = ap length c.begin.ensures.none in
     let same = ap (λ k. quiet_room k.quiet.made k.quiet.bus.now) c.begin.ensures.same in
@@ -47,13 +47,13 @@ overflow_sub-clocks g c =
     (λ k. k.reached.ghost_name) (λ x a b h. h) c.loop-goes_on.cpu c.instruction-fetched.new.self made t c.begin.new.self c.instruction-fetched.new.bus start
     (ap (λ k. k.quiet.bus.now) c.begin.ensures.same) c.instruction-fetched.ensures.runs in
     let short =
-    noted-short g.T.Tracer.next g.T.Tracer.has_enough c.args.tape.now c.args.limit c.calm_since-calm.result c.args.cpu c.loop-goes_on.cpu c.instruction-fetched.new.self
+    noted-short g.T.Tracer.next g.T.Tracer.has_enough c.args.tape.now c.args.limit c.horizon_from-horizon.result c.args.cpu c.loop-goes_on.cpu c.instruction-fetched.new.self
     c.args.bus.now t c.instruction-fetched.new.bus.quiet.bus.now made c.instruction-fetched.new.bus.quiet.made c.instruction-fetched.new.bus.reached.now c.args.tracer.now
     c.loop-goes_on.tracer c.loop-goes_on.enough c.loop-goes_on.goes_on c.loop-goes_on-test.true c.loop-goes_on.invariant.at did.runs c.instruction-fetched.ensures.boundary in
     let later = short.later in
     let few = short.few in
     let most = short.reached in
-    let from = c.clock-start.ensures ∙ ap (λ k. k.quiet.bus.now.wires.clock + k.quiet.made) c.begin.ensures.same in
+    let from = c.clock-start.ensures ∙ ap (λ k. k.quiet.bus.now.peripherals.clock + k.quiet.made) c.begin.ensures.same in
     let to = c.clock.ensures in
     omega (arith, later, from, to)
 
@@ -69,13 +69,13 @@ overflow_cast-clocks g c =
     (λ k. k.reached.ghost_name) (λ x a b h. h) c.loop-goes_on.cpu c.instruction-fetched.new.self made t c.begin.new.self c.instruction-fetched.new.bus start
     (ap (λ k. k.quiet.bus.now) c.begin.ensures.same) c.instruction-fetched.ensures.runs in
     let short =
-    noted-short g.T.Tracer.next g.T.Tracer.has_enough c.args.tape.now c.args.limit c.calm_since-calm.result c.args.cpu c.loop-goes_on.cpu c.instruction-fetched.new.self
+    noted-short g.T.Tracer.next g.T.Tracer.has_enough c.args.tape.now c.args.limit c.horizon_from-horizon.result c.args.cpu c.loop-goes_on.cpu c.instruction-fetched.new.self
     c.args.bus.now t c.instruction-fetched.new.bus.quiet.bus.now made c.instruction-fetched.new.bus.quiet.made c.instruction-fetched.new.bus.reached.now c.args.tracer.now
     c.loop-goes_on.tracer c.loop-goes_on.enough c.loop-goes_on.goes_on c.loop-goes_on-test.true c.loop-goes_on.invariant.at did.runs c.instruction-fetched.ensures.boundary in
     let later = short.later in
     let few = short.few in
     let most = short.reached in
-    let from = c.clock-start.ensures ∙ ap (λ k. k.quiet.bus.now.wires.clock + k.quiet.made) c.begin.ensures.same in
+    let from = c.clock-start.ensures ∙ ap (λ k. k.quiet.bus.now.peripherals.clock + k.quiet.made) c.begin.ensures.same in
     let to = c.clock.ensures in
     omega (arith, few, from, to)
 
@@ -91,13 +91,13 @@ invariant_of-note g c =
     (λ k. k.reached.ghost_name) (λ x a b h. h) c.loop-goes_on.cpu c.instruction-fetched.new.self made t c.begin.new.self c.instruction-fetched.new.bus start
     (ap (λ k. k.quiet.bus.now) c.begin.ensures.same) c.instruction-fetched.ensures.runs in
     let short =
-    noted-short g.T.Tracer.next g.T.Tracer.has_enough c.args.tape.now c.args.limit c.calm_since-calm.result c.args.cpu c.loop-goes_on.cpu c.instruction-fetched.new.self
+    noted-short g.T.Tracer.next g.T.Tracer.has_enough c.args.tape.now c.args.limit c.horizon_from-horizon.result c.args.cpu c.loop-goes_on.cpu c.instruction-fetched.new.self
     c.args.bus.now t c.instruction-fetched.new.bus.quiet.bus.now made c.instruction-fetched.new.bus.quiet.made c.instruction-fetched.new.bus.reached.now c.args.tracer.now
     c.loop-goes_on.tracer c.loop-goes_on.enough c.loop-goes_on.goes_on c.loop-goes_on-test.true c.loop-goes_on.invariant.at did.runs c.instruction-fetched.ensures.boundary in
     let later = short.later in
     let few = short.few in
     let most = short.reached in
-    let from = c.clock-start.ensures ∙ ap (λ k. k.quiet.bus.now.wires.clock + k.quiet.made) c.begin.ensures.same in
+    let from = c.clock-start.ensures ∙ ap (λ k. k.quiet.bus.now.peripherals.clock + k.quiet.made) c.begin.ensures.same in
     let to = c.clock.ensures in
     let same = ap length c.as_slice.ensures in
     record { clocks = omega (arith, few, from, to); reached = omega (arith, most, from, to, same) }
@@ -113,7 +113,7 @@ loop-goes_on-smaller g c =
     noted-by c.args.tape.now.entries (λ k. noting (passed k.quiet.made k.quiet.bus.now) k.reached.now) (λ k. k.quiet.bus.now) (λ k. k.quiet.bus.ghost_name)
     (λ k. k.reached.ghost_name) (λ x a b h. h) c.loop-goes_on.cpu c.instruction-fetched.new.self made t c.begin.new.self c.instruction-fetched.new.bus start
     (ap (λ k. k.quiet.bus.now) c.begin.ensures.same) c.instruction-fetched.ensures.runs in
-    noted-smaller g.T.Tracer.next g.T.Tracer.has_enough c.args.tape.now c.args.limit c.calm_since-calm.result c.args.cpu c.loop-goes_on.cpu c.instruction-fetched.new.self
+    noted-smaller g.T.Tracer.next g.T.Tracer.has_enough c.args.tape.now c.args.limit c.horizon_from-horizon.result c.args.cpu c.loop-goes_on.cpu c.instruction-fetched.new.self
     c.args.bus.now t c.instruction-fetched.new.bus.quiet.bus.now made c.instruction-fetched.new.bus.quiet.made c.instruction-fetched.new.bus.reached.now c.args.tracer.now
     c.loop-goes_on.tracer c.loop-goes_on.enough c.loop-goes_on.goes_on c.loop-goes_on-test.true c.loop-goes_on.invariant.at did.runs c.instruction-fetched.ensures.boundary
 
@@ -131,17 +131,17 @@ loop-goes_on-preserved g c =
     let u = c.instruction-fetched.new.bus.quiet.bus.now in
     let n = c.instruction-fetched.new.bus.quiet.made in
     let clocks = c.clock.result - c.clock-start.result in
-    let from = c.clock-start.ensures ∙ ap (λ k. k.quiet.bus.now.wires.clock + k.quiet.made) c.begin.ensures.same in
+    let from = c.clock-start.ensures ∙ ap (λ k. k.quiet.bus.now.peripherals.clock + k.quiet.made) c.begin.ensures.same in
     record {
       at =
-          noted-goes g.T.Tracer.next g.T.Tracer.has_enough c.args.tape.now c.args.limit c.calm_since-calm.result c.args.cpu c.loop-goes_on.cpu c.instruction-fetched.new.self
+          noted-goes g.T.Tracer.next g.T.Tracer.has_enough c.args.tape.now c.args.limit c.horizon_from-horizon.result c.args.cpu c.loop-goes_on.cpu c.instruction-fetched.new.self
           c.args.bus.now t u made n c.byte_at-opcode.result clocks c.instruction-fetched.new.bus.reached.now c.args.tracer.now c.loop-goes_on.tracer c.turn-enough.new.self
           c.loop-goes_on.enough c.loop-goes_on.goes_on c.goes_on-goes_on.result c.turn-enough.result c.loop-goes_on-test.true c.requires.limit c.loop-goes_on.invariant.at
           did.runs c.instruction-fetched.ensures.boundary c.instruction-fetched.ensures.fits.0 did.lines
-          (λ w ram program. c.byte_at-opcode.ensures w (ram ∙ sym (ap (λ k. k.quiet.bus.now.wires.ram) c.begin.ensures.same))
-          (program ∙ sym (ap (λ k. k.quiet.bus.now.wires.program) c.begin.ensures.same))
+          (λ w ram program. c.byte_at-opcode.ensures w (ram ∙ sym (ap (λ k. k.quiet.bus.now.peripherals.ram) c.begin.ensures.same))
+          (program ∙ sym (ap (λ k. k.quiet.bus.now.peripherals.program) c.begin.ensures.same))
           ∙ ap (λ (k : CpuValue). byte_read k.pc w) (c.behind-cpu.view_is ∙ c.state.ensures.value))
-          (ap (λ k. k - c.clock-start.result) c.clock.ensures ∙ ap (λ k. u.wires.clock + n - k) from) c.goes_on-goes_on.ensures.wrap
+          (ap (λ k. k - c.clock-start.result) c.clock.ensures ∙ ap (λ k. u.peripherals.clock + n - k) from) c.goes_on-goes_on.ensures.wrap
           (λ trace is. c.turn-enough.ensures.next trace (ap (λ l. opcode_note c.byte_at-opcode.result clocks l) c.as_slice.ensures ∙ is)
           ∙ ap (λ (k : CpuValue). g.T.Tracer.next c.loop-goes_on.tracer trace k.pc) (c.behind-cpu-in-loop-goes_on.view_is ∙ c.state-in-loop-goes_on.ensures.value))
           c.turn-enough.ensures.enough c.goes_on-goes_on.ensures.value;

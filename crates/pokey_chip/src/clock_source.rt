@@ -11,7 +11,7 @@ use pokey_timer::pulses_in;
 
 /// What gives a channel its pulses while no register is written.
 #[derive(Clone, Copy)]
-pub enum Pace {
+pub enum ClockSource {
     /// Nothing does.
     Never,
     /// The chip clock does.
@@ -22,26 +22,26 @@ pub enum Pace {
     By114 { count: u8 },
 }
 
-impl Pace {
-    /// The pace of a channel.
+impl ClockSource {
+    /// The clock source of a channel.
     #[inline(always)]
     #[tactic(auto, using(crate::proofs::PulseLaws::paces))]
-    pub fn of(state: &PokeyState, channel: Channel) -> Pace
+    pub fn of(state: &PokeyState, channel: Channel) -> ClockSource
         ensures pulses { (n : ℕ) → pulses_of channel n state.now ≡ paced result n }
         ensures prescaler { IsPace result }
     {
         if channel.is_still(state.audctl) {
-            Pace::Never
+            ClockSource::Never
         } else if channel.is_on_chip_clock(state.audctl) {
-            Pace::ChipClock
+            ClockSource::ChipClock
         } else if is_held(state.skctl) {
-            Pace::Never
+            ClockSource::Never
         } else if is_set(state.audctl, SLOW_BASE_CLOCK) {
-            Pace::By114 {
+            ClockSource::By114 {
                 count: state.pre114,
             }
         } else {
-            Pace::By28 { count: state.pre28 }
+            ClockSource::By28 { count: state.pre28 }
         }
     }
 
@@ -53,10 +53,10 @@ impl Pace {
         ensures { result ≡ paced self n }
     {
         match self {
-            Pace::Never => 0,
-            Pace::ChipClock => n,
-            Pace::By28 { count } => pulses_in(count, PRESCALER_BASE, n),
-            Pace::By114 { count } => pulses_in(count, PRESCALER_LINE, n),
+            ClockSource::Never => 0,
+            ClockSource::ChipClock => n,
+            ClockSource::By28 { count } => pulses_in(count, PRESCALER_BASE, n),
+            ClockSource::By114 { count } => pulses_in(count, PRESCALER_LINE, n),
         }
     }
 }

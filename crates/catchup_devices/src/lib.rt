@@ -2,10 +2,10 @@
 //! stands there.
 #![tactic(auto)]
 
-pub mod lane;
+pub mod catch_up;
 pub mod sound;
 pub mod vector;
 
-pub use lane::Lane;
-pub use sound::SoundLane;
-pub use vector::VectorLane;
+pub use catch_up::CatchUp;
+pub use sound::SoundCatchUp;
+pub use vector::VectorCatchUp;
