@@ -13,7 +13,9 @@ use Rattle.outside_io.specs.Shelf.{Files, Kept}
 use Rattle.outside_io.specs.Sink.{Takes}
 use Rattle.outside_io.proofs.KnownLaws.{grown-nothing}
 use Rattle.std.proofs.lemmas.Bool.Decides.{nat_tests}
+use Rattle.board_debug.specs.Debugged.{Debugs}
 use Rattle.board_debug.specs.Session.{session_text}
+use Rattle.board_debug.specs.declared.fault.DebugFault.{DebugFault}
 use Rattle.debug_script.specs.declared.command.Command.{Command}
 use Rattle.debug_script.specs.declared.fault.ScriptFault.TheVariants as script
 use Rattle.debug_script.specs.declared.script.TheConstants.{SCRIPT_LIMIT}
@@ -25,7 +27,7 @@ use Rattle.workload_gen.specs.Roms.{image_of}
 use Rattle.workload_gen.specs.Tape.{tape_of}
 use Rattle.gravitar_commands.specs.declared.cause.Cause.TheVariants.{Script}
 use Rattle.gravitar_commands.specs.Causes.{cause_text}
-use Rattle.catchup_engine.specs.EngineValue.{counted_on}
+use Rattle.catchup_engine.specs.EngineValue.{EngineValue, counted_on}
 use Rattle.lockstep_board.specs.Order.{cleared}
 use Rattle.lockstep_board.specs.Lockstep.{Board}
 use Rattle.gravitar_commands.specs.declared.assembled.Assembled.{Assembled}
@@ -559,6 +561,12 @@ module _ (wired : Bool) (name bytes : List ℕ) (parts : Parts) (before now : Se
   session-bad number (Absent note) is noted = absurd noted
   session-bad number Outside is noted = absurd noted
   session-bad number NoMemory is noted = record { done = tt; failed = tt }
+
+-- what a script did, by its fault under its name
+pub debugs-as : (tape : TapeValue) (script : List ℕ) (before now : EngineValue) (out0 out1 : Option (List ℕ)) (faults0 faults1 : ℕ) (fault named : DebugFault)
+    → fault ≡ named → Debugs tape script before now out0 out1 faults0 faults1 (Err fault) → Debugs tape script before now out0 out1 faults0 faults1 (Err named)
+debugs-as tape script before now out0 out1 faults0 faults1 fault named is ran =
+    subst (λ (f : DebugFault). Debugs tape script before now out0 out1 faults0 faults1 (Err f)) is ran
 
 -- a script with a line of no form
 pub bad-keeps : (text : List ℕ) (before now : Seen) (failure : Failure) → IsBadOrMemory text failure → SameLoans before now → HostDidNothing before now
