@@ -7,7 +7,7 @@ ghost use Rattle.bench_work.specs.BoardLaws.{tallied_in_parts};
 
 use crate::tally::Tally;
 use board_base::{CLOCK_LIMIT, Trails};
-use board_watch::{Nowhere, RecordObserver, SyncedMachine, Until};
+use board_watch::{NullSink, RecordObserver, SyncedMachine, Until};
 use catchup_engine::Machine;
 use outside_io::{Sink, SinkFault};
 use tape_ports::Tape;
@@ -71,7 +71,7 @@ pub fn run_windows<M: Machine>(
     ensures tally { result ≡ tallies_of (records_of (to_boundary tape.now.entries limit (value_of synced.old).board)) }
 {
     let mut tally = BoardTally::new();
-    let Ok(_stop) = synced.watch(tape, Until::Boundary(limit), &mut tally, &mut Nowhere) else {
+    let Ok(_stop) = synced.watch(tape, Until::Boundary(limit), &mut tally, &mut NullSink) else {
         unreachable!();
     };
     tally

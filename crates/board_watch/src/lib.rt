@@ -3,16 +3,16 @@
 
 mod follow;
 mod laws;
-mod nothing;
-mod nowhere;
+mod null_observer;
+mod null_sink;
 mod synced;
 mod until;
 mod watch;
 
 pub use follow::TurnObserver;
 pub use laws::windows_are_the_run;
-pub use nothing::Nothing;
-pub use nowhere::Nowhere;
+pub use null_observer::NullObserver;
+pub use null_sink::NullSink;
 pub use synced::SyncedMachine;
 pub use until::Until;
 pub use watch::RecordObserver;

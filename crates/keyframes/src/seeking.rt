@@ -13,7 +13,7 @@ ghost use Rattle.keyframes.specs.Seeking.{AddsBoard, Along, CanBeLoaded, IsOnRun
 use crate::keyframes::Keyframes;
 use avg_device::VectorUnit;
 use board_base::{BoardState, CLOCK_LIMIT};
-use board_watch::{Nothing, Nowhere, SyncedMachine, Until};
+use board_watch::{NullObserver, NullSink, SyncedMachine, Until};
 use catchup_engine::{Engine, Machine, Stop};
 use earom_cells::CellUnit;
 use irq_watchdog::DividerUnit;
@@ -70,7 +70,7 @@ fn run_window<M: Machine>(synced: &mut SyncedMachine<'_, M>, tape: &Tape, clock:
     ensures before { result ≡ Stop.Window → (value_of synced.new).board.peripherals.clock < clock }
     ensures done { (value_of synced.new).done + (value_of synced.old).board.peripherals.clock ≤ (value_of synced.old).done + (value_of synced.new).board.peripherals.clock }
 {
-    let Ok(stop) = synced.window(tape, Until::Clock(clock), &mut Nothing, &mut Nowhere) else {
+    let Ok(stop) = synced.window(tape, Until::Clock(clock), &mut NullObserver, &mut NullSink) else {
         unreachable!();
     };
     stop

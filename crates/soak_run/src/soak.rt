@@ -11,7 +11,7 @@ use crate::counter::Counter;
 use crate::summary::Summary;
 use crate::text::write_summary;
 use board_base::CLOCK_LIMIT;
-use board_watch::{Nowhere, SyncedMachine, Until};
+use board_watch::{NullSink, SyncedMachine, Until};
 use catchup_engine::Machine;
 use outside_io::{Sink, SinkFault};
 use tape_ports::Tape;
@@ -24,7 +24,7 @@ fn run_counted<M: Machine>(synced: &mut SyncedMachine<'_, M>, tape: &Tape, limit
     ensures board { (value_of synced.new).board ≡ cleared (to_boundary tape.now.entries limit (value_of synced.old).board) }
 {
     let mut counter = Counter::new();
-    let Ok(_stop) = synced.watch(tape, Until::Boundary(limit), &mut counter, &mut Nowhere) else {
+    let Ok(_stop) = synced.watch(tape, Until::Boundary(limit), &mut counter, &mut NullSink) else {
         unreachable!();
     };
     counter.total()

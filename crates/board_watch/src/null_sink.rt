@@ -4,9 +4,9 @@ use outside_io::{Sink, SinkFault};
 
 /// A sink for a watcher that tells nothing. It keeps no byte, and never fails.
 #[derive(Clone, Copy, Debug, PartialEq, Eq)]
-pub struct Nowhere;
+pub struct NullSink;
 
-impl Sink for Nowhere {
+impl Sink for NullSink {
     ghost taken = { λ _. None };
 
     ghost faults = { λ _. 0 };

@@ -6,9 +6,9 @@ use outside_io::{Sink, SinkFault};
 
 /// A watcher that tells nothing and keeps nothing: for a run of which only the board is wanted.
 #[derive(Clone, Copy, Debug, PartialEq, Eq)]
-pub struct Nothing;
+pub struct NullObserver;
 
-impl RecordObserver for Nothing {
+impl RecordObserver for NullObserver {
     ghost can_take = { λ _ _ _ _. ⊤ };
 
     ghost tells = { λ _ _ _. [] };
