@@ -19,7 +19,7 @@ pub ok-holds : {T E : Type 0} (r : Result T E) (x : T) (P : Type 0) → r ≡ Ok
 ok-holds r x P is h = rw is at h
 
 module _ {W : Type 0} (can_take : W → ℕ → Recorded → ℕ → Type 0) (tells : W → Recorded → ℕ → List ℕ) (next : W → Recorded → ℕ → W) where
-  -- a watcher has told a first part of a run, of which so much is kept as there is room for; the rest is still to come
+  -- an observer has told a first part of a run, of which so much is kept as there is room for; the rest is still to come
   pub record KeepsUp (space from : ℕ) (whole rest : Board) (w0 w : W) (t : Told) : Type 0 where
     pub text : List ℕ
     pub watched : Watched can_take tells next from whole rest w0 w (Some []) (Some text) 0 0

@@ -1,4 +1,4 @@
--- A run in windows, of which a watcher takes each, is to any watcher what the whole run is.
+-- A run in windows, of which an observer takes each, is to any observer what the whole run is.
 use Rattle.std.proofs.Common.{◌≡◌, ◌≢◌, ℕ, ◌+◌, ◌-◌, ◌≤◌, take, List, [], ◌++◌, Option, refl, sym, ap, ◌∙◌, arith, append-nil, append_assoc}
 use Rattle.tape_ports.specs.declared.entry.TapeEntry.{TapeEntry}
 use Rattle.outside_io.specs.Known.{grown}
@@ -161,7 +161,7 @@ module _ (entries : List TapeEntry) where
   pub ruleset window_laws = (first-window, run-made)
 
 module _ {W : Type 0} (can_take : W → ℕ → Recorded → ℕ → Type 0) (tells : W → Recorded → ℕ → List ℕ) (next : W → Recorded → ℕ → W) where
-  -- a watcher has taken a first part of a run, and the rest of it is still to come
+  -- an observer has taken a first part of a run, and the rest of it is still to come
   pub record Watched (from : ℕ) (whole rest : Board) (w0 w : W) (taken0 taken : Option (List ℕ)) (faults0 faults : ℕ) : Type 0 where
     pub sent : List ℕ
     pub took : taken ≡ grown taken0 sent

@@ -1,4 +1,4 @@
-//! A synchronised machine, its runs in windows, and watchers of their records.
+//! A synchronised machine, its runs in windows, and observers of their records.
 #![tactic(auto)]
 
 mod follow;

@@ -115,25 +115,25 @@ impl<'a, M: Machine> SyncedMachine<'a, M> {
         load_synced(self.machine, state);
     }
 
-    /// Runs up to the end of a window, the first one of `watch`, and hands its records to a watcher.
+    /// Runs up to the end of a window, the first one of `watch`, and hands its records to an observer.
     /// `Window` says that the run isn't over. After a fault the machine is synchronised too, and the
-    /// watcher is only to be dropped.
+    /// observer is only to be dropped.
     pub fn window<W: RecordObserver, O: Sink>(
         &mut self,
         tape: &Tape,
         until: Until,
-        watcher: &mut W,
+        observer: &mut W,
         out: &mut O,
     ) -> Result<Stop, SinkFault>
         requires limit { clock_in until ≤ CLOCK_LIMIT }
         requires room { let there = window_end tape.now.entries until (value_of self.old).board in
-            W.can_take watcher.old (value_of self.old).board.peripherals.clock (records_of there) there.peripherals.clock }
+            W.can_take observer.old (value_of self.old).board.peripherals.clock (records_of there) there.peripherals.clock }
         ensures same { loan_of self.new ≡ loan_of self.old }
         ensures taken { let there = window_end tape.now.entries until (value_of self.old).board in
-            Takes (O.taken out.old) (O.taken out.new) (W.tells watcher.old (records_of there) there.peripherals.clock) result }
+            Takes (O.taken out.old) (O.taken out.new) (W.tells observer.old (records_of there) there.peripherals.clock) result }
         ensures cause { HasCause (O.faults out.old) (O.faults out.new) result }
         ensures next { let there = window_end tape.now.entries until (value_of self.old).board in
-            OnOk result (watcher.new ≡ W.next watcher.old (records_of there) there.peripherals.clock) }
+            OnOk result (observer.new ≡ W.next observer.old (records_of there) there.peripherals.clock) }
         ensures board { (value_of self.new).board ≡ cleared (window_end tape.now.entries until (value_of self.old).board) }
         ensures stop { IfOk result (λ stop. stop ≡ cause_of (clock_in until) (value_of self.new).board) }
         ensures ends { EndsSo until (value_of self.new).board }
@@ -149,7 +149,7 @@ impl<'a, M: Machine> SyncedMachine<'a, M> {
         let stop = advance(self.machine, tape, until);
         self.machine.settle();
         let upto = self.machine.clock();
-        let taken = watcher.take(&self.machine.trails(), upto, out);
+        let taken = observer.take(&self.machine.trails(), upto, out);
         forget_records(self.machine);
         let Ok(()) = taken else {
             return Err(SinkFault);
@@ -158,31 +158,31 @@ impl<'a, M: Machine> SyncedMachine<'a, M> {
     }
 
     /// Runs to a clock or to a boundary, window by window, and hands the records of each window to a
-    /// watcher. A window ends with the run, or at the first boundary after the divider's next wrap.
-    /// After a fault the machine is synchronised too, and the watcher is only to be dropped.
+    /// observer. A window ends with the run, or at the first boundary after the divider's next wrap.
+    /// After a fault the machine is synchronised too, and the observer is only to be dropped.
     pub fn watch<W: RecordObserver, O: Sink>(
         &mut self,
         tape: &Tape,
         until: Until,
-        watcher: &mut W,
+        observer: &mut W,
         out: &mut O,
     ) -> Result<Stop, SinkFault>
         requires limit { clock_in until ≤ CLOCK_LIMIT }
         requires room { let last = end_of tape.now.entries until (value_of self.old).board in
-            W.can_take watcher.old (value_of self.old).board.peripherals.clock (records_of last) last.peripherals.clock }
+            W.can_take observer.old (value_of self.old).board.peripherals.clock (records_of last) last.peripherals.clock }
         ensures same { loan_of self.new ≡ loan_of self.old }
         ensures taken { let last = end_of tape.now.entries until (value_of self.old).board in
-            Takes (O.taken out.old) (O.taken out.new) (W.tells watcher.old (records_of last) last.peripherals.clock) result }
+            Takes (O.taken out.old) (O.taken out.new) (W.tells observer.old (records_of last) last.peripherals.clock) result }
         ensures cause { HasCause (O.faults out.old) (O.faults out.new) result }
         ensures next { let last = end_of tape.now.entries until (value_of self.old).board in
-            OnOk result (watcher.new ≡ W.next watcher.old (records_of last) last.peripherals.clock) }
+            OnOk result (observer.new ≡ W.next observer.old (records_of last) last.peripherals.clock) }
         ensures board { OnOk result ((value_of self.new).board ≡ cleared (end_of tape.now.entries until (value_of self.old).board)) }
         ensures stop { IfOk result (λ stop. stop ≡ cause_of (clock_in until) (value_of self.new).board) }
         ensures calls { (value_of self.new).calls ≤ (value_of self.old).calls + price_to tape.now.entries until (value_of self.old).board + 5 }
         ensures more { (value_of self.old).calls ≤ (value_of self.new).calls }
     {
         'windows: loop {
-            let Ok(stop) = self.window(tape, until, watcher, out) else {
+            let Ok(stop) = self.window(tape, until, observer, out) else {
                 return Err(SinkFault);
             };
             match stop {
@@ -192,29 +192,29 @@ impl<'a, M: Machine> SyncedMachine<'a, M> {
         }
     }
 
-    /// Runs turn by turn, tells a follower of each, and hands it their records: up to the limit, to the
+    /// Runs turn by turn, tells an observer of each, and hands it their records: up to the limit, to the
     /// end of a window, or to where it has enough.
     fn part<F: TurnObserver, O: Sink>(
         &mut self,
         tape: &Tape,
         limit: u64,
-        follower: &mut F,
+        observer: &mut F,
         out: &mut O,
     ) -> Result<Stop, SinkFault>
         requires limit { limit ≤ CLOCK_LIMIT }
-        requires room { F.can_follow follower.old tape.now.entries limit (value_of self.old).board }
+        requires room { F.can_follow observer.old tape.now.entries limit (value_of self.old).board }
         ensures same { loan_of self.new ≡ loan_of self.old }
-        ensures part { (c : lockstep.Board) × (v : F) × TracedRun F.next F.has_enough tape.now.entries (window_limit limit (value_of self.old).board) (value_of self.old).board c follower.old v
+        ensures part { (c : lockstep.Board) × (v : F) × TracedRun F.next F.has_enough tape.now.entries (window_limit limit (value_of self.old).board) (value_of self.old).board c observer.old v
             × Takes (O.taken out.old) (O.taken out.new) (F.part_tells v (records_of c)) result
-            × OnOk result (follower.new ≡ F.after_part v (records_of c))
+            × OnOk result (observer.new ≡ F.after_part v (records_of c))
             × ((value_of self.new).board ≡ cleared c) }
         ensures cause { HasCause (O.faults out.old) (O.faults out.new) result }
         ensures boundary { (value_of self.new).board.cpu.mid ≡ None }
         ensures stop { IfOk result (λ stop. stop ≡ cause_of limit (value_of self.new).board) }
     {
-        let stop = self.machine.run_traced(tape, limit, follower);
+        let stop = self.machine.run_traced(tape, limit, observer);
         self.machine.settle();
-        let handed = follower.take_part(&self.machine.trails(), out);
+        let handed = observer.take_part(&self.machine.trails(), out);
         forget_records(self.machine);
         let Ok(()) = handed else {
             return Err(SinkFault);
@@ -222,26 +222,26 @@ impl<'a, M: Machine> SyncedMachine<'a, M> {
         Ok(stop)
     }
 
-    /// Runs to a boundary, and tells a follower of each turn and of all records. After a fault the
-    /// machine is synchronised too, and the follower is only to be dropped.
+    /// Runs to a boundary, and tells an observer of each turn and of all records. After a fault the
+    /// machine is synchronised too, and the observer is only to be dropped.
     pub fn follow<F: TurnObserver, O: Sink>(
         &mut self,
         tape: &Tape,
         limit: u64,
-        follower: &mut F,
+        observer: &mut F,
         out: &mut O,
     ) -> Result<Stop, SinkFault>
         requires limit { limit ≤ CLOCK_LIMIT }
-        requires room { F.can_follow follower.old tape.now.entries limit (value_of self.old).board }
+        requires room { F.can_follow observer.old tape.now.entries limit (value_of self.old).board }
         ensures same { loan_of self.new ≡ loan_of self.old }
-        ensures taken { Takes (O.taken out.old) (O.taken out.new) (F.tells follower.old tape.now.entries limit (value_of self.old).board) result }
+        ensures taken { Takes (O.taken out.old) (O.taken out.new) (F.tells observer.old tape.now.entries limit (value_of self.old).board) result }
         ensures cause { HasCause (O.faults out.old) (O.faults out.new) result }
-        ensures next { OnOk result (follower.new ≡ F.after_run follower.old tape.now.entries limit (value_of self.old).board) }
+        ensures next { OnOk result (observer.new ≡ F.after_run observer.old tape.now.entries limit (value_of self.old).board) }
         ensures board { OnOk result ((value_of self.new).board ≡ cleared (to_boundary tape.now.entries limit (value_of self.old).board)) }
         ensures stop { IfOk result (λ stop. stop ≡ cause_of limit (value_of self.new).board) }
     {
         'parts: loop {
-            let Ok(stop) = self.part(tape, limit, follower, out) else {
+            let Ok(stop) = self.part(tape, limit, observer, out) else {
                 return Err(SinkFault);
             };
             let Stop::Window = stop else {

@@ -7,7 +7,7 @@ ghost use Rattle.board_watch.specs.RecordObserver.{TakesInParts, recorded};
 use board_base::Trails;
 use outside_io::{Sink, SinkFault};
 
-/// A watcher of the records of a run, which takes them window by window.
+/// An observer of the records of a run, which takes them window by window.
 pub trait RecordObserver {
     /// It can take these records, which are those of the clocks from one up to another.
     ghost can_take: { Self → ℕ → Recorded → ℕ → Type 0 };

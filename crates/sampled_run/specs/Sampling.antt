@@ -1,4 +1,4 @@
--- A mixer as a watcher of a run. This project's own.
+-- A mixer as an observer of a run. This project's own.
 use Rattle.std.specs.Prelude.{◌≡◌, ℕ, ◌≤◌, ◌<◌, List, [], ◌∷◌, ◌++◌}
 use Rattle.std.proofs.Common.{refl, ap, ◌∙◌, arith}
 use Rattle.board_base.specs.declared.board.TheConstants.{CLOCK_END}

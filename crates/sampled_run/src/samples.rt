@@ -16,7 +16,7 @@ use outside_io::{Sink, SinkFault};
 use sound_pcm::Mixer;
 use tape_ports::Tape;
 
-/// Writes the samples of a run: a watcher of its records.
+/// Writes the samples of a run: an observer of its records.
 #[derive(Drop)]
 pub struct Sampler {
     mixer: Mixer,

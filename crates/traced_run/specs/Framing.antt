@@ -1,4 +1,4 @@
--- Frames as a follower of a run. This project's own.
+-- Frames as an observer of a run. This project's own.
 use Rattle.std.specs.Prelude.{◌≡◌, ℕ, ◌+◌, ◌<◌, ◌≤◌, ◌^◌, ◌==◌, Bool, not, List, [], length, IsSome, take, if◌then◌else◌}
 use Rattle.std.specs.List.{list_any}
 use Rattle.board_base.specs.declared.board.TheConstants.{CLOCK_LIMIT}

@@ -1,4 +1,4 @@
--- A profile as a follower of a run. This project's own.
+-- A profile as an observer of a run. This project's own.
 use Rattle.std.specs.Prelude.{ℕ, List}
 use Rattle.tape_ports.specs.declared.entry.TapeEntry.{TapeEntry}
 use Rattle.lockstep_board.specs.Lockstep.{Board}

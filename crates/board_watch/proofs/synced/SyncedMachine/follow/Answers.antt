@@ -19,7 +19,7 @@ returns-in_default-clause-taken g c =
 pub parts-smaller : goal.parts-smaller
 parts-smaller g c =
     let p = c.in-Ok.ensures.part in
-    part-smaller _ _ c.args.tape.now.entries c.args.limit (g.M.Machine.value c.parts.self.machine.now).board p.0 (g.M.Machine.value c.part.new.self.machine.now).board c.parts.follower p.1 c.parts.self.is_synced.phase
+    part-smaller _ _ c.args.tape.now.entries c.args.limit (g.M.Machine.value c.parts.self.machine.now).board p.0 (g.M.Machine.value c.part.new.self.machine.now).board c.parts.observer p.1 c.parts.self.is_synced.phase
     p.2 p.5 c.part.ensures.boundary (window-open c.args.limit (g.M.Machine.value c.part.new.self.machine.now).board (sym c.in-Ok.ensures.stop ∙ c.in-Window.is))
 
 pub parts-preserved : goal.parts-preserved
@@ -29,7 +29,7 @@ parts-preserved g c =
       same = c.part.ensures.same ∙ c.parts.invariant.same;
       followed =
           followed-part _ _ _ _ _ _ _ _ g.met.F.TurnObserver.in_parts c.args.tape.now.entries c.args.limit _ (g.M.Machine.value c.parts.self.machine.now).board p.0 (g.M.Machine.value c.part.new.self.machine.now).board
-          _ _ p.1 c.part.new.follower _ _ _ _ _ _ c.parts.invariant.followed c.parts.self.is_synced.placed c.parts.self.is_synced.empty p.2 p.5 p.4 p.3 c.in-Ok.ensures.cause;
+          _ _ p.1 c.part.new.observer _ _ _ _ _ _ c.parts.invariant.followed c.parts.self.is_synced.placed c.parts.self.is_synced.empty p.2 p.5 p.4 p.3 c.in-Ok.ensures.cause;
     }
 
 pub returns-in_default-stop : goal.returns-in_default-stop
@@ -38,9 +38,9 @@ returns-in_default-stop g c =
     let there = (g.M.Machine.value c.part.new.self.machine.now).board in
     let followed =
     followed-part _ _ _ _ _ _ _ _ g.met.F.TurnObserver.in_parts c.args.tape.now.entries c.args.limit _ (g.M.Machine.value c.parts.self.machine.now).board p.0 there
-    _ _ p.1 c.part.new.follower _ _ _ _ _ _ c.parts.invariant.followed c.parts.self.is_synced.placed c.parts.self.is_synced.empty p.2 p.5 p.4 p.3 c.in-Ok.ensures.cause in
+    _ _ p.1 c.part.new.observer _ _ _ _ _ _ c.parts.invariant.followed c.parts.self.is_synced.placed c.parts.self.is_synced.empty p.2 p.5 p.4 p.3 c.in-Ok.ensures.cause in
     let over = over-stop c.args.limit there c.part.ensures.boundary (λ w. c.in_default-stop.not-Window (c.in-Ok.ensures.stop ∙ w)) in
-    let all = followed-over _ _ _ g.met.F.TurnObserver.stands_still c.args.tape.now.entries c.args.limit _ there _ c.part.new.follower _ _ _ _ followed over in
+    let all = followed-over _ _ _ g.met.F.TurnObserver.stands_still c.args.tape.now.entries c.args.limit _ there _ c.part.new.observer _ _ _ _ followed over in
     record {
       same = c.part.ensures.same ∙ c.parts.invariant.same;
       taken = all.0;
