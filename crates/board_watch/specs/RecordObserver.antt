@@ -1,4 +1,4 @@
--- Watchers of the records of a run, and what the law of an observer says. This project's own.
+-- Observers of the records of a run, and what the law of an observer says. This project's own.
 use Rattle.std.specs.Prelude.{◌≡◌, ℕ, List, ◌++◌}
 use Rattle.board_base.specs.declared.record.Record.{Record}
 use Rattle.lockstep_board.specs.Order.{Recorded, AreMadeBetween}

@@ -14,7 +14,7 @@ use Rattle.pokey_chip.specs.declared.tones.Tuning.{Tuning}
 use Rattle.pokey_chip.specs.Moves.{turns_taken}
 use Rattle.pokey_chip.specs.Noise.{long_poly}
 use Rattle.pokey_chip.specs.Tick.{filtered, is_held, level, levelled, levels_of, long_register, pokey_tick, rolled, signal}
-use Rattle.pokey_chip.specs.Tones.{asker, audc_of, observer, has, level_on, levels_on, next_tone, of_channel, requests_made, IsTuning}
+use Rattle.pokey_chip.specs.Tones.{asker, audc_of, follower, has, level_on, levels_on, next_tone, of_channel, requests_made, IsTuning}
 use Rattle.pokey_chip.proofs.EventLaws.{stood}
 use Rattle.pokey_chip.proofs.RegisterLaws.{poly9-after, poly17-after}
 use Rattle.pokey_chip.proofs.TurnLaws.{next_by, turns-irqst, turns-irqst-fits, turns-pass, turns-pass-fits, turns-tone, turns-tone-fits}
@@ -160,17 +160,17 @@ module _ (p r q : PokeyValue) (a b c d : Bool) (turns : levelled (turns_taken a 
       ∙ sym (turns-tone a b c d r fits ch))
       ∙ tone-is
 
-  due-observer : (k : ℕ) → k < 2 → is_bit due (k + 2) ≡ of_channel a b c d (observer k)
-  due-observer zero h = is-due Third
-  due-observer (suc zero) h = is-due Fourth
-  due-observer (suc (suc k)) h = absurd (omega arith)
+  due-follower : (k : ℕ) → k < 2 → is_bit due (k + 2) ≡ of_channel a b c d (follower k)
+  due-follower zero h = is-due Third
+  due-follower (suc zero) h = is-due Fourth
+  due-follower (suc (suc k)) h = absurd (omega arith)
 
   pub pass-step : (tone pass new : ℕ) → r.tone < 16 → tone ≡ q.tone → pass ≡ r.pass → pass < 4 → new < 4
       → ((k : ℕ) → k < 2 → is_bit new k ≡ (if is_bit due (k + 2) then is_bit tone k else is_bit pass k)) → new ≡ q.pass
   pass-step tone pass new tones now same small few e =
       let fits : r.pass < 4 = omega arith in
       two-same new (turns_taken a b c d r).pass few (turns-pass-fits a b c d r tones fits)
-      (λ k h. e k h ∙ rw (due-observer k h, now ∙ sym tone-is, same) refl ∙ sym (turns-pass a b c d r tones fits k h))
+      (λ k h. e k h ∙ rw (due-follower k h, now ∙ sym tone-is, same) refl ∙ sym (turns-pass a b c d r tones fits k h))
       ∙ pass-is
 
   due-asker : (j : ℕ) → j < 3 → has due (asker j) ≡ of_channel a b c d (asker j)

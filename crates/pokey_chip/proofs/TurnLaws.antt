@@ -9,7 +9,7 @@ use Rattle.pokey_chip.specs.declared.control.TheConstants.{FOUR_BITS, NO_FIVE_BI
 use Rattle.pokey_chip.specs.Channels.{place}
 use Rattle.pokey_chip.specs.Moves.{turns_taken}
 use Rattle.pokey_chip.specs.Tick.{long_register, new_tone, passed, requested, toned, tone_of, turned, with_bit}
-use Rattle.pokey_chip.specs.Tones.{asker, audc_of, observer, of_channel}
+use Rattle.pokey_chip.specs.Tones.{asker, audc_of, follower, of_channel}
 use Rattle.pokey_chip.proofs.BitLemmas.{with_bit_fits, with_bit_fits_two, with_bit_fits_three}
 use Rattle.pokey_chip.proofs.ToneLaws.{place-few}
 
@@ -176,7 +176,7 @@ module _ (a b c d : Bool) (r : PokeyValue) (small : r.tone < 16) where
     unfolding turns_taken
     turns-pass-fits = passed-fourth-fits d three three-few
 
-    pub turns-pass : (k : ℕ) → k < 2 → is_bit (turns_taken a b c d r).pass k ≡ (if of_channel a b c d (observer k) then is_bit (turns_taken a b c d r).tone k else is_bit r.pass k)
+    pub turns-pass : (k : ℕ) → k < 2 → is_bit (turns_taken a b c d r).pass k ≡ (if of_channel a b c d (follower k) then is_bit (turns_taken a b c d r).tone k else is_bit r.pass k)
     unfolding turns_taken
     turns-pass zero below = passed-fourth d three 0 (omega arith) three-few ∙ third-pass 0 (omega arith) ∙ ap (λ (t : Bool). if c then t else is_bit r.pass 0) first-new
     turns-pass (suc zero) below = passed-fourth d three 1 (omega arith) three-few

@@ -22,9 +22,9 @@ of_channel first second third fourth Third = third
 of_channel first second third fourth Fourth = fourth
 
 -- the channel that clocks the high-pass filter of channel 1 or 2, by the filter's bit
-abbrev pub observer : ℕ → Channel
-observer zero = Third
-observer (suc k) = Fourth
+abbrev pub follower : ℕ → Channel
+follower zero = Third
+follower (suc k) = Fourth
 
 -- the channel that makes a request, by the bit of the request
 abbrev pub asker : ℕ → Channel
