@@ -59,7 +59,7 @@ impl RecordObserver for BoardTally {
     }
 }
 
-/// Runs an engine to the limit, window by window, and tells what records there were.
+/// Runs an engine to the limit, window by window, and returns what records there were.
 pub fn run_windows<M: Machine>(
     synced: &mut SyncedMachine<'_, M>,
     tape: &Tape,

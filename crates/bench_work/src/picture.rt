@@ -83,7 +83,7 @@ pub fn long_vectors(alloc: Global) -> Result<VectorMemory, OutOfMemory> {
     Ok(picture.end())
 }
 
-/// Draws for so many clocks, from the first word on, and tells what strokes there were.
+/// Draws for so many clocks, from the first word on, and returns what strokes there were.
 #[tactic(auto, using(crate::proofs::Slices::drawn))]
 pub fn draw<V: VectorUnit>(
     alloc: Global,

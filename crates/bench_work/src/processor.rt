@@ -18,7 +18,7 @@ const ROUND_INSTRUCTIONS: u64 = 513;
 /// The clocks of a round: `INX` takes 2, `BNE` 3 where it branches and 2 at the end, the jump 3.
 pub const ROUND_CLOCKS: u64 = 1282;
 
-/// Runs a bare 6502 for so many rounds, on a bus without a log, and tells how it stands then.
+/// Runs a bare 6502 for so many rounds, on a bus without a log, and returns how it stands then.
 pub fn count(alloc: Global, rounds: u64) -> Result<CpuState, OutOfMemory>
     requires { rounds ≤ CLOCK_LIMIT }
 {

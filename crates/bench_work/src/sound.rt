@@ -19,7 +19,7 @@ const SKCTL: u8 = 0xF;
 /// A pure tone at full volume.
 const TONE: u8 = 0xAF;
 
-/// What a POKEY is told to play.
+/// What a POKEY plays.
 #[derive(Clone, Copy, PartialEq, Eq)]
 pub enum Tune {
     /// Four channels on the base clock, with periods of 21, 81, 141 and 201 pulses of 28 clocks each.
@@ -78,7 +78,7 @@ impl Tune {
     }
 }
 
-/// Plays for so many clocks, and tells what levels there were.
+/// Plays for so many clocks, and returns what levels there were.
 #[tactic(auto, using(crate::proofs::Slices::played))]
 pub fn play<S: SoundUnit>(alloc: Global, unit: &mut S, work: Work) -> Result<Tally, OutOfMemory>
     ensures state { OnOk result (S.device unit.new ≡ times pokey_tick work.clocks (S.device unit.old)) }

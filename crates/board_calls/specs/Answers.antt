@@ -50,11 +50,11 @@ pub record Tells (words : List ℕ) (spot : ℕ) (ended : Status) (c : Call) : T
   pub place : c.after ≡ c.before
   pub buffer : c.filled ≡ noted_in words c.buffer
 
--- want of memory, or these words
+-- lack of memory, or these words
 abbrev pub TellsOrNot : List ℕ → ℕ → Status → Call → Type 0
 TellsOrNot words spot ended c = Tells words spot ended c ⊎ Refuses NoMemory (report_of 0 0 0) c
 
--- the board stands at the end of a stretch, and the buffer, which has room for all of it, has what the stretch tells
+-- the board stands at the end of a stretch, and the buffer, which has room for all of it, has what the stretch returns
 pub record Gives (s : Stretch) (c : Call) : Type 0 where
   pub status : c.number ≡ number_of (if s.jammed then Jammed else Done)
   pub report : c.report ≡ report_of s.clock s.wanted 0

@@ -34,7 +34,7 @@ pub fn power_on(board: &mut [u8]) -> u32
 }
 
 /// Assembles the processor's source and then the generator's into one image of 43,008 bytes, which has
-/// zeros elsewhere. Where a source is refused, `note` gets the words of it, `place` tells the line, and
+/// zeros elsewhere. Where a source is refused, `note` gets the words of it, `place` says the line, and
 /// the image stays as it was.
 pub fn assemble(
     alloc: Global,

@@ -16,7 +16,7 @@ use board_watch::Until;
 use sound_pcm::MAX_PER;
 use std::alloc::Global;
 
-/// Whether a number stands for yes.
+/// Whether a number means yes.
 fn is_so(number: u32) -> bool
     ensures { result ≡ is_asked number }
 {
@@ -59,7 +59,7 @@ fn answer(
 ///
 /// `image` is 43,008 bytes, `board` 4,356, `tape` a text, `clock` 2^48 at most; with `timers` other than
 /// 0 the POKEYs' requests reach the interrupt line. Where bytes are refused, the buffer gets the words
-/// of it. Where the buffer is too short, `used` tells what is wanted. A call that isn't done leaves the board as it was.
+/// of it. Where the buffer is too short, `used` says what is wanted. A call that isn't done leaves the board as it was.
 pub fn advance(
     alloc: Global,
     image: &[u8],

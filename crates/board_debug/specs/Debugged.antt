@@ -12,7 +12,7 @@ use Rattle.board_debug.specs.declared.fault.DebugFault.TheVariants.{BadCommand, 
 use Rattle.board_watch.specs.Synced.{IsSynced}
 use Rattle.board_debug.specs.Session.{session_board, session_text}
 
--- the whole text of these commands was written, and the engine stands for the board that they leave
+-- the whole text of these commands was written, and the engine represents the board that they leave
 pub record RanWhole (tape : TapeValue) (commands : List Command) (before now : EngineValue) (out0 out1 : Option (List ℕ)) (faults0 faults1 : ℕ) : Type 0 where
   pub text : out1 ≡ grown out0 (session_text tape no_stops commands before.board)
   pub faults : faults1 ≡ faults0
@@ -30,7 +30,7 @@ pub record RanNothing (before now : EngineValue) (out0 out1 : Option (List ℕ))
   pub text : out1 ≡ out0
   pub faults : faults1 ≡ faults0
 
--- A script whose lines all have a form is run; else its first line of no form is told, before anything is run.
+-- A script whose lines all have a form is run; else its first malformed line is reported, before anything is run.
 abbrev pub Debugs : TapeValue → List ℕ → EngineValue → EngineValue → Option (List ℕ) → Option (List ℕ) → ℕ → ℕ → Result (Unit {0}) DebugFault → Type 0
 Debugs tape script before now out0 out1 faults0 faults1 (Ok _) =
     (commands : List Command) × (script_of script ≡ Ok commands) × RanWhole tape commands before now out0 out1 faults0 faults1

@@ -4,7 +4,7 @@ use thiserror::Error;
 /// Why a script wasn't run to its end.
 #[derive(Clone, Copy, Debug, PartialEq, Eq, Error)]
 pub enum DebugFault {
-    /// The first line of no form, counted from 1. Nothing was run or written.
+    /// The first malformed line, counted from 1. Nothing was run or written.
     BadCommand(u32),
     /// A write failed. A first part of the text was taken.
     SinkFault,

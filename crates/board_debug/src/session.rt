@@ -39,7 +39,7 @@ fn make_turns<M: Machine>(
     }
 }
 
-/// The board that an engine stands for.
+/// The board that an engine represents.
 fn state_of<M: Machine>(synced: &SyncedMachine<'_, M>) -> BoardState
     ensures { result ≡ board_of (value_of synced.now).board.cpu (value_of synced.now).board.peripherals }
 {

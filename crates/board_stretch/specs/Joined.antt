@@ -12,11 +12,11 @@ IsOnTheWay (Clock c) until = c ≤ clock_in until
 IsOnTheWay (Boundary c) (Boundary d) = c ≤ d
 IsOnTheWay (Boundary c) (Clock d) = ⊥
 
--- there was room for all that a stretch tells
+-- there was room for all that a stretch returns
 abbrev pub HasAll : Stretch → Type 0
 HasAll s = length s.told.items ≡ s.wanted
 
--- two stretches, the second from the board of the first on, tell and come to what the whole does
+-- two stretches, the second from the board of the first on, return and come to what the whole does
 pub record AreOne (first second whole : Stretch) : Type 0 where
   pub told : HasAll first → HasAll second → HasAll whole → whole.told.items ≡ first.told.items ++ second.told.items
   pub wanted : whole.wanted ≡ first.wanted + second.wanted

@@ -20,7 +20,7 @@ use Rattle.board_stretch.specs.Reading.{ReadsParts}
 abbrev pub first_board : Bool → Parts → Board
 first_board timers parts = record { cpu = parts.board.cpu; peripherals = peripherals_of parts.image timers parts.board }
 
--- a stretch that tells these bytes, where there is room for so many, and ended at this board, each of whose fields is in its range
+-- a stretch that returns these bytes, where there is room for so many, and ended at this board, each of whose fields is in its range
 pub record EndsAt (room : ℕ) (told : List ℕ) (last : Board) (s : Stretch) : Type 0 where
   pub bytes : s.told.items ≡ kept room told
   pub wanted : s.wanted ≡ length told
@@ -29,19 +29,19 @@ pub record EndsAt (room : ℕ) (told : List ℕ) (last : Board) (s : Stretch) : 
   pub clock : s.clock ≡ last.peripherals.clock
   pub jammed : s.jammed ≡ is_some last.cpu.jam
 
--- a stretch that tells the lines of its records: those of a log without its last line
+-- a stretch that returns the lines of its records: those of a log without its last line
 abbrev pub IsAdvanced : ℕ → Bool → Until → Parts → Stretch → Type 0
 IsAdvanced room timers until parts s =
     let first = first_board timers parts in
     EndsAt room (slice_text parts.tape.entries until first) (end_of parts.tape.entries until first) s
 
--- a stretch that tells its records as bytes, 40 of each
+-- a stretch that returns its records as bytes, 40 of each
 abbrev pub IsRecorded : ℕ → Bool → Until → Parts → Stretch → Type 0
 IsRecorded room timers until parts s =
     let first = first_board timers parts in
     EndsAt room (slice_records parts.tape.entries until first) (end_of parts.tape.entries until first) s
 
--- a stretch to a boundary that tells the samples of the sound
+-- a stretch to a boundary that returns the samples of the sound
 abbrev pub IsSampled : ℕ → Bool → ℕ → ℕ → Parts → Stretch → Type 0
 IsSampled room timers limit per parts s =
     let first = first_board timers parts in

@@ -6,7 +6,7 @@ use rom_image::Image;
 use std::alloc::Global;
 use thiserror::Error;
 
-/// Why two sources give no image: the first that is refused, or want of memory.
+/// Why two sources give no image: the first that is refused, or lack of memory.
 #[derive(Clone, Copy, Debug, PartialEq, Eq, Error)]
 pub enum AssemblyFault {
     /// The processor's source is refused.

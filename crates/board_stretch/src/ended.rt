@@ -14,9 +14,9 @@ use save_state::STATE_LEN;
 pub struct Stretch {
     /// The board at its end, as bytes of a saved board.
     pub board: [u8; STATE_LEN],
-    /// What it tells, the lines of its records or its samples, where there is room for all of it.
+    /// What it returns, the lines of its records or its samples, where there is room for all of it.
     pub told: Vec<u8>,
-    /// How many bytes it tells, also where there is no room for them.
+    /// How many bytes it returns, also where there is no room for them.
     pub wanted: u64,
     /// The clock at its end.
     pub clock: u64,

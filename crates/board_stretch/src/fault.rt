@@ -3,7 +3,7 @@ use save_state::StateFault;
 use tape_ports::TapeFault;
 use thiserror::Error;
 
-/// Why a stretch isn't run: the first of its parts that is no such file, or want of memory.
+/// Why a stretch isn't run: the first of its parts that is no such file, or lack of memory.
 #[derive(Clone, Copy, Debug, PartialEq, Eq, Error)]
 pub enum StretchFault {
     /// It is no image.

@@ -28,7 +28,7 @@ pub fn power_on() -> [u8; STATE_LEN]
     bytes
 }
 
-/// Runs a stretch, and tells the lines of its records.
+/// Runs a stretch, and returns the lines of its records.
 fn advance_parts(
     alloc: Global,
     parts: &Parts,
@@ -54,8 +54,8 @@ fn advance_parts(
 }
 
 /// Runs an image with a tape from a saved board to a clock, or to the first boundary that isn't before
-/// it. It tells the lines of the records on the way, as the log of `run` has them, without a last line.
-/// Where they are more bytes than there is room for, it tells only how many they are.
+/// it. It returns the lines of the records on the way, as the log of `run` has them, without a last line.
+/// Where they are more bytes than there is room for, it returns only how many they are.
 ///
 /// Entries of the tape whose clocks are done aren't applied, and its END is only a line. A board that has
 /// come so far stays as it is, and a jammed one too.
@@ -76,7 +76,7 @@ pub fn advance(
     advance_parts(alloc, &parts, start.timers, until, room)
 }
 
-/// Runs a stretch, and tells its records as bytes.
+/// Runs a stretch, and returns its records as bytes.
 fn record_parts(
     alloc: Global,
     parts: &Parts,
@@ -108,8 +108,8 @@ fn record_parts(
     }
 }
 
-/// Runs an image with a tape as `advance` does, and tells the records on the way as bytes, 40 of each:
-/// those that `advance` tells as lines, in the same order.
+/// Runs an image with a tape as `advance` does, and returns the records on the way as bytes, 40 of each:
+/// those that `advance` returns as lines, in the same order.
 pub fn records(
     alloc: Global,
     start: Start<'_>,
@@ -127,7 +127,7 @@ pub fn records(
     record_parts(alloc, &parts, start.timers, until, room)
 }
 
-/// Runs a stretch, and tells its samples.
+/// Runs a stretch, and returns its samples.
 fn sample_parts(
     alloc: Global,
     parts: &Parts,
@@ -158,9 +158,9 @@ fn sample_parts(
 }
 
 /// Runs an image with a tape from a saved board to the first boundary that isn't before a clock. It
-/// tells a sample for each `per` clocks, 1 to 65,535: the sum of both POKEYs' eight levels over them, as
-/// four bytes, the lowest first. Clocks at the end that are no whole group tell none. Where the samples
-/// are more bytes than there is room for, it tells only how many they are.
+/// returns a sample for each `per` clocks, 1 to 65,535: the sum of both POKEYs' eight levels over them, as
+/// four bytes, the lowest first. Clocks at the end that are no whole group give none. Where the samples
+/// are more bytes than there is room for, it returns only how many they are.
 pub fn sample(
     alloc: Global,
     start: Start<'_>,

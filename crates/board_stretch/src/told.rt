@@ -1,4 +1,4 @@
-//! What a stretch tells, as far as there is room for it.
+//! What a stretch returns, as far as there is room for it.
 ghost use Rattle.std.specs.Prelude.{◌≡◌, ℕ, List, [], ◌++◌, IfOk, OnOk};
 ghost use Rattle.board_stretch.specs.Kept.{IsKept};
 

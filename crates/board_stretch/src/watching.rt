@@ -1,4 +1,4 @@
-//! A run whose observer tells no more than there is room for.
+//! A run whose observer writes no more than there is room for.
 ghost use Rattle.std.specs.Prelude.{◌≡◌, ◌≤◌, IfOk, OnOk};
 ghost use Rattle.board_watch.specs.SyncedMachine.{loan_of, value_of};
 ghost use Rattle.board_watch.specs.Windows.{clock_in, end_of};
@@ -13,8 +13,8 @@ use catchup_engine::{Machine, Stop};
 use std::alloc::{AllocError, Global};
 use tape_ports::Tape;
 
-/// Runs to a clock or to a boundary, as `SyncedMachine::watch` does, and keeps what the observer tells as far as
-/// there is room for it. It takes memory for that room and for what is told of one window.
+/// Runs to a clock or to a boundary, as `SyncedMachine::watch` does, and keeps what the observer writes as far as
+/// there is room for it. It takes memory for that room and for what is written of one window.
 pub(crate) fn watch_within<M: Machine, W: RecordObserver>(
     alloc: Global,
     synced: &mut SyncedMachine<'_, M>,

@@ -8,7 +8,7 @@ use Rattle.catchup_engine.specs.Trace.{TraceValue}
 use Rattle.catchup_engine.specs.Traced.{TracedRun}
 
 module _ {F : Type 0} (tells : F → List TapeEntry → ℕ → Board → List ℕ) (after_run : F → List TapeEntry → ℕ → Board → F) where
-  -- a run that is over tells nothing, and changes nothing
+  -- a run that is over writes nothing, and changes nothing
   pub record IsStill (w : F) (entries : List TapeEntry) (limit : ℕ) (b : Board) : Type 0 where
     pub text : tells w entries limit b ≡ []
     pub state : after_run w entries limit b ≡ w
@@ -19,7 +19,7 @@ module _ {F : Type 0} (tells : F → List TapeEntry → ℕ → Board → List �
 module _ {F : Type 0} (next : F → TraceValue → ℕ → F) (enough : F → Bool) (can_follow : F → List TapeEntry → ℕ → Board → Type 0)
     (tells : F → List TapeEntry → ℕ → Board → List ℕ) (after_run : F → List TapeEntry → ℕ → Board → F)
     (can_take : F → Recorded → Type 0) (part_tells : F → Recorded → List ℕ) (after_part : F → Recorded → F) where
-  -- From the board b a first part of the run led to c, and one that was w was told of its turns and is v. To take the records of
+  -- From the board b a first part of the run led to c, and an observer that was w got its turns and is v. To take the records of
   -- this part and then to follow the rest of the run is to follow the whole.
   pub record IsFollowedInParts (w v : F) (entries : List TapeEntry) (limit : ℕ) (b c : Board) : Type 0 where
     pub room : can_take v (records_of c)

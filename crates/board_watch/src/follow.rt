@@ -17,16 +17,16 @@ pub trait TurnObserver: Tracer {
     /// It can follow the run from a board to a limit.
     ghost can_follow: { Self → List TapeEntry → ℕ → Board → Type 0 };
 
-    /// The bytes that it tells of that run.
+    /// The bytes that it writes of that run.
     ghost tells: { Self → List TapeEntry → ℕ → Board → List ℕ };
 
     /// What it is behind that run.
     ghost after_run: { Self → List TapeEntry → ℕ → Board → Self };
 
-    /// It can take the records of a part, of whose turns it was told.
+    /// It can take the records of a part, whose turns it got.
     ghost can_take: { Self → Recorded → Type 0 };
 
-    /// The bytes that it tells where it takes them.
+    /// The bytes that it writes when it takes them.
     ghost part_tells: { Self → Recorded → List ℕ };
 
     /// What it is then.
@@ -45,6 +45,6 @@ pub trait TurnObserver: Tracer {
     /// To follow a first part, and then the rest, is to follow the whole.
     ghost in_parts: { FollowsInParts Self.next Self.has_enough can_follow tells after_run can_take part_tells after_part };
 
-    /// A run that is over tells nothing.
+    /// A run that is over writes nothing.
     ghost stands_still: { StandsStill tells after_run };
 }

@@ -4,7 +4,7 @@ use crate::watch::RecordObserver;
 use board_base::Trails;
 use outside_io::{Sink, SinkFault};
 
-/// An observer that tells nothing and keeps nothing: for a run of which only the board is wanted.
+/// An observer that writes nothing and keeps nothing: for a run of which only the board is wanted.
 #[derive(Clone, Copy, Debug, PartialEq, Eq)]
 pub struct NullObserver;
 

@@ -2,7 +2,7 @@ ghost use Rattle.std.specs.Prelude.{None};
 
 use outside_io::{Sink, SinkFault};
 
-/// A sink for an observer that tells nothing. It keeps no byte, and never fails.
+/// A sink for an observer that writes nothing. It keeps no byte, and never fails.
 #[derive(Clone, Copy, Debug, PartialEq, Eq)]
 pub struct NullSink;
 

@@ -192,7 +192,7 @@ impl<'a, M: Machine> SyncedMachine<'a, M> {
         }
     }
 
-    /// Runs turn by turn, tells an observer of each, and hands it their records: up to the limit, to the
+    /// Runs turn by turn, passes each to an observer, and hands it their records: up to the limit, to the
     /// end of a window, or to where it has enough.
     fn part<F: TurnObserver, O: Sink>(
         &mut self,
@@ -222,7 +222,7 @@ impl<'a, M: Machine> SyncedMachine<'a, M> {
         Ok(stop)
     }
 
-    /// Runs to a boundary, and tells an observer of each turn and of all records. After a fault the
+    /// Runs to a boundary, and passes each turn and all records to an observer. After a fault the
     /// machine is synchronised too, and the observer is only to be dropped.
     pub fn follow<F: TurnObserver, O: Sink>(
         &mut self,

@@ -12,7 +12,7 @@ pub trait RecordObserver {
     /// It can take these records, which are those of the clocks from one up to another.
     ghost can_take: { Self → ℕ → Recorded → ℕ → Type 0 };
 
-    /// The bytes that it tells of these records, and of the clocks before one.
+    /// The bytes that it writes of these records, and of the clocks before one.
     ghost tells: { Self → Recorded → ℕ → List ℕ };
 
     /// What it is after them.

@@ -13,7 +13,7 @@ use Rattle.catchup_engine.specs.EngineValue.{Rooms}
 use Rattle.catchup_engine.specs.Lags.{DeviceLags, lagging_at}
 
 -- The peripherals, and whether the ticks of the next access's clock are in them already: such a clock counts as done. Then the
--- entries of the tape that are past, the clock before which nothing comes of itself, which devices lag, the clock up to
+-- entries of the tape that are past, the clock before which no event is due, which devices lag, the clock up to
 -- which the trails of the generator and the POKEYs have room, the rooms of all four, and the device calls.
 pub record BusValue : Type 0 where
   pub peripherals : Peripherals

@@ -1,4 +1,4 @@
--- What comes of itself: the divider's next wrap, and the tape's next entry.
+-- The scheduled events: the divider's next wrap, and the tape's next entry.
 use Rattle.std.specs.Prelude.{ℕ, min, List, Option, Some, None, replicate, slice_set}
 use Rattle.catchup_engine.specs.declared.bus.events.TheConstants.{WRAP, ENTRY}
 

@@ -10,15 +10,15 @@ pub record LeavesLines (w : Peripherals) : Type 0 where
   pub irq : (devices_ticked w).divider.irq ≡ w.divider.irq
   pub pending : (devices_ticked w).divider.pending ≡ w.divider.pending
 
--- clocks in which nothing comes of itself make no interrupt of the divider and no reset, whatever is accessed in them
+-- clocks in which no event is due make no interrupt of the divider and no reset, whatever is accessed in them
 pub record KeepsLines (s t : BusValue) : Type 0 where
   pub event : t.event_at ≡ s.event_at
   pub wired : t.peripherals.wired ≡ s.peripherals.wired
   pub pending : t.peripherals.divider.pending ≡ s.peripherals.divider.pending
   pub irq : s.peripherals.divider.irq ≡ false → t.peripherals.divider.irq ≡ false
 
--- up to a clock no run to this limit ends at a boundary, nothing comes of itself in the clocks
--- of a sequence that begins there, no reset is pending, and where it is silent the interrupt line is let go
+-- up to a clock no run to this limit ends at a boundary, no event is due in the clocks
+-- of a sequence that begins there, no reset is pending, and where it is silent the interrupt line is deasserted
 pub record HoldsAhead (limit : ℕ) (horizon : Horizon) (s : BusValue) : Type 0 where
   pub before : horizon.until ≤ limit
   pub quiet : horizon.until + 6 ≤ s.event_at

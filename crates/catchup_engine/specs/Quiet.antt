@@ -1,4 +1,4 @@
--- Clocks in which nothing comes of itself: the devices tick, and no more.
+-- Clocks in which no event is due: the devices tick, and no more.
 use Rattle.std.specs.Prelude.{◌≡◌, ℕ, ◌+◌, ◌-◌, ◌≤◌, ◌++◌, ◌==◌, false, min, if◌then◌else◌}
 use Rattle.board_base.specs.declared.board.TheConstants.{CLOCK_END}
 use Rattle.board_base.specs.Ticks.{made, ticks, times}

@@ -13,7 +13,7 @@ use Rattle.catchup_engine.specs.Trace.{TraceValue}
 use Rattle.catchup_engine.specs.Traced.{TracedRun}
 use Rattle.catchup_engine.specs.Turn.{Goes, reads_opcode}
 
--- the board that a processor and a bus stand for
+-- the board that a processor and a bus represent
 abbrev pub over_bus : CpuValue → BusValue → Board
 over_bus c s = record { cpu = c; peripherals = s.peripherals }
 
@@ -55,8 +55,8 @@ pub record QuietRun (entries : List TapeEntry) (limit : ℕ) (addresses : List �
   pub on : TurnsOn entries limit addresses c s t e
   pub ends : (is_over limit (over_bus e t) || is_at_any addresses (over_bus e t)) || not (reads_opcode e t) ≡ true
 
--- neither is such a run over nor has it come to one of these addresses, and the next fetch reads an opcode in whose clocks nothing
--- comes of itself
+-- neither is such a run over nor has it come to one of these addresses, and the next fetch reads an opcode in whose clocks no event
+-- is due
 pub record GoesOn (limit : ℕ) (addresses : List ℕ) (c : CpuValue) (s : BusValue) : Type 0 where
   pub open_yet : is_over limit (over_bus c s) || is_at_any addresses (over_bus c s) ≡ false
   pub reads : reads_opcode c s ≡ true
@@ -96,7 +96,7 @@ pub record BreakRunBus (entries : List TapeEntry) (limit : ℕ) (addresses : Lis
   pub since : s.peripherals.clock ≤ t.peripherals.clock
   pub later : c.jam ≡ None → s.peripherals.clock < t.peripherals.clock
 
--- and one of which somebody is told turn by turn, who was w and is v then
+-- and one whose turns are passed to a tracer that was w and is v then
 pub record TracedBusRun {T : Type 0} (next : T → TraceValue → ℕ → T) (enough : T → Bool) (entries : List TapeEntry) (limit : ℕ) (c : CpuValue) (s t : BusValue) (e : CpuValue) (w v : T) : Type 0 where
   pub turns : TracedRun next enough entries limit (over_bus c s) (over_bus e t) w v
   pub boundary : e.mid ≡ None

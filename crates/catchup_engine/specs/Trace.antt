@@ -1,4 +1,4 @@
--- What a board's clocks access, as a trace tells it.
+-- What a board's clocks access, as a trace has it.
 use Rattle.std.specs.Prelude.{◌≡◌, ℕ, ◌+◌, ◌-◌, ◌≤◌, List, [], ◌∷◌, ◌++◌, length, drop, slice_index, slice_set, Option, Some, None, IfSome, false, true, if◌then◌else◌, zero, suc}
 use Rattle.board_base.specs.Cpu.{CpuValue, MidValue}
 use Rattle.board_base.specs.declared.cpu.Sequence.{Sequence}
@@ -41,7 +41,7 @@ abbrev pub access_at : ℕ → course.Access → Access
 access_at clock (read_of address value) = record { clock = clock; addr = address; value = value; write = false }
 access_at clock (write_of address value) = record { clock = clock; addr = address; value = value; write = true }
 
--- the access that one tells of
+-- the access that it records
 abbrev pub made_of : Access → course.Access
 made_of access = if access.write then write_of access.addr access.value else read_of access.addr access.value
 

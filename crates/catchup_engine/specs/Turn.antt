@@ -53,7 +53,7 @@ is_opcode Opcode = true
 is_opcode Interrupt = false
 is_opcode Reset = false
 
--- the next fetch of a processor that isn't inside a sequence reads an opcode, and nothing comes of itself in the clocks of a
+-- the next fetch of a processor that isn't inside a sequence reads an opcode, and no event is due in the clocks of a
 -- whole sequence
 unfoldable pub reads_opcode : CpuValue → BusValue → Bool
 reads_opcode c s =

@@ -28,9 +28,9 @@ use std::alloc::Global;
 use std::marker::Model;
 use tape_ports::Tape;
 
-/// The engine: a processor and five devices that lag behind it, which stand for one lockstep board.
+/// The engine: a processor and five devices that lag behind it, which represent one lockstep board.
 ///
-/// A device is synced where something can see it. What the engine stands for is the
+/// A device is synced where something can see it. What the engine represents is the
 /// board advanced one clock at a time.
 #[derive(Drop)]
 pub struct Engine<V: VectorUnit, P: SoundUnit, C: CellUnit, D: DividerUnit> {
@@ -60,7 +60,7 @@ impl<V: VectorUnit, P: SoundUnit, C: CellUnit, D: DividerUnit> Model for Engine<
 
 impl<V: VectorUnit, P: SoundUnit, C: CellUnit, D: DividerUnit> Engine<V, P, C, D> {
     /// An engine over an image, at a board, with no records; each trail has room for 6,160. It takes
-    /// all its memory here: the trails, the RAM and a copy of the image. `wired` tells whether the
+    /// all its memory here: the trails, the RAM and a copy of the image. `wired` says whether the
     /// timer requests of the POKEYs reach the interrupt line. Five device calls.
     pub fn new(
         alloc: Global,
@@ -222,7 +222,7 @@ impl<V: VectorUnit, P: SoundUnit, C: CellUnit, D: DividerUnit> Engine<V, P, C, D
         self.cause(limit)
     }
 
-    /// Does what `step` does, and tells its accesses, dropped reads included. A board that is jammed
+    /// Does what `step` does, and returns its accesses, dropped reads included. A board that is jammed
     /// makes none.
     pub fn trace_step(&mut self, tape: &Tape, trace: &mut Trace) -> Stop
         requires clock { self.old.board.cpu.mid ≡ None → self.old.board.peripherals.clock < CLOCK_LIMIT }
@@ -249,7 +249,7 @@ impl<V: VectorUnit, P: SoundUnit, C: CellUnit, D: DividerUnit> Engine<V, P, C, D
     }
 
     /// Runs turn by turn to the limit, to the first boundary after the divider's next wrap, or to
-    /// where a tracer has enough, whichever comes first, and tells the tracer of each turn. A board
+    /// where a tracer has enough, whichever comes first, and passes each turn to the tracer. A board
     /// that is jammed makes none.
     #[tactic(auto, using(crate::proofs::Windows::windows))]
     pub fn run_traced<T: Tracer>(&mut self, tape: &Tape, limit: u64, tracer: &mut T) -> Stop

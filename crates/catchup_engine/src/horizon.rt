@@ -10,13 +10,13 @@ use earom_cells::CellUnit;
 use irq_watchdog::DividerUnit;
 use pokey_chip::SoundUnit;
 
-/// What is known of the boundaries up to a clock: no run ends at them, nothing comes of itself in the
+/// What is known of the boundaries up to a clock: no run ends at them, no event is due in the
 /// clocks of a sequence that begins there, and no reset is pending.
 #[derive(Clone, Copy)]
 pub(crate) struct Horizon {
     /// The clock before which a boundary is one of them.
     pub until: u64,
-    /// Whether the interrupt line is let go in them all.
+    /// Whether the interrupt line is deasserted in them all.
     pub silent: bool,
 }
 

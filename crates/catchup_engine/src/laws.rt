@@ -5,7 +5,7 @@ ghost use Rattle.catchup_engine.specs.declared.bus.events.TheConstants.{WRAP, EN
 
 /// The numbers that the clauses of this crate call by name: the records that each trail has room for,
 /// the most clocks of a sequence, the names of the two deadlines, and where the program ROM begins.
-/// It tells a law, and does nothing.
+/// It states a law, and does nothing.
 pub fn engine_numbers()
     ensures trail_room { TRAIL_ROOM ≡ 6160 }
     ensures whole { MAX_SEQUENCE_CLOCKS ≡ 7 }

@@ -88,7 +88,7 @@ pub trait Machine {
         ensures rooms { (value self.new).rooms ≡ (value self.old).rooms };
 
     /// Runs turn by turn to the limit, to the first boundary after the divider's next wrap, or to
-    /// where a tracer has enough, whichever comes first, and tells the tracer of each turn. A board
+    /// where a tracer has enough, whichever comes first, and passes each turn to the tracer. A board
     /// that is jammed makes none.
     fn run_traced<T: Tracer>(&mut self, tape: &Tape, limit: u64, tracer: &mut T) -> Stop
         requires limit { limit ≤ CLOCK_LIMIT }

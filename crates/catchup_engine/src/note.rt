@@ -1,4 +1,4 @@
-//! What one who counts is told of a turn.
+//! What a tracer gets of a turn.
 ghost use Rattle.std.specs.Prelude.{◌≡◌, ◌+◌, ◌<◌, ◌==◌, true, if◌then◌else◌};
 ghost use Rattle.lockstep_board.specs.Budget.{reaches_device};
 ghost use Rattle.catchup_engine.specs.Trace.{made_of};
@@ -125,7 +125,7 @@ impl<'a> TurnNote<'a> {
     ghost use Rattle.std.specs.Prelude.{take};
     ghost use Rattle.catchup_engine.specs.Notes.{note_of};
 
-    /// What a trace tells, of which these are the accesses that reach a device.
+    /// The note of a trace, of which these are the accesses that reach a device.
     pub fn of(trace: &Trace, reached: &'a Reached) -> TurnNote<'a>
         requires { reached.now ≡ reaching (take trace.now.count trace.now.accesses) }
         ensures { result ≡ note_of trace.now }

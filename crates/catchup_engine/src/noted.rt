@@ -1,4 +1,4 @@
-//! Instructions in whose clocks nothing comes of itself, of each of which a tracer is told.
+//! Instructions in whose clocks no event is due, each of which is passed to a tracer.
 ghost use Rattle.std.specs.Prelude.{◌≡◌, ◌+◌, ◌-◌, ◌<◌, ◌≤◌, ◌&&◌, ◌||◌, [], false, true, is_none, length, nat_lt, not};
 ghost use Rattle.board_base.specs.declared.divider.TheConstants.{DIVIDER_PERIOD};
 ghost use Rattle.cpu_alu.specs.Flags.{is_masked};

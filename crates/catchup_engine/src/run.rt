@@ -77,7 +77,7 @@ fn goes_on<V: VectorUnit, P: SoundUnit, C: CellUnit, D: DividerUnit, B: Breaks>(
     !is_at_break(cpu, bus, limit, breaks) && reads_opcode(cpu, bus)
 }
 
-/// Does instructions in whose clocks nothing comes of itself, up to the limit or to the first of
+/// Does instructions in whose clocks no event is due, up to the limit or to the first of
 /// these addresses.
 ///
 /// Every run makes most of its clocks here. As nothing that this loop calls takes the processor, LLVM
@@ -211,7 +211,7 @@ pub(crate) fn run_to_break<V: VectorUnit, P: SoundUnit, C: CellUnit, D: DividerU
     run_turns_to_break(cpu, bus, tape, limit, addresses)
 }
 
-/// Does turns up to the limit, of each of which a tracer is told, or up to one after which it has
+/// Does turns up to the limit, each of which is passed to a tracer, or up to one after which it has
 /// enough.
 pub(crate) fn run_traced<V: VectorUnit, P: SoundUnit, C: CellUnit, D: DividerUnit, T: Tracer>(
     mut cpu: Cpu,

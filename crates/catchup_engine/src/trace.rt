@@ -117,7 +117,7 @@ impl Trace {
     }
 }
 
-/// A bus that tells each access.
+/// A bus that records each access.
 struct TracedBus<'a, V: VectorUnit, P: SoundUnit, C: CellUnit, D: DividerUnit> {
     bus: &'a mut BoardBus<V, P, C, D>,
     trace: Trace,
@@ -218,7 +218,7 @@ impl<'a, V: VectorUnit, P: SoundUnit, C: CellUnit, D: DividerUnit> Bus
     }
 }
 
-/// Does a whole instruction or interrupt sequence, and tells its accesses.
+/// Does a whole instruction or interrupt sequence, and returns its accesses.
 fn trace_whole<V: VectorUnit, P: SoundUnit, C: CellUnit, D: DividerUnit>(
     cpu: &mut Cpu,
     sequence: Sequence,
@@ -242,7 +242,7 @@ fn trace_whole<V: VectorUnit, P: SoundUnit, C: CellUnit, D: DividerUnit>(
     trace
 }
 
-/// Makes the first access of a reset, and tells it.
+/// Makes the first access of a reset, and returns it.
 fn trace_first<V: VectorUnit, P: SoundUnit, C: CellUnit, D: DividerUnit>(
     cpu: &mut Cpu,
     bus: &mut BoardBus<V, P, C, D>,
@@ -265,7 +265,7 @@ fn trace_first<V: VectorUnit, P: SoundUnit, C: CellUnit, D: DividerUnit>(
     trace
 }
 
-/// Does what is left of the sequence under way, in so many clocks at most, and tells its accesses
+/// Does what is left of the sequence under way, in so many clocks at most, and returns its accesses
 /// behind those of a trace.
 fn trace_rest<V: VectorUnit, P: SoundUnit, C: CellUnit, D: DividerUnit>(
     cpu: &mut Cpu,
@@ -290,7 +290,7 @@ fn trace_rest<V: VectorUnit, P: SoundUnit, C: CellUnit, D: DividerUnit>(
     trace
 }
 
-/// Does a whole reset, and tells its accesses. Its effects come in its first clock, after the access.
+/// Does a whole reset, and returns its accesses. Its effects come in its first clock, after the access.
 fn trace_reset<V: VectorUnit, P: SoundUnit, C: CellUnit, D: DividerUnit>(
     cpu: &mut Cpu,
     bus: &mut BoardBus<V, P, C, D>,
@@ -309,7 +309,7 @@ fn trace_reset<V: VectorUnit, P: SoundUnit, C: CellUnit, D: DividerUnit>(
     trace_rest(cpu, bus, tape, trace, MAX_SEQUENCE_CLOCKS - 1)
 }
 
-/// Does the sequence that a fetch begins, and tells its accesses.
+/// Does the sequence that a fetch begins, and returns its accesses.
 fn trace_fetch<V: VectorUnit, P: SoundUnit, C: CellUnit, D: DividerUnit>(
     cpu: &mut Cpu,
     bus: &mut BoardBus<V, P, C, D>,
@@ -339,7 +339,7 @@ fn trace_fetch<V: VectorUnit, P: SoundUnit, C: CellUnit, D: DividerUnit>(
     }
 }
 
-/// Does what is left of the sequence under way, and tells its accesses.
+/// Does what is left of the sequence under way, and returns its accesses.
 fn trace_middle<V: VectorUnit, P: SoundUnit, C: CellUnit, D: DividerUnit>(
     cpu: &mut Cpu,
     bus: &mut BoardBus<V, P, C, D>,
@@ -362,7 +362,7 @@ fn trace_middle<V: VectorUnit, P: SoundUnit, C: CellUnit, D: DividerUnit>(
     trace.named(mid.sequence, mid.bytes[0])
 }
 
-/// Does what is left of the sequence under way, or else one instruction or sequence, and tells its
+/// Does what is left of the sequence under way, or else one instruction or sequence, and returns its
 /// accesses.
 pub(crate) fn trace_running<V: VectorUnit, P: SoundUnit, C: CellUnit, D: DividerUnit>(
     cpu: &mut Cpu,

@@ -4,7 +4,7 @@ ghost use Rattle.catchup_engine.specs.Trace.{TraceValue};
 
 use crate::note::TurnNote;
 
-/// One that is told of each turn of a run: what was left of a sequence, or one instruction or
+/// An observer of each turn of a run: what was left of a sequence, or one instruction or
 /// sequence.
 pub trait Tracer {
     /// What it is after a turn, by the trace of the turn and the program counter behind it.

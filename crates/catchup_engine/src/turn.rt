@@ -175,7 +175,7 @@ pub(crate) fn step_slow<V: VectorUnit, P: SoundUnit, C: CellUnit, D: DividerUnit
     cpu
 }
 
-/// Whether the next fetch reads an opcode and nothing comes of itself in its sequence's clocks, told
+/// Whether the next fetch reads an opcode and no event is due in its sequence's clocks, asked
 /// before them.
 #[inline(always)]
 #[tactic(auto, using(crate::proofs::OpcodeLaws::opcodes), unfolding(crate::specs::Turn::reads_opcode))]

@@ -67,7 +67,7 @@ entered Stay pc counts = counts
 abbrev pub after_turn : Turn → ℕ → ProfileValue → ProfileValue
 after_turn turn pc p = record p { routines = turned turn pc p.routines; counts = entered turn pc p.counts }
 
--- the profile after a sequence, behind which the program counter is `pc`; a trace of no access tells of no sequence
+-- the profile after a sequence, behind which the program counter is `pc`; a trace of no access is of no sequence
 unfoldable pub after : ProfileValue → TraceValue → ℕ → ProfileValue
 after p trace pc =
     if trace.count == 0 then p else after_turn (turn_of trace.sequence trace.opcode) pc (charged p trace.count (device_accesses trace))

@@ -1,4 +1,4 @@
--- The causes for which a file is refused, as they are told.
+-- The causes for which a file is refused, as they are reported.
 use Rattle.std.specs.Prelude.{ℕ, ◌++◌, List, codes, decimal}
 use Rattle.asm_text.specs.Texts.{source_fault_text}
 use Rattle.debug_script.specs.Texts.{script_fault_text}

@@ -95,7 +95,7 @@ tape_or_cause (Err fault) = Err (Tape (BadLine fault.0 fault.1))
 unfoldable pub tape_read : List ℕ → Result TapeValue Cause
 tape_read bytes = if nat_lt TAPE_LIMIT (length bytes) then Err (Tape TooLong) else tape_or_cause (tape_of bytes)
 
--- the board that bytes are read as, or the cause of their refusal: the reading is told by a relation
+-- the board that bytes are read as, or the cause of their refusal: the reading is given by a relation
 abbrev pub state_read : Result BoardValue StateFault → Result BoardValue Cause
 state_read (Ok board) = Ok board
 state_read (Err fault) = Err (State fault)
@@ -299,7 +299,7 @@ abbrev pub ComesOver : CommandValue → Option Files → (Outcome → Type 0) �
 ComesOver command told holds =
     IfSome told (λ files. ForReading (state_name command) files (λ reading. CommandComes command files reading holds))
 
--- the same of words: those of no form are refused, and a command that reads no file has its outcome whether the shelf tells
+-- the same of words: malformed ones are refused, and a command that reads no file has its outcome whether the shelf tells
 -- its files or not
 abbrev pub ComesOf : Option CommandValue → Option Files → (Outcome → Type 0) → Type 0
 ComesOf None told holds = holds (refused 2 usage_text)
@@ -316,7 +316,7 @@ ComesOf (Some (profile_of run)) told holds = ComesOver (profile_of run) told hol
 abbrev pub Comes : List (List ℕ) → Option Files → (Outcome → Type 0) → Type 0
 Comes words told holds = ComesOf (command_of words) told holds
 
--- a command that runs an image to the end of a tape, the one whose status tells a jam
+-- a command that runs an image to the end of a tape, the one whose status says that it jammed
 abbrev pub IsRun : Option CommandValue → Type 0
 IsRun None = ⊥
 IsRun (Some (run_of run)) = Unit {0}

@@ -31,7 +31,7 @@ note_of (Absent note) = string_bytes note
 note_of Outside = outside_text
 note_of NoMemory = memory_text
 
--- a stage that writes nothing: its answer is the one that is defined over the files, or a fault or want of memory
+-- a stage that writes nothing: its answer is the one that is defined over the files, or a fault or lack of memory
 abbrev pub Refuses : {B : Type 0} → Result B Outcome → Failure → Type 0
 Refuses defined Outside = Unit {0}
 Refuses defined NoMemory = Unit {0}
@@ -83,7 +83,7 @@ pub record HostEnds (outcome : Outcome) (before now : Seen) (result : Result End
 abbrev pub Performs : CommandValue → Seen → Seen → Result Ending Failure → Type 0
 Performs command before now result = ComesOf (Some command) before.files (λ outcome. HostEnds outcome before now result)
 
--- the same of a run whose bytes are told in another way
+-- the same of a run that is reported in another way
 abbrev pub Reports : RunValue → (List TapeEntry → ℕ → Board → List ℕ) → Seen → Seen → Result Ending Failure → Type 0
 Reports run text before now result =
     IfSome before.files (λ files. ForReading run.settings.state files (λ reading.
@@ -94,7 +94,7 @@ abbrev pub written_as : Result (Unit {0}) SinkFault → Result Ending Failure
 written_as (Ok _) = Ok Done
 written_as (Err _) = Err Outside
 
--- a text went out, or a first part of it before an outside fault, or nothing for want of memory
+-- a text went out, or a first part of it before an outside fault, or nothing for lack of memory
 abbrev pub Told : Option (List ℕ) → Option (List ℕ) → List ℕ → Result Ending Failure → Type 0
 Told out0 out1 text (Ok ending) = (ending ≡ Done) × (out1 ≡ grown out0 text)
 Told out0 out1 text (Err Outside) = (k : ℕ) × (out1 ≡ grown out0 (take k text))
@@ -126,7 +126,7 @@ pub record Noted (notes0 notes1 : Option (List ℕ)) (faults0 faults1 : ℕ) (te
   pub part : (k : ℕ) × (notes1 ≡ grown notes0 (take k text))
   pub whole : ¬ Rose faults0 faults1 → notes1 ≡ grown notes0 text
 
--- a bad file with this note, or want of memory for the note
+-- a bad file with this note, or lack of memory for the note
 abbrev pub IsBadOrMemory : List ℕ → Failure → Type 0
 IsBadOrMemory text (Bad note) = string_bytes note ≡ text
 IsBadOrMemory text NoMemory = Unit {0}

@@ -1,4 +1,4 @@
--- The bytes that tell a run otherwise than by its log.
+-- The bytes that report a run otherwise than by its log.
 use Rattle.std.specs.Prelude.{ℕ, ◌≤◌, List, map, min}
 use Rattle.command_line.specs.declared.number.TheConstants.{PER_LIMIT}
 use Rattle.tape_ports.specs.declared.entry.TapeEntry.{TapeEntry}
@@ -16,7 +16,7 @@ CanTell (Samples per) = (1 ≤ per) × (per ≤ PER_LIMIT)
 CanTell Frames = Unit {0}
 CanTell Profile = Unit {0}
 
--- what is told of a run from a board to a limit
+-- what is reported of a run from a board to a limit
 abbrev pub telling_text : Telling → List TapeEntry → ℕ → Board → List ℕ
 telling_text (Samples per) entries limit b = sampled_bytes entries limit per b
 telling_text Frames entries limit b = framed_text entries limit b

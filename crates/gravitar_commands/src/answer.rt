@@ -7,7 +7,7 @@ use crate::failure::{Ending, Failure};
 /// The note on a fault of the shelf or of the output.
 pub const OUTSIDE_FAULT: &[u8] = b"gravitar: outside fault\n";
 
-/// The note on want of memory.
+/// The note on lack of memory.
 pub const NO_MEMORY: &[u8] = b"gravitar: no memory\n";
 
 /// The status of a command that stopped.

@@ -19,7 +19,7 @@ use save_state::STATE_LEN;
 use std::alloc::Global;
 use tape_ports::{TAPE_LIMIT, Tape, TapeFault};
 
-/// A note on a file, or want of memory for it.
+/// A note on a file, or lack of memory for it.
 fn note_on(alloc: Global, name: &str, cause: Cause) -> Result<String, Failure>
     ensures ok { IfOk result (λ note. string_bytes note ≡ note_text name.now (cause_text cause)) }
     ensures err { IfErr result (λ failure. failure ≡ Failure.NoMemory) }

@@ -30,7 +30,7 @@ use outside_io::{Host, Shelf, Sink};
 use sliced_run::run_slices;
 use std::alloc::Global;
 
-/// The note on words of no form.
+/// The note on malformed words.
 pub const USAGE: &[u8] =
     b"gravitar: usage: run IMAGE TAPE, asm CPUSRC VGSRC OUT, debug IMAGE TAPE SCRIPT, show STATE, soak SEED, pcm IMAGE TAPE N, frames IMAGE TAPE, seek IMAGE TAPE N,N,.., profile IMAGE TAPE\n";
 
@@ -147,7 +147,7 @@ pub fn gravitar<S: Shelf, O: Sink, N: Sink>(
     out: &mut O,
     notes: &mut N,
 ) -> u8
-    // Without a fault and with memory, all is as defined, where the shelf tells its files or none is read.
+    // Without a fault and with memory, all is as defined, where the shelf says what its files are or none is read.
     ensures outcome { result ≢ 6 → result ≢ 7 → Comes words.now (S.files shelf.old) (λ outcome.
         (result ≡ outcome.status) × Did outcome.events (O.taken out.old) (O.taken out.new) (S.stores shelf.old) (S.stores shelf.new)) }
 
@@ -155,7 +155,7 @@ pub fn gravitar<S: Shelf, O: Sink, N: Sink>(
     ensures stopped { result ≡ 6 → Comes words.now (S.files shelf.old) (λ outcome.
         DidFirst outcome.events (O.taken out.old) (O.taken out.new) (S.stores shelf.old) (S.stores shelf.new)) }
 
-    // Nothing was written or stored, whether the files are told or not.
+    // Nothing was written or stored, whether the files are known or not.
     ensures quiet { Contains (2 ∷ 4 ∷ 5 ∷ 7 ∷ []) result → (O.taken out.new ≡ O.taken out.old) × (S.stores shelf.new ≡ S.stores shelf.old) }
 
     ensures statuses { Contains (0 ∷ 2 ∷ 3 ∷ 4 ∷ 5 ∷ 6 ∷ 7 ∷ []) result }

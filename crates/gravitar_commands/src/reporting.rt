@@ -1,4 +1,4 @@
-//! Runs that are told otherwise than by their log.
+//! Runs that are reported otherwise than by their log.
 ghost use Rattle.std.specs.Prelude.{◌≡◌, ◌≤◌, ℕ, IfOk, List};
 ghost use Rattle.board_base.specs.declared.board.TheConstants.{CLOCK_LIMIT};
 ghost use Rattle.cpu_core.specs.Places.{IsProcessor};
@@ -16,15 +16,15 @@ use command_line::RunWords;
 use outside_io::{Host, Shelf, Sink};
 use std::alloc::Global;
 
-/// What tells a run in place of its log.
+/// What reports a run in place of its log.
 pub trait Report {
-    /// The bytes that tell a run from a board to a limit.
+    /// The bytes that report a run from a board to a limit.
     ghost text: { Self → List TapeEntry → ℕ → Board → List ℕ };
 
     /// It may be asked for.
     ghost can_tell: { Self → Type 0 };
 
-    /// Takes the memory of a run, and then tells it.
+    /// Takes the memory of a run, and then reports it.
     fn report<O: Sink>(
         &self,
         alloc: Global,
@@ -41,7 +41,7 @@ pub trait Report {
         ensures faults { StageFaults (O.faults out.old) (O.faults out.new) result };
 }
 
-/// Runs an image with a tape, and tells the run. Nothing is stored, and a board that jams ends it as
+/// Runs an image with a tape, and reports the run. Nothing is stored, and a board that jams ends it as
 /// any other end does. All memory is taken before the first clock.
 pub fn perform_report<R: Report, S: Shelf, O: Sink>(
     alloc: Global,

@@ -19,7 +19,7 @@ use std::alloc::Global;
 use tape_ports::Tape;
 use traced_run::{run_framed, run_profiled};
 
-/// What is told of a run.
+/// What is reported of a run.
 #[derive(Clone, Copy, Debug, PartialEq, Eq)]
 pub enum Telling {
     /// Its samples, each of so many clocks.
@@ -45,7 +45,7 @@ pub(crate) fn written(took: Result<(), SinkFault>) -> Result<Ending, Failure>
     }
 }
 
-/// Runs the board of a machine, and tells it. A profile takes its memory first.
+/// Runs the board of a machine, and reports it. A profile takes its memory first.
 fn tell<M: Machine, O: Sink>(
     alloc: Global,
     synced: &mut SyncedMachine<'_, M>,

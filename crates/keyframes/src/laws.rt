@@ -1,4 +1,4 @@
-//! What holds of keyframes and their numbers. Each function tells one law, and does nothing.
+//! What holds of keyframes and their numbers. Each function states one law, and does nothing.
 ghost use Rattle.std.specs.Prelude.{◌≡◌, ℕ, Bool, List};
 ghost use Rattle.board_base.specs.Board.{BoardValue, IsBoard};
 ghost use Rattle.lockstep_board.specs.Lockstep.{Board};

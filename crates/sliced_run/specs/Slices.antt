@@ -20,7 +20,7 @@ use Rattle.sliced_run.specs.Slice.{slice_text}
 unfoldable pub saved_bytes : Board → List ℕ
 saved_bytes b = state_bytes (board_of b.cpu b.peripherals)
 
--- what a run is asked to store and to tell besides its log: the board under a name, the cells of the EAROM under a name, and
+-- what a run is asked to store and to write besides its log: the board under a name, the cells of the EAROM under a name, and
 -- the device calls
 pub record Wanted : Type 0 where
   pub save : Option (List ℕ)

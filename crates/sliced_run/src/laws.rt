@@ -9,7 +9,7 @@ ghost use Rattle.sliced_run.specs.Slices.{Wanted, last_board, run_events};
 ghost use Rattle.sliced_run.specs.OneList.{run_list, text_of_lists};
 
 /// The four lists of records that a run makes are, by clock and part, the one list of its records,
-/// as the board makes them one clock at a time: their texts are the same. It tells a law, and does
+/// as the board makes them one clock at a time: their texts are the same. It states a law, and does
 /// nothing.
 #[tactic(auto, using(crate::proofs::OneListLaws::one_list_laws))]
 pub fn log_is_one_list()
@@ -18,7 +18,7 @@ pub fn log_is_one_list()
 {}
 
 /// Cutting a run changes nothing in its text, with the same number of device calls, and nothing in
-/// its last board. It tells a law, and does nothing.
+/// its last board. It states a law, and does nothing.
 #[tactic(auto, using(crate::proofs::WholeLaws::cut_laws))]
 pub fn cuts_leave_the_run()
     ensures text { (entries : List TapeEntry) → (limit : ℕ) → (wanted : Wanted) → (calls : ℕ) → (cuts : List ℕ) → (b : Board) → IsPlaced b

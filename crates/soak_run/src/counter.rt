@@ -10,7 +10,7 @@ use board_watch::RecordObserver;
 use outside_io::{Sink, SinkFault};
 use std::marker::Model;
 
-/// Counts the records of a run, and tells nothing.
+/// Counts the records of a run, and writes nothing.
 #[derive(Drop)]
 pub(crate) struct Counter {
     total: Summary,

@@ -1,4 +1,4 @@
-//! A large run told by seven numbers: the records are counted window by window, and no log is kept.
+//! A large run as seven numbers: the records are counted window by window, and no log is kept.
 #![tactic(auto)]
 
 mod counter;

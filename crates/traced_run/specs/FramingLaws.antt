@@ -28,7 +28,7 @@ use Rattle.traced_run.specs.Framing.{FramerValue, after_part, after_run, framer_
 use Rattle.traced_run.specs.MarkLaws.{marks-append, marks-few, marks-within, run_marks-cleared, turn-marks, unmarked}
 use Rattle.traced_run.specs.PartLaws.{accesses-add, cleared-none, end-behind, made-none, open-later, strokes-before, strokes-few, strokes-from, turned-low, turned-steps, turns-go, turns_steps}
 
--- what a framer is when it was told of n turns: its frames stayed, and it kept the marks of all of them
+-- what a framer is when it got n turns: its frames stayed, and it kept the marks of all of them
 record Kept (entries : List TapeEntry) (n : ℕ) (w v : FramerValue) (b : Board) : Type 0 where
   frames : v.frames ≡ w.frames
   marks : marks_of (accesses_of entries (turns_steps entries n b) b) ≡ v.marks

@@ -8,7 +8,7 @@ use Rattle.cycle_profile.specs.Profile.{after}
 use Rattle.traced_run.specs.declared.profiling.Profiler.{Profiler}
 use Rattle.traced_run.specs.BoardProfile.{run_turns}
 
--- a profiler that is told of a turn
+-- a profiler that gets a turn
 abbrev pub profiler_told : Profiler → TraceValue → ℕ → Profiler
 profiler_told p trace pc = record { profile = after p.profile trace pc }
 

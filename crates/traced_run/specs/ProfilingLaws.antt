@@ -101,7 +101,7 @@ run_turns-cleared : (entries : List TapeEntry) (limit : ℕ) (b : Board) → run
 run_turns-cleared entries limit b =
     sym (turns-behind entries limit ((limit - b.peripherals.clock) + 1) (records_of b) (cleared b)) ∙ ap (run_turns entries limit) (behind-cleared b)
 
--- nor does one that is told of them
+-- nor does one that gets them
 told-behind : {T : Type 0} (next : T → TraceValue → ℕ → T) (entries : List TapeEntry) (n : ℕ) (w : T) (l : Recorded) (b : Board)
     → told next entries n w (behind l b) ≡ told next entries n w b
 unfolding told
@@ -119,7 +119,7 @@ told-cleared : {T : Type 0} (next : T → TraceValue → ℕ → T) (entries : L
 told-cleared next entries n w b =
     sym (told-behind next entries n w (records_of b) (cleared b)) ∙ ap (told next entries n w) (behind-cleared b)
 
--- the profiler is told what its profile is told
+-- the profiler gets what its profile gets
 profiler-is : (entries : List TapeEntry) (n : ℕ) (w : Profiler) (b : Board)
     → told profiler_told entries n w b ≡ (let p : Profiler = record { profile = told after entries n w.profile b } in p)
 unfolding told

@@ -1,4 +1,4 @@
-//! What holds of all runs that are told turn by turn. Each is the contract of a function that does
+//! What holds of all runs that are observed turn by turn. Each is the contract of a function that does
 //! nothing.
 ghost use Rattle.std.specs.Prelude.{ℕ, List, All};
 ghost use Rattle.tape_ports.specs.declared.entry.TapeEntry.{TapeEntry};

@@ -1,4 +1,4 @@
-//! Runs told turn by turn: by frames of what was drawn, and by routines of what took the clocks.
+//! Runs observed turn by turn: the frames of what was drawn, and the routines that took the clocks.
 #![tactic(auto)]
 
 mod framing;

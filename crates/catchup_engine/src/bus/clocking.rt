@@ -1,4 +1,4 @@
-//! The clocks of the board: their ticks, and how far it is to what comes of itself.
+//! The clocks of the board: their ticks, and how far it is to the next event.
 ghost use Rattle.std.specs.Prelude.{◌≡◌, ◌+◌, ◌-◌, ◌*◌, ◌^◌, ◌≤◌, ◌<◌, true, false, min, nat_le};
 ghost use Rattle.board_base.specs.Ticks.{times};
 ghost use Rattle.irq_watchdog.specs.Tick.{divider_tick};
@@ -63,7 +63,7 @@ impl<V: VectorUnit, P: SoundUnit, C: CellUnit, D: DividerUnit> BoardBus<V, P, C,
         self.wrap_at
     }
 
-    /// Whether nothing comes of itself in the clocks of a whole sequence: no entry is due, and the
+    /// Whether no event is due in the clocks of a whole sequence: no entry is due, and the
     /// divider doesn't wrap.
     #[inline(always)]
     pub fn is_quiet(&self) -> bool
@@ -72,7 +72,7 @@ impl<V: VectorUnit, P: SoundUnit, C: CellUnit, D: DividerUnit> BoardBus<V, P, C,
         self.clock + u64::from(MAX_SEQUENCE_CLOCKS) <= self.event_at
     }
 
-    /// The clock before which a whole sequence may begin in which nothing comes of itself.
+    /// The clock before which a whole sequence may begin in which no event is due.
     #[inline(always)]
     #[tactic(auto, using(crate::proofs::DividerLaws::lines, crate::proofs::DividerLaws::next_lines), unfolding(lockstep_board::specs::Peripherals::devices_ticked))]
     pub fn quiet_until(&self) -> u64

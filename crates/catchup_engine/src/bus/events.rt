@@ -1,4 +1,4 @@
-//! What comes of itself: the entries of the tape, and the next wrap of the divider.
+//! The scheduled events: the entries of the tape, and the next wrap of the divider.
 ghost use Rattle.std.specs.Prelude.{◌≡◌, ◌+◌, ◌*◌, ◌≤◌, ◌<◌, false, length, drop, All};
 ghost use Rattle.tape_ports.specs.Due.{due_at};
 ghost use Rattle.tape_ports.specs.Ports.{IsPort};

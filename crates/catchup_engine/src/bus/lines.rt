@@ -35,7 +35,7 @@ impl<V: VectorUnit, P: SoundUnit, C: CellUnit, D: DividerUnit> BoardBus<V, P, C,
             || self.sound2.asserts_irq_next(self.clock)
     }
 
-    /// Whether the interrupt line is let go until something comes of itself: no POKEY is wired to it.
+    /// Whether the interrupt line is deasserted until the next event: no POKEY is wired to it.
     #[inline(always)]
     #[tactic(auto, using(crate::proofs::DividerLaws::lines))]
     pub fn irq_idle(&self) -> bool
