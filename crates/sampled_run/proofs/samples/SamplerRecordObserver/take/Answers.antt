@@ -1,7 +1,7 @@
 use Rattle.std.proofs.Common.{arith}
 use Rattle.board_base.specs.declared.part.Part.TheVariants.{Pokey1}
 use Rattle.board_base.proofs.RecordLaws.{made-within}
-use Rattle.sampled_run.proofs.samples.SamplerWatch.take.Goals as goal
+use Rattle.sampled_run.proofs.samples.SamplerRecordObserver.take.Goals as goal
 
 pub take-requires-clause-from : goal.take-requires-clause-from
 take-requires-clause-from g c =
