@@ -2,6 +2,5 @@ pub mod OneRunLaws
 mod BoardsLaws
 pub mod ListingLaws
 pub mod SessionLaws
-pub mod TextLaws
 mod Turning
 mod WatchLaws

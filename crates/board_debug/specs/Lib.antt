@@ -1,4 +1,3 @@
-pub mod BoardText
 pub mod BoardsText
 pub mod Debugged
 pub mod Looks

@@ -15,7 +15,7 @@ use Rattle.debug_script.specs.declared.command.Command.TheVariants as command
 use Rattle.debug_script.specs.Breakpoints.{StopsValue, stops_after}
 use Rattle.board_debug.specs.declared.found.StopReason.{StopReason}
 use Rattle.board_debug.specs.declared.found.StopReason.TheVariants.{End, Step}
-use Rattle.board_debug.specs.BoardText.{devices_text, registers_text}
+use Rattle.board_text.specs.BoardText.{devices_text, registers_text}
 use Rattle.board_debug.specs.Looks.{jam_look, look_after, look_before, look_until, stop_text}
 
 -- a turn: what is left of the sequence under way, or else one instruction or sequence. A debugger shows no records, and

@@ -1,20 +1,16 @@
-//! The debugger: the text of a board, the texts of boards sought along a run, and sessions of a
-//! script's commands over a board that runs.
+//! The debugger: sessions of a script's commands over a board that runs, and the texts of boards sought
+//! along a run.
 #![tactic(auto)]
 
-mod board_text;
 mod boards;
-mod device_lines;
 pub mod fault;
 pub mod found;
 mod listings;
 mod looks;
-mod processor_lines;
 pub mod script;
 mod session;
 mod stop_line;
 mod turns;
-mod write_lines;
 
 pub use board_text::write_board;
 pub use boards::write_boards;

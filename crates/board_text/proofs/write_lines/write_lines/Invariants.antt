@@ -1,7 +1,7 @@
 use Rattle.std.proofs.Common.{◌≡◌, take}
 use Rattle.std.specs.List.{concat}
 use Rattle.outside_io.specs.Known.{grown}
-use Rattle.board_debug.proofs.write_lines.write_lines.Given as goal
+use Rattle.board_text.proofs.write_lines.write_lines.Given as goal
 
 abbrev pub invariant-loop-line : goal.invariant-loop-line
 invariant-loop-line g l = record {

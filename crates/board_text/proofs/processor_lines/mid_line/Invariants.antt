@@ -1,6 +1,6 @@
 use Rattle.std.proofs.Common.{◌≡◌, ◌≤◌, ◌+◌, ◌*◌, ◌++◌, length, take}
-use Rattle.board_debug.proofs.TextLaws.{spaced}
-use Rattle.board_debug.proofs.processor_lines.mid_line.Given as goal
+use Rattle.board_text.proofs.TextLaws.{spaced}
+use Rattle.board_text.proofs.processor_lines.mid_line.Given as goal
 
 abbrev pub invariant-loop-byte : goal.invariant-loop-byte
 invariant-loop-byte l = record {

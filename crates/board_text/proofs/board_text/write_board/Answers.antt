@@ -2,8 +2,8 @@ use Rattle.std.proofs.Common.{◌++◌, ap, ◌∙◌}
 use Rattle.board_base.specs.Board.{BoardValue}
 use Rattle.outside_io.specs.Known.{grown}
 use Rattle.outside_io.proofs.TakesLaws.{took_first, took_then, takes-then}
-use Rattle.board_debug.specs.BoardText.{board_text, devices_text, place_text, registers_text}
-use Rattle.board_debug.proofs.board_text.write_board.Goals as goal
+use Rattle.board_text.specs.BoardText.{board_text, devices_text, place_text, registers_text}
+use Rattle.board_text.proofs.board_text.write_board.Goals as goal
 
 pub returns-in_default-clause-taken : goal.returns-in_default-clause-taken
 unfolding board_text

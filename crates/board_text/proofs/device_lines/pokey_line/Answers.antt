@@ -3,9 +3,9 @@ use Rattle.board_base.specs.Pokey.{PokeyValue}
 use Rattle.pokey_chip.specs.declared.registers.TheConstants.{RANDOM}
 use Rattle.pokey_chip.specs.Registers.{register_read}
 use Rattle.text_line.specs.Words.{hex_byte}
-use Rattle.board_debug.specs.BoardText.{pokey_text}
-use Rattle.board_debug.proofs.TextLaws.{first-said, line-said, said}
-use Rattle.board_debug.proofs.device_lines.pokey_line.Goals as goal
+use Rattle.board_text.specs.BoardText.{pokey_text}
+use Rattle.board_text.proofs.TextLaws.{first-said, line-said, said}
+use Rattle.board_text.proofs.device_lines.pokey_line.Goals as goal
 
 pub returns : goal.returns
 unfolding pokey_text

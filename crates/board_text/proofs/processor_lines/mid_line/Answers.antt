@@ -2,9 +2,9 @@ use Rattle.std.proofs.Common.{◌++◌, ◌∷◌, take, map, arith, ap, ◌∙�
 use Rattle.std.specs.Prelude.{codes}
 use Rattle.std.proofs.lemmas.List.{length-take-le}
 use Rattle.text_line.specs.Words.{hex_byte, line}
-use Rattle.board_debug.specs.BoardText.{mid_text, sequence_name}
-use Rattle.board_debug.proofs.TextLaws.{spaced, spaced-line, spaced-more, spaced-none}
-use Rattle.board_debug.proofs.processor_lines.mid_line.Goals as goal
+use Rattle.board_text.specs.BoardText.{mid_text, sequence_name}
+use Rattle.board_text.proofs.TextLaws.{spaced, spaced-line, spaced-more, spaced-none}
+use Rattle.board_text.proofs.processor_lines.mid_line.Goals as goal
 
 pub loop-byte-init : goal.loop-byte-init
 loop-byte-init c = record { text = spaced-none (take c.from.result c.mid.inside.bytes) c.word-line.result; len = omega arith }

@@ -1,6 +1,6 @@
 use Rattle.std.proofs.Common.{refl, ◌∙◌}
-use Rattle.board_debug.proofs.TextLaws.{line-cut, line-taken, lines-taken, none-taken}
-use Rattle.board_debug.proofs.write_lines.write_lines.Goals as goal
+use Rattle.board_text.proofs.TextLaws.{line-cut, line-taken, lines-taken, none-taken}
+use Rattle.board_text.proofs.write_lines.write_lines.Goals as goal
 
 pub loop-line-init : goal.loop-line-init
 loop-line-init g c = record { taken = none-taken c.args.lines.now _; faults = refl }

@@ -1,7 +1,7 @@
 use Rattle.std.proofs.Common.{◌++◌, ◌∷◌, decimal, ap, ◌∙◌}
-use Rattle.board_debug.specs.BoardText.{vg_text}
-use Rattle.board_debug.proofs.TextLaws.{first-said, line-said, said}
-use Rattle.board_debug.proofs.device_lines.vg_line.Goals as goal
+use Rattle.board_text.specs.BoardText.{vg_text}
+use Rattle.board_text.proofs.TextLaws.{first-said, line-said, said}
+use Rattle.board_text.proofs.device_lines.vg_line.Goals as goal
 
 pub returns : goal.returns
 unfolding vg_text

@@ -1,5 +1,5 @@
 ghost use Rattle.std.specs.Prelude.{◌≡◌, ◌≤◌, length};
-ghost use Rattle.board_debug.specs.BoardText.{beam_text, divider_text, earom_text, pokey_text, ports_text, vg_text};
+ghost use Rattle.board_text.specs.BoardText.{beam_text, divider_text, earom_text, pokey_text, ports_text, vg_text};
 ghost use Rattle.pokey_chip.specs.Registers.{register_read};
 
 use board_base::{BoardState, DividerState, EaromState, PokeyState, VgState};

@@ -1,5 +1,5 @@
 ghost use Rattle.std.specs.Prelude.{◌≡◌, ◌≤◌, length};
-ghost use Rattle.board_debug.specs.BoardText.{clock_text, cpu_text, jam_text, mid_text, sequence_name};
+ghost use Rattle.board_text.specs.BoardText.{clock_text, cpu_text, jam_text, mid_text, sequence_name};
 
 use board_base::{BoardState, CpuState, Mid, Sequence};
 use text_line::Line;

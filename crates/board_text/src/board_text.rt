@@ -1,4 +1,4 @@
-ghost use Rattle.board_debug.specs.BoardText.{board_text, devices_text, place_text, registers_text};
+ghost use Rattle.board_text.specs.BoardText.{board_text, devices_text, place_text, registers_text};
 ghost use Rattle.outside_io.specs.Causes.{HasCause};
 ghost use Rattle.outside_io.specs.Sink.{Takes};
 
@@ -10,7 +10,7 @@ use outside_io::{Sink, SinkFault};
 
 /// Writes the clock and the processor's registers.
 #[tactic(auto, unfolding(crate::specs::BoardText::registers_text))]
-pub(crate) fn write_registers<O: Sink>(state: &BoardState, out: &mut O) -> Result<(), SinkFault>
+pub fn write_registers<O: Sink>(state: &BoardState, out: &mut O) -> Result<(), SinkFault>
     ensures taken { Takes (O.taken out.old) (O.taken out.new) (registers_text state.now) result }
     ensures cause { HasCause (O.faults out.old) (O.faults out.new) result }
 {
@@ -31,7 +31,7 @@ fn write_place<O: Sink>(cpu: &CpuState, out: &mut O) -> Result<(), SinkFault>
 
 /// Writes the ports and the devices.
 #[tactic(auto, unfolding(crate::specs::BoardText::devices_text))]
-pub(crate) fn write_devices<O: Sink>(state: &BoardState, out: &mut O) -> Result<(), SinkFault>
+pub fn write_devices<O: Sink>(state: &BoardState, out: &mut O) -> Result<(), SinkFault>
     ensures taken { Takes (O.taken out.old) (O.taken out.new) (devices_text state.now) result }
     ensures cause { HasCause (O.faults out.old) (O.faults out.new) result }
 {
