@@ -2,7 +2,7 @@
 use Rattle.std.specs.Prelude.{[], ⊤}
 use Rattle.std.proofs.Common.{refl}
 use Rattle.std.proofs.lemmas.List.Sums.{fold-append}
-use Rattle.board_watch.specs.RecordObserver.{TakesInParts}
+use Rattle.run_windows.specs.RecordObserver.{TakesInParts}
 use Rattle.bench_work.specs.declared.board.BoardTally.{BoardTally}
 use Rattle.bench_work.specs.Boards.{with_records}
 use Rattle.bench_work.specs.Tally.{with_record}

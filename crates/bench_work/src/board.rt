@@ -1,13 +1,13 @@
 ghost use Rattle.std.specs.Prelude.{◌≡◌, ◌≤◌, [], ⊤};
 ghost use Rattle.lockstep_board.specs.Order.{cleared, records_of};
 ghost use Rattle.lockstep_board.specs.Run.{to_boundary};
-ghost use Rattle.board_watch.specs.SyncedMachine.{loan_of, value_of};
+ghost use Rattle.run_windows.specs.SyncedMachine.{loan_of, value_of};
 ghost use Rattle.bench_work.specs.Boards.{empty_tallies, tallies_of, with_records};
 ghost use Rattle.bench_work.specs.BoardLaws.{tallied_in_parts};
 
 use crate::tally::Tally;
 use board_base::{CLOCK_LIMIT, Trails};
-use board_watch::{NullSink, RecordObserver, SyncedMachine, Until};
+use run_windows::{NullSink, RecordObserver, SyncedMachine, Until};
 use catchup_engine::Machine;
 use outside_io::{Sink, SinkFault};
 use tape_ports::Tape;

@@ -1,15 +1,15 @@
 -- What a call answers. This project's own.
 use Rattle.std.specs.Prelude.{◌≡◌, ◌≤◌, ◌<◌, ◌⊎◌, ℕ, Bool, List, ◌++◌, length, take, drop, nat_lt, Result, Ok, Err, if◌then◌else◌}
-use Rattle.board_watch.specs.declared.until.Until.{Until}
-use Rattle.board_watch.specs.declared.until.Until.TheVariants.{Boundary, Clock}
+use Rattle.run_windows.specs.declared.until.Until.{Until}
+use Rattle.run_windows.specs.declared.until.Until.TheVariants.{Boundary, Clock}
 use Rattle.rom_image.specs.declared.image.TheConstants.{IMAGE_LEN}
-use Rattle.board_stretch.specs.declared.assembling.AssemblyFault.{AssemblyFault}
-use Rattle.board_stretch.specs.declared.ended.Stretch.{Stretch}
-use Rattle.board_stretch.specs.declared.fault.StretchFault.{StretchFault}
-use Rattle.board_stretch.specs.declared.parts.Parts.{Parts}
-use Rattle.board_stretch.specs.Assembling.{Assembles}
-use Rattle.board_stretch.specs.Stretches.{Comes}
-use Rattle.board_stretch.specs.Texts.{assembly_fault_text, stretch_fault_text}
+use Rattle.run_stretch.specs.declared.assembling.AssemblyFault.{AssemblyFault}
+use Rattle.run_stretch.specs.declared.ended.Stretch.{Stretch}
+use Rattle.run_stretch.specs.declared.fault.StretchFault.{StretchFault}
+use Rattle.run_stretch.specs.declared.parts.Parts.{Parts}
+use Rattle.run_stretch.specs.Assembling.{Assembles}
+use Rattle.run_stretch.specs.Stretches.{Comes}
+use Rattle.run_stretch.specs.Texts.{assembly_fault_text, stretch_fault_text}
 use Rattle.board_calls.specs.declared.report.GravitarReport.{GravitarReport}
 use Rattle.board_calls.specs.declared.report.Status.{Status}
 use Rattle.board_calls.specs.declared.report.Status.TheVariants.{Done, Jammed, NoMemory, NoRoom}

@@ -5,10 +5,10 @@ use Rattle.asm_text.specs.declared.fault.AsmFault.TheVariants as text
 use Rattle.rom_image.specs.declared.fault.ImageFault.TheVariants as image
 use Rattle.save_state.specs.declared.fault.StateFault.TheVariants as state
 use Rattle.tape_ports.specs.declared.fault.TapeFault.TheVariants as tape
-use Rattle.board_stretch.specs.declared.assembling.AssemblyFault.{AssemblyFault}
-use Rattle.board_stretch.specs.declared.assembling.AssemblyFault.TheVariants as source
-use Rattle.board_stretch.specs.declared.fault.StretchFault.{StretchFault}
-use Rattle.board_stretch.specs.declared.fault.StretchFault.TheVariants.{Image, Board, Tape}
+use Rattle.run_stretch.specs.declared.assembling.AssemblyFault.{AssemblyFault}
+use Rattle.run_stretch.specs.declared.assembling.AssemblyFault.TheVariants as source
+use Rattle.run_stretch.specs.declared.fault.StretchFault.{StretchFault}
+use Rattle.run_stretch.specs.declared.fault.StretchFault.TheVariants.{Image, Board, Tape}
 
 -- the length of an image; the length, the version or the offset of a saved board; the line of a tape
 abbrev pub place_of_stretch : StretchFault → ℕ

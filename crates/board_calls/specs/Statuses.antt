@@ -1,10 +1,10 @@
 -- How a call ends, as a number of the header. They are this project's own.
 use Rattle.std.specs.Prelude.{ℕ}
 use Rattle.save_state.specs.declared.fault.StateFault.TheVariants as state
-use Rattle.board_stretch.specs.declared.assembling.AssemblyFault.{AssemblyFault}
-use Rattle.board_stretch.specs.declared.assembling.AssemblyFault.TheVariants as source
-use Rattle.board_stretch.specs.declared.fault.StretchFault.{StretchFault}
-use Rattle.board_stretch.specs.declared.fault.StretchFault.TheVariants as stretch
+use Rattle.run_stretch.specs.declared.assembling.AssemblyFault.{AssemblyFault}
+use Rattle.run_stretch.specs.declared.assembling.AssemblyFault.TheVariants as source
+use Rattle.run_stretch.specs.declared.fault.StretchFault.{StretchFault}
+use Rattle.run_stretch.specs.declared.fault.StretchFault.TheVariants as stretch
 use Rattle.board_calls.specs.declared.report.Status.{Status}
 use Rattle.board_calls.specs.declared.report.Status.TheVariants.{Done, Jammed, BadImage, BadBoard, BadTape, BadNumber, NoRoom, NoMemory, BadProcessorSource, BadGeneratorSource, BadBoardLength, BadBoardVersion}
 

@@ -4,7 +4,7 @@ ghost use Rattle.board_calls.specs.Places.{place_of_assembly, place_of_source, p
 ghost use Rattle.board_calls.specs.Statuses.{number_of, status_of_assembly, status_of_stretch};
 
 use asm_text::AsmFault;
-use board_stretch::{AssemblyFault, StretchFault};
+use run_stretch::{AssemblyFault, StretchFault};
 use rom_image::ImageFault;
 use save_state::StateFault;
 use tape_ports::TapeFault;

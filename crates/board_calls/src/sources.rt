@@ -29,7 +29,7 @@ pub fn power_on(board: &mut [u8]) -> u32
     if board.len() < STATE_LEN {
         return Status::NoRoom.number();
     }
-    put(&board_stretch::power_on(), board);
+    put(&run_stretch::power_on(), board);
     Status::Done.number()
 }
 
@@ -50,7 +50,7 @@ pub fn assemble(
     if image.len() < IMAGE_LEN {
         return report_number(Status::NoRoom, IMAGE_LEN as u64, 0, report);
     }
-    match board_stretch::assemble(alloc, processor, generator) {
+    match run_stretch::assemble(alloc, processor, generator) {
         Ok(made) => {
             put(made.bytes(), image);
             report_number(Status::Done, IMAGE_LEN as u64, 0, report)

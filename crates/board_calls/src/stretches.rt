@@ -1,18 +1,18 @@
 //! Stretches of a run.
 ghost use Rattle.std.specs.Prelude.{◌≡◌, ◌≤◌, ◌<◌, ◌⊎◌, IfOk, length};
 ghost use Rattle.board_base.specs.declared.board.TheConstants.{CLOCK_LIMIT};
-ghost use Rattle.board_watch.specs.Windows.{clock_in};
+ghost use Rattle.run_windows.specs.Windows.{clock_in};
 ghost use Rattle.save_state.specs.declared.TheConstants.{STATE_LEN};
 ghost use Rattle.sound_pcm.specs.declared.mixer.TheConstants.{MAX_PER};
-ghost use Rattle.board_stretch.specs.Stretches.{IsAdvanced, IsRecorded, IsSampled};
+ghost use Rattle.run_stretch.specs.Stretches.{IsAdvanced, IsRecorded, IsSampled};
 ghost use Rattle.board_calls.specs.Answers.{AnswersOver, AnswersStretch, Refuses, call_of, end_asked, is_asked, report_of};
 ghost use Rattle.board_calls.specs.declared.report.Status.TheVariants.{BadNumber};
 
 use crate::answer::{give, report_number, tell_stretch};
 use crate::report::{GravitarReport, Status};
 use board_base::CLOCK_LIMIT;
-use board_stretch::{Start, Stretch, StretchFault, sample};
-use board_watch::Until;
+use run_stretch::{Start, Stretch, StretchFault, sample};
+use run_windows::Until;
 use sound_pcm::MAX_PER;
 use std::alloc::Global;
 
@@ -85,7 +85,7 @@ pub fn advance(
         tape,
         timers: is_so(timers),
     };
-    let came = board_stretch::advance(alloc, start, until, text.len());
+    let came = run_stretch::advance(alloc, start, until, text.len());
     answer(alloc, came, board, text, report)
 }
 
@@ -119,7 +119,7 @@ pub fn records(
         tape,
         timers: is_so(timers),
     };
-    let came = board_stretch::records(alloc, start, until, array.len());
+    let came = run_stretch::records(alloc, start, until, array.len());
     answer(alloc, came, board, array, report)
 }
 

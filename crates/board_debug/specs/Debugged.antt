@@ -9,7 +9,7 @@ use Rattle.debug_script.specs.Script.{script_of}
 use Rattle.debug_script.specs.Breakpoints.{no_stops}
 use Rattle.board_debug.specs.declared.fault.DebugFault.{DebugFault}
 use Rattle.board_debug.specs.declared.fault.DebugFault.TheVariants.{BadCommand, SinkFault, OutOfMemory}
-use Rattle.board_watch.specs.Synced.{IsSynced}
+use Rattle.run_windows.specs.Synced.{IsSynced}
 use Rattle.board_debug.specs.Session.{session_board, session_text}
 
 -- the whole text of these commands was written, and the engine represents the board that they leave

@@ -3,7 +3,7 @@ ghost use Rattle.std.specs.Prelude.{◌≡◌, ℕ, ◌+◌, ◌-◌, ◌≤◌,
 ghost use Rattle.outside_io.specs.Causes.{HasCause};
 ghost use Rattle.outside_io.specs.Sink.{Takes};
 ghost use Rattle.lockstep_board.specs.Order.{HasNoRecords};
-ghost use Rattle.board_watch.specs.SyncedMachine.{loan_of, value_of};
+ghost use Rattle.run_windows.specs.SyncedMachine.{loan_of, value_of};
 ghost use Rattle.keyframes.specs.Seeking.{Along, run_start};
 ghost use Rattle.board_debug.specs.BoardsText.{boards_text};
 ghost use Rattle.board_debug.specs.OneRun.{HasRoom, IsNextOf, IsReached, lesser};
@@ -11,7 +11,7 @@ ghost use Rattle.board_debug.specs.OneRun.{HasRoom, IsNextOf, IsReached, lesser}
 use avg_device::VectorUnit;
 use board_base::{BoardState, CLOCK_LIMIT};
 use board_text::write_board;
-use board_watch::SyncedMachine;
+use run_windows::SyncedMachine;
 use catchup_engine::{Engine, Machine};
 use earom_cells::CellUnit;
 use irq_watchdog::DividerUnit;

@@ -1,12 +1,12 @@
 //! What a session looks at between two turns.
 ghost use Rattle.std.specs.Prelude.{◌≡◌, ◌==◌, find, map, length, true, unwrap_or};
 ghost use Rattle.lockstep_board.specs.Lockstep as lockstep;
-ghost use Rattle.board_watch.specs.SyncedMachine.{value_of};
+ghost use Rattle.run_windows.specs.SyncedMachine.{value_of};
 ghost use Rattle.board_debug.specs.Looks.{IsBefore, break_look, jam_look, look_after, look_before, look_until, vg_look, watch_look, watched_byte};
 
 use crate::found::StopReason;
 use arrayvec::ArrayVec;
-use board_watch::SyncedMachine;
+use run_windows::SyncedMachine;
 use catchup_engine::Machine;
 use debug_script::{Breakpoints, STOPS};
 

@@ -6,7 +6,7 @@ ghost use Rattle.board_debug.specs.Debugged.{Debugs};
 use crate::fault::DebugFault;
 use crate::session::run_commands;
 use avg_device::VectorUnit;
-use board_watch::SyncedMachine;
+use run_windows::SyncedMachine;
 use catchup_engine::Engine;
 use debug_script::{ScriptFault, read_script};
 use earom_cells::CellUnit;

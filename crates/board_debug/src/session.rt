@@ -5,7 +5,7 @@ ghost use Rattle.outside_io.specs.Causes.{HasCause};
 ghost use Rattle.outside_io.specs.Sink.{Takes};
 ghost use Rattle.lockstep_board.specs.Peripherals.{board_of};
 ghost use Rattle.debug_script.specs.Breakpoints.{Fit, no_stops};
-ghost use Rattle.board_watch.specs.SyncedMachine.{loan_of, value_of};
+ghost use Rattle.run_windows.specs.SyncedMachine.{loan_of, value_of};
 ghost use Rattle.board_debug.specs.Session.{board_after, command_text, reached_by, session_board, session_text, shown_text};
 
 use crate::found::StopReason;
@@ -14,7 +14,7 @@ use crate::stop_line::write_stop;
 use crate::turns::{go, step, until};
 use board_base::BoardState;
 use board_text::{write_devices, write_registers};
-use board_watch::SyncedMachine;
+use run_windows::SyncedMachine;
 use catchup_engine::Machine;
 use debug_script::{Breakpoints, Command};
 use outside_io::{Sink, SinkFault};

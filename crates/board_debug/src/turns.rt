@@ -1,11 +1,11 @@
 //! The turns of a session.
 ghost use Rattle.std.specs.Prelude.{◌≡◌, [], false};
-ghost use Rattle.board_watch.specs.SyncedMachine.{loan_of, value_of};
+ghost use Rattle.run_windows.specs.SyncedMachine.{loan_of, value_of};
 ghost use Rattle.board_debug.specs.Session.{go_from, step_from, until_from};
 
 use crate::found::StopReason;
 use crate::looks::{Before, look_after, look_at_breaks, look_at_last, look_before, look_until};
-use board_watch::SyncedMachine;
+use run_windows::SyncedMachine;
 use catchup_engine::Machine;
 use debug_script::Breakpoints;
 use tape_ports::Tape;

@@ -3,7 +3,7 @@ ghost use Rattle.std.specs.Prelude.{◌≡◌, ◌≤◌};
 use avg_device::VectorUnit;
 use bench_work::{BoardTally, Form, Registers, Tally, Work, count, draw, play, run_windows};
 use board_base::{CLOCK_LIMIT, CpuState, OutOfMemory, VectorMemory};
-use board_watch::SyncedMachine;
+use run_windows::SyncedMachine;
 use catchup_engine::Machine;
 use pokey_chip::SoundUnit;
 use std::alloc::Global;

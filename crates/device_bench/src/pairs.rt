@@ -2,7 +2,7 @@
 ghost use Rattle.std.specs.Prelude.{◌≡◌, ◌≤◌, IfOk, IfSome};
 ghost use Rattle.cpu_core.specs.Places.{IsMiddle};
 ghost use Rattle.cpu_table.specs.Opcodes.{row_of};
-ghost use Rattle.board_watch.specs.Windows.{clock_in};
+ghost use Rattle.run_windows.specs.Windows.{clock_in};
 
 use crate::busy::{busy_image, busy_tape};
 use crate::measure::Fault;
@@ -10,7 +10,7 @@ use crate::plays::PLAYS;
 use crate::programs::Draws;
 use avg_device::{FastVg, PlainVg};
 use board_base::{BoardState, CLOCK_LIMIT};
-use board_watch::Until;
+use run_windows::Until;
 use catchup_engine::{Devices, Engine};
 use earom_cells::Earom;
 use irq_watchdog::Divider;

@@ -10,7 +10,7 @@ use bench_work::{
     BoardTally, Form, ROUND_CLOCKS, Report, SLICE, Tally, Tune, long_vectors, short_vectors,
 };
 use board_base::{BoardState, CLOCK_LIMIT, CpuState, VectorMemory};
-use board_watch::SyncedMachine;
+use run_windows::SyncedMachine;
 use catchup_engine::{Devices, Engine};
 use earom_cells::Earom;
 use irq_watchdog::Divider;

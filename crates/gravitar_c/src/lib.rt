@@ -9,7 +9,7 @@ ghost use Rattle.rom_image.specs.declared.image.TheConstants.{IMAGE_LEN};
 ghost use Rattle.save_state.specs.StateBytes.{state_bytes};
 ghost use Rattle.save_state.specs.declared.TheConstants.{STATE_LEN};
 ghost use Rattle.sound_pcm.specs.declared.mixer.TheConstants.{MAX_PER};
-ghost use Rattle.board_stretch.specs.Stretches.{IsAdvanced, IsRecorded, IsSampled};
+ghost use Rattle.run_stretch.specs.Stretches.{IsAdvanced, IsRecorded, IsSampled};
 ghost use Rattle.board_calls.specs.Answers.{AnswersOver, AnswersSources, Refuses, call_of, end_asked, is_asked, put_in, report_of};
 ghost use Rattle.board_calls.specs.Statuses.{number_of};
 ghost use Rattle.board_calls.specs.declared.report.Status.TheVariants.{BadNumber, Done, NoRoom};

@@ -21,7 +21,7 @@ use Rattle.debug_script.specs.declared.fault.ScriptFault.TheVariants as script
 use Rattle.debug_script.specs.declared.script.TheConstants.{SCRIPT_LIMIT}
 use Rattle.debug_script.specs.Script.{script_of}
 use Rattle.debug_script.specs.Breakpoints.{no_stops}
-use Rattle.soak_run.specs.SoakText.{run_text}
+use Rattle.run_summary.specs.SoakText.{run_text}
 use Rattle.tape_ports.specs.Tape.{TapeValue}
 use Rattle.workload_gen.specs.Roms.{image_of}
 use Rattle.workload_gen.specs.Tape.{tape_of}
@@ -40,10 +40,10 @@ use Rattle.outside_io.specs.Events.{Did, DidFirst, Event, sending, stored, stori
 use Rattle.outside_io.specs.Seen.{Seen, SameLoans, HostDid, HostDidFirst, HostDidNothing, HostStores, HostWrites, NoFault}
 use Rattle.gravitar_commands.specs.Endings.{ending_by, status_of_ending}
 use Rattle.gravitar_commands.specs.Outcome.{Comes, ComesOf, ComesOver, asm_files, asm_outcome, FitsRun, ForReading, Outcome, and_then, command_outcome, debug_files, debug_outcome, outside_text, finished, first_board, limit_of, memory_text, refused, read_as, run_files, run_outcome, script_file, script_read, show_outcome, soak_outcome, state_file, usage_text, wanted_by, note_text, workload_of}
-use Rattle.sliced_run.specs.Slices.{FitsCalls, StopsIn, Wanted, last_board, run_events}
+use Rattle.run_log.specs.Slices.{FitsCalls, StopsIn, Wanted, last_board, run_events}
 use Rattle.gravitar_commands.specs.Sources.{both_listings}
 use Rattle.gravitar_commands.specs.Stages.{status_of, note_of, HostEnds, HostFaults, HostQuiet, IsBadOrMemory, Keeps, Noted, Performs, Refuses, RunEnds, StageAbsences, session_outcome}
-use Rattle.sliced_run.proofs.CutLaws.{fits-least}
+use Rattle.run_log.proofs.CutLaws.{fits-least}
 use Rattle.outside_io.proofs.EventLaws.{did-first-of, did-first-sending, did-nothing, did-sending, did-then, did-then-first}
 
 -- one write of a note

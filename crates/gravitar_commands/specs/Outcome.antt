@@ -26,7 +26,7 @@ use Rattle.command_line.specs.CommandLine.{command_of}
 use Rattle.command_line.specs.CommandValue.{AsmValue, CommandValue, DebugValue, RunValue, asm_of, debug_of, frames_of, pcm_of, profile_of, run_of, seek_of, show_of, soak_of}
 use Rattle.command_line.specs.SettingsValue.{SettingsValue}
 use Rattle.outside_io.specs.Shelf.{Files}
-use Rattle.soak_run.specs.SoakText.{run_text}
+use Rattle.run_summary.specs.SoakText.{run_text}
 use Rattle.workload_gen.specs.Roms.{image_of}
 use Rattle.workload_gen.specs.Tape as workload
 use Rattle.lockstep_board.specs.Peripherals.{peripherals_of}
@@ -41,7 +41,7 @@ use Rattle.gravitar_commands.specs.declared.telling.Telling.TheVariants.{Samples
 use Rattle.gravitar_commands.specs.Causes.{cause_text}
 use Rattle.outside_io.specs.Events.{Event, sending, storing}
 use Rattle.gravitar_commands.specs.Endings.{ending_by, status_of_ending}
-use Rattle.sliced_run.specs.Slices.{FitsCalls, Wanted, last_board, run_events}
+use Rattle.run_log.specs.Slices.{FitsCalls, Wanted, last_board, run_events}
 use Rattle.gravitar_commands.specs.Sources.{assembled_in, both_listings, source_read}
 use Rattle.gravitar_commands.specs.Telling.{sought_text, telling_text}
 

@@ -4,9 +4,9 @@ use Rattle.command_line.specs.declared.number.TheConstants.{PER_LIMIT}
 use Rattle.tape_ports.specs.declared.entry.TapeEntry.{TapeEntry}
 use Rattle.lockstep_board.specs.Lockstep.{Board}
 use Rattle.board_debug.specs.BoardsText.{boards_text}
-use Rattle.sampled_run.specs.BoardSamples.{sampled_bytes}
-use Rattle.traced_run.specs.BoardFrames.{framed_text}
-use Rattle.traced_run.specs.BoardProfile.{profiled_text}
+use Rattle.run_samples.specs.BoardSamples.{sampled_bytes}
+use Rattle.run_trace.specs.BoardFrames.{framed_text}
+use Rattle.run_trace.specs.BoardProfile.{profiled_text}
 use Rattle.gravitar_commands.specs.declared.telling.Telling.{Telling}
 use Rattle.gravitar_commands.specs.declared.telling.Telling.TheVariants.{Samples, Frames, Profile}
 

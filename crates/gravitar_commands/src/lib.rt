@@ -23,7 +23,7 @@ mod words;
 pub use answer::NO_MEMORY;
 pub use program::{USAGE, gravitar};
 pub use seeking::{SEEK_FRAMES, SEEK_PAGES, seek_numbers};
-pub use sliced_run::{OutsideFault, run_slices};
+pub use run_log::{OutsideFault, run_slices};
 pub use steady::steady_status;
 pub use telling::sample_numbers;
 pub use words::Words;

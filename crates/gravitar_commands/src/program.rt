@@ -27,7 +27,7 @@ use board_text::write_board;
 use catchup_engine::{Devices, Engine};
 use command_line::{Command, RunWords, Settings};
 use outside_io::{Host, Shelf, Sink};
-use sliced_run::run_slices;
+use run_log::run_slices;
 use std::alloc::Global;
 
 /// The note on malformed words.

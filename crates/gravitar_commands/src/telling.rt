@@ -1,23 +1,23 @@
 //! The samples, the frames and the profile of a run.
 ghost use Rattle.std.specs.Prelude.{◌≡◌, ◌≤◌};
 ghost use Rattle.board_base.specs.declared.board.TheConstants.{CLOCK_LIMIT};
-ghost use Rattle.board_watch.specs.SyncedMachine.{value_of};
+ghost use Rattle.run_windows.specs.SyncedMachine.{value_of};
 ghost use Rattle.gravitar_commands.specs.Stages.{StageFaults, Told, written_as};
 ghost use Rattle.gravitar_commands.specs.Telling.{CanTell, telling_text};
 
 use crate::failure::{Ending, Failure};
 use crate::parts::Parts;
 use crate::reporting::Report;
-use board_watch::SyncedMachine;
+use run_windows::SyncedMachine;
 use catchup_engine::{Devices, Engine, Machine};
 use command_line::PER_LIMIT;
 use cycle_profile::Profile;
 use outside_io::{Sink, SinkFault};
-use sampled_run::run_sampled;
+use run_samples::run_sampled;
 use sound_pcm::MAX_PER;
 use std::alloc::Global;
 use tape_ports::Tape;
-use traced_run::{run_framed, run_profiled};
+use run_trace::{run_framed, run_profiled};
 
 /// What is reported of a run.
 #[derive(Clone, Copy, Debug, PartialEq, Eq)]

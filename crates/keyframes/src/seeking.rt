@@ -6,14 +6,14 @@ ghost use Rattle.tape_ports.specs.declared.entry.TapeEntry.{TapeEntry};
 ghost use Rattle.lockstep_board.specs.Order.{HasNoRecords, cleared};
 ghost use Rattle.lockstep_board.specs.Lockstep.{Board};
 ghost use Rattle.lockstep_board.specs.Run.{cause_of, to_clock, to_cut, wrap_of};
-ghost use Rattle.board_watch.specs.SyncedMachine.{loan_of, value_of};
+ghost use Rattle.run_windows.specs.SyncedMachine.{loan_of, value_of};
 ghost use Rattle.keyframes.specs.Keys.{HaveRisingClocks, IsNearest, Keyframe, is_crowded, last_of};
 ghost use Rattle.keyframes.specs.Seeking.{AddsBoard, Along, CanBeLoaded, IsOnRun, over_image, run_start};
 
 use crate::keyframes::Keyframes;
 use avg_device::VectorUnit;
 use board_base::{BoardState, CLOCK_LIMIT};
-use board_watch::{NullObserver, NullSink, SyncedMachine, Until};
+use run_windows::{NullObserver, NullSink, SyncedMachine, Until};
 use catchup_engine::{Engine, Machine, Stop};
 use earom_cells::CellUnit;
 use irq_watchdog::DividerUnit;

@@ -4,7 +4,7 @@
 #[cfg(test)]
 mod board_calls_tests;
 #[cfg(test)]
-mod board_stretch_tests;
+mod run_stretch_tests;
 #[cfg(test)]
 mod catchup_engine_tests;
 #[cfg(test)]
@@ -16,4 +16,4 @@ mod programs;
 #[cfg(test)]
 mod run_slices_tests;
 #[cfg(test)]
-mod soak_run_tests;
+mod run_summary_tests;

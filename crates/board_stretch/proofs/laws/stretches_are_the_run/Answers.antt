@@ -1,5 +1,0 @@
-use Rattle.board_stretch.proofs.JoinedLaws.{joined}
-use Rattle.board_stretch.proofs.laws.stretches_are_the_run.Goals as goal
-
-pub returns : goal.returns
-returns c = joined

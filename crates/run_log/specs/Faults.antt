@@ -1,0 +1,11 @@
+-- What comes of a part of a run that writes and stores.
+use Rattle.std.specs.Prelude.{◌≡◌, ℕ, Result, Ok, Err}
+use Rattle.outside_io.specs.Causes.{Raised}
+use Rattle.run_log.specs.declared.outside_fault.OutsideFault.{OutsideFault}
+use Rattle.run_log.specs.declared.outside_fault.OutsideFault.TheVariants.{Shelf, Out}
+
+-- each fault comes where its own count rose
+abbrev pub SliceFaults : {A : Type 0} → ℕ → ℕ → ℕ → ℕ → Result A OutsideFault → Type 0
+SliceFaults shelf0 shelf1 out0 out1 (Ok _) = (shelf1 ≡ shelf0) × (out1 ≡ out0)
+SliceFaults shelf0 shelf1 out0 out1 (Err Shelf) = Raised shelf0 shelf1 × (out1 ≡ out0)
+SliceFaults shelf0 shelf1 out0 out1 (Err Out) = (shelf1 ≡ shelf0) × Raised out0 out1

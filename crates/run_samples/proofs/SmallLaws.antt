@@ -1,0 +1,52 @@
+-- The greatest sample of a run.
+use Rattle.std.proofs.Common.{ℕ, ◌*◌, ◌/◌, ◌≤◌, ◌<◌, List, get_or, map, suc, arith}
+use Rattle.std.specs.Prelude.{All}
+use Rattle.std.specs.List.{sum, range_with_len}
+use Rattle.std.proofs.lemmas.List.Elements.{All-map, All-weaker}
+use Rattle.std.proofs.lemmas.List.FromFn.{length-map-range_with_len}
+use Rattle.std.proofs.lemmas.List.Sums.{sum_by-le}
+use Rattle.board_base.specs.Pokey.{PokeyValue, IsPokey}
+use Rattle.cpu_core.specs.Ranges.{IsByte}
+use Rattle.tape_ports.specs.declared.entry.TapeEntry.{TapeEntry}
+use Rattle.lockstep_board.specs.Lockstep.{Board}
+use Rattle.lockstep_board.specs.Ranges.{IsBoardInRange}
+use Rattle.lockstep_board.specs.Run.{boundary_steps, stepped}
+use Rattle.lockstep_board.proofs.BoardRange.{stepped-in_range}
+use Rattle.sound_pcm.specs.declared.mixer.TheConstants.{MAX_PER}
+use Rattle.run_samples.specs.BoardSamples.{AreSmallSamples, board_sample, board_samples, weight_of}
+
+-- four levels weigh 60 at most, and a board 120
+levels-light : (p : PokeyValue) → IsPokey p → sum p.last ≤ 60
+levels-light p is =
+    let low = All-weaker (λ level. level < 16) (λ level. level ≤ 15) (λ level below. omega (arith, below)) p.last is.levels in
+    let most = sum_by-le (λ x. x) 15 p.last low in
+    let count = is.last in
+    omega (arith, most, count)
+
+board-light : (b : Board) → IsBoardInRange b → weight_of b ≤ 120
+board-light b is =
+    let one = levels-light b.peripherals.sound1 is.peripherals.sound1.device in
+    let two = levels-light b.peripherals.sound2 is.peripherals.sound2.device in
+    omega (arith, one, two)
+
+module _ (entries : List TapeEntry) (b : Board) (bytes : All (λ entry. IsByte entry.value) entries) (is : IsBoardInRange b) where
+  -- a group's sample
+  sample-small : (per k : ℕ) → per ≤ MAX_PER → board_sample entries per b k ≤ 120 * 65535
+  sample-small per k few =
+      let clocks = range_with_len (k * per) per in
+      let weight = λ (i : ℕ). weight_of (stepped entries (suc i) b) in
+      let low : All (λ w. w ≤ 120) (map weight clocks) =
+      All-map (λ w. w ≤ 120) weight clocks (λ i d inside. board-light (stepped entries (suc (get_or clocks i d)) b) (stepped-in_range entries (suc (get_or clocks i d)) b bytes is)) in
+      let most = sum_by-le (λ x. x) 120 (map weight clocks) low in
+      let count = length-map-range_with_len weight (k * per) per in
+      omega (arith, most, count, few)
+
+  pub samples-small : (limit per : ℕ) → per ≤ MAX_PER → AreSmallSamples (board_samples entries limit per b)
+  unfolding board_samples
+  samples-small limit per few =
+      let groups = range_with_len 0 (boundary_steps entries limit b / per) in
+      All-map (λ sample. sample ≤ 120 * 65535) (board_sample entries per b) groups (λ k d inside. sample-small per (get_or groups k d) few)
+
+pub run_samples_fit : (entries : List TapeEntry) (limit per : ℕ) (b : Board) → All (λ entry. IsByte entry.value) entries → IsBoardInRange b → per ≤ MAX_PER
+    → AreSmallSamples (board_samples entries limit per b)
+run_samples_fit entries limit per b bytes is few = samples-small entries b bytes is limit per few

@@ -1,0 +1,17 @@
+-- A profile as an observer of a run. This project's own.
+use Rattle.std.specs.Prelude.{ℕ, List}
+use Rattle.tape_ports.specs.declared.entry.TapeEntry.{TapeEntry}
+use Rattle.lockstep_board.specs.Lockstep.{Board}
+use Rattle.catchup_engine.specs.Trace.{TraceValue}
+use Rattle.catchup_engine.specs.Traced.{told}
+use Rattle.cycle_profile.specs.Profile.{after}
+use Rattle.run_trace.specs.declared.profiling.Profiler.{Profiler}
+use Rattle.run_trace.specs.BoardProfile.{run_turns}
+
+-- a profiler that gets a turn
+abbrev pub profiler_told : Profiler → TraceValue → ℕ → Profiler
+profiler_told p trace pc = record { profile = after p.profile trace pc }
+
+-- and of all turns of a run
+abbrev pub after_run : Profiler → List TapeEntry → ℕ → Board → Profiler
+after_run p entries limit b = record { profile = told after entries (run_turns entries limit b) p.profile b }

@@ -1,0 +1,115 @@
+//! The frames of a run.
+ghost use Rattle.std.specs.Prelude.{◌≡◌, ◌+◌, ◌≤◌, [], OnOk};
+ghost use Rattle.outside_io.specs.Causes.{HasCause};
+ghost use Rattle.outside_io.specs.Sink.{Takes};
+ghost use Rattle.lockstep_board.specs.Order.{cleared};
+ghost use Rattle.lockstep_board.specs.Run.{to_boundary};
+ghost use Rattle.run_windows.specs.SyncedMachine.{loan_of, value_of};
+ghost use Rattle.frame_list.specs.Frames.{begun};
+ghost use Rattle.run_trace.specs.BoardFrames.{framed_text};
+ghost use Rattle.run_trace.specs.Framing.{after_part, after_run, framer_told, keeps_marks, part_framed, run_framed_text, CanFrame, HasNumbers};
+ghost use Rattle.run_trace.specs.FramingLaws.{framed_in_parts, framed_still};
+
+use arrayvec::ArrayVec;
+use board_base::{BoardState, CLOCK_LIMIT, Trails};
+use run_windows::{SyncedMachine, TurnObserver};
+use catchup_engine::{Machine, Tracer, TurnNote};
+use frame_list::{Frames, has_starts, start_clocks};
+use outside_io::{Sink, SinkFault};
+use run_log::write_last;
+use std::marker::Model;
+use tape_ports::Tape;
+
+/// Groups the strokes of a run by the writes that start the generator. The clocks of a turn's writes
+/// are kept until the strokes before them are taken.
+#[derive(Drop)]
+pub(crate) struct Framer {
+    frames: Frames,
+    marks: ArrayVec<u64, 7>,
+}
+
+impl Model for Framer {
+    ghost use Rattle.run_trace.specs.Framing.{FramerValue, IsFramer};
+
+    ghost Value = { FramerValue };
+
+    ghost view = { λ f. record { frames = f.frames; marks = f.marks.items } };
+
+    ghost invariant = { λ f. IsFramer (record { frames = f.frames; marks = f.marks.items }) };
+}
+
+impl Tracer for Framer {
+    ghost next = { framer_told };
+
+    ghost has_enough = { keeps_marks };
+
+    fn turn(&mut self, note: &TurnNote<'_>, _pc: u16) -> bool {
+        if has_starts(note.reached) {
+            self.marks = start_clocks(note.reached);
+        }
+        !self.marks.is_empty()
+    }
+}
+
+impl TurnObserver for Framer {
+    ghost can_follow = { λ f _ limit b. CanFrame f limit b };
+
+    ghost tells = { run_framed_text };
+
+    ghost after_run = { after_run };
+
+    ghost can_take = { λ f _. HasNumbers f };
+
+    ghost part_tells = { part_framed };
+
+    ghost after_part = { after_part };
+
+    fn take_part<O: Sink>(&mut self, trails: &Trails<'_>, out: &mut O) -> Result<(), SinkFault> {
+        self.frames.take_marks(&self.marks, trails, out)?;
+        self.marks.clear();
+        Ok(())
+    }
+
+    ghost in_parts = { framed_in_parts };
+
+    ghost stands_still = { framed_still };
+}
+
+/// A framer whose first frame begins where the board of a synchronised machine stands.
+fn framer_at<M: Machine>(synced: &SyncedMachine<'_, M>) -> Framer
+    ensures frames { result.frames ≡ begun 0 (value_of synced.now).board.peripherals.clock }
+    ensures marks { result.marks ≡ [] }
+    ensures clock { (value_of synced.now).board.peripherals.clock ≤ CLOCK_LIMIT + 16 }
+{
+    let mut state = BoardState::power_on();
+    synced.machine().state(&mut state);
+    Framer {
+        frames: Frames::new(state.clock),
+        marks: ArrayVec::new(),
+    }
+}
+
+/// Runs the board over a tape to the first boundary that isn't before the limit or to an undocumented
+/// opcode, and writes its frames: a line for each as it ends, one for the frame that is under way at
+/// the end, and the last line of the run. The first frame begins where the board stands, and each
+/// write that starts the generator begins the next. After a fault the machine is only to be dropped.
+/// It takes no memory.
+pub fn run_framed<M: Machine, O: Sink>(
+    synced: &mut SyncedMachine<'_, M>,
+    tape: &Tape,
+    limit: u64,
+    out: &mut O,
+) -> Result<(), SinkFault>
+    requires limit { limit ≤ CLOCK_LIMIT }
+    ensures same { loan_of synced.new ≡ loan_of synced.old }
+    ensures taken { Takes (O.taken out.old) (O.taken out.new) (framed_text tape.now.entries limit (value_of synced.old).board) result }
+    ensures cause { HasCause (O.faults out.old) (O.faults out.new) result }
+    ensures board { OnOk result ((value_of synced.new).board ≡ cleared (to_boundary tape.now.entries limit (value_of synced.old).board)) }
+{
+    let mut framer = framer_at(synced);
+    let Ok(_) = synced.follow(tape, limit, &mut framer, out) else {
+        return Err(SinkFault);
+    };
+    framer.frames.end(out)?;
+    write_last(synced, out)
+}

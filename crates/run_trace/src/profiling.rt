@@ -1,0 +1,83 @@
+//! The profile of a run.
+ghost use Rattle.std.specs.Prelude.{◌≡◌, ◌≤◌, [], false, OnOk};
+ghost use Rattle.outside_io.specs.Causes.{HasCause};
+ghost use Rattle.outside_io.specs.Sink.{Takes};
+ghost use Rattle.lockstep_board.specs.Order.{cleared};
+ghost use Rattle.lockstep_board.specs.Run.{to_boundary};
+ghost use Rattle.run_windows.specs.SyncedMachine.{loan_of, value_of};
+ghost use Rattle.run_trace.specs.BoardProfile.{no_profile, profiled_text};
+ghost use Rattle.run_trace.specs.Profiling.{after_run, profiler_told};
+ghost use Rattle.run_trace.specs.ProfilingLaws.{profiled_in_parts, profiled_still};
+
+use board_base::{CLOCK_LIMIT, Trails};
+use run_windows::{SyncedMachine, TurnObserver};
+use catchup_engine::{Machine, Tracer, TurnNote};
+use cycle_profile::Profile;
+use outside_io::{Sink, SinkFault};
+use run_log::write_last;
+use tape_ports::Tape;
+
+/// Counts what the turns of a run take.
+#[derive(Drop)]
+pub(crate) struct Profiler {
+    profile: Profile,
+}
+
+impl Tracer for Profiler {
+    ghost next = { profiler_told };
+
+    ghost has_enough = { λ _. false };
+
+    fn turn(&mut self, note: &TurnNote<'_>, pc: u16) -> bool {
+        self.profile.take_note(note, pc);
+        false
+    }
+}
+
+impl TurnObserver for Profiler {
+    ghost can_follow = { λ _ _ _ _. Unit };
+
+    ghost tells = { λ _ _ _ _. [] };
+
+    ghost after_run = { after_run };
+
+    ghost can_take = { λ _ _. Unit };
+
+    ghost part_tells = { λ _ _. [] };
+
+    ghost after_part = { λ p _. p };
+
+    fn take_part<O: Sink>(&mut self, _trails: &Trails<'_>, _out: &mut O) -> Result<(), SinkFault> {
+        Ok(())
+    }
+
+    ghost in_parts = { profiled_in_parts };
+
+    ghost stands_still = { profiled_still };
+}
+
+/// Runs the board over a tape to the first boundary that isn't before the limit or to an undocumented
+/// opcode, counts its turns in the profile, and then writes it and the last line of the run. The
+/// profile is a new one, of the address at which the processor stands. After a fault the machine is
+/// only to be dropped. It takes no memory.
+pub fn run_profiled<M: Machine, O: Sink>(
+    synced: &mut SyncedMachine<'_, M>,
+    tape: &Tape,
+    limit: u64,
+    profile: Profile,
+    out: &mut O,
+) -> Result<(), SinkFault>
+    requires limit { limit ≤ CLOCK_LIMIT }
+    requires fresh { profile ≡ no_profile (value_of synced.old).board.cpu.pc }
+    ensures same { loan_of synced.new ≡ loan_of synced.old }
+    ensures taken { Takes (O.taken out.old) (O.taken out.new) (profiled_text tape.now.entries limit (value_of synced.old).board) result }
+    ensures cause { HasCause (O.faults out.old) (O.faults out.new) result }
+    ensures board { OnOk result ((value_of synced.new).board ≡ cleared (to_boundary tape.now.entries limit (value_of synced.old).board)) }
+{
+    let mut profiler = Profiler { profile };
+    let Ok(_) = synced.follow(tape, limit, &mut profiler, out) else {
+        return Err(SinkFault);
+    };
+    profiler.profile.write(out)?;
+    write_last(synced, out)
+}
