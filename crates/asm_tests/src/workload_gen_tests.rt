@@ -45,7 +45,7 @@ irq:    pha
 type Entry = (u64, Port, u8);
 
 /// What a seed gives: the bytes of its first five words, of the second colour with the two words
-/// before it and the one behind it, and of the last three words; the first three entries, and the
+/// before it and the one after it, and of the last three words; the first three entries, and the
 /// last two.
 struct Expected {
     seed: u64,

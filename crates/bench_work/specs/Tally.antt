@@ -4,7 +4,7 @@ use Rattle.board_base.specs.declared.record.Record.{Record}
 use Rattle.board_base.specs.Records.{clock_of}
 use Rattle.bench_work.specs.declared.tally.Tally.{Tally}
 
--- a tally with one record more; its numbers stand still at the greatest of 64 bits
+-- a tally with one record more; its numbers stay at the greatest of 64 bits
 unfoldable pub with_record : Tally → Record → Tally
 with_record t r = record {
   records = min (t.records + 1) (2 ^ 64 - 1);

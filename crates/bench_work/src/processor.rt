@@ -5,7 +5,7 @@ use cpu_core::{Cpu, Fetched};
 use flat_bus::UnloggedBus;
 use std::alloc::Global;
 
-/// Where the program stands.
+/// The program's address.
 const START: u16 = 0x9000;
 
 /// `INX`, `BNE` back to it, and a jump to the start.
@@ -18,7 +18,7 @@ const ROUND_INSTRUCTIONS: u64 = 513;
 /// The clocks of a round: `INX` takes 2, `BNE` 3 where it branches and 2 at the end, the jump 3.
 pub const ROUND_CLOCKS: u64 = 1282;
 
-/// Runs a bare 6502 for so many rounds, on a bus without a log, and returns how it stands then.
+/// Runs a bare 6502 for so many rounds, on a bus without a log, and returns its state then.
 pub fn count(alloc: Global, rounds: u64) -> Result<CpuState, OutOfMemory>
     requires { rounds ≤ CLOCK_LIMIT }
 {

@@ -5,7 +5,7 @@ ghost use Rattle.pokey_poly.specs.Shift.{shifted};
 
 use pokey_poly::Poly;
 
-/// The four polynomial registers of a POKEY, as wide as they stand in its state: where all are
+/// The four polynomial registers of a POKEY, as wide as in its state: where all are
 /// `u32`, LLVM keeps two of them in one vector register, and a shift takes twice as long.
 #[derive(Clone, Copy, PartialEq, Eq)]
 pub struct Registers {

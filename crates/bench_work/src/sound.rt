@@ -62,7 +62,7 @@ impl Tune {
         }
     }
 
-    /// Tells a POKEY to play it: lets the registers and the prescalers run, and begins each period.
+    /// Makes a POKEY play it: lets the registers and the prescalers run, and begins each period.
     pub fn tell<S: SoundUnit>(self, unit: &mut S) {
         let ([audf1, audf2, audf3, audf4], audctl) = self.settings();
         let channels = self.channels();

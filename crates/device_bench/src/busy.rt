@@ -14,8 +14,8 @@ const COPY: [u8; 24] = [
     0x89, 0x8D, 0x00, 0x89, 0x58, 0x4C, 0x00, 0x92,
 ];
 
-/// Tells IRQST by the latch, lets go of the interrupts of all three devices, reads the EAROM's cell
-/// and begins to erase it.
+/// Shows IRQST on the latch, acknowledges the interrupts of all three devices, reads the EAROM's
+/// cell and begins to erase it.
 const HANDLER: [u8; 35] = [
     0x48, 0xAD, 0x0E, 0x60, 0x8D, 0x00, 0x88, 0xA9, 0x00, 0x8D, 0x0E, 0x60, 0x8D, 0x0E, 0x68, 0x8D,
     0xC0, 0x88, 0xA9, 0x09, 0x8D, 0x00, 0x89, 0xA9, 0x08, 0x8D, 0x00, 0x89, 0xA9, 0x0E, 0x8D, 0x00,
@@ -53,7 +53,7 @@ const PORTS: [&str; 16] = [
 ];
 
 /// Puts a program that writes and reads the devices again and again, at the first `span` places of
-/// those that are written. Some of what it reads tells how long it takes.
+/// those that are written. Some of what it reads depends on how long it takes.
 fn put_program(burner: &mut Burner, draws: &mut Draws, span: u16)
     requires some { 0 < span }
     requires few { span ≤ 64 }

@@ -14,7 +14,7 @@ use tape_ports::Tape;
 /// Why there is no measure.
 #[derive(Debug, Drop)]
 pub enum Fault {
-    /// The words are of no form.
+    /// The words are malformed.
     Usage,
     /// No memory.
     OutOfMemory,

@@ -59,7 +59,7 @@ type Fast = Engine<FastVg, FastPokey, Earom, Divider>;
 
 type Plain = Engine<PlainVg, PlainPokey, Earom, Divider>;
 
-/// Whether two engines stand for the same board, with the same records.
+/// Whether two engines represent the same board, with the same records.
 fn are_alike(fast: &Fast, plain: &Plain) -> bool
     requires fast { fast.now.lagging ≡ 0 }
     requires plain { plain.now.lagging ≡ 0 }
@@ -76,7 +76,7 @@ fn are_alike(fast: &Fast, plain: &Plain) -> bool
 }
 
 /// Forgets what both have made, and runs them to a clock, or to a boundary, or to the end of a window;
-/// whether they stand alike then, with the same records.
+/// whether they are equal then, with the same records.
 fn run_both(fast: &mut Fast, plain: &mut Plain, tape: &Tape, until: Until) -> bool
     requires limit { clock_in until ≤ CLOCK_LIMIT }
 {

@@ -4,7 +4,7 @@ use board_base::OutOfMemory;
 use rom_image::{Image, PROGRAM_ROM_START, VECTOR_ROM_START};
 use std::alloc::Global;
 
-/// Where the three vectors of the processor stand.
+/// The address of the processor's three vectors.
 const VECTORS: u16 = 0xFFFA;
 
 /// The vectors: an interrupt goes to the handler of the soak workload's program, all else to the
@@ -43,7 +43,7 @@ const SHORT_VECTOR: u16 = 0x4000;
 
 const HALT: u16 = 0x2000;
 
-/// What a board's processor is told to do.
+/// What a board's processor does.
 #[derive(Clone, Copy, Debug, PartialEq, Eq)]
 pub enum Program {
     /// Counts in its registers alone.
@@ -102,7 +102,7 @@ impl Burner {
         self.image
     }
 
-    /// Puts a byte, where a ROM stands.
+    /// Puts a byte into a ROM.
     pub(crate) fn put(&mut self, byte: u8) {
         if self.image.byte_at(self.place).is_some() {
             self.image.put(self.place, byte);

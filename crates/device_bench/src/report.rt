@@ -116,7 +116,7 @@ pub fn pictures<R: io::Print + CpuClock>(
     vectors(rt, alloc, report, &long_vectors(alloc)?, 123_042)
 }
 
-/// Compares a plain and a fast POKEY that play the same, and tells the time of the fast one.
+/// Compares a plain and a fast POKEY that play the same, and prints the time of the fast one.
 fn pokeys<R: io::Print + CpuClock>(
     rt: &R,
     alloc: Global,
@@ -142,7 +142,7 @@ fn pokeys<R: io::Print + CpuClock>(
     Ok(fast.nanos)
 }
 
-/// Shifts the polynomial registers alone, and tells the time.
+/// Shifts the polynomial registers alone, and prints the time.
 fn registers<R: io::Print + CpuClock>(rt: &R, report: Report, form: Form) -> Result<u64, Fault> {
     let clocks = report.work(SOUND_CLOCKS, SLICE).clocks;
     let timed = timed_shifts(rt, form, clocks)?;
@@ -288,7 +288,7 @@ fn run_board<R: CpuClock, V: VectorUnit, P: SoundUnit>(
     })
 }
 
-/// Runs a board from power-on, and tells the time.
+/// Runs a board from power-on, and prints the time.
 fn board<R: io::Print + CpuClock, V: VectorUnit, P: SoundUnit>(
     rt: &R,
     alloc: Global,

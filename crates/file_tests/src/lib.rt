@@ -1,4 +1,4 @@
-//! Tests of the files and of the outside, each in the file of its crate's name.
+//! Tests of the files and of I/O, each in the file of its crate's name.
 #![tactic(auto)]
 
 #[cfg(test)]

@@ -113,7 +113,7 @@ fn the_steady_objects_never_fail(rt: HostRuntime) -> Result<(), Fail> {
     Ok(())
 }
 
-/// Asserts what a file shelf over a folder answers, where nothing stands in the way.
+/// Asserts what a file shelf over a folder answers, where nothing is in the way.
 fn assert_file_shelf<R: Abort + Alloc<A = Global> + Files>(
     rt: &R,
     folder: &str,

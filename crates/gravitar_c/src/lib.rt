@@ -51,7 +51,7 @@ pub extern "C" fn gravitar_assemble(
     board_calls::assemble(alloc, processor, generator, image, note, report)
 }
 
-/// Runs an image with a tape from a saved board, and tells the lines of its records
+/// Runs an image with a tape from a saved board, and returns the lines of its records
 /// (`board_calls::advance`).
 #[unsafe(no_mangle)]
 pub extern "C" fn gravitar_advance(
@@ -74,7 +74,7 @@ pub extern "C" fn gravitar_advance(
     )
 }
 
-/// Runs an image with a tape from a saved board, and tells its records as structs
+/// Runs an image with a tape from a saved board, and returns its records as structs
 /// (`board_calls::records`).
 #[unsafe(no_mangle)]
 pub extern "C" fn gravitar_records(
@@ -97,7 +97,7 @@ pub extern "C" fn gravitar_records(
     )
 }
 
-/// Runs an image with a tape from a saved board, and tells the samples of its sound
+/// Runs an image with a tape from a saved board, and returns the samples of its sound
 /// (`board_calls::pcm`).
 #[unsafe(no_mangle)]
 pub extern "C" fn gravitar_pcm(

@@ -1,3 +1,3 @@
 pub mod ReadingLaws
 pub mod StageLaws
-pub mod TellingLaws
+pub mod ReportLaws

@@ -14,7 +14,7 @@ use Rattle.gravitar_commands.specs.Stages.{Gives, IsBadOrMemory, Refuses, StageA
 
 -- a file that came with these bytes
 abbrev Came : Option Files → List ℕ → ℕ → List ℕ → Type 0
-Came told name limit bytes = IfSome told (λ files. first_bytes name limit (files name) ≡ Ok bytes)
+Came known name limit bytes = IfSome known (λ files. first_bytes name limit (files name) ≡ Ok bytes)
 
 came-reads : (whole : Option (List ℕ)) (name bytes : List ℕ) (reading : Result BoardValue StateFault) → first_bytes name STATE_LEN whole ≡ Ok bytes
     → IfSome whole (λ w. ReadsState (take (STATE_LEN + 1) w) reading) → ReadsState bytes reading
@@ -27,15 +27,15 @@ came-reads (Some whole) name bytes reading came reads =
     rw (sym same) reads
 
 -- what comes of a state file is what comes of its bytes
-pub state-came : (told : Option Files) (name bytes held : List ℕ) (result : Result BoardValue Failure) → Came told name STATE_LEN bytes → held ≡ bytes
+pub state-came : (known : Option Files) (name bytes held : List ℕ) (result : Result BoardValue Failure) → Came known name STATE_LEN bytes → held ≡ bytes
     → ((reading : Result BoardValue StateFault) → ReadsState held reading → Gives (λ board. board) (read_as name (state_read reading)) result)
-    → IfSome told (λ files. ForReading (Some name) files (λ reading. Gives (λ board. board) (state_file files name reading) result))
+    → IfSome known (λ files. ForReading (Some name) files (λ reading. Gives (λ board. board) (state_file files name reading) result))
 unfolding state_file
 state-came None name bytes held result came same reads = tt
 state-came (Some files) name bytes held result came same reads = λ reading is.
     rw came (reads reading (rw same (came-reads (files name) name bytes reading came is)))
 
--- a file that is bad, or want of memory for the note on it
+-- a file that is bad, or out of memory for the note on it
 pub refused-as : (name : List ℕ) (cause : Cause) (failure : Failure) → IsBadOrMemory (note_text name (cause_text cause)) failure
     → Refuses {B = BoardValue} (read_as name (Err cause)) failure
 refused-as name cause (Bad note) is = ap (λ text. Err (refused 4 text)) (sym is)

@@ -42,7 +42,7 @@ use Rattle.gravitar_commands.specs.Endings.{ending_by, status_of_ending}
 use Rattle.gravitar_commands.specs.Outcome.{Comes, ComesOf, ComesOver, asm_files, asm_outcome, FitsRun, ForReading, Outcome, and_then, command_outcome, debug_files, debug_outcome, outside_text, finished, first_board, limit_of, memory_text, refused, read_as, run_files, run_outcome, script_file, script_read, show_outcome, soak_outcome, state_file, usage_text, wanted_by, note_text, workload_of}
 use Rattle.run_log.specs.Slices.{FitsCalls, StopsIn, Wanted, last_board, run_events}
 use Rattle.gravitar_commands.specs.Sources.{both_listings}
-use Rattle.gravitar_commands.specs.Stages.{status_of, note_of, HostEnds, HostFaults, HostQuiet, IsBadOrMemory, Keeps, Noted, Performs, Refuses, RunEnds, StageAbsences, session_outcome}
+use Rattle.gravitar_commands.specs.Stages.{status_of, note_of, HostEnds, HostFaults, WroteNothing, IsBadOrMemory, Keeps, Noted, Performs, Refuses, RunEnds, StageAbsences, session_outcome}
 use Rattle.run_log.proofs.CutLaws.{fits-least}
 use Rattle.outside_io.proofs.EventLaws.{did-first-of, did-first-sending, did-nothing, did-sending, did-then, did-then-first}
 
@@ -66,54 +66,54 @@ unfolding text_of stores_of
 did-idle out0 out1 stores0 stores1 took same = record { text = took ∙ sym (grown-nothing out0); stores = same ∙ sym (grown-nothing stores0) }
 
 -- what comes of an outcome comes of that of a command
-comes-over : (first second : Outcome → Type 0) (command : CommandValue) (told : Option Files) → ((outcome : Outcome) → first outcome → second outcome)
-    → ComesOver command told first → ComesOver command told second
+comes-over : (first second : Outcome → Type 0) (command : CommandValue) (known : Option Files) → ((outcome : Outcome) → first outcome → second outcome)
+    → ComesOver command known first → ComesOver command known second
 comes-over first second command None so comes = tt
 comes-over first second command (Some files) so comes = λ reading is.
     (let c = comes reading is in record { calls = c.calls; fits = c.fits; of_outcome = so (command_outcome command files reading c.calls) c.of_outcome })
 
-pub comes-map : (first second : Outcome → Type 0) (command : Option CommandValue) (told : Option Files)
-    → ((outcome : Outcome) → first outcome → second outcome) → ComesOf command told first → ComesOf command told second
-comes-map first second None told so comes = so (refused 2 usage_text) comes
-comes-map first second (Some (run_of run)) told so comes = comes-over first second (run_of run) told so comes
-comes-map first second (Some (asm_of asm)) told so comes = comes-over first second (asm_of asm) told so comes
-comes-map first second (Some (debug_of debug)) told so comes = comes-over first second (debug_of debug) told so comes
-comes-map first second (Some (show_of name)) told so comes = comes-over first second (show_of name) told so comes
-comes-map first second (Some (soak_of seed)) told so comes = so (soak_outcome seed) comes
-comes-map first second (Some (pcm_of pcm)) told so comes = comes-over first second (pcm_of pcm) told so comes
-comes-map first second (Some (frames_of run)) told so comes = comes-over first second (frames_of run) told so comes
-comes-map first second (Some (seek_of seek)) told so comes = comes-over first second (seek_of seek) told so comes
-comes-map first second (Some (profile_of run)) told so comes = comes-over first second (profile_of run) told so comes
+pub comes-map : (first second : Outcome → Type 0) (command : Option CommandValue) (known : Option Files)
+    → ((outcome : Outcome) → first outcome → second outcome) → ComesOf command known first → ComesOf command known second
+comes-map first second None known so comes = so (refused 2 usage_text) comes
+comes-map first second (Some (run_of run)) known so comes = comes-over first second (run_of run) known so comes
+comes-map first second (Some (asm_of asm)) known so comes = comes-over first second (asm_of asm) known so comes
+comes-map first second (Some (debug_of debug)) known so comes = comes-over first second (debug_of debug) known so comes
+comes-map first second (Some (show_of name)) known so comes = comes-over first second (show_of name) known so comes
+comes-map first second (Some (soak_of seed)) known so comes = so (soak_outcome seed) comes
+comes-map first second (Some (pcm_of pcm)) known so comes = comes-over first second (pcm_of pcm) known so comes
+comes-map first second (Some (frames_of run)) known so comes = comes-over first second (frames_of run) known so comes
+comes-map first second (Some (seek_of seek)) known so comes = comes-over first second (seek_of seek) known so comes
+comes-map first second (Some (profile_of run)) known so comes = comes-over first second (profile_of run) known so comes
 
 -- of words that are those of this command
-of-command : (first second : Outcome → Type 0) (words : List (List ℕ)) (command : CommandValue) (told : Option Files) → Some command ≡ command_of words
+of-command : (first second : Outcome → Type 0) (words : List (List ℕ)) (command : CommandValue) (known : Option Files) → Some command ≡ command_of words
     → ((outcome : Outcome) → first outcome → second outcome)
-    → ComesOf (Some command) told first → Comes words told second
-of-command first second words command told some so comes =
-    subst (λ c. ComesOf c told second) some (comes-map first second (Some command) told so comes)
+    → ComesOf (Some command) known first → Comes words known second
+of-command first second words command known some so comes =
+    subst (λ c. ComesOf c known second) some (comes-map first second (Some command) known so comes)
 
 -- of a command that is this one
-pub of-same : (holds : Outcome → Type 0) (told : Option Files) (command other : CommandValue) → other ≡ command
-    → ComesOf (Some command) told holds → ComesOf (Some other) told holds
-of-same holds told command other same comes = rw same comes
+pub of-same : (holds : Outcome → Type 0) (known : Option Files) (command other : CommandValue) → other ≡ command
+    → ComesOf (Some command) known holds → ComesOf (Some other) known holds
+of-same holds known command other same comes = rw same comes
 
--- of words of no form
-of-usage : (holds : Outcome → Type 0) (words : List (List ℕ)) (told : Option Files) → None ≡ command_of words → holds (refused 2 usage_text)
-    → Comes words told holds
-of-usage holds words told none h = subst (λ c. ComesOf c told holds) none h
+-- of malformed words
+of-usage : (holds : Outcome → Type 0) (words : List (List ℕ)) (known : Option Files) → None ≡ command_of words → holds (refused 2 usage_text)
+    → Comes words known holds
+of-usage holds words known none h = subst (λ c. ComesOf c known holds) none h
 
-pub usage-outcome : (told : Option Files) (words : List (List ℕ)) (out0 out1 : Option (List ℕ)) (stores0 stores1 : Option (List Kept))
+pub usage-outcome : (known : Option Files) (words : List (List ℕ)) (out0 out1 : Option (List ℕ)) (stores0 stores1 : Option (List Kept))
     → None ≡ command_of words → out1 ≡ out0 → stores1 ≡ stores0
-    → Comes words told (λ outcome. (2 ≡ outcome.status) × Did outcome.events out0 out1 stores0 stores1)
-usage-outcome told words out0 out1 stores0 stores1 none took same =
-    of-usage (λ outcome. (2 ≡ outcome.status) × Did outcome.events out0 out1 stores0 stores1) words told none
+    → Comes words known (λ outcome. (2 ≡ outcome.status) × Did outcome.events out0 out1 stores0 stores1)
+usage-outcome known words out0 out1 stores0 stores1 none took same =
+    of-usage (λ outcome. (2 ≡ outcome.status) × Did outcome.events out0 out1 stores0 stores1) words known none
     (refl, did-idle out0 out1 stores0 stores1 took same)
 
-pub usage-note : (told : Option Files) (words : List (List ℕ)) (notes0 notes1 : Option (List ℕ)) (faults0 faults1 : ℕ)
+pub usage-note : (known : Option Files) (words : List (List ℕ)) (notes0 notes1 : Option (List ℕ)) (faults0 faults1 : ℕ)
     → None ≡ command_of words → Noted notes0 notes1 faults0 faults1 usage_text
-    → Comes words told (λ outcome. Noted notes0 notes1 faults0 faults1 outcome.note)
-usage-note told words notes0 notes1 faults0 faults1 none h =
-    of-usage (λ outcome. Noted notes0 notes1 faults0 faults1 outcome.note) words told none h
+    → Comes words known (λ outcome. Noted notes0 notes1 faults0 faults1 outcome.note)
+usage-note known words notes0 notes1 faults0 faults1 none h =
+    of-usage (λ outcome. Noted notes0 notes1 faults0 faults1 outcome.note) words known none h
 
 -- a refusal that is the outcome
 refusal : (outcome : Outcome) (failure : Failure) (status : ℕ) (before now : Seen) → status ≡ status_of failure
@@ -123,19 +123,19 @@ refusal outcome (Absent note) status before now is ends not6 not7 = ends.failed
 refusal outcome Outside status before now is ends not6 not7 = absurd (not6 is)
 refusal outcome NoMemory status before now is ends not6 not7 = absurd (not7 is)
 
-quiet-of : (failure : Failure) (status : ℕ) (before now : Seen) → status ≡ status_of failure → HostQuiet before now (Err failure)
+nothing-of : (failure : Failure) (status : ℕ) (before now : Seen) → status ≡ status_of failure → WroteNothing before now (Err failure)
     → status ≢ 6 → HostDidNothing before now
-quiet-of (Bad note) status before now is quiet not6 = quiet
-quiet-of (Absent note) status before now is quiet not6 = quiet
-quiet-of Outside status before now is quiet not6 = absurd (not6 is)
-quiet-of NoMemory status before now is quiet not6 = quiet
+nothing-of (Bad note) status before now is wrote_nothing not6 = wrote_nothing
+nothing-of (Absent note) status before now is wrote_nothing not6 = wrote_nothing
+nothing-of Outside status before now is wrote_nothing not6 = absurd (not6 is)
+nothing-of NoMemory status before now is wrote_nothing not6 = wrote_nothing
 
 module _ (words : List (List ℕ)) (command : CommandValue) (failure : Failure) (status : ℕ) (before now : Seen)
     (some : Some command ≡ command_of words) (is : status ≡ status_of failure) (performs : Performs command before now (Err failure)) where
-  pub failure-outcome : HostQuiet before now (Err failure) → status ≢ 6 → status ≢ 7
+  pub failure-outcome : WroteNothing before now (Err failure) → status ≢ 6 → status ≢ 7
       → Comes words before.files (λ outcome. (status ≡ outcome.status) × HostDid outcome.events before now)
-  failure-outcome quiet not6 not7 =
-      let nothing = quiet-of failure status before now is quiet not6 in
+  failure-outcome wrote_nothing not6 not7 =
+      let nothing = nothing-of failure status before now is wrote_nothing not6 in
       of-command (λ outcome. HostEnds outcome before now (Err failure)) (λ outcome. (status ≡ outcome.status) × HostDid outcome.events before now)
       words command before.files some
       (λ outcome ends.
@@ -170,7 +170,7 @@ done-note words command ending before now notes faults some performs =
     of-command (λ outcome. HostEnds outcome before now (Ok ending)) (λ outcome. Noted notes notes faults faults outcome.note) words command
     before.files some (λ outcome ends. subst (λ text. Noted notes notes faults faults text) (sym ends.done.1) (noted-nothing notes faults)) performs
 
--- a fault outside has let the first part of what is defined be done
+-- before an I/O fault the first part of what is defined was done
 pub failure-stopped : (words : List (List ℕ)) (command : CommandValue) (failure : Failure) (status : ℕ) (before now : Seen)
     → Some command ≡ command_of words → status ≡ status_of failure → Performs command before now (Err failure) → status ≡ 6
     → Comes words before.files (λ outcome. HostDidFirst outcome.events before now)
@@ -282,12 +282,12 @@ ends-after outcome a b c (Err (Absent note)) nothing ends = record { done = tt; 
 nothing-then : (a b c : Seen) → HostDidNothing a b → HostDidNothing b c → HostDidNothing a c
 nothing-then a b c first rest = (rest.0 ∙ first.0, rest.1 ∙ first.1)
 
-quiet-after : (a b c : Seen) (result : Result Ending Failure) → HostDidNothing a b → HostQuiet b c result → HostQuiet a c result
-quiet-after a b c (Ok ending) nothing quiet = tt
-quiet-after a b c (Err Outside) nothing quiet = tt
-quiet-after a b c (Err NoMemory) nothing quiet = nothing-then a b c nothing quiet
-quiet-after a b c (Err (Bad note)) nothing quiet = nothing-then a b c nothing quiet
-quiet-after a b c (Err (Absent note)) nothing quiet = nothing-then a b c nothing quiet
+nothing-after : (a b c : Seen) (result : Result Ending Failure) → HostDidNothing a b → WroteNothing b c result → WroteNothing a c result
+nothing-after a b c (Ok ending) nothing wrote_nothing = tt
+nothing-after a b c (Err Outside) nothing wrote_nothing = tt
+nothing-after a b c (Err NoMemory) nothing wrote_nothing = nothing-then a b c nothing wrote_nothing
+nothing-after a b c (Err (Bad note)) nothing wrote_nothing = nothing-then a b c nothing wrote_nothing
+nothing-after a b c (Err (Absent note)) nothing wrote_nothing = nothing-then a b c nothing wrote_nothing
 
 rose-after : (a b c : Seen) → NoFault a b → Rose b.shelf_faults c.shelf_faults ⊎ Rose b.out_faults c.out_faults
     → Rose a.shelf_faults c.shelf_faults ⊎ Rose a.out_faults c.out_faults
@@ -316,7 +316,7 @@ absences-then a b c (Err NoMemory) first rest = omega (arith, first, rest)
 pub keeps-after : (a b c : Seen) (result : Result Ending Failure) → Loaded a b → Keeps b c result → Keeps a c result
 keeps-after a b c result loaded keeps = record {
   loans = record { shelf = keeps.loans.shelf ∙ loaded.loans.shelf; out = keeps.loans.out ∙ loaded.loans.out };
-  quiet = quiet-after a b c result loaded.nothing keeps.quiet;
+  wrote_nothing = nothing-after a b c result loaded.nothing keeps.wrote_nothing;
   faults = faults-after a b c result loaded.faults keeps.faults;
   absences = absences-then a.absences b.absences c.absences result loaded.absences keeps.absences;
 }
@@ -336,8 +336,8 @@ pub run-stopped : (run : RunValue) (failure : Failure) (before now : Seen) → H
 unfolding command_outcome
 run-stopped run failure before now nothing refuses = of before.files refuses
   where
-    of : (told : Option Files) → IfSome told (λ files. ForReading run.settings.state files (λ reading. Refuses (run_files files run reading) failure))
-        → ComesOver (run_of run) told (λ outcome. HostEnds outcome before now (Err failure))
+    of : (known : Option Files) → IfSome known (λ files. ForReading run.settings.state files (λ reading. Refuses (run_files files run reading) failure))
+        → ComesOver (run_of run) known (λ outcome. HostEnds outcome before now (Err failure))
     of None refuses = tt
     of (Some files) refuses = λ reading is.
         (let (calls, fits) = some-calls run.settings (run_files files run reading) in record {
@@ -354,8 +354,8 @@ pub run-comes : (run : RunValue) (said : SettingsValue) (parts : Parts) (before 
 unfolding command_outcome
 run-comes run said parts before read now result same nothing good comes = of before.files good
   where
-    of : (told : Option Files) → IfSome told (λ files. ForReading run.settings.state files (λ reading. run_files files run reading ≡ Ok parts))
-        → ComesOver (run_of run) told (λ outcome. HostEnds outcome before now result)
+    of : (known : Option Files) → IfSome known (λ files. ForReading run.settings.state files (λ reading. run_files files run reading ≡ Ok parts))
+        → ComesOver (run_of run) known (λ outcome. HostEnds outcome before now result)
     of None good = tt
     of (Some files) good = λ reading is. record {
       calls = comes.calls;
@@ -372,9 +372,9 @@ pub stopped-ends : (outcome : Outcome) (before now : Seen) → HostDidFirst outc
 stopped-ends outcome before now part = record { done = tt; failed = part }
 
 -- sources that couldn't be had
-pub asm-stopped : (told : Option Files) (words : AsmValue) (failure : Failure) (before now : Seen) → HostDidNothing before now
-    → IfSome told (λ files. Refuses (asm_files files words) failure)
-    → ComesOver (asm_of words) told (λ outcome. HostEnds outcome before now (Err failure))
+pub asm-stopped : (known : Option Files) (words : AsmValue) (failure : Failure) (before now : Seen) → HostDidNothing before now
+    → IfSome known (λ files. Refuses (asm_files files words) failure)
+    → ComesOver (asm_of words) known (λ outcome. HostEnds outcome before now (Err failure))
 unfolding command_outcome
 asm-stopped None words failure before now nothing refuses = tt
 asm-stopped (Some files) words failure before now nothing refuses = λ reading is. record {
@@ -384,8 +384,8 @@ asm-stopped (Some files) words failure before now nothing refuses = λ reading i
 }
 
 -- sources that are good
-pub asm-comes : (told : Option Files) (words : AsmValue) (made : Assembled) (holds : Outcome → Type 0)
-    → IfSome told (λ files. asm_files files words ≡ Ok made) → holds (asm_outcome words.image made) → ComesOver (asm_of words) told holds
+pub asm-comes : (known : Option Files) (words : AsmValue) (made : Assembled) (holds : Outcome → Type 0)
+    → IfSome known (λ files. asm_files files words ≡ Ok made) → holds (asm_outcome words.image made) → ComesOver (asm_of words) known holds
 unfolding command_outcome
 asm-comes None words made holds good comes = tt
 asm-comes (Some files) words made holds good comes = λ reading is. record { calls = 0; fits = tt; of_outcome = rw good comes }
@@ -435,9 +435,9 @@ refused-then given a next (Absent note) is refuses = ap (λ r. and_then r next) 
 refused-then given a next Outside is refuses = tt
 refused-then given a next NoMemory is refuses = tt
 
-debug-refused : (told : Option Files) (words : DebugValue) (failure : Failure) (before now : Seen) → HostDidNothing before now
-    → IfSome told (λ files. ForReading words.run.settings.state files (λ reading. Refuses (debug_files files words reading) failure))
-    → ComesOver (debug_of words) told (λ outcome. HostEnds outcome before now (Err failure))
+debug-refused : (known : Option Files) (words : DebugValue) (failure : Failure) (before now : Seen) → HostDidNothing before now
+    → IfSome known (λ files. ForReading words.run.settings.state files (λ reading. Refuses (debug_files files words reading) failure))
+    → ComesOver (debug_of words) known (λ outcome. HostEnds outcome before now (Err failure))
 unfolding command_outcome
 debug-refused None words failure before now nothing refuses = tt
 debug-refused (Some files) words failure before now nothing refuses = λ reading is. record {
@@ -448,42 +448,42 @@ debug-refused (Some files) words failure before now nothing refuses = λ reading
       (refuses reading is);
 }
 
-pub debug-stopped : (told : Option Files) (words : DebugValue) (run : RunValue) (failure : Failure) (before now : Seen) → run ≡ words.run
+pub debug-stopped : (known : Option Files) (words : DebugValue) (run : RunValue) (failure : Failure) (before now : Seen) → run ≡ words.run
     → HostDidNothing before now
-    → IfSome told (λ files. ForReading run.settings.state files (λ reading. Refuses (run_files files run reading) failure))
-    → ComesOver (debug_of words) told (λ outcome. HostEnds outcome before now (Err failure))
+    → IfSome known (λ files. ForReading run.settings.state files (λ reading. Refuses (run_files files run reading) failure))
+    → ComesOver (debug_of words) known (λ outcome. HostEnds outcome before now (Err failure))
 unfolding debug_files
-debug-stopped told words run failure before now same nothing refuses =
-    debug-refused told words failure before now nothing (by_told told (rw (← same) refuses))
+debug-stopped known words run failure before now same nothing refuses =
+    debug-refused known words failure before now nothing (by_known known (rw (← same) refuses))
   where
     first : (files : Files) (reading : Result BoardValue StateFault) → Refuses (run_files files words.run reading) failure → Refuses (debug_files files words reading) failure
     first files reading r = refused-first (run_files files words.run reading) _ failure r
 
-    by_told : (told : Option Files) → IfSome told (λ files. ForReading words.run.settings.state files (λ reading. Refuses (run_files files words.run reading) failure))
-        → IfSome told (λ files. ForReading words.run.settings.state files (λ reading. Refuses (debug_files files words reading) failure))
-    by_told None r = tt
-    by_told (Some files) r = λ reading is. first files reading (r reading is)
+    by_known : (known : Option Files) → IfSome known (λ files. ForReading words.run.settings.state files (λ reading. Refuses (run_files files words.run reading) failure))
+        → IfSome known (λ files. ForReading words.run.settings.state files (λ reading. Refuses (debug_files files words reading) failure))
+    by_known None r = tt
+    by_known (Some files) r = λ reading is. first files reading (r reading is)
 
 -- a session whose script couldn't be had
-pub debug-unread : (told again : Option Files) (words : DebugValue) (run : RunValue) (name : List ℕ) (parts : Parts) (failure : Failure) (before now : Seen)
-    → run ≡ words.run → name ≡ words.script → again ≡ told → HostDidNothing before now
-    → IfSome told (λ files. ForReading run.settings.state files (λ reading. run_files files run reading ≡ Ok parts))
+pub debug-unread : (known again : Option Files) (words : DebugValue) (run : RunValue) (name : List ℕ) (parts : Parts) (failure : Failure) (before now : Seen)
+    → run ≡ words.run → name ≡ words.script → again ≡ known → HostDidNothing before now
+    → IfSome known (λ files. ForReading run.settings.state files (λ reading. run_files files run reading ≡ Ok parts))
     → IfSome again (λ files. Refuses (script_file files name) failure)
-    → ComesOver (debug_of words) told (λ outcome. HostEnds outcome before now (Err failure))
+    → ComesOver (debug_of words) known (λ outcome. HostEnds outcome before now (Err failure))
 unfolding debug_files
-debug-unread told again words run name parts failure before now same named kept nothing good refuses =
-    debug-refused told words failure before now nothing (by_told told (rw (← same) good) (rw (← kept, ← named) refuses))
+debug-unread known again words run name parts failure before now same named kept nothing good refuses =
+    debug-refused known words failure before now nothing (by_known known (rw (← same) good) (rw (← kept, ← named) refuses))
   where
     then_ : (files : Files) (reading : Result BoardValue StateFault) → run_files files words.run reading ≡ Ok parts → Refuses (script_file files words.script) failure
         → Refuses (debug_files files words reading) failure
     then_ files reading g r =
         refused-then (run_files files words.run reading) parts _ failure g (refused-first (script_file files words.script) (λ commands. Ok (parts, commands)) failure r)
 
-    by_told : (told : Option Files) → IfSome told (λ files. ForReading words.run.settings.state files (λ reading. run_files files words.run reading ≡ Ok parts))
-        → IfSome told (λ files. Refuses (script_file files words.script) failure)
-        → IfSome told (λ files. ForReading words.run.settings.state files (λ reading. Refuses (debug_files files words reading) failure))
-    by_told None g r = tt
-    by_told (Some files) g r = λ reading is. then_ files reading (g reading is) r
+    by_known : (known : Option Files) → IfSome known (λ files. ForReading words.run.settings.state files (λ reading. run_files files words.run reading ≡ Ok parts))
+        → IfSome known (λ files. Refuses (script_file files words.script) failure)
+        → IfSome known (λ files. ForReading words.run.settings.state files (λ reading. Refuses (debug_files files words reading) failure))
+    by_known None g r = tt
+    by_known (Some files) g r = λ reading is. then_ files reading (g reading is) r
 
 -- the words as they lie in their type
 pub debug-same : (words inner : DebugValue) (before now : Seen) (result : Result Ending Failure) → inner ≡ words
@@ -504,26 +504,26 @@ session-outcome files reading words bytes parts good read =
     rw good (rw read (finished-session words.run.settings.timers parts (read_as words.script (script_read bytes))))
 
 -- a session whose files are there
-session-told : (told : Option Files) (words : DebugValue) (bytes : List ℕ) (parts : Parts) (holds : Outcome → Type 0)
-    → IfSome told (λ files. ForReading words.run.settings.state files (λ reading. run_files files words.run reading ≡ Ok parts))
-    → IfSome told (λ files. script_file files words.script ≡ read_as words.script (script_read bytes))
+session-reported : (known : Option Files) (words : DebugValue) (bytes : List ℕ) (parts : Parts) (holds : Outcome → Type 0)
+    → IfSome known (λ files. ForReading words.run.settings.state files (λ reading. run_files files words.run reading ≡ Ok parts))
+    → IfSome known (λ files. script_file files words.script ≡ read_as words.script (script_read bytes))
     → holds (session_outcome words.run.settings.timers words.script parts bytes)
-    → ComesOver (debug_of words) told holds
-session-told None words bytes parts holds good read comes = tt
-session-told (Some files) words bytes parts holds good read comes = λ reading is. record {
+    → ComesOver (debug_of words) known holds
+session-reported None words bytes parts holds good read comes = tt
+session-reported (Some files) words bytes parts holds good read comes = λ reading is. record {
   calls = 0;
   fits = tt;
   of_outcome = subst holds (sym (session-outcome files reading words bytes parts (good reading is) read)) comes;
 }
 
-pub debug-comes : (told again : Option Files) (words : DebugValue) (wired : Bool) (run : RunValue) (name bytes : List ℕ) (parts : Parts) (holds : Outcome → Type 0)
-    → wired ≡ words.run.settings.timers → run ≡ words.run → name ≡ words.script → again ≡ told
-    → IfSome told (λ files. ForReading run.settings.state files (λ reading. run_files files run reading ≡ Ok parts))
+pub debug-comes : (known again : Option Files) (words : DebugValue) (wired : Bool) (run : RunValue) (name bytes : List ℕ) (parts : Parts) (holds : Outcome → Type 0)
+    → wired ≡ words.run.settings.timers → run ≡ words.run → name ≡ words.script → again ≡ known
+    → IfSome known (λ files. ForReading run.settings.state files (λ reading. run_files files run reading ≡ Ok parts))
     → IfSome again (λ files. script_file files name ≡ read_as name (script_read bytes))
     → holds (session_outcome wired name parts bytes)
-    → ComesOver (debug_of words) told holds
-debug-comes told again words wired run name bytes parts holds asked same named kept good read comes =
-    session-told told words bytes parts holds (rw (← same) good) (rw (← kept, ← named) read) (rw (← asked, ← named) comes)
+    → ComesOver (debug_of words) known holds
+debug-comes known again words wired run name bytes parts holds asked same named kept good read comes =
+    session-reported known words bytes parts holds (rw (← same) good) (rw (← kept, ← named) read) (rw (← asked, ← named) comes)
 
 script-good : (bytes : List ℕ) (commands : List Command) → length bytes ≤ SCRIPT_LIMIT → script_of bytes ≡ Ok commands → script_read bytes ≡ Ok commands
 unfolding script_read
@@ -568,18 +568,18 @@ pub debugs-as : (tape : TapeValue) (script : List ℕ) (before now : EngineValue
 debugs-as tape script before now out0 out1 faults0 faults1 fault named is ran =
     subst (λ (f : DebugFault). Debugs tape script before now out0 out1 faults0 faults1 (Err f)) is ran
 
--- a script with a line of no form
+-- a script with a malformed line
 pub bad-keeps : (text : List ℕ) (before now : Seen) (failure : Failure) → IsBadOrMemory text failure → SameLoans before now → HostDidNothing before now
     → NoFault before now → before.absences ≤ now.absences → Keeps before now (Err failure)
-bad-keeps text before now (Bad note) is loans nothing none later = record { loans = loans; quiet = nothing; faults = none; absences = later }
+bad-keeps text before now (Bad note) is loans nothing none later = record { loans = loans; wrote_nothing = nothing; faults = none; absences = later }
 bad-keeps text before now (Absent note) is loans nothing none later = absurd is
 bad-keeps text before now Outside is loans nothing none later = absurd is
-bad-keeps text before now NoMemory is loans nothing none later = record { loans = loans; quiet = nothing; faults = none; absences = later }
+bad-keeps text before now NoMemory is loans nothing none later = record { loans = loans; wrote_nothing = nothing; faults = none; absences = later }
 
 -- a state that couldn't be had
-pub show-stopped : (told : Option Files) (name : List ℕ) (failure : Failure) (before now : Seen) → HostDidNothing before now
-    → IfSome told (λ files. ForReading (Some name) files (λ reading. Refuses (state_file files name reading) failure))
-    → ComesOver (show_of name) told (λ outcome. HostEnds outcome before now (Err failure))
+pub show-stopped : (known : Option Files) (name : List ℕ) (failure : Failure) (before now : Seen) → HostDidNothing before now
+    → IfSome known (λ files. ForReading (Some name) files (λ reading. Refuses (state_file files name reading) failure))
+    → ComesOver (show_of name) known (λ outcome. HostEnds outcome before now (Err failure))
 unfolding command_outcome
 show-stopped None name failure before now nothing refuses = tt
 show-stopped (Some files) name failure before now nothing refuses = λ reading is. record {
@@ -589,9 +589,9 @@ show-stopped (Some files) name failure before now nothing refuses = λ reading i
 }
 
 -- a state that is there
-pub show-comes : (told : Option Files) (name : List ℕ) (board : BoardValue) (holds : Outcome → Type 0)
-    → IfSome told (λ files. ForReading (Some name) files (λ reading. state_file files name reading ≡ Ok board)) → holds (show_outcome board)
-    → ComesOver (show_of name) told holds
+pub show-comes : (known : Option Files) (name : List ℕ) (board : BoardValue) (holds : Outcome → Type 0)
+    → IfSome known (λ files. ForReading (Some name) files (λ reading. state_file files name reading ≡ Ok board)) → holds (show_outcome board)
+    → ComesOver (show_of name) known holds
 unfolding command_outcome
 show-comes None name board holds good comes = tt
 show-comes (Some files) name board holds good comes = λ reading is. record { calls = 0; fits = tt; of_outcome = rw (good reading is) comes }

@@ -8,7 +8,7 @@ use Rattle.save_state.specs.Texts.{state_fault_text}
 use Rattle.gravitar_commands.specs.declared.cause.Cause.{Cause}
 use Rattle.gravitar_commands.specs.declared.cause.Cause.TheVariants.{Absent, Image, Tape, State, Cells, Source, Script}
 
--- a cause behind a file's name
+-- a cause after a file's name
 abbrev pub cause_text : Cause → List ℕ
 cause_text Absent = codes "absent"
 cause_text (Image fault) = image_fault_text fault

@@ -3,4 +3,4 @@ pub mod Endings
 pub mod Outcome
 pub mod Sources
 pub mod Stages
-pub mod Telling
+pub mod RunReport

@@ -37,13 +37,13 @@ use Rattle.gravitar_commands.specs.declared.assembled.Language.TheVariants.{Proc
 use Rattle.gravitar_commands.specs.declared.parts.Parts.{Parts}
 use Rattle.gravitar_commands.specs.declared.cause.Cause.{Cause}
 use Rattle.gravitar_commands.specs.declared.cause.Cause.TheVariants.{Absent, Image, Tape, State, Cells, Script}
-use Rattle.gravitar_commands.specs.declared.telling.Telling.TheVariants.{Samples, Frames, Profile}
+use Rattle.gravitar_commands.specs.declared.run_report.RunReport.TheVariants.{Samples, Frames, Profile}
 use Rattle.gravitar_commands.specs.Causes.{cause_text}
 use Rattle.outside_io.specs.Events.{Event, sending, storing}
 use Rattle.gravitar_commands.specs.Endings.{ending_by, status_of_ending}
 use Rattle.run_log.specs.Slices.{FitsCalls, Wanted, last_board, run_events}
 use Rattle.gravitar_commands.specs.Sources.{assembled_in, both_listings, source_read}
-use Rattle.gravitar_commands.specs.Telling.{sought_text, telling_text}
+use Rattle.gravitar_commands.specs.RunReport.{sought_text, report_text}
 
 pub record Outcome : Type 0 where
   pub status : ℕ
@@ -218,13 +218,13 @@ soak_outcome seed =
     record { status = 0; note = []; events = sending (run_text parts.tape.entries parts.tape.end (first_board false parts)) }
 
 -- a text of a run to a limit, with wired timers or without
-abbrev pub told_outcome : Bool → ℕ → (List TapeEntry → ℕ → Board → List ℕ) → Parts → Outcome
-told_outcome wired limit text parts =
+abbrev pub text_outcome : Bool → ℕ → (List TapeEntry → ℕ → Board → List ℕ) → Parts → Outcome
+text_outcome wired limit text parts =
     record { status = 0; note = []; events = sending (text parts.tape.entries limit (first_board wired parts)) }
 
 -- that of a run of these settings, and nothing else: its cells aren't stored
-abbrev pub telling_outcome : SettingsValue → (List TapeEntry → ℕ → Board → List ℕ) → Parts → Outcome
-telling_outcome said text parts = told_outcome said.timers (limit_of said.until parts.tape.end) text parts
+abbrev pub report_outcome : SettingsValue → (List TapeEntry → ℕ → Board → List ℕ) → Parts → Outcome
+report_outcome said text parts = text_outcome said.timers (limit_of said.until parts.tape.end) text parts
 
 -- both listings, and then the image, stored under its name
 unfoldable pub asm_outcome : List ℕ → Assembled → Outcome
@@ -245,11 +245,11 @@ command_outcome (debug_of debug) files reading calls =
 command_outcome (show_of name) files reading calls = finished (state_file files name reading) show_outcome
 command_outcome (soak_of seed) files reading calls = soak_outcome seed
 command_outcome (pcm_of pcm) files reading calls =
-    finished (run_files files pcm.run reading) (telling_outcome pcm.run.settings (telling_text (Samples pcm.per)))
-command_outcome (frames_of run) files reading calls = finished (run_files files run reading) (telling_outcome run.settings (telling_text Frames))
+    finished (run_files files pcm.run reading) (report_outcome pcm.run.settings (report_text (Samples pcm.per)))
+command_outcome (frames_of run) files reading calls = finished (run_files files run reading) (report_outcome run.settings (report_text Frames))
 command_outcome (seek_of seek) files reading calls =
-    finished (run_files files seek.run reading) (telling_outcome seek.run.settings (sought_text seek.clocks))
-command_outcome (profile_of run) files reading calls = finished (run_files files run reading) (telling_outcome run.settings (telling_text Profile))
+    finished (run_files files seek.run reading) (report_outcome seek.run.settings (sought_text seek.clocks))
+command_outcome (profile_of run) files reading calls = finished (run_files files run reading) (report_outcome run.settings (report_text Profile))
 
 -- the name of a command's state file
 abbrev pub state_name : CommandValue → Option (List ℕ)
@@ -294,27 +294,27 @@ pub record CommandComes (command : CommandValue) (files : Files) (reading : Resu
 abbrev pub ForReading : Option (List ℕ) → Files → (Result BoardValue StateFault → Type 0) → Type 0
 ForReading name files holds = (reading : Result BoardValue StateFault) → IsReading name files reading → holds reading
 
--- the same over the files of a shelf, where it tells them
+-- the same over the files of a shelf, where they are known
 abbrev pub ComesOver : CommandValue → Option Files → (Outcome → Type 0) → Type 0
-ComesOver command told holds =
-    IfSome told (λ files. ForReading (state_name command) files (λ reading. CommandComes command files reading holds))
+ComesOver command known holds =
+    IfSome known (λ files. ForReading (state_name command) files (λ reading. CommandComes command files reading holds))
 
--- the same of words: malformed ones are refused, and a command that reads no file has its outcome whether the shelf tells
--- its files or not
+-- the same of words: malformed ones are refused, and a command that reads no file has its outcome whether the files of the
+-- shelf are known or not
 abbrev pub ComesOf : Option CommandValue → Option Files → (Outcome → Type 0) → Type 0
-ComesOf None told holds = holds (refused 2 usage_text)
-ComesOf (Some (run_of run)) told holds = ComesOver (run_of run) told holds
-ComesOf (Some (asm_of asm)) told holds = ComesOver (asm_of asm) told holds
-ComesOf (Some (debug_of debug)) told holds = ComesOver (debug_of debug) told holds
-ComesOf (Some (show_of name)) told holds = ComesOver (show_of name) told holds
-ComesOf (Some (soak_of seed)) told holds = holds (soak_outcome seed)
-ComesOf (Some (pcm_of pcm)) told holds = ComesOver (pcm_of pcm) told holds
-ComesOf (Some (frames_of run)) told holds = ComesOver (frames_of run) told holds
-ComesOf (Some (seek_of seek)) told holds = ComesOver (seek_of seek) told holds
-ComesOf (Some (profile_of run)) told holds = ComesOver (profile_of run) told holds
+ComesOf None known holds = holds (refused 2 usage_text)
+ComesOf (Some (run_of run)) known holds = ComesOver (run_of run) known holds
+ComesOf (Some (asm_of asm)) known holds = ComesOver (asm_of asm) known holds
+ComesOf (Some (debug_of debug)) known holds = ComesOver (debug_of debug) known holds
+ComesOf (Some (show_of name)) known holds = ComesOver (show_of name) known holds
+ComesOf (Some (soak_of seed)) known holds = holds (soak_outcome seed)
+ComesOf (Some (pcm_of pcm)) known holds = ComesOver (pcm_of pcm) known holds
+ComesOf (Some (frames_of run)) known holds = ComesOver (frames_of run) known holds
+ComesOf (Some (seek_of seek)) known holds = ComesOver (seek_of seek) known holds
+ComesOf (Some (profile_of run)) known holds = ComesOver (profile_of run) known holds
 
 abbrev pub Comes : List (List ℕ) → Option Files → (Outcome → Type 0) → Type 0
-Comes words told holds = ComesOf (command_of words) told holds
+Comes words known holds = ComesOf (command_of words) known holds
 
 -- a command that runs an image to the end of a tape, the one whose status says that it jammed
 abbrev pub IsRun : Option CommandValue → Type 0

@@ -15,7 +15,7 @@ use Rattle.gravitar_commands.specs.declared.failure.Failure.TheVariants.{Bad, Ab
 use Rattle.gravitar_commands.specs.declared.failure.Ending.{Ending}
 use Rattle.gravitar_commands.specs.declared.failure.Ending.TheVariants.{Done}
 use Rattle.gravitar_commands.specs.Endings.{status_of_ending}
-use Rattle.gravitar_commands.specs.Outcome.{ComesOf, ForReading, Outcome, FitsRun, debug_outcome, outside_text, finished, memory_text, read_as, refused, run_files, run_outcome, script_file, script_read, telling_outcome}
+use Rattle.gravitar_commands.specs.Outcome.{ComesOf, ForReading, Outcome, FitsRun, debug_outcome, outside_text, finished, memory_text, read_as, refused, run_files, run_outcome, script_file, script_read, report_outcome}
 
 -- the status of a command that stopped
 abbrev pub status_of : Failure → ℕ
@@ -50,7 +50,7 @@ GivesScript view files name (Err failure) = Refuses (script_file files name) fai
 abbrev pub session_outcome : Bool → List ℕ → Parts → List ℕ → Outcome
 session_outcome wired name parts bytes = finished (read_as name (script_read bytes)) (debug_outcome wired parts)
 
--- only an outside fault has raised the count, and it always has
+-- only an I/O fault has raised the count, and it always has
 abbrev pub FailureFaults : ℕ → ℕ → Failure → Type 0
 FailureFaults before now Outside = Raised before now
 FailureFaults before now _ = now ≡ before
@@ -68,7 +68,7 @@ abbrev pub StageAbsences : {A : Type 0} → ℕ → ℕ → Result A Failure →
 StageAbsences before now (Ok _) = before ≤ now
 StageAbsences before now (Err failure) = FailureAbsences before now failure
 
--- what comes of an outcome by a failure: a first part of it was done before an outside fault
+-- what comes of an outcome by a failure: a first part of it was done before an I/O fault
 abbrev pub FailureEnds : Outcome → Seen → Seen → Failure → Type 0
 FailureEnds outcome before now Outside = HostDidFirst outcome.events before now
 FailureEnds outcome before now NoMemory = Unit {0}
@@ -87,27 +87,27 @@ Performs command before now result = ComesOf (Some command) before.files (λ out
 abbrev pub Reports : RunValue → (List TapeEntry → ℕ → Board → List ℕ) → Seen → Seen → Result Ending Failure → Type 0
 Reports run text before now result =
     IfSome before.files (λ files. ForReading run.settings.state files (λ reading.
-    HostEnds (finished (run_files files run reading) (telling_outcome run.settings text)) before now result))
+    HostEnds (finished (run_files files run reading) (report_outcome run.settings text)) before now result))
 
--- what becomes of a command whose text went out, or didn't
+-- the result of a command whose text was written, or wasn't
 abbrev pub written_as : Result (Unit {0}) SinkFault → Result Ending Failure
 written_as (Ok _) = Ok Done
 written_as (Err _) = Err Outside
 
--- a text went out, or a first part of it before an outside fault, or nothing for lack of memory
-abbrev pub Told : Option (List ℕ) → Option (List ℕ) → List ℕ → Result Ending Failure → Type 0
-Told out0 out1 text (Ok ending) = (ending ≡ Done) × (out1 ≡ grown out0 text)
-Told out0 out1 text (Err Outside) = (k : ℕ) × (out1 ≡ grown out0 (take k text))
-Told out0 out1 text (Err NoMemory) = out1 ≡ out0
-Told out0 out1 text (Err _) = ⊥
+-- a text was written, or a first part of it before an I/O fault, or nothing for lack of memory
+abbrev pub Wrote : Option (List ℕ) → Option (List ℕ) → List ℕ → Result Ending Failure → Type 0
+Wrote out0 out1 text (Ok ending) = (ending ≡ Done) × (out1 ≡ grown out0 text)
+Wrote out0 out1 text (Err Outside) = (k : ℕ) × (out1 ≡ grown out0 (take k text))
+Wrote out0 out1 text (Err NoMemory) = out1 ≡ out0
+Wrote out0 out1 text (Err _) = ⊥
 
--- nothing was written or stored, but for a success and an outside fault
-abbrev pub HostQuiet : Seen → Seen → Result Ending Failure → Type 0
-HostQuiet before now (Ok _) = Unit {0}
-HostQuiet before now (Err Outside) = Unit {0}
-HostQuiet before now (Err failure) = HostDidNothing before now
+-- nothing was written or stored, except after a success or an I/O fault
+abbrev pub WroteNothing : Seen → Seen → Result Ending Failure → Type 0
+WroteNothing before now (Ok _) = Unit {0}
+WroteNothing before now (Err Outside) = Unit {0}
+WroteNothing before now (Err failure) = HostDidNothing before now
 
--- an outside fault is one of the shelf or of the output, and nothing else has raised their counts
+-- an I/O fault is one of the shelf or of the output, and nothing else has raised their counts
 abbrev pub HostFaults : Seen → Seen → Result Ending Failure → Type 0
 HostFaults before now (Ok _) = NoFault before now
 HostFaults before now (Err Outside) = Faulted before now
@@ -116,7 +116,7 @@ HostFaults before now (Err _) = NoFault before now
 -- what holds of a host after a command, whatever its files are
 pub record Keeps (before now : Seen) (result : Result Ending Failure) : Type 0 where
   pub loans : SameLoans before now
-  pub quiet : HostQuiet before now result
+  pub wrote_nothing : WroteNothing before now result
   pub faults : HostFaults before now result
   pub absences : StageAbsences before.absences now.absences result
 

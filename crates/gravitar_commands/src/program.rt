@@ -18,9 +18,9 @@ use crate::limit::run_limit;
 use crate::load::{load_run, load_state};
 use crate::parts::Parts;
 use crate::reporting::perform_report;
+use crate::run_report::RunReport;
 use crate::seeking::Boards;
 use crate::soaking::perform_soak;
-use crate::telling::Telling;
 use crate::words::Words;
 use board_base::CpuState;
 use board_text::write_board;
@@ -124,14 +124,14 @@ fn perform<S: Shelf, O: Sink>(
         Command::Show(name) => perform_show(alloc, name, host),
         Command::Soak(seed) => perform_soak(alloc, *seed, host),
         Command::Pcm(words) => {
-            perform_report(alloc, &words.run, &Telling::Samples(words.per), host)
+            perform_report(alloc, &words.run, &RunReport::Samples(words.per), host)
         }
-        Command::Frames(words) => perform_report(alloc, words, &Telling::Frames, host),
+        Command::Frames(words) => perform_report(alloc, words, &RunReport::Frames, host),
         Command::Seek(words) => {
             let clocks = words.clocks.as_slice();
             perform_report(alloc, &words.run, &Boards { clocks }, host)
         }
-        Command::Profile(words) => perform_report(alloc, words, &Telling::Profile, host),
+        Command::Profile(words) => perform_report(alloc, words, &RunReport::Profile, host),
     }
 }
 
@@ -156,7 +156,7 @@ pub fn gravitar<S: Shelf, O: Sink, N: Sink>(
         DidFirst outcome.events (O.taken out.old) (O.taken out.new) (S.stores shelf.old) (S.stores shelf.new)) }
 
     // Nothing was written or stored, whether the files are known or not.
-    ensures quiet { Contains (2 ∷ 4 ∷ 5 ∷ 7 ∷ []) result → (O.taken out.new ≡ O.taken out.old) × (S.stores shelf.new ≡ S.stores shelf.old) }
+    ensures wrote_nothing { Contains (2 ∷ 4 ∷ 5 ∷ 7 ∷ []) result → (O.taken out.new ≡ O.taken out.old) × (S.stores shelf.new ≡ S.stores shelf.old) }
 
     ensures statuses { Contains (0 ∷ 2 ∷ 3 ∷ 4 ∷ 5 ∷ 6 ∷ 7 ∷ []) result }
     ensures usage { (result ≡ 2) ↔ (command_of words.now ≡ None) }

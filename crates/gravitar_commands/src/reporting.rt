@@ -6,7 +6,7 @@ ghost use Rattle.lockstep_board.specs.Lockstep.{Board};
 ghost use Rattle.outside_io.specs.Hosts.{seen};
 ghost use Rattle.tape_ports.specs.declared.entry.TapeEntry.{TapeEntry};
 ghost use Rattle.gravitar_commands.specs.Outcome.{first_board};
-ghost use Rattle.gravitar_commands.specs.Stages.{Keeps, Reports, StageFaults, Told};
+ghost use Rattle.gravitar_commands.specs.Stages.{Keeps, Reports, StageFaults, Wrote};
 
 use crate::failure::{Ending, Failure};
 use crate::limit::{has_timers, limit_by};
@@ -22,7 +22,7 @@ pub trait Report {
     ghost text: { Self → List TapeEntry → ℕ → Board → List ℕ };
 
     /// It may be asked for.
-    ghost can_tell: { Self → Type 0 };
+    ghost can_report: { Self → Type 0 };
 
     /// Takes the memory of a run, and then reports it.
     fn report<O: Sink>(
@@ -35,8 +35,8 @@ pub trait Report {
     ) -> Result<Ending, Failure>
         requires place { IsProcessor parts.now.board.cpu }
         requires limit { limit ≤ CLOCK_LIMIT }
-        requires told { can_tell self.now }
-        ensures taken { Told (O.taken out.old) (O.taken out.new)
+        requires in_range { can_report self.now }
+        ensures taken { Wrote (O.taken out.old) (O.taken out.new)
             (text self.now parts.now.tape.entries limit (first_board wired parts.now)) result }
         ensures faults { StageFaults (O.faults out.old) (O.faults out.new) result };
 }
@@ -49,7 +49,7 @@ pub fn perform_report<R: Report, S: Shelf, O: Sink>(
     report: &R,
     host: &mut Host<'_, S, O>,
 ) -> Result<Ending, Failure>
-    requires told { R.can_tell report.now }
+    requires in_range { R.can_report report.now }
     ensures outcome { Reports run.now (R.text report.now) (seen host.old) (seen host.new) result }
     ensures done { IfOk result (λ ending. ending ≡ Ending.Done) }
     ensures keeps { Keeps (seen host.old) (seen host.new) result }

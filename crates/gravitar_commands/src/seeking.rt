@@ -2,12 +2,12 @@
 ghost use Rattle.std.specs.Prelude.{◌≡◌, ◌≤◌, length, map, min};
 ghost use Rattle.board_base.specs.Board.{IsBoard};
 ghost use Rattle.command_line.specs.declared.number.TheConstants.{CUTS};
-ghost use Rattle.gravitar_commands.specs.Telling.{sought_text};
+ghost use Rattle.gravitar_commands.specs.RunReport.{sought_text};
 
 use crate::failure::{Ending, Failure};
 use crate::parts::Parts;
 use crate::reporting::Report;
-use crate::telling::written;
+use crate::run_report::written;
 use arrayvec::ArrayVec;
 use board_base::BoardState;
 use board_debug::write_boards;
@@ -29,7 +29,7 @@ pub fn seek_numbers()
     ensures frames { SEEK_FRAMES ≡ 1001 }
 {}
 
-/// Tells that a state is a board, and does nothing.
+/// States that a state is a board, and does nothing.
 fn look_at(state: &BoardState)
     ensures { IsBoard state.now }
 {
@@ -62,7 +62,7 @@ impl Report for Boards<'_> {
 
     ghost text = { λ boards. sought_text boards.clocks.now };
 
-    ghost can_tell = { λ boards. length boards.clocks.now ≤ CUTS };
+    ghost can_report = { λ boards. length boards.clocks.now ≤ CUTS };
 
     fn report<O: Sink>(
         &self,

@@ -5,10 +5,10 @@ ghost use Rattle.gravitar_commands.specs.Stages.{Keeps, Performs};
 
 use crate::failure::{Ending, Failure};
 use board_base::BoardState;
-use run_windows::SyncedMachine;
 use catchup_engine::{Devices, Engine};
 use outside_io::{Host, Shelf, Sink};
 use run_summary::run_soak;
+use run_windows::SyncedMachine;
 use std::alloc::Global;
 use workload_gen::make;
 

@@ -1,4 +1,4 @@
-//! What the program does where nothing outside fails.
+//! What the program does where no I/O call fails.
 ghost use Rattle.std.specs.Prelude.{◌≡◌, ◌≢◌, false, Some};
 ghost use Rattle.outside_io.specs.Content.{content_of};
 ghost use Rattle.gravitar_commands.specs.Outcome.{Comes};

@@ -12,13 +12,13 @@ use flat_bus::{Direction, FlatBus};
 use std::alloc::Global;
 use std::io;
 
-/// Where both programs stand.
+/// The address of both programs.
 const START: u16 = 0x9000;
 
 /// `LDA #$15`, `ASL A`, `STA $10`.
 const DOUBLING: [u8; 5] = [0xA9, 0x15, 0x0A, 0x85, 0x10];
 
-/// Lets the POKEY run, tells it a period of 3 pulses of 28 clocks and a pure tone at level 8, and
+/// Lets the POKEY run, sets a period of 3 pulses of 28 clocks and a pure tone at level 8, and
 /// waits: `LDA`, `STA $D20F`, `LDA`, `STA $D200`, `LDA`, `STA $D201`, `JMP` to itself.
 const BEEPING: [u8; 18] = [
     0xA9, 0x03, 0x8D, 0x0F, 0xD2, 0xA9, 0x02, 0x8D, 0x00, 0xD2, 0xA9, 0xA8, 0x8D, 0x01, 0xD2, 0x4C,

@@ -10,7 +10,7 @@ use crate::trial::Trial;
 use outside_io::Stored;
 use std::alloc::Global;
 
-/// What stays as files behind a command, besides its stores.
+/// The files that a command leaves, besides its stores.
 #[derive(Drop)]
 pub struct Kept<'t> {
     /// The numbers of stores, from 0 on, each with the name of its file.
@@ -28,14 +28,14 @@ pub struct Comparison<'t, 'f, 'c> {
     trial: &'c Trial,
     /// The text that comes next.
     rest: &'c [u8],
-    /// How many bytes of text stand in front of each store.
+    /// How many bytes of text come before each store.
     ends: Vec<usize>,
     kept: Kept<'t>,
     status: usize,
     note: Option<&'t str>,
 }
 
-/// Whether a note is a line, or begins with what stands before three dots.
+/// Whether a note is a line, or begins with what comes before three dots.
 fn is_note(note: &[u8], line: &str) -> bool {
     let note = str::from_utf8(note).unwrap_or("");
     match line.strip_suffix("...") {
@@ -97,7 +97,7 @@ impl<'t, 'f, 'c> Comparison<'t, 'f, 'c> {
         self.kept
     }
 
-    /// How many bytes of text stand in front of each store.
+    /// How many bytes of text come before each store.
     pub fn ends(&self) -> &[usize] {
         self.ends.as_slice()
     }
@@ -224,7 +224,7 @@ impl<'t, 'f, 'c> Comparison<'t, 'f, 'c> {
         }
     }
 
-    /// What is told of the end: the status, the note, and the name under which the text stays.
+    /// What the step says of the end: the status, the note, and the name under which the text stays.
     fn part_of_end(&mut self, word: Word, rest: &'t str) -> Result<(), Stopped> {
         match word {
             Word::Status => self.status = decimal(rest)?,

@@ -1,4 +1,4 @@
-//! What the lines of a content stand for: bytes, or a pattern for them.
+//! What the lines of a content represent: bytes, or a pattern for them.
 
 use crate::folder::Folder;
 use crate::stopped::Stopped;
@@ -9,7 +9,7 @@ pub fn decimal(digits: &str) -> Result<usize, Stopped> {
     Ok(usize::from_str_radix(digits, 10)?)
 }
 
-/// Appends a byte in two hexadecimal digits, or that byte N times where `*N` is behind it.
+/// Appends a byte in two hexadecimal digits, or that byte N times where `*N` comes after it.
 fn push_bytes(alloc: Global, word: &str, bytes: &mut Vec<u8>) -> Result<(), Stopped> {
     let (digits, times) = word.split_once('*').unwrap_or((word, "1"));
     let byte = u8::from_str_radix(digits, 16)?;
@@ -60,7 +60,7 @@ enum Wanted<'t> {
     Number(&'t str, usize, usize),
 }
 
-/// What a line of a content wants. A file's name behind `@` stands for its bytes.
+/// What a line of a content wants. A file's name after `@` represents its bytes.
 fn read_wanted<'t>(alloc: Global, folder: &Folder, line: &'t str) -> Result<Wanted<'t>, Stopped> {
     if let Some(name) = line.strip_prefix("@") {
         return Ok(Wanted::Bytes(Vec::from_slice(alloc, folder.bytes(name))?));
@@ -112,7 +112,7 @@ impl Wanted<'_> {
         }
     }
 
-    /// What follows the first line that it stands at.
+    /// What follows the first line that has it.
     fn after_lines<'b>(&self, bytes: &'b [u8]) -> Option<&'b [u8]> {
         let mut begins = true;
         for (i, byte) in bytes.iter().enumerate() {

@@ -1,4 +1,4 @@
-//! Each call outside of a command is made to fail in turn.
+//! Each I/O call of a command is made to fail in turn.
 
 use crate::emulator::Emulator;
 use crate::report::Report;
@@ -6,7 +6,7 @@ use crate::stopped::Stopped;
 use crate::trial::{Command, Faults, NO_FAULT, Trial};
 use outside_io::Stored;
 
-/// The note on a call outside that failed.
+/// The note on an I/O call that failed.
 const OUTSIDE: &[u8] = b"gravitar: outside fault\n";
 
 /// The most calls of a kind that a command of the suite makes.
@@ -88,7 +88,7 @@ fn small_output(room: usize) -> Faults {
 pub struct Whole<'w, 'c, E: Emulator> {
     pub command: &'w Command<'c, E>,
     pub trial: &'w Trial,
-    /// How many bytes of text stand in front of each store.
+    /// How many bytes of text come before each store.
     pub ends: &'w [usize],
 }
 
@@ -145,7 +145,7 @@ impl<E: Emulator> Whole<'_, '_, E> {
         self.is_stopped_in_silence(kind, call)
     }
 
-    /// Does the command with a call that fails, and tells whether there was such a call.
+    /// Does the command with a call that fails, and returns whether there was such a call.
     fn fails(&self, kind: Kind, call: u64, report: &mut Report) -> Result<bool, Stopped> {
         let trial = self.command.run(kind.faults(call, 0))?;
         if !self.is_right(kind, call, &trial)? {
@@ -164,7 +164,7 @@ impl<E: Emulator> Whole<'_, '_, E> {
         report.add(self.command.line, "the calls have no end")
     }
 
-    /// A write of the notes fails, which changes nothing else. Tells whether there was such a write.
+    /// A write of the notes fails, which changes nothing else. Returns whether there was such a write.
     fn fails_at_note(&self, call: u64, report: &mut Report) -> Result<bool, Stopped> {
         let trial = self.command.run(note_fault(call))?;
         if !self.is_all_but_note(&trial) {

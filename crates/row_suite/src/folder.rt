@@ -63,7 +63,7 @@ impl Folder {
         Ok(())
     }
 
-    /// Puts a file in the place of what stands under its name.
+    /// Replaces what is under a file's name by the file.
     pub fn put(&mut self, name: &str, bytes: Vec<u8>) -> Result<(), Stopped> {
         let Some(place) = self.place(name) else {
             return self.add(name, bytes);
@@ -90,7 +90,7 @@ impl Folder {
         self.put(name, bytes)
     }
 
-    /// Puts a copy of bytes in the place of what stands under a name.
+    /// Replaces what is under a name by a copy of these bytes.
     pub fn copy_in(&mut self, name: &str, bytes: &[u8]) -> Result<(), Stopped> {
         let bytes = Vec::from_slice(self.alloc, bytes)?;
         self.put(name, bytes)

@@ -10,7 +10,7 @@ pub enum Level {
     Block,
     /// A file, a change of one, or a command with what it is to give.
     Step,
-    /// A part of a step: a line and the content behind it.
+    /// A part of a step: a line and the content after it.
     Part,
 }
 
@@ -64,7 +64,7 @@ const WORDS: [(&str, Word); 19] = [
     ("text", Word::Text),
 ];
 
-/// The first word of a line, and the rest of it behind a space.
+/// The first word of a line, and the rest of it after a space.
 pub fn first_word(line: &str) -> (&str, &str) {
     line.split_once(' ').unwrap_or((line, ""))
 }
@@ -148,7 +148,7 @@ fn push_piece<'l, 't>(
     Ok(())
 }
 
-/// The pieces of some lines. What stands in front of the first that begins one is a piece too.
+/// The pieces of some lines. What comes before the first that begins one is a piece too.
 pub fn pieces<'l, 't>(
     alloc: Global,
     lines: &'l [&'t str],

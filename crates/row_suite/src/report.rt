@@ -76,7 +76,7 @@ impl Report {
         Ok(())
     }
 
-    /// Takes in that a call outside of a command fails, and more or less is done than what is in front.
+    /// Reports that an I/O call of a command fails, and more or less is done than what comes before it.
     pub fn add_call(&mut self, command: &str, kind: &str, call: u64) -> Result<(), Stopped> {
         self.add(command, "a call that fails")?;
         writeln!(self.text, "  number {call} of the calls of the {kind}")?;

@@ -37,13 +37,13 @@ fn compare<'t>(
     comparison.end(report)
 }
 
-/// A name and a number behind it.
+/// A name and a number after it.
 fn name_and_number(rest: &str) -> Result<(&str, usize), Stopped> {
     let (name, number) = rest.split_once(' ').ok_or(Stopped::Form)?;
     Ok((name, decimal(number)?))
 }
 
-/// The call that fails, by what stands behind `fail`.
+/// The call that fails, by what comes after `fail`.
 fn read_fault(rest: &str) -> Result<Faults, Stopped> {
     let (kind, number) = name_and_number(rest)?;
     let call = number as u64;
@@ -65,7 +65,7 @@ fn fault_of(step: &[&str]) -> Result<Option<Faults>, Stopped> {
     Ok(None)
 }
 
-/// Holds what a command did against what its step wants, and makes its calls outside fail where
+/// Compares what a command did with what its step wants, and makes its I/O calls fail where
 /// `fails` says so.
 fn look_at<'t, E: Emulator>(
     command: &Command<'_, E>,
@@ -88,7 +88,7 @@ fn look_at<'t, E: Emulator>(
     Ok(comparison.into_kept())
 }
 
-/// Puts what stays as files behind a command into a folder.
+/// Puts the files that a command leaves into a folder.
 fn keep(folder: &mut Folder, trial: &Trial, kept: &Kept<'_>) -> Result<(), Stopped> {
     let stores = trial.shelf.stores();
     folder.keep(stores)?;
@@ -176,7 +176,7 @@ impl<E: Emulator> Row<'_, E> {
         Ok(())
     }
 
-    /// Does what stands under a name, without calls that fail.
+    /// Does the steps under a name, without calls that fail.
     fn with(&mut self, blocks: &[&[&str]], name: &str) -> Result<(), Stopped> {
         let fails = self.fails;
         self.fails = false;
@@ -204,7 +204,7 @@ impl<E: Emulator> Row<'_, E> {
     }
 }
 
-/// What stands under a name that rows begin with.
+/// The steps under a name that rows begin with.
 fn given<'l, 't>(blocks: &[&'l [&'t str]], name: &str) -> Result<&'l [&'t str], Stopped> {
     for block in blocks {
         if let Some(head) = block.first() {
@@ -217,7 +217,7 @@ fn given<'l, 't>(blocks: &[&'l [&'t str]], name: &str) -> Result<&'l [&'t str], 
     Err(Stopped::Form)
 }
 
-/// Does a row of a suite, and tells what differs.
+/// Does a row of a suite, and returns what differs.
 pub fn run_row<E: Emulator>(
     alloc: Global,
     emulator: &E,

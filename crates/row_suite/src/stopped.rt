@@ -8,7 +8,7 @@ use std::num::ParseIntError;
 pub enum Stopped {
     /// A file of the suite isn't there, is too long, or couldn't be read.
     File,
-    /// A line of the suite is of no form.
+    /// A line of the suite is malformed.
     Form,
     /// What a row shows couldn't be written.
     Output,

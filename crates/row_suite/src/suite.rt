@@ -15,7 +15,8 @@ fn show<O: Sink>(alloc: Global, title: &str, differs: &str, out: &mut O) -> Resu
     Ok(())
 }
 
-/// Does all rows of a suite's text, shows each in a line, with what differs behind it, and tells how many differ.
+/// Does all rows of a suite's text, prints a line for each and then what differs, and returns how
+/// many differ.
 pub fn run_suite<E: Emulator, O: Sink>(
     alloc: Global,
     emulator: &E,

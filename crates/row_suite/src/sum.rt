@@ -1,4 +1,4 @@
-//! The sum of a text that is too long to stand in a row: what `cksum` of POSIX prints.
+//! The sum of a text that is too long for a row: what `cksum` of POSIX prints.
 
 /// The polynomial, highest power first, without x^32.
 const POLYNOMIAL: u32 = 0x04C1_1DB7;
@@ -22,7 +22,7 @@ fn next_byte(crc: u32, byte: u8) -> u32 {
     crc
 }
 
-/// The CRC of some bytes, and of their number with its lowest byte first and no zeros behind.
+/// The CRC of some bytes, and of their number with its lowest byte first and no zeros after it.
 pub fn cksum(bytes: &[u8]) -> u32 {
     let mut crc = 0u32;
     for byte in bytes {

@@ -55,7 +55,7 @@ fn shelf_of(alloc: Global, folder: &Folder, fail: u64) -> Result<MemoryShelf, St
 pub struct Command<'c, E: Emulator> {
     pub alloc: Global,
     pub emulator: &'c E,
-    /// Its line in the suite, and its words behind the program's name.
+    /// Its line in the suite, and its words after the program's name.
     pub line: &'c str,
     pub words: &'c [String],
     pub folder: &'c Folder,

@@ -4,7 +4,7 @@ use crate::content::decimal;
 use crate::stopped::Stopped;
 use std::alloc::Global;
 
-/// Appends a number and what stands behind it.
+/// Appends a number and what comes after it.
 fn push_number(number: usize, end: &str, word: &mut String) -> Result<(), Stopped> {
     write!(word, "{number}{end}")?;
     Ok(())
@@ -18,7 +18,7 @@ fn push_numbers(from: usize, to: usize, word: &mut String) -> Result<(), Stopped
     push_number(to, "", word)
 }
 
-/// Appends the numbers of the text between two braces, and what stands behind.
+/// Appends the numbers of the text between two braces, and what comes after.
 fn push_range(numbers: &str, back: &str, word: &mut String) -> Result<(), Stopped> {
     let (from, to) = numbers.split_once("..").ok_or(Stopped::Form)?;
     push_numbers(decimal(from)?, decimal(to)?, word)?;
@@ -26,7 +26,7 @@ fn push_range(numbers: &str, back: &str, word: &mut String) -> Result<(), Stoppe
     Ok(())
 }
 
-/// A word of a command line. `{A..B}` in it stands for the numbers from A to B.
+/// A word of a command line. `{A..B}` in it represents the numbers from A to B.
 fn read_word(alloc: Global, text: &str) -> Result<String, Stopped> {
     let Some((front, rest)) = text.split_once('{') else {
         return Ok(String::from_str(alloc, text)?);
@@ -37,7 +37,7 @@ fn read_word(alloc: Global, text: &str) -> Result<String, Stopped> {
     Ok(word)
 }
 
-/// The words of a command line behind the program's name, by its single spaces.
+/// The words of a command line after the program's name, split at single spaces.
 pub fn read_words(alloc: Global, line: &str) -> Result<Vec<String>, Stopped> {
     let mut words = Vec::new(alloc);
     let rest = line.strip_prefix("gravitar").ok_or(Stopped::Form)?;

@@ -37,7 +37,7 @@ pub returns-in-Err-clause-outcome : goal.returns-in-Err-clause-outcome
 returns-in-Err-clause-outcome g c = λ not6 not7.
     outcome-lent c.args.words.now _ _ c.of.ensures (seen c.perform.new.host) _ _ (search rules) (search rules) c.status.result
     (failure-outcome c.args.words.now (command_value c.in-Some.command) c.in-Err.failure c.status.result _ _
-    c.in-Some.ensures.command c.status.ensures c.in-Err.ensures.outcome c.in-Err.ensures.keeps.quiet not6 not7)
+    c.in-Some.ensures.command c.status.ensures c.in-Err.ensures.outcome c.in-Err.ensures.keeps.wrote_nothing not6 not7)
 
 pub returns-in-Err-clause-note : goal.returns-in-Err-clause-note
 returns-in-Err-clause-note g c = λ not6 not7.

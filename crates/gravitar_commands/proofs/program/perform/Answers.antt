@@ -2,7 +2,7 @@ use Rattle.std.proofs.Common.{ap}
 use Rattle.command_line.specs.CommandValue.{asm_of, debug_of, frames_of, pcm_of, profile_of, run_of, seek_of, soak_of}
 use Rattle.command_line.specs.CommandWords.{command_value}
 use Rattle.gravitar_commands.proofs.StageLaws.{not-jammed, of-same}
-use Rattle.gravitar_commands.proofs.TellingLaws.{frames-told, pcm-told-as, profile-told, seek-told-as}
+use Rattle.gravitar_commands.proofs.ReportLaws.{frames-reported, pcm-reported-as, profile-reported, seek-reported-as}
 use Rattle.gravitar_commands.proofs.program.perform.Goals as goal
 
 pub returns-in-Run-clause-outcome : goal.returns-in-Run-clause-outcome
@@ -43,7 +43,7 @@ returns-in-Soak-clause-jam g c = λ jam. absurd (not-jammed _ c.perform_soak.ens
 pub returns-in-Pcm-clause-outcome : goal.returns-in-Pcm-clause-outcome
 returns-in-Pcm-clause-outcome g c =
     of-same _ (g.S.Shelf.files c.args.host.now.shelf.now) (pcm_of c.in-Pcm.words) (command_value c.args.command.now) (ap command_value c.in-Pcm.is)
-    (pcm-told-as (g.S.Shelf.files c.args.host.now.shelf.now) _ c.in-Pcm.words _ c.words.view_is c.perform_report.ensures.outcome)
+    (pcm-reported-as (g.S.Shelf.files c.args.host.now.shelf.now) _ c.in-Pcm.words _ c.words.view_is c.perform_report.ensures.outcome)
 
 pub returns-in-Pcm-clause-jam : goal.returns-in-Pcm-clause-jam
 returns-in-Pcm-clause-jam g c = λ jam. absurd (not-jammed _ c.perform_report.ensures.done jam)
@@ -51,7 +51,7 @@ returns-in-Pcm-clause-jam g c = λ jam. absurd (not-jammed _ c.perform_report.en
 pub returns-in-Frames-clause-outcome : goal.returns-in-Frames-clause-outcome
 returns-in-Frames-clause-outcome g c =
     of-same _ (g.S.Shelf.files c.args.host.now.shelf.now) (frames_of c.in-Frames.words) (command_value c.args.command.now) (ap command_value c.in-Frames.is)
-    (frames-told (g.S.Shelf.files c.args.host.now.shelf.now) _ c.in-Frames.words c.perform_report-in-Frames.ensures.outcome)
+    (frames-reported (g.S.Shelf.files c.args.host.now.shelf.now) _ c.in-Frames.words c.perform_report-in-Frames.ensures.outcome)
 
 pub returns-in-Frames-clause-jam : goal.returns-in-Frames-clause-jam
 returns-in-Frames-clause-jam g c = λ jam. absurd (not-jammed _ c.perform_report-in-Frames.ensures.done jam)
@@ -59,7 +59,7 @@ returns-in-Frames-clause-jam g c = λ jam. absurd (not-jammed _ c.perform_report
 pub returns-in-Profile-clause-outcome : goal.returns-in-Profile-clause-outcome
 returns-in-Profile-clause-outcome g c =
     of-same _ (g.S.Shelf.files c.args.host.now.shelf.now) (profile_of c.in-Profile.words) (command_value c.args.command.now) (ap command_value c.in-Profile.is)
-    (profile-told (g.S.Shelf.files c.args.host.now.shelf.now) _ c.in-Profile.words c.perform_report-in-Profile.ensures.outcome)
+    (profile-reported (g.S.Shelf.files c.args.host.now.shelf.now) _ c.in-Profile.words c.perform_report-in-Profile.ensures.outcome)
 
 pub returns-in-Profile-clause-jam : goal.returns-in-Profile-clause-jam
 returns-in-Profile-clause-jam g c = λ jam. absurd (not-jammed _ c.perform_report-in-Profile.ensures.done jam)
@@ -70,4 +70,4 @@ returns-in-Seek-clause-jam g c = λ jam. absurd (not-jammed _ c.perform_report-i
 pub returns-in-Seek-clause-outcome : goal.returns-in-Seek-clause-outcome
 returns-in-Seek-clause-outcome g c =
     of-same _ (g.S.Shelf.files c.args.host.now.shelf.now) (seek_of c.in-Seek.words) (command_value c.args.command.now) (ap command_value c.in-Seek.is)
-    (seek-told-as (g.S.Shelf.files c.args.host.now.shelf.now) _ c.in-Seek.words _ c.words-in-Seek.view_is (rw c.as_slice-clocks.ensures.value at c.perform_report-in-Seek.ensures.outcome))
+    (seek-reported-as (g.S.Shelf.files c.args.host.now.shelf.now) _ c.in-Seek.words _ c.words-in-Seek.view_is (rw c.as_slice-clocks.ensures.value at c.perform_report-in-Seek.ensures.outcome))

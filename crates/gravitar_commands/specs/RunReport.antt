@@ -7,20 +7,20 @@ use Rattle.board_debug.specs.BoardsText.{boards_text}
 use Rattle.run_samples.specs.BoardSamples.{sampled_bytes}
 use Rattle.run_trace.specs.BoardFrames.{framed_text}
 use Rattle.run_trace.specs.BoardProfile.{profiled_text}
-use Rattle.gravitar_commands.specs.declared.telling.Telling.{Telling}
-use Rattle.gravitar_commands.specs.declared.telling.Telling.TheVariants.{Samples, Frames, Profile}
+use Rattle.gravitar_commands.specs.declared.run_report.RunReport.{RunReport}
+use Rattle.gravitar_commands.specs.declared.run_report.RunReport.TheVariants.{Samples, Frames, Profile}
 
 -- a sample has 1 to 65,535 clocks
-abbrev pub CanTell : Telling → Type 0
-CanTell (Samples per) = (1 ≤ per) × (per ≤ PER_LIMIT)
-CanTell Frames = Unit {0}
-CanTell Profile = Unit {0}
+abbrev pub CanReport : RunReport → Type 0
+CanReport (Samples per) = (1 ≤ per) × (per ≤ PER_LIMIT)
+CanReport Frames = Unit {0}
+CanReport Profile = Unit {0}
 
 -- what is reported of a run from a board to a limit
-abbrev pub telling_text : Telling → List TapeEntry → ℕ → Board → List ℕ
-telling_text (Samples per) entries limit b = sampled_bytes entries limit per b
-telling_text Frames entries limit b = framed_text entries limit b
-telling_text Profile entries limit b = profiled_text entries limit b
+abbrev pub report_text : RunReport → List TapeEntry → ℕ → Board → List ℕ
+report_text (Samples per) entries limit b = sampled_bytes entries limit per b
+report_text Frames entries limit b = framed_text entries limit b
+report_text Profile entries limit b = profiled_text entries limit b
 
 -- the boards at some clocks of a run, each lowered to the limit
 abbrev pub sought_text : List ℕ → List TapeEntry → ℕ → Board → List ℕ

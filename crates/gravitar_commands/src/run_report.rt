@@ -2,26 +2,26 @@
 ghost use Rattle.std.specs.Prelude.{◌≡◌, ◌≤◌};
 ghost use Rattle.board_base.specs.declared.board.TheConstants.{CLOCK_LIMIT};
 ghost use Rattle.run_windows.specs.SyncedMachine.{value_of};
-ghost use Rattle.gravitar_commands.specs.Stages.{StageFaults, Told, written_as};
-ghost use Rattle.gravitar_commands.specs.Telling.{CanTell, telling_text};
+ghost use Rattle.gravitar_commands.specs.Stages.{StageFaults, Wrote, written_as};
+ghost use Rattle.gravitar_commands.specs.RunReport.{CanReport, report_text};
 
 use crate::failure::{Ending, Failure};
 use crate::parts::Parts;
 use crate::reporting::Report;
-use run_windows::SyncedMachine;
 use catchup_engine::{Devices, Engine, Machine};
 use command_line::PER_LIMIT;
 use cycle_profile::Profile;
 use outside_io::{Sink, SinkFault};
 use run_samples::run_sampled;
+use run_trace::{run_framed, run_profiled};
+use run_windows::SyncedMachine;
 use sound_pcm::MAX_PER;
 use std::alloc::Global;
 use tape_ports::Tape;
-use run_trace::{run_framed, run_profiled};
 
 /// What is reported of a run.
 #[derive(Clone, Copy, Debug, PartialEq, Eq)]
-pub enum Telling {
+pub enum RunReport {
     /// Its samples, each of so many clocks.
     Samples(u32),
     /// Its strokes, by the writes that start the generator.
@@ -46,33 +46,33 @@ pub(crate) fn written(took: Result<(), SinkFault>) -> Result<Ending, Failure>
 }
 
 /// Runs the board of a machine, and reports it. A profile takes its memory first.
-fn tell<M: Machine, O: Sink>(
+fn write_report<M: Machine, O: Sink>(
     alloc: Global,
     synced: &mut SyncedMachine<'_, M>,
     tape: &Tape,
     limit: u64,
-    telling: Telling,
+    report: RunReport,
     out: &mut O,
 ) -> Result<Ending, Failure>
     requires limit { limit ≤ CLOCK_LIMIT }
-    requires told { CanTell telling }
-    ensures taken { Told (O.taken out.old) (O.taken out.new) (telling_text telling tape.now.entries limit (value_of synced.old).board) result }
+    requires in_range { CanReport report }
+    ensures taken { Wrote (O.taken out.old) (O.taken out.new) (report_text report tape.now.entries limit (value_of synced.old).board) result }
     ensures faults { StageFaults (O.faults out.old) (O.faults out.new) result }
 {
-    match telling {
-        Telling::Samples(per) => written(run_sampled(synced, tape, limit, per, out)),
-        Telling::Frames => written(run_framed(synced, tape, limit, out)),
-        Telling::Profile => {
+    match report {
+        RunReport::Samples(per) => written(run_sampled(synced, tape, limit, per, out)),
+        RunReport::Frames => written(run_framed(synced, tape, limit, out)),
+        RunReport::Profile => {
             let profile = Profile::new(alloc, synced.machine().cpu().pc)?;
             written(run_profiled(synced, tape, limit, profile, out))
         }
     }
 }
 
-impl Report for Telling {
-    ghost text = { telling_text };
+impl Report for RunReport {
+    ghost text = { report_text };
 
-    ghost can_tell = { CanTell };
+    ghost can_report = { CanReport };
 
     fn report<O: Sink>(
         &self,
@@ -84,6 +84,6 @@ impl Report for Telling {
     ) -> Result<Ending, Failure> {
         let mut engine = Engine::new(alloc, &parts.image, &parts.board, Devices::fast(), wired)?;
         let mut synced = SyncedMachine::of(&mut engine);
-        tell(alloc, &mut synced, &parts.tape, limit, *self, out)
+        write_report(alloc, &mut synced, &parts.tape, limit, *self, out)
     }
 }
