@@ -11,13 +11,13 @@ ghost use Rattle.board_debug.specs.OneRun.{HasRoom, IsNextOf, IsReached, lesser}
 use avg_device::VectorUnit;
 use board_base::{BoardState, CLOCK_LIMIT};
 use board_text::write_board;
-use run_windows::SyncedMachine;
 use catchup_engine::{Engine, Machine};
 use earom_cells::CellUnit;
 use irq_watchdog::DividerUnit;
 use keyframes::{Keyframes, go_to, keep_board};
 use outside_io::{Sink, SinkFault};
 use pokey_chip::SoundUnit;
+use run_windows::SyncedMachine;
 use tape_ports::Tape;
 
 /// The lesser of a clock, where it is above the last one, and of one that was found before.
@@ -91,9 +91,7 @@ fn write_each<M: Machine, O: Sink>(
     for clock in clocks {
         go_to(synced, keys, tape, *clock);
         synced.machine().state(&mut state);
-        let Ok(()) = write_board(&state, out) else {
-            return Err(SinkFault);
-        };
+        write_board(&state, out)?;
     }
     Ok(())
 }

@@ -33,9 +33,7 @@ pub fn write_mem<M: Machine, O: Sink>(machine: &M, span: Span, out: &mut O) -> R
     for k in 0..span.count.div_ceil(16) {
         let address = span.from.wrapping_add(16 * k);
         let bytes = row(machine, address, (span.count - 16 * k).min(16));
-        let Ok(()) = out.write(mem_line(address, &bytes).bytes()) else {
-            return Err(SinkFault);
-        };
+        out.write(mem_line(address, &bytes).bytes())?;
     }
     Ok(())
 }
@@ -62,9 +60,7 @@ pub fn write_dis<M: Machine, O: Sink>(machine: &M, span: Span, out: &mut O) -> R
     let mut address = span.from;
     for _shown in 0..span.count {
         let (line, size) = dis_line(address, &instruction_bytes(machine, address));
-        let Ok(()) = out.write(line.bytes()) else {
-            return Err(SinkFault);
-        };
+        out.write(line.bytes())?;
         address = address.wrapping_add(u16::from(size));
     }
     Ok(())
@@ -99,9 +95,7 @@ pub fn write_vdis<M: Machine, O: Sink>(
     for _shown in 0..span.count {
         let second = word_at(machine, further_on(address, 2));
         let (line, size) = vdis_line(address, word_at(machine, address), second);
-        let Ok(()) = out.write(line.bytes()) else {
-            return Err(SinkFault);
-        };
+        out.write(line.bytes())?;
         address = further_on(address, size);
     }
     Ok(())

@@ -6,9 +6,9 @@ ghost use Rattle.board_debug.specs.Looks.{IsBefore, break_look, jam_look, look_a
 
 use crate::found::StopReason;
 use arrayvec::ArrayVec;
-use run_windows::SyncedMachine;
 use catchup_engine::Machine;
 use debug_script::{Breakpoints, STOPS};
+use run_windows::SyncedMachine;
 
 /// Whether the board is jammed.
 fn look_at_jam<M: Machine>(synced: &SyncedMachine<'_, M>) -> Option<StopReason>

@@ -14,10 +14,10 @@ use crate::stop_line::write_stop;
 use crate::turns::{go, step, until};
 use board_base::BoardState;
 use board_text::{write_devices, write_registers};
-use run_windows::SyncedMachine;
 use catchup_engine::Machine;
 use debug_script::{Breakpoints, Command};
 use outside_io::{Sink, SinkFault};
+use run_windows::SyncedMachine;
 use tape_ports::Tape;
 
 /// Makes the turns of a command that makes some.
@@ -101,9 +101,7 @@ pub fn run_commands<M: Machine, O: Sink>(
 {
     let mut stops = Breakpoints::new();
     for command in commands {
-        let Ok(()) = perform(synced, tape, &stops, *command, out) else {
-            return Err(SinkFault);
-        };
+        perform(synced, tape, &stops, *command, out)?;
         stops.note(*command);
     }
     Ok(())

@@ -55,11 +55,7 @@ pub fn write_board<O: Sink>(state: &BoardState, out: &mut O) -> Result<(), SinkF
     ensures taken { Takes (O.taken out.old) (O.taken out.new) (board_text state.now) result }
     ensures cause { HasCause (O.faults out.old) (O.faults out.new) result }
 {
-    let Ok(()) = write_registers(state, out) else {
-        return Err(SinkFault);
-    };
-    let Ok(()) = write_place(&state.cpu, out) else {
-        return Err(SinkFault);
-    };
+    write_registers(state, out)?;
+    write_place(&state.cpu, out)?;
     write_devices(state, out)
 }

@@ -11,9 +11,7 @@ pub(crate) fn write_lines<O: Sink>(lines: &[Line], out: &mut O) -> Result<(), Si
     ensures cause { HasCause (O.faults out.old) (O.faults out.new) result }
 {
     for line in lines {
-        let Ok(()) = out.write(line.bytes()) else {
-            return Err(SinkFault);
-        };
+        out.write(line.bytes())?;
     }
     Ok(())
 }

@@ -3,7 +3,6 @@ use Rattle.std.proofs.Common.{◌≡◌, ℕ, ◌+◌, ◌*◌, ◌≤◌, ◌<�
 use Rattle.std.proofs.Math.Seq.{drop-length}
 use Rattle.std.proofs.lemmas.List.{drop_more}
 use Rattle.tape_ports.specs.declared.entry.TapeEntry.{TapeEntry}
-use Rattle.outside_io.specs.Shelf.{Kept}
 use Rattle.catchup_engine.specs.EngineValue.{EngineValue, counted_on}
 use Rattle.lockstep_board.specs.Order.{cleared, Recorded, behind}
 use Rattle.lockstep_board.specs.Lockstep.{Board}
@@ -14,7 +13,8 @@ use Rattle.lockstep_board.proofs.Ends.{boundary-clock-steps}
 use Rattle.lockstep_board.proofs.Places.{stepped-placed}
 use Rattle.lockstep_board.proofs.Runs.{stepped-add}
 use Rattle.run_windows.specs.declared.until.Until.TheVariants.{Clock, Boundary}
-use Rattle.outside_io.specs.Events.{Event, Did, DidFirst, sending, storing}
+use Rattle.outside_io.specs.Events.{Event, sending, storing}
+use Rattle.outside_io.specs.Seen.{HostDid, HostDidFirst, NoFault, SameLoans, Seen}
 use Rattle.run_windows.specs.Synced.{IsSynced}
 use Rattle.run_windows.specs.Windows.{steps_to, window_price}
 use Rattle.run_log.specs.Slice.{slice_text, text_of_steps}
@@ -63,8 +63,7 @@ module _ (entries : List TapeEntry) where
       rw (text, ending, saved, cells) refl
 
 -- a run in slices under way, so many cuts after its start
-pub record CutUpTo (entries : List TapeEntry) (limit : ℕ) (wanted : Wanted) (cuts : List ℕ) (start now : EngineValue) (i : ℕ)
-    (out0 out1 : Option (List ℕ)) (stores0 stores1 : Option (List Kept)) (shelf0 shelf1 sink0 sink1 absences0 absences1 : ℕ) : Type 0 where
+pub record CutUpTo (entries : List TapeEntry) (limit : ℕ) (wanted : Wanted) (cuts : List ℕ) (start now : EngineValue) (i : ℕ) (before after : Seen) : Type 0 where
   pub placed : IsPlaced start.board
   pub done : List Event
   pub steps : ℕ
@@ -73,19 +72,19 @@ pub record CutUpTo (entries : List TapeEntry) (limit : ℕ) (wanted : Wanted) (c
       ≡ done ++ run_events entries limit wanted calls (drop i cuts) (stepped entries steps start.board)
   pub last : last_board entries limit cuts start.board ≡ last_board entries limit (drop i cuts) (stepped entries steps start.board)
   pub whole : boundary_steps entries limit start.board ≡ steps + boundary_steps entries limit (stepped entries steps start.board)
-  pub did : Did done out0 out1 stores0 stores1
-  pub shelf : shelf1 ≡ shelf0
-  pub sink : sink1 ≡ sink0
-  pub absences : absences0 ≤ absences1
+  pub did : HostDid done before after
+  pub loans : SameLoans before after
+  pub shelf : after.shelf_faults ≡ before.shelf_faults
+  pub out : after.out_faults ≡ before.out_faults
+  pub absences : before.absences ≤ after.absences
   pub fresh : IsSynced now
   pub most : now.calls ≤ start.calls + window_price entries steps start.board + 10 * i
   pub least : counted_on start.calls (5 * i) ≤ now.calls
 
-pub cuts-start : (entries : List TapeEntry) (limit : ℕ) (wanted : Wanted) (cuts : List ℕ) (now : EngineValue) (out : Option (List ℕ))
-    (stores : Option (List Kept)) (shelf sink absences : ℕ) → IsSynced now
-    → CutUpTo entries limit wanted cuts now now 0 out out stores stores shelf shelf sink sink absences absences
+pub cuts-start : (entries : List TapeEntry) (limit : ℕ) (wanted : Wanted) (cuts : List ℕ) (now : EngineValue) (host : Seen)
+    → IsSynced now → CutUpTo entries limit wanted cuts now now 0 host host
 unfolding stepped
-cuts-start entries limit wanted cuts now out stores shelf sink absences fresh = record {
+cuts-start entries limit wanted cuts now host fresh = record {
   placed = fresh.placed;
   done = [];
   steps = 0;
@@ -93,9 +92,10 @@ cuts-start entries limit wanted cuts now out stores shelf sink absences fresh = 
   events = λ calls. refl;
   last = refl;
   whole = omega arith;
-  did = did-none out stores;
+  did = did-none host.taken host.stores;
+  loans = record { shelf = refl; out = refl };
   shelf = refl;
-  sink = refl;
+  out = refl;
   absences = omega arith;
   fresh = fresh;
   most = omega arith;
@@ -116,9 +116,8 @@ fits-least entries limit cuts b before =
     let budget = budget-is entries limit (cuts + 1) b in
     record { least = omega arith; most = omega arith }
 
-module _ (entries : List TapeEntry) (limit : ℕ) (wanted : Wanted) (cuts : List ℕ) (start now : EngineValue) (i : ℕ) (out0 out1 : Option (List ℕ))
-    (stores0 stores1 : Option (List Kept)) (shelf0 shelf1 sink0 sink1 absences0 absences1 : ℕ)
-    (u : CutUpTo entries limit wanted cuts start now i out0 out1 stores0 stores1 shelf0 shelf1 sink0 sink1 absences0 absences1) where
+module _ (entries : List TapeEntry) (limit : ℕ) (wanted : Wanted) (cuts : List ℕ) (start now : EngineValue) (i : ℕ) (before after : Seen)
+    (u : CutUpTo entries limit wanted cuts start now i before after) where
   abbrev reached : Board
   reached = stepped entries u.steps start.board
 
@@ -158,16 +157,16 @@ module _ (entries : List TapeEntry) (limit : ℕ) (wanted : Wanted) (cuts : List
         ∙ ap (λ c. last_board entries limit (drop (i + 1) cuts) (to_clock entries c reached)) (sym is)
 
     -- one cut more
-    pub cuts-on : (next : EngineValue) (out2 : Option (List ℕ)) (stores2 : Option (List Kept)) (shelf2 sink2 absences2 : ℕ)
-        → Did (cut_events entries lowered wanted.save now.board) out1 out2 stores1 stores2 → shelf2 ≡ shelf1 → sink2 ≡ sink1 → absences1 ≤ absences2
+    pub cuts-on : (next : EngineValue) (later : Seen) → HostDid (cut_events entries lowered wanted.save now.board) after later
+        → SameLoans after later → NoFault after later → after.absences ≤ later.absences
         → next.board ≡ cleared (to_clock entries lowered now.board) → IsSynced next
         → next.calls ≤ now.calls + window_price entries (clock_steps entries lowered now.board) now.board + 10 → counted_on now.calls 5 ≤ next.calls
-        → CutUpTo entries limit wanted cuts start next (i + 1) out0 out2 stores0 stores2 shelf0 shelf2 sink0 sink2 absences0 absences2
-    cuts-on next out2 stores2 shelf2 sink2 absences2 did shelf sink absences board fresh most least =
+        → CutUpTo entries limit wanted cuts start next (i + 1) before later
+    cuts-on next later did loans faults absences board fresh most least =
         let events = cut_events entries lowered wanted.save now.board in
         let more = clock_steps entries lowered reached in
-        let later = to_clock entries lowered reached in
-        let before = u.whole in
+        let there_is = to_clock entries lowered reached in
+        let whole = u.whole in
         let most_cut : lowered ≤ limit = rw is (omega arith) in
         let split = boundary-clock-steps entries lowered limit reached most_cut (stepped-placed entries u.steps start.board u.placed) in
         let price = price-add entries u.steps more start.board in
@@ -186,13 +185,14 @@ module _ (entries : List TapeEntry) (limit : ℕ) (wanted : Wanted) (cuts : List
               ∙ ap cleared (sym (there lowered));
           events = λ calls.
               events-left calls
-              ∙ sym (append_assoc u.done events (run_events entries limit wanted calls (drop (i + 1) cuts) later))
+              ∙ sym (append_assoc u.done events (run_events entries limit wanted calls (drop (i + 1) cuts) there_is))
               ∙ ap (λ b. (u.done ++ events) ++ run_events entries limit wanted calls (drop (i + 1) cuts) b) (sym (there lowered));
           last = last-left ∙ ap (last_board entries limit (drop (i + 1) cuts)) (sym (there lowered));
           whole = rw (there lowered) (omega arith);
-          did = did-then u.done events out0 out1 out2 stores0 stores1 stores2 u.did did;
-          shelf = shelf ∙ u.shelf;
-          sink = sink ∙ u.sink;
+          did = did-then u.done events _ _ _ _ _ _ u.did did;
+          loans = record { shelf = loans.shelf ∙ u.loans.shelf; out = loans.out ∙ u.loans.out };
+          shelf = faults.0 ∙ u.shelf;
+          out = faults.1 ∙ u.out;
           absences = omega arith;
           fresh = fresh;
           most = omega arith;
@@ -200,18 +200,16 @@ module _ (entries : List TapeEntry) (limit : ℕ) (wanted : Wanted) (cuts : List
         }
 
     -- a cut at which something failed
-    pub cuts-stopped : (out2 : Option (List ℕ)) (stores2 : Option (List Kept))
-        → DidFirst (cut_events entries lowered wanted.save now.board) out1 out2 stores1 stores2
-        → StopsIn entries limit wanted start.calls cuts start.board out0 out2 stores0 stores2
-    cuts-stopped out2 stores2 part =
+    pub cuts-stopped : (later : Seen) → HostDidFirst (cut_events entries lowered wanted.save now.board) after later
+        → StopsIn entries limit wanted start.calls cuts start.board before.taken later.taken before.stores later.stores
+    cuts-stopped later part =
         let calls = counted_on start.calls (5 * length cuts) in
         record {
           calls = calls;
           fits = fits-least entries limit (length cuts) start.board start.calls;
           did =
               rw (events-left calls)
-              (did-then-first u.done _ out0 out1 out2 stores0 stores1 stores2 u.did
-              (did-first-of (cut_events entries lowered wanted.save now.board) _ out1 out2 stores1 stores2 part));
+              (did-then-first u.done _ _ _ _ _ _ _ u.did (did-first-of (cut_events entries lowered wanted.save now.board) _ _ _ _ _ part));
         }
 
   -- all cuts are done
@@ -227,11 +225,10 @@ module _ (entries : List TapeEntry) (limit : ℕ) (wanted : Wanted) (cuts : List
         ∙ ap (λ events. u.done ++ events)
         (sym (same-of (last_events entries limit wanted calls) (last_events-cleared entries limit wanted calls) now.board reached u.board))
 
-    pub cuts-ended : (calls : ℕ) (out2 : Option (List ℕ)) (stores2 : Option (List Kept))
-        → Did (last_events entries limit wanted calls now.board) out1 out2 stores1 stores2
-        → Did (run_events entries limit wanted calls cuts start.board) out0 out2 stores0 stores2
-    cuts-ended calls out2 stores2 did =
-        rw (events-last calls) (did-then u.done (last_events entries limit wanted calls now.board) out0 out1 out2 stores0 stores1 stores2 u.did did)
+    pub cuts-ended : (calls : ℕ) (later : Seen) → HostDid (last_events entries limit wanted calls now.board) after later
+        → HostDid (run_events entries limit wanted calls cuts start.board) before later
+    cuts-ended calls later did =
+        rw (events-last calls) (did-then u.done (last_events entries limit wanted calls now.board) _ _ _ _ _ _ u.did did)
 
     pub cuts-board : (next : Board) → next ≡ cleared (to_boundary entries limit now.board) → next ≡ cleared (last_board entries limit cuts start.board)
     unfolding last_board
@@ -256,14 +253,14 @@ module _ (entries : List TapeEntry) (limit : ℕ) (wanted : Wanted) (cuts : List
         let least0 = u.least in
         record { least = rw (sym all) (omega arith); most = omega arith }
 
-    pub cuts-cut : (next : EngineValue) (out2 : Option (List ℕ)) (stores2 : Option (List Kept))
+    pub cuts-cut : (next : EngineValue) (later : Seen)
         → next.calls ≤ now.calls + window_price entries (boundary_steps entries limit now.board) now.board + 5 → now.calls ≤ next.calls
-        → DidFirst (last_events entries limit wanted next.calls now.board) out1 out2 stores1 stores2
-        → StopsIn entries limit wanted start.calls cuts start.board out0 out2 stores0 stores2
-    cuts-cut next out2 stores2 most least part = record {
+        → HostDidFirst (last_events entries limit wanted next.calls now.board) after later
+        → StopsIn entries limit wanted start.calls cuts start.board before.taken later.taken before.stores later.stores
+    cuts-cut next later most least part = record {
       calls = next.calls;
       fits = cuts-calls next most least;
       did =
           rw (events-last next.calls)
-          (did-then-first u.done (last_events entries limit wanted next.calls now.board) out0 out1 out2 stores0 stores1 stores2 u.did part);
+          (did-then-first u.done (last_events entries limit wanted next.calls now.board) _ _ _ _ _ _ u.did part);
     }

@@ -8,10 +8,10 @@ ghost use Rattle.run_log.specs.Slice.{AreTrails, slice_text, text_of_records};
 ghost use Rattle.run_log.specs.LogParts.{log-taken_in_parts};
 
 use board_base::{CLOCK_LIMIT, Trails};
-use run_windows::{RecordObserver, SyncedMachine, Until};
 use catchup_engine::Machine;
 use log_text::write_merged;
 use outside_io::{Sink, SinkFault};
+use run_windows::{RecordObserver, SyncedMachine, Until};
 use tape_ports::Tape;
 
 /// Writes the log: a line for each record, by clock and part.

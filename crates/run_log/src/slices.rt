@@ -7,23 +7,25 @@ ghost use Rattle.lockstep_board.specs.Order.{HasNoRecords, cleared};
 ghost use Rattle.lockstep_board.specs.Run.{boundary_steps, clock_steps, to_clock, to_boundary};
 ghost use Rattle.run_windows.specs.SyncedMachine.{loan_of, value_of};
 ghost use Rattle.outside_io.specs.Events.{Did, DidFirst};
+ghost use Rattle.outside_io.specs.Hosts.{seen};
+ghost use Rattle.outside_io.specs.Seen.{HostDid, HostDidFirst};
 ghost use Rattle.run_log.specs.LastLine.{last_text};
 ghost use Rattle.run_windows.specs.Windows.{window_price};
 ghost use Rattle.run_log.specs.Slices.{FitsCalls, StopsIn, cost_line, cut_events, ending_text, last_board, last_events, run_events, wanted_of};
-ghost use Rattle.run_log.specs.Faults.{SliceFaults};
+ghost use Rattle.run_log.specs.Faults.{KeepsHost, SliceFaults};
 
 use crate::board_bytes::{Saved, load_saved};
 use crate::log_writer::run_slice;
 use crate::outside_fault::OutsideFault;
 use avg_device::VectorUnit;
 use board_base::{BoardState, CLOCK_LIMIT};
-use run_windows::{SyncedMachine, Until};
 use catchup_engine::{Engine, Machine};
 use earom_cells::CellUnit;
 use irq_watchdog::DividerUnit;
 use log_text::{write_cost, write_end, write_jam};
-use outside_io::{Shelf, Sink, SinkFault, store_under};
+use outside_io::{Host, Shelf, Sink, SinkFault, store_under};
 use pokey_chip::SoundUnit;
+use run_windows::{SyncedMachine, Until};
 use tape_ports::Tape;
 
 /// Runs to a cut, writes its lines, stores its board under a name where one is given, and goes on
@@ -34,29 +36,23 @@ fn cut_slice<M: Machine, S: Shelf, O: Sink>(
     cut: u64,
     save: Option<&str>,
     saved: &mut Saved,
-    shelf: &mut S,
-    out: &mut O,
+    host: &mut Host<'_, S, O>,
 ) -> Result<(), OutsideFault>
     requires limit { cut ≤ CLOCK_LIMIT }
     ensures same { loan_of synced.new ≡ loan_of synced.old }
-    ensures done { OnOk result (Did (cut_events tape.now.entries cut (option_map (λ name. name.now) save.entry) (value_of synced.old).board)
-        (O.taken out.old) (O.taken out.new) (S.stores shelf.old) (S.stores shelf.new)) }
-    ensures stopped { OnErr result (DidFirst (cut_events tape.now.entries cut (option_map (λ name. name.now) save.entry) (value_of synced.old).board)
-        (O.taken out.old) (O.taken out.new) (S.stores shelf.old) (S.stores shelf.new)) }
-    ensures faults { SliceFaults (S.faults shelf.old) (S.faults shelf.new) (O.faults out.old) (O.faults out.new) result }
-    ensures absences { S.absences shelf.old ≤ S.absences shelf.new }
+    ensures done { OnOk result (HostDid (cut_events tape.now.entries cut (option_map (λ name. name.now) save.entry) (value_of synced.old).board)
+        (seen host.old) (seen host.new)) }
+    ensures stopped { OnErr result (HostDidFirst (cut_events tape.now.entries cut (option_map (λ name. name.now) save.entry) (value_of synced.old).board)
+        (seen host.old) (seen host.new)) }
+    ensures keeps { KeepsHost (seen host.old) (seen host.new) result }
     ensures board { OnOk result ((value_of synced.new).board ≡ cleared (to_clock tape.now.entries cut (value_of synced.old).board)) }
     ensures most { OnOk result ((value_of synced.new).calls ≤ (value_of synced.old).calls
         + window_price tape.now.entries (clock_steps tape.now.entries cut (value_of synced.old).board) (value_of synced.old).board + 10) }
     ensures least { OnOk result (counted_on (value_of synced.old).calls 5 ≤ (value_of synced.new).calls) }
 {
-    let Ok(()) = run_slice(synced, tape, Until::Clock(cut), out) else {
-        return Err(OutsideFault::Out);
-    };
+    run_slice(synced, tape, Until::Clock(cut), host.out)?;
     saved.save(synced);
-    let Ok(()) = store_under(save, &saved.bytes, shelf) else {
-        return Err(OutsideFault::Shelf);
-    };
+    store_under(save, &saved.bytes, host.shelf)?;
     load_saved(synced, &saved.bytes);
     Ok(())
 }
@@ -98,9 +94,7 @@ fn write_ending<M: Machine, O: Sink>(
     ensures taken { Takes (O.taken out.old) (O.taken out.new) (ending_text cost (value_of synced.now).calls (value_of synced.now).board) result }
     ensures cause { HasCause (O.faults out.old) (O.faults out.new) result }
 {
-    let Ok(()) = write_last(synced, out) else {
-        return Err(SinkFault);
-    };
+    write_last(synced, out)?;
     write_calls(cost, synced.machine().calls(), out)
 }
 
@@ -122,34 +116,24 @@ fn end_slice<M: Machine, S: Shelf, O: Sink>(
     save: Option<&str>,
     earom: Option<&str>,
     cost: bool,
-    shelf: &mut S,
-    out: &mut O,
+    host: &mut Host<'_, S, O>,
 ) -> Result<(), OutsideFault>
     requires limit { limit ≤ CLOCK_LIMIT }
     ensures same { loan_of synced.new ≡ loan_of synced.old }
-    ensures done { OnOk result (Did (last_events tape.now.entries limit (wanted_of save.entry earom.entry cost) (value_of synced.new).calls (value_of synced.old).board)
-        (O.taken out.old) (O.taken out.new) (S.stores shelf.old) (S.stores shelf.new)) }
-    ensures stopped { OnErr result (DidFirst (last_events tape.now.entries limit (wanted_of save.entry earom.entry cost) (value_of synced.new).calls (value_of synced.old).board)
-        (O.taken out.old) (O.taken out.new) (S.stores shelf.old) (S.stores shelf.new)) }
-    ensures faults { SliceFaults (S.faults shelf.old) (S.faults shelf.new) (O.faults out.old) (O.faults out.new) result }
-    ensures absences { S.absences shelf.old ≤ S.absences shelf.new }
+    ensures done { OnOk result (HostDid (last_events tape.now.entries limit (wanted_of save.entry earom.entry cost) (value_of synced.new).calls (value_of synced.old).board)
+        (seen host.old) (seen host.new)) }
+    ensures stopped { OnErr result (HostDidFirst (last_events tape.now.entries limit (wanted_of save.entry earom.entry cost) (value_of synced.new).calls (value_of synced.old).board)
+        (seen host.old) (seen host.new)) }
+    ensures keeps { KeepsHost (seen host.old) (seen host.new) result }
     ensures board { OnOk result ((value_of synced.new).board ≡ cleared (to_boundary tape.now.entries limit (value_of synced.old).board)) }
     ensures calls { (value_of synced.new).calls ≤ (value_of synced.old).calls
         + window_price tape.now.entries (boundary_steps tape.now.entries limit (value_of synced.old).board) (value_of synced.old).board + 5 }
     ensures more { (value_of synced.old).calls ≤ (value_of synced.new).calls }
 {
-    let Ok(()) = run_slice(synced, tape, Until::Boundary(limit), out) else {
-        return Err(OutsideFault::Out);
-    };
-    let Ok(()) = write_ending(synced, cost, out) else {
-        return Err(OutsideFault::Out);
-    };
-    let Ok(()) = store_under(save, &Saved::of(synced).bytes, shelf) else {
-        return Err(OutsideFault::Shelf);
-    };
-    let Ok(()) = store_under(earom, &cells_of(synced), shelf) else {
-        return Err(OutsideFault::Shelf);
-    };
+    run_slice(synced, tape, Until::Boundary(limit), host.out)?;
+    write_ending(synced, cost, host.out)?;
+    store_under(save, &Saved::of(synced).bytes, host.shelf)?;
+    store_under(earom, &cells_of(synced), host.shelf)?;
     Ok(())
 }
 
@@ -162,36 +146,23 @@ fn run_synced<M: Machine, S: Shelf, O: Sink>(
     save: Option<&str>,
     earom: Option<&str>,
     cost: bool,
-    shelf: &mut S,
-    out: &mut O,
+    host: &mut Host<'_, S, O>,
 ) -> Result<(), OutsideFault>
     requires limit { limit ≤ CLOCK_LIMIT }
     ensures same { loan_of synced.new ≡ loan_of synced.old }
-    ensures done { OnOk result (Did (run_events tape.now.entries limit (wanted_of save.entry earom.entry cost) (value_of synced.new).calls cuts.now (value_of synced.old).board)
-        (O.taken out.old) (O.taken out.new) (S.stores shelf.old) (S.stores shelf.new)) }
+    ensures done { OnOk result (HostDid (run_events tape.now.entries limit (wanted_of save.entry earom.entry cost) (value_of synced.new).calls cuts.now (value_of synced.old).board)
+        (seen host.old) (seen host.new)) }
     ensures stopped { OnErr result (StopsIn tape.now.entries limit (wanted_of save.entry earom.entry cost) (value_of synced.old).calls cuts.now (value_of synced.old).board
-        (O.taken out.old) (O.taken out.new) (S.stores shelf.old) (S.stores shelf.new)) }
-    ensures faults { SliceFaults (S.faults shelf.old) (S.faults shelf.new) (O.faults out.old) (O.faults out.new) result }
-    ensures absences { S.absences shelf.old ≤ S.absences shelf.new }
+        (seen host.old).taken (seen host.new).taken (seen host.old).stores (seen host.new).stores) }
+    ensures keeps { KeepsHost (seen host.old) (seen host.new) result }
     ensures board { OnOk result ((value_of synced.new).board ≡ cleared (last_board tape.now.entries limit cuts.now (value_of synced.old).board)) }
     ensures calls { OnOk result (FitsCalls tape.now.entries limit (length cuts.now) (value_of synced.old).board (value_of synced.old).calls (value_of synced.new).calls) }
 {
     let mut saved = Saved::of(synced);
     for cut in cuts {
-        match cut_slice(
-            synced,
-            tape,
-            (*cut).min(limit),
-            save,
-            &mut saved,
-            shelf,
-            out,
-        ) {
-            Ok(()) => {}
-            Err(fault) => return Err(fault),
-        }
+        cut_slice(synced, tape, (*cut).min(limit), save, &mut saved, host)?;
     }
-    end_slice(synced, tape, limit, save, earom, cost, shelf, out)
+    end_slice(synced, tape, limit, save, earom, cost, host)
 }
 
 /// Runs the board over a tape, in slices, to the first boundary that isn't before the limit or to an
@@ -227,15 +198,7 @@ pub fn run_slices<V: VectorUnit, P: SoundUnit, C: CellUnit, D: DividerUnit, S: S
     ensures settled { OnOk result (engine.new.lagging ≡ 0) }
     ensures calls { OnOk result (FitsCalls tape.now.entries limit (length cuts.now) engine.old.board engine.old.calls engine.new.calls) }
 {
-    run_synced(
-        &mut SyncedMachine::of(engine),
-        tape,
-        cuts,
-        limit,
-        save,
-        earom,
-        cost,
-        shelf,
-        out,
-    )
+    let mut host = Host::of(shelf, out);
+    let mut synced = SyncedMachine::of(engine);
+    run_synced(&mut synced, tape, cuts, limit, save, earom, cost, &mut host)
 }

@@ -5,8 +5,8 @@ ghost use Rattle.run_stretch.specs.Stretches.{EndsAt};
 
 use crate::told::Told;
 use board_base::BoardState;
-use run_windows::SyncedMachine;
 use catchup_engine::Machine;
+use run_windows::SyncedMachine;
 use save_state::STATE_LEN;
 
 /// What a stretch came to.

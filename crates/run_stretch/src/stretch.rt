@@ -12,11 +12,11 @@ use crate::fault::StretchFault;
 use crate::parts::{Parts, Start, read_parts};
 use crate::watching::watch_within;
 use board_base::{BoardState, CLOCK_LIMIT};
-use run_windows::{SyncedMachine, Until};
 use catchup_engine::{Devices, Engine};
-use run_samples::Sampler;
-use save_state::STATE_LEN;
 use run_log::{LogWriter, RecordWriter};
+use run_samples::Sampler;
+use run_windows::{SyncedMachine, Until};
+use save_state::STATE_LEN;
 use std::alloc::Global;
 
 /// The board at power-on, as bytes of a saved board.
@@ -69,10 +69,7 @@ pub fn advance(
     ensures comes { Comes start.entry.image.now start.entry.board.now start.entry.tape.now (IsAdvanced room start.entry.timers until) result }
     ensures fits { IfOk result (λ s. length s.told.items ≤ s.wanted) }
 {
-    let parts = match read_parts(alloc, start) {
-        Ok(parts) => parts,
-        Err(fault) => return Err(fault),
-    };
+    let parts = read_parts(alloc, start)?;
     advance_parts(alloc, &parts, start.timers, until, room)
 }
 
@@ -120,10 +117,7 @@ pub fn records(
     ensures comes { Comes start.entry.image.now start.entry.board.now start.entry.tape.now (IsRecorded room start.entry.timers until) result }
     ensures fits { IfOk result (λ s. length s.told.items ≤ s.wanted) }
 {
-    let parts = match read_parts(alloc, start) {
-        Ok(parts) => parts,
-        Err(fault) => return Err(fault),
-    };
+    let parts = read_parts(alloc, start)?;
     record_parts(alloc, &parts, start.timers, until, room)
 }
 
@@ -174,9 +168,6 @@ pub fn sample(
     ensures comes { Comes start.entry.image.now start.entry.board.now start.entry.tape.now (IsSampled room start.entry.timers limit per) result }
     ensures fits { IfOk result (λ s. length s.told.items ≤ s.wanted) }
 {
-    let parts = match read_parts(alloc, start) {
-        Ok(parts) => parts,
-        Err(fault) => return Err(fault),
-    };
+    let parts = read_parts(alloc, start)?;
     sample_parts(alloc, &parts, start.timers, limit, per, room)
 }

@@ -8,8 +8,8 @@ ghost use Rattle.run_stretch.specs.Kept.{IsKept};
 use crate::growing::GrowingSink;
 use crate::told::Told;
 use board_base::CLOCK_LIMIT;
-use run_windows::{RecordObserver, SyncedMachine, Until};
 use catchup_engine::{Machine, Stop};
+use run_windows::{RecordObserver, SyncedMachine, Until};
 use std::alloc::{AllocError, Global};
 use tape_ports::Tape;
 

@@ -12,11 +12,11 @@ ghost use Rattle.run_trace.specs.FramingLaws.{framed_in_parts, framed_still};
 
 use arrayvec::ArrayVec;
 use board_base::{BoardState, CLOCK_LIMIT, Trails};
-use run_windows::{SyncedMachine, TurnObserver};
 use catchup_engine::{Machine, Tracer, TurnNote};
 use frame_list::{Frames, has_starts, start_clocks};
 use outside_io::{Sink, SinkFault};
 use run_log::write_last;
+use run_windows::{SyncedMachine, TurnObserver};
 use std::marker::Model;
 use tape_ports::Tape;
 
@@ -107,9 +107,7 @@ pub fn run_framed<M: Machine, O: Sink>(
     ensures board { OnOk result ((value_of synced.new).board ≡ cleared (to_boundary tape.now.entries limit (value_of synced.old).board)) }
 {
     let mut framer = framer_at(synced);
-    let Ok(_) = synced.follow(tape, limit, &mut framer, out) else {
-        return Err(SinkFault);
-    };
+    synced.follow(tape, limit, &mut framer, out)?;
     framer.frames.end(out)?;
     write_last(synced, out)
 }

@@ -10,11 +10,11 @@ ghost use Rattle.run_trace.specs.Profiling.{after_run, profiler_told};
 ghost use Rattle.run_trace.specs.ProfilingLaws.{profiled_in_parts, profiled_still};
 
 use board_base::{CLOCK_LIMIT, Trails};
-use run_windows::{SyncedMachine, TurnObserver};
 use catchup_engine::{Machine, Tracer, TurnNote};
 use cycle_profile::Profile;
 use outside_io::{Sink, SinkFault};
 use run_log::write_last;
+use run_windows::{SyncedMachine, TurnObserver};
 use tape_ports::Tape;
 
 /// Counts what the turns of a run take.
@@ -75,9 +75,7 @@ pub fn run_profiled<M: Machine, O: Sink>(
     ensures board { OnOk result ((value_of synced.new).board ≡ cleared (to_boundary tape.now.entries limit (value_of synced.old).board)) }
 {
     let mut profiler = Profiler { profile };
-    let Ok(_) = synced.follow(tape, limit, &mut profiler, out) else {
-        return Err(SinkFault);
-    };
+    synced.follow(tape, limit, &mut profiler, out)?;
     profiler.profile.write(out)?;
     write_last(synced, out)
 }

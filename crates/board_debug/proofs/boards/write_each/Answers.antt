@@ -1,4 +1,5 @@
 use Rattle.std.proofs.Common.{refl, ap, ◌∙◌, get_or, arith}
+use Rattle.std.proofs.lemmas.Result.{err_from_is_err_and}
 use Rattle.lockstep_board.specs.Order.{cleared}
 use Rattle.lockstep_board.specs.Lockstep.{Board}
 use Rattle.lockstep_board.specs.Run.{to_clock}
@@ -21,14 +22,15 @@ loop-clock-init g c = record {
   done = c.keep_each.ensures.done;
 }
 
-pub returns-in_default-clause-taken : goal.returns-in_default-clause-taken
-returns-in_default-clause-taken g c =
-    piece-cut _ _ _ _ _ _ _
+pub returns-in_err-write_board-clause-taken : goal.returns-in_err-write_board-clause-taken
+returns-in_err-write_board-clause-taken g c =
+    let p = err_from_is_err_and c.from_residual.result c.from_residual.ensures.1 in
+    rw p.1 (piece-cut _ _ _ _ _ _ _
     (board-on c.args.tape.now.entries c.args.clocks.now c.loop-clock.clock-index 0 (run_start c.args.keys.now.kept (g.M.Machine.value c.args.synced.now.machine.now).board)
     (run_start c.keep_each.new.keys.kept (g.M.Machine.value c.loop-clock.synced.machine.now).board) (g.M.Machine.value c.go_to.new.synced.machine.now).board c.state.new.into c.loop-clock-test.true c.go_to.ensures.board
     c.loop-clock.invariant.same
     (c.state.ensures.board ∙ ap (λ (e : EngineValue). board_of e.board.cpu e.board.peripherals) c.machine.ensures.value))
-    c.in_default.ensures.taken c.loop-clock.invariant.text
+    c.in_err-write_board.ensures.taken c.loop-clock.invariant.text)
 
 pub loop-clock-preserved : goal.loop-clock-preserved
 loop-clock-preserved g c = record {
@@ -37,8 +39,8 @@ loop-clock-preserved g c = record {
       (run_start c.keep_each.new.keys.kept (g.M.Machine.value c.loop-clock.synced.machine.now).board) (g.M.Machine.value c.go_to.new.synced.machine.now).board c.state.new.into c.loop-clock-test.true c.go_to.ensures.board
       c.loop-clock.invariant.same
       (c.state.ensures.board ∙ ap (λ (e : EngineValue). board_of e.board.cpu e.board.peripherals) c.machine.ensures.value))
-      c.in-Ok.ensures.taken c.loop-clock.invariant.text;
-  faults = c.in-Ok.ensures.cause ∙ c.loop-clock.invariant.faults;
+      c.in_ok-write_board.ensures.taken c.loop-clock.invariant.text;
+  faults = c.in_ok-write_board.ensures.cause ∙ c.loop-clock.invariant.faults;
   loan = c.go_to.ensures.loan ∙ c.loop-clock.invariant.loan;
   same = c.go_to.ensures.same ∙ c.loop-clock.invariant.same;
   along = c.go_to.ensures.along;
@@ -63,8 +65,8 @@ returns-clause-taken g c =
     whole-taken _ _ _ _ (board-last c.args.tape.now.entries c.args.clocks.now c.loop-clock.clock-index (run_start c.args.keys.now.kept (g.M.Machine.value c.args.synced.now.machine.now).board)
     c.loop-clock-test.false) c.loop-clock.invariant.text
 
-pub returns-in_default-clause-done : goal.returns-in_default-clause-done
-returns-in_default-clause-done g c = λ room most all.
+pub returns-in_err-write_board-clause-done : goal.returns-in_err-write_board-clause-done
+returns-in_err-write_board-clause-done g c = λ room most all.
     let entries = c.args.tape.now.entries in
     let b = run_start c.args.keys.now.kept (g.M.Machine.value c.args.synced.now.machine.now).board in
     let clock = get_or c.args.clocks.now c.loop-clock.clock-index 0 in

@@ -1,4 +1,5 @@
 use Rattle.std.proofs.Common.{refl, ap, ◌∙◌}
+use Rattle.std.proofs.lemmas.Result.{err_from_is_err_and}
 use Rattle.debug_lines.specs.Bytes.{further}
 use Rattle.debug_lines.specs.Instructions.{dis_text}
 use Rattle.board_debug.specs.Session.{seen_in}
@@ -11,12 +12,13 @@ loop-shown-init g c = record {
   faults = refl;
 }
 
-pub returns-in_default-clause-taken : goal.returns-in_default-clause-taken
-returns-in_default-clause-taken g c =
+pub returns-in_err-write-clause-taken : goal.returns-in_err-write-clause-taken
+returns-in_err-write-clause-taken g c =
     let line = dis-is (seen_in (g.M.Machine.value c.args.machine.now).board) c.loop-shown.address c.loop-shown._shown c.args.span.count c.dis_line-line.result.1
     (further c.loop-shown.address c.dis_line-line.result.1) c.bytes.result.now c.deref.result.now c.loop-shown-test.true
     (c.deref.ensures.0 ∙ c.instruction_bytes.ensures) (c.bytes.ensures ∙ c.dis_line-line.ensures.line) c.dis_line-line.ensures.size refl in
-    piece-cut _ _ _ _ _ _ _ line c.in_default.ensures.taken c.loop-shown.invariant.text
+    let p = err_from_is_err_and c.from_residual.result c.from_residual.ensures.1 in
+    rw p.1 (piece-cut _ _ _ _ _ _ _ line c.in_err-write.ensures.taken c.loop-shown.invariant.text)
 
 pub loop-shown-preserved : goal.loop-shown-preserved
 loop-shown-preserved g c =
@@ -25,8 +27,8 @@ loop-shown-preserved g c =
     (c.deref.ensures.0 ∙ c.instruction_bytes.ensures) (c.bytes.ensures ∙ c.dis_line-line.ensures.line) c.dis_line-line.ensures.size
     (ap (further c.loop-shown.address) c.from-address.ensures) in
     record {
-      text = piece-taken _ _ _ _ _ _ _ line c.in-Ok.ensures.taken c.loop-shown.invariant.text;
-      faults = c.in-Ok.ensures.cause ∙ c.loop-shown.invariant.faults;
+      text = piece-taken _ _ _ _ _ _ _ line c.in_ok-write.ensures.taken c.loop-shown.invariant.text;
+      faults = c.in_ok-write.ensures.cause ∙ c.loop-shown.invariant.faults;
     }
 
 pub returns-clause-taken : goal.returns-clause-taken

@@ -1,4 +1,5 @@
 use Rattle.std.proofs.Common.{◌-◌, ◌+◌, refl, ap, ◌∙◌}
+use Rattle.std.proofs.lemmas.Result.{err_from_is_err_and}
 use Rattle.debug_lines.specs.Statements.{vdis_text, vg_further, word_seen}
 use Rattle.board_debug.specs.Session.{seen_in}
 use Rattle.board_debug.proofs.ListingLaws.{none-taken, not-less, one-less, piece-cut, piece-taken, vdis-is, vdis-last, whole-taken}
@@ -10,17 +11,18 @@ loop-shown-init g c = record {
   faults = refl;
 }
 
-pub returns-in_default-clause-taken : goal.returns-in_default-clause-taken
+pub returns-in_err-write-clause-taken : goal.returns-in_err-write-clause-taken
 unfolding vdis_text
-returns-in_default-clause-taken g c =
+returns-in_err-write-clause-taken g c =
     let seen = seen_in (g.M.Machine.value c.args.machine.now).board in
     let address = c.loop-shown.address in
     let left = c.args.span.count - (c.loop-shown._shown + 1) in
     let line = vdis-is seen address left c.word_at.result c.word_at-second.result c.vdis_line-line.result.1 _
     (vg_further address c.vdis_line-line.result.1) c.bytes.result.now c.word_at.ensures (c.word_at-second.ensures ∙ ap (word_seen seen) c.further_on.ensures)
     (c.bytes.ensures ∙ c.vdis_line-line.ensures.line) (rw c.word_at.ensures at c.vdis_line-line.ensures.size) refl in
-    piece-cut _ _ _ _ _ _ _ (ap (vdis_text seen address) (one-less c.loop-shown._shown c.args.span.count c.loop-shown-test.true) ∙ line)
-    c.in_default.ensures.taken c.loop-shown.invariant.text
+    let p = err_from_is_err_and c.from_residual.result c.from_residual.ensures.1 in
+    rw p.1 (piece-cut _ _ _ _ _ _ _ (ap (vdis_text seen address) (one-less c.loop-shown._shown c.args.span.count c.loop-shown-test.true) ∙ line)
+    c.in_err-write.ensures.taken c.loop-shown.invariant.text)
 
 pub loop-shown-preserved : goal.loop-shown-preserved
 unfolding vdis_text
@@ -33,8 +35,8 @@ loop-shown-preserved g c =
     (c.bytes.ensures ∙ c.vdis_line-line.ensures.line) (rw c.word_at.ensures at c.vdis_line-line.ensures.size) c.further_on-address.ensures in
     record {
       text = piece-taken _ _ _ _ _ _ _ (ap (vdis_text seen address) (one-less c.loop-shown._shown c.args.span.count c.loop-shown-test.true) ∙ line)
-          c.in-Ok.ensures.taken c.loop-shown.invariant.text;
-      faults = c.in-Ok.ensures.cause ∙ c.loop-shown.invariant.faults;
+          c.in_ok-write.ensures.taken c.loop-shown.invariant.text;
+      faults = c.in_ok-write.ensures.cause ∙ c.loop-shown.invariant.faults;
     }
 
 pub returns-clause-taken : goal.returns-clause-taken

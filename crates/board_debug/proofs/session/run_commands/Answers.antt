@@ -1,4 +1,5 @@
 use Rattle.std.proofs.Common.{◌+◌, get_or, drop, refl, sym, ap, subst, ◌∙◌}
+use Rattle.std.proofs.lemmas.Result.{err_from_is_err_and}
 use Rattle.debug_script.specs.declared.command.Command.TheVariants.{Break}
 use Rattle.debug_script.specs.Breakpoints.{Fit, StopsValue}
 use Rattle.board_debug.specs.Session.{session_board, session_text}
@@ -15,13 +16,14 @@ loop-command-init g c = record {
   loan = refl;
 }
 
-pub returns-in_default-clause-taken : goal.returns-in_default-clause-taken
-returns-in_default-clause-taken g c =
+pub returns-in_err-perform-clause-taken : goal.returns-in_err-perform-clause-taken
+returns-in_err-perform-clause-taken g c =
     let command = get_or c.args.commands.now c.loop-command.command-index (Break 0) in
-    piece-cut _ _ _ _ _ _ _
+    let p = err_from_is_err_and c.from_residual.result c.from_residual.ensures.1 in
+    rw p.1 (piece-cut _ _ _ _ _ _ _
     (text-now c.args.tape.now c.loop-command.stops c.args.commands.now c.loop-command.command-index command (Break 0) (g.M.Machine.value c.loop-command.synced.machine.now).board
     c.loop-command-test.true refl)
-    c.in_default.ensures.taken c.loop-command.invariant.text
+    c.in_err-perform.ensures.taken c.loop-command.invariant.text)
 
 pub loop-command-preserved : goal.loop-command-preserved
 loop-command-preserved g c =
@@ -29,15 +31,15 @@ loop-command-preserved g c =
     record {
       text = piece-taken _ _ _ _ _ _ _
           (text-on c.args.tape.now c.loop-command.stops c.note.new.self c.args.commands.now c.loop-command.command-index command (Break 0) (g.M.Machine.value c.loop-command.synced.machine.now).board
-          (g.M.Machine.value c.perform.new.synced.machine.now).board c.loop-command-test.true refl c.note.ensures c.in-Ok.ensures.board)
-          c.in-Ok.ensures.taken c.loop-command.invariant.text;
+          (g.M.Machine.value c.perform.new.synced.machine.now).board c.loop-command-test.true refl c.note.ensures c.in_ok-perform.ensures.board)
+          c.in_ok-perform.ensures.taken c.loop-command.invariant.text;
       board = c.loop-command.invariant.board
           ∙ board-on c.args.tape.now c.loop-command.stops c.note.new.self c.args.commands.now c.loop-command.command-index command (Break 0) (g.M.Machine.value c.loop-command.synced.machine.now).board
-          (g.M.Machine.value c.perform.new.synced.machine.now).board c.loop-command-test.true refl c.note.ensures c.in-Ok.ensures.board;
-      faults = c.in-Ok.ensures.cause ∙ c.loop-command.invariant.faults;
+          (g.M.Machine.value c.perform.new.synced.machine.now).board c.loop-command-test.true refl c.note.ensures c.in_ok-perform.ensures.board;
+      faults = c.in_ok-perform.ensures.cause ∙ c.loop-command.invariant.faults;
       fit = subst (λ (s : StopsValue). Fit s (drop (c.loop-command.command-index + 1) c.args.commands.now)) (sym c.note.ensures)
           (fit-now c.loop-command.stops c.args.commands.now c.loop-command.command-index command (Break 0) c.loop-command-test.true refl c.loop-command.invariant.fit).1;
-      loan = c.in-Ok.ensures.same ∙ c.loop-command.invariant.loan;
+      loan = c.in_ok-perform.ensures.same ∙ c.loop-command.invariant.loan;
     }
 
 pub returns-clause-taken : goal.returns-clause-taken

@@ -1,4 +1,5 @@
 use Rattle.std.proofs.Common.{refl, ◌∙◌}
+use Rattle.std.proofs.lemmas.Result.{err_from_is_err_and}
 use Rattle.board_text.proofs.TextLaws.{line-cut, line-taken, lines-taken, none-taken}
 use Rattle.board_text.proofs.write_lines.write_lines.Goals as goal
 
@@ -8,14 +9,15 @@ loop-line-init g c = record { taken = none-taken c.args.lines.now _; faults = re
 pub loop-line-preserved : goal.loop-line-preserved
 loop-line-preserved g c = record {
   taken = line-taken c.args.lines.now c.loop-line.line-index _ c.line-item.result c.bytes.result.now _ _ _ c.loop-line-test.true c.line-item.is c.bytes.ensures
-      c.loop-line.invariant.taken c.in-Ok.ensures.taken;
-  faults = c.in-Ok.ensures.cause ∙ c.loop-line.invariant.faults;
+      c.loop-line.invariant.taken c.in_ok-write.ensures.taken;
+  faults = c.in_ok-write.ensures.cause ∙ c.loop-line.invariant.faults;
 }
 
-pub returns-in_default-clause-taken : goal.returns-in_default-clause-taken
-returns-in_default-clause-taken g c =
-    line-cut c.args.lines.now c.loop-line.line-index _ c.line-item.result c.bytes.result.now _ _ _ c.loop-line-test.true c.line-item.is c.bytes.ensures
-    c.loop-line.invariant.taken c.in_default.ensures.taken
+pub returns-in_err-write-clause-taken : goal.returns-in_err-write-clause-taken
+returns-in_err-write-clause-taken g c =
+    let p = err_from_is_err_and c.from_residual.result c.from_residual.ensures.1 in
+    rw p.1 (line-cut c.args.lines.now c.loop-line.line-index _ c.line-item.result c.bytes.result.now _ _ _ c.loop-line-test.true c.line-item.is c.bytes.ensures
+    c.loop-line.invariant.taken c.in_err-write.ensures.taken)
 
 pub returns-clause-taken : goal.returns-clause-taken
 returns-clause-taken g c =

@@ -1,4 +1,5 @@
 use Rattle.std.proofs.Common.{refl, ap, ◌∙◌}
+use Rattle.std.proofs.lemmas.Result.{err_from_is_err_and}
 use Rattle.std.specs.Option.{option_map}
 use Rattle.catchup_engine.specs.EngineValue.{EngineValue}
 use Rattle.lockstep_board.specs.Run.{to_clock}
@@ -10,28 +11,31 @@ use Rattle.outside_io.proofs.EventLaws.{did-sending, did-first-sending, did-firs
 use Rattle.run_log.proofs.SlicesLaws.{at-cut, saved-cleared}
 use Rattle.run_log.proofs.slices.cut_slice.Goals as goal
 
-pub returns-in_default-clause-stopped : goal.returns-in_default-clause-stopped
+pub returns-in_err-run_slice-clause-stopped : goal.returns-in_err-run_slice-clause-stopped
 unfolding cut_events
-returns-in_default-clause-stopped g c =
+returns-in_err-run_slice-clause-stopped g c =
     let lines = slice_text c.args.tape.now.entries (Clock c.args.cut) (g.M.Machine.value c.args.synced.now.machine.now).board in
     let store = storing (option_map (λ name. name.now) c.args.save) (saved_bytes (to_clock c.args.tape.now.entries c.args.cut (g.M.Machine.value c.args.synced.now.machine.now).board)) in
-    let out0 = g.O.Sink.taken c.args.out.now in
+    let out0 = g.O.Sink.taken c.args.host.now.out.now in
     let out1 = g.O.Sink.taken c.run_slice.new.out in
-    let stores = g.S.Shelf.stores c.args.shelf.now in
-    did-first-of (sending lines) store out0 out1 stores stores (did-first-sending lines out0 out1 stores stores c.in_default.ensures.taken refl)
+    let stores = g.S.Shelf.stores c.args.host.now.shelf.now in
+    let p = err_from_is_err_and c.from_residual.result c.from_residual.ensures.1 in
+    rw p.1 (did-first-of (sending lines) store out0 out1 stores stores (did-first-sending lines out0 out1 stores stores c.in_err-run_slice.ensures.taken refl))
 
-pub returns-in_default-store_under-clause-stopped : goal.returns-in_default-store_under-clause-stopped
+pub returns-in_err-store_under-clause-stopped : goal.returns-in_err-store_under-clause-stopped
 unfolding cut_events
-returns-in_default-store_under-clause-stopped g c =
+returns-in_err-store_under-clause-stopped g c =
     let lines = slice_text c.args.tape.now.entries (Clock c.args.cut) (g.M.Machine.value c.args.synced.now.machine.now).board in
     let store = storing (option_map (λ name. name.now) c.args.save) (saved_bytes (to_clock c.args.tape.now.entries c.args.cut (g.M.Machine.value c.args.synced.now.machine.now).board)) in
-    let out0 = g.O.Sink.taken c.args.out.now in
+    let out0 = g.O.Sink.taken c.args.host.now.out.now in
     let out1 = g.O.Sink.taken c.run_slice.new.out in
-    let stores0 = g.S.Shelf.stores c.args.shelf.now in
+    let stores0 = g.S.Shelf.stores c.args.host.now.shelf.now in
     let stores1 = g.S.Shelf.stores c.store_under.new.shelf in
-    did-then-first (sending lines) store out0 out1 out1 stores0 stores0 stores1
-    (did-sending lines out0 out1 stores0 stores0 c.in-Ok.ensures.taken refl)
-    (did-nothing store out1 out1 stores0 stores1 refl c.in_default-store_under.ensures.not_stored)
+    let p = err_from_is_err_and c.from_residual-in_err-store_under.result c.from_residual-in_err-store_under.ensures.1 in
+    rw p.1
+    (did-then-first (sending lines) store out0 out1 out1 stores0 stores0 stores1
+    (did-sending lines out0 out1 stores0 stores0 c.in_ok-run_slice.ensures.taken refl)
+    (did-nothing store out1 out1 stores0 stores1 refl c.in_err-store_under.ensures.not_stored))
 
 pub returns-clause-done : goal.returns-clause-done
 unfolding cut_events
@@ -39,17 +43,17 @@ returns-clause-done g c =
     let last = to_clock c.args.tape.now.entries c.args.cut (g.M.Machine.value c.args.synced.now.machine.now).board in
     let lines = slice_text c.args.tape.now.entries (Clock c.args.cut) (g.M.Machine.value c.args.synced.now.machine.now).board in
     let name = option_map (λ name. name.now) c.args.save in
-    let out0 = g.O.Sink.taken c.args.out.now in
+    let out0 = g.O.Sink.taken c.args.host.now.out.now in
     let out1 = g.O.Sink.taken c.run_slice.new.out in
-    let stores0 = g.S.Shelf.stores c.args.shelf.now in
+    let stores0 = g.S.Shelf.stores c.args.host.now.shelf.now in
     let stores1 = g.S.Shelf.stores c.store_under.new.shelf in
-    let is = at-cut c.args.tape.now.entries c.args.cut (g.M.Machine.value c.args.synced.now.machine.now).board (g.M.Machine.value c.run_slice.new.synced.machine.now).board c.in-Ok.ensures.board in
+    let is = at-cut c.args.tape.now.entries c.args.cut (g.M.Machine.value c.args.synced.now.machine.now).board (g.M.Machine.value c.run_slice.new.synced.machine.now).board c.in_ok-run_slice.ensures.board in
     let held = saved-cleared last (g.M.Machine.value c.run_slice.new.synced.machine.now).board c.save.new.self.bytes is c.save.ensures.bytes in
     did-then (sending lines) (storing name (saved_bytes last)) out0 out1 out1 stores0 stores0 stores1
-    (did-sending lines out0 out1 stores0 stores0 c.in-Ok.ensures.taken refl)
-    (did-storing name (saved_bytes last) c.save.new.self.bytes out1 out1 stores0 stores1 held refl c.in-Ok-store_under.ensures.stored)
+    (did-sending lines out0 out1 stores0 stores0 c.in_ok-run_slice.ensures.taken refl)
+    (did-storing name (saved_bytes last) c.save.new.self.bytes out1 out1 stores0 stores1 held refl c.in_ok-store_under.ensures.stored)
 
 pub returns-clause-board : goal.returns-clause-board
 returns-clause-board g c =
     at-cut c.args.tape.now.entries c.args.cut (g.M.Machine.value c.args.synced.now.machine.now).board (g.M.Machine.value c.load_saved.new.synced.machine.now).board
-    (ap (λ (e : EngineValue). e.board) c.load_saved.ensures.value ∙ c.in-Ok.ensures.board)
+    (ap (λ (e : EngineValue). e.board) c.load_saved.ensures.value ∙ c.in_ok-run_slice.ensures.board)
