@@ -1,7 +1,11 @@
-use Rattle.std.proofs.Common.{ap}
+use Rattle.std.proofs.Common.{[], ap}
+use Rattle.outside_io.proofs.TakesLaws.{took_first}
 use Rattle.run_trace.specs.declared.profiling.Profiler.{Profiler}
 use Rattle.run_trace.proofs.TextLaws.{profiled-all, profiled-cut, takes-cut}
 use Rattle.run_trace.proofs.profiling.run_profiled.Goals as goal
+
+pub returns-in_err-follow-clause-taken : goal.returns-in_err-follow-clause-taken
+returns-in_err-follow-clause-taken g c = takes-cut _ _ _ c.from_residual.result c.from_residual.ensures.0 (took_first _ _ [] _ c.in_err-follow.ensures.taken)
 
 pub returns-in_err-write-clause-taken : goal.returns-in_err-write-clause-taken
 returns-in_err-write-clause-taken g c =
