@@ -1,6 +1,7 @@
 use Rattle.std.proofs.Common.{ap, ◌∙◌}
 use Rattle.run_trace.specs.Framing.{FramerValue}
-use Rattle.run_trace.proofs.TextLaws.{framed-all, framed-cut, framed-cut-line, takes-cut}
+use Rattle.outside_io.proofs.GatherLaws.{takes-cut}
+use Rattle.run_trace.proofs.TextLaws.{framed-all, framed-cut, framed-cut-line}
 use Rattle.run_trace.proofs.framing.run_framed.Goals as goal
 
 pub returns-in_default-clause-taken : goal.returns-in_default-clause-taken
@@ -19,4 +20,5 @@ pub returns-clause-taken : goal.returns-clause-taken
 returns-clause-taken g c =
     framed-all c.args.tape.now.entries c.args.limit (g.M.Machine.value c.args.synced.now.machine.now).board c.args.synced.now.is_synced.empty c.framer_at-framer.result.frames
     c.framer_at-framer.ensures.frames _ _ c.in-Ok.ensures.taken c.framer.inside.frames (ap (λ (f : FramerValue). f.frames) (c.framer.view_is ∙ c.in-Ok.ensures.next)) _
-    _ (g.M.Machine.value c.follow.new.self.machine.now).board c.write_last.result c.in_ok-end.ensures.taken c.in-Ok.ensures.board c.write_last.ensures.taken
+    _ (g.M.Machine.value c.follow.new.self.machine.now).board c.write_last.result c.in_ok-end.ensures.taken c.in-Ok.ensures.board
+    (rw (c.clock.ensures, c.cpu.ensures, c.machine.ensures.value) at c.write_last.ensures.taken)
