@@ -9,7 +9,6 @@ ghost use Rattle.run_windows.specs.SyncedMachine.{loan_of, value_of};
 ghost use Rattle.outside_io.specs.Events.{Did, DidFirst};
 ghost use Rattle.outside_io.specs.Hosts.{seen};
 ghost use Rattle.outside_io.specs.Seen.{HostDid, HostDidFirst};
-ghost use Rattle.run_log.specs.LastLine.{last_text};
 ghost use Rattle.run_windows.specs.Windows.{window_price};
 ghost use Rattle.run_log.specs.Slices.{FitsCalls, StopsIn, cost_line, cut_events, ending_text, last_board, last_events, run_events, wanted_of};
 ghost use Rattle.run_log.specs.Faults.{KeepsHost, SliceFaults};
@@ -22,7 +21,7 @@ use board_base::{BoardState, CLOCK_LIMIT};
 use catchup_engine::{Engine, Machine};
 use earom_cells::CellUnit;
 use irq_watchdog::DividerUnit;
-use log_text::{write_cost, write_end, write_jam};
+use log_text::{write_cost, write_last};
 use outside_io::{Host, Shelf, Sink, SinkFault, store_under};
 use pokey_chip::SoundUnit;
 use run_windows::{SyncedMachine, Until};
@@ -57,23 +56,6 @@ fn cut_slice<M: Machine, S: Shelf, O: Sink>(
     Ok(())
 }
 
-/// Writes the last line of a run that has ended: E with the clock, or X with the clock, pc and the
-/// opcode that jammed the processor.
-pub fn write_last<M: Machine, O: Sink>(
-    synced: &SyncedMachine<'_, M>,
-    out: &mut O,
-) -> Result<(), SinkFault>
-    ensures taken { Takes (O.taken out.old) (O.taken out.new) (last_text (value_of synced.now).board (value_of synced.now).board.cpu.jam) result }
-    ensures cause { HasCause (O.faults out.old) (O.faults out.new) result }
-{
-    let machine = synced.machine();
-    let cpu = machine.cpu();
-    match cpu.jam {
-        Some(opcode) => write_jam(machine.clock(), cpu.pc, opcode, out),
-        None => write_end(machine.clock(), out),
-    }
-}
-
 /// Writes the device calls of a run, where they are asked for.
 fn write_calls<O: Sink>(cost: bool, calls: u64, out: &mut O) -> Result<(), SinkFault>
     ensures taken { Takes (O.taken out.old) (O.taken out.new) (cost_line cost calls) result }
@@ -94,8 +76,10 @@ fn write_ending<M: Machine, O: Sink>(
     ensures taken { Takes (O.taken out.old) (O.taken out.new) (ending_text cost (value_of synced.now).calls (value_of synced.now).board) result }
     ensures cause { HasCause (O.faults out.old) (O.faults out.new) result }
 {
-    write_last(synced, out)?;
-    write_calls(cost, synced.machine().calls(), out)
+    let machine = synced.machine();
+    let cpu = machine.cpu();
+    write_last(machine.clock(), cpu.pc, cpu.jam, out)?;
+    write_calls(cost, machine.calls(), out)
 }
 
 /// The cells of the EAROM.

@@ -14,8 +14,8 @@ use arrayvec::ArrayVec;
 use board_base::{BoardState, CLOCK_LIMIT, Trails};
 use catchup_engine::{Machine, Tracer, TurnNote};
 use frame_list::{Frames, has_starts, start_clocks};
+use log_text::write_last;
 use outside_io::{Sink, SinkFault};
-use run_log::write_last;
 use run_windows::{SyncedMachine, TurnObserver};
 use std::marker::Model;
 use tape_ports::Tape;
@@ -109,5 +109,7 @@ pub fn run_framed<M: Machine, O: Sink>(
     let mut framer = framer_at(synced);
     synced.follow(tape, limit, &mut framer, out)?;
     framer.frames.end(out)?;
-    write_last(synced, out)
+    let machine = synced.machine();
+    let cpu = machine.cpu();
+    write_last(machine.clock(), cpu.pc, cpu.jam, out)
 }

@@ -12,8 +12,8 @@ ghost use Rattle.run_trace.specs.ProfilingLaws.{profiled_in_parts, profiled_stil
 use board_base::{CLOCK_LIMIT, Trails};
 use catchup_engine::{Machine, Tracer, TurnNote};
 use cycle_profile::Profile;
+use log_text::write_last;
 use outside_io::{Sink, SinkFault};
-use run_log::write_last;
 use run_windows::{SyncedMachine, TurnObserver};
 use tape_ports::Tape;
 
@@ -77,5 +77,7 @@ pub fn run_profiled<M: Machine, O: Sink>(
     let mut profiler = Profiler { profile };
     synced.follow(tape, limit, &mut profiler, out)?;
     profiler.profile.write(out)?;
-    write_last(synced, out)
+    let machine = synced.machine();
+    let cpu = machine.cpu();
+    write_last(machine.clock(), cpu.pc, cpu.jam, out)
 }
