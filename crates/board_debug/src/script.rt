@@ -6,13 +6,13 @@ ghost use Rattle.board_debug.specs.Debugged.{Debugs};
 use crate::fault::DebugFault;
 use crate::session::run_commands;
 use avg_device::VectorUnit;
-use run_windows::SyncedMachine;
 use catchup_engine::Engine;
 use debug_script::{ScriptFault, read_script};
 use earom_cells::CellUnit;
 use irq_watchdog::DividerUnit;
 use outside_io::Sink;
 use pokey_chip::SoundUnit;
+use run_windows::SyncedMachine;
 use std::alloc::Global;
 use tape_ports::Tape;
 

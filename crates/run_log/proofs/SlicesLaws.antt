@@ -54,7 +54,7 @@ pub at-end : (entries : List TapeEntry) (limit : ℕ) (b now : Board) → now �
     → now ≡ cleared (to_boundary entries limit b)
 at-end entries limit b now is = is ∙ ap cleared (boundary-end entries limit b)
 
--- the last line doesn't tell of records
+-- the last line has no records
 last_text-behind : (l : Recorded) (b : Board) (jam : Option ℕ) → last_text (behind l b) jam ≡ last_text b jam
 last_text-behind l b (Some opcode) = refl
 last_text-behind l b None = refl

@@ -6,8 +6,8 @@ ghost use Rattle.run_windows.specs.SyncedMachine.{loan_of, value_of};
 ghost use Rattle.run_log.specs.Slices.{saved_bytes};
 
 use board_base::BoardState;
-use run_windows::SyncedMachine;
 use catchup_engine::Machine;
+use run_windows::SyncedMachine;
 use save_state::STATE_LEN;
 
 /// A board and its bytes, each of which is copied into the place of the one before it.

@@ -8,10 +8,10 @@ ghost use Rattle.run_log.specs.Slice.{AreTrails, slice_text, text_of_records};
 ghost use Rattle.run_log.specs.LogParts.{log-taken_in_parts};
 
 use board_base::{CLOCK_LIMIT, Trails};
-use run_windows::{RecordObserver, SyncedMachine, Until};
 use catchup_engine::Machine;
 use log_text::write_merged;
 use outside_io::{Sink, SinkFault};
+use run_windows::{RecordObserver, SyncedMachine, Until};
 use tape_ports::Tape;
 
 /// Writes the log: a line for each record, by clock and part.
@@ -21,7 +21,7 @@ pub struct LogWriter;
 impl RecordObserver for LogWriter {
     ghost can_take = { λ _ _ records _. AreTrails records };
 
-    ghost tells = { λ _ records _. text_of_records records };
+    ghost writes = { λ _ records _. text_of_records records };
 
     ghost next = { λ w _ _. w };
 

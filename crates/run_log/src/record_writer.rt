@@ -2,9 +2,9 @@ ghost use Rattle.run_log.specs.Slice.{AreTrails, bytes_of_records};
 ghost use Rattle.run_log.specs.LogParts.{records-taken_in_parts};
 
 use board_base::Trails;
-use run_windows::RecordObserver;
 use log_text::write_records;
 use outside_io::{Sink, SinkFault};
+use run_windows::RecordObserver;
 
 /// Writes 40 bytes for each record, in the order in which `LogWriter` has its lines.
 #[derive(Clone, Copy, Debug, PartialEq, Eq)]
@@ -13,7 +13,7 @@ pub struct RecordWriter;
 impl RecordObserver for RecordWriter {
     ghost can_take = { λ _ _ records _. AreTrails records };
 
-    ghost tells = { λ _ records _. bytes_of_records records };
+    ghost writes = { λ _ records _. bytes_of_records records };
 
     ghost next = { λ w _ _. w };
 

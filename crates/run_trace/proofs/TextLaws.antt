@@ -1,4 +1,4 @@
--- The text of a run whose lines are told in parts.
+-- The text of a run whose lines are written in parts.
 use Rattle.std.proofs.Common.{◌≡◌, ℕ, List, [], ◌∷◌, ◌++◌, take, Option, Some, None, Result, Ok, Err, refl, sym, ap, ◌∙◌, append_assoc, append-nil}
 use Rattle.std.specs.Prelude.{IsErr}
 use Rattle.std.proofs.lemmas.Grind.{flat_map-append}
@@ -20,7 +20,7 @@ use Rattle.run_log.specs.LastLine.{last_text}
 use Rattle.run_trace.specs.BoardFrames.{framed_text, run_events, run_frames}
 use Rattle.run_trace.specs.BoardProfile.{no_profile, profiled_text, run_profile, run_turns}
 
--- the last line doesn't tell records
+-- the last line has no records
 pub last-cleared : (b : Board) (jam : Option ℕ) → last_text (cleared b) jam ≡ last_text b jam
 last-cleared b (Some opcode) = refl
 last-cleared b None = refl
@@ -51,10 +51,10 @@ pub takes-cut : {T E : Type 0} (out0 out1 : Option (List ℕ)) (text : List ℕ)
 takes-cut out0 out1 text (Ok v) fault cut = cc
 takes-cut out0 out1 text (Err e) fault cut = cut
 
--- the last line, told of the board at the end
-pub last-told : (entries : List TapeEntry) (limit : ℕ) (b now : Board) → now ≡ cleared (to_boundary entries limit b)
+-- the last line, by the board at the end
+pub last-at_end : (entries : List TapeEntry) (limit : ℕ) (b now : Board) → now ≡ cleared (to_boundary entries limit b)
     → last_text now now.cpu.jam ≡ last_text (cleared (to_boundary entries limit b)) (to_boundary entries limit b).cpu.jam
-last-told entries limit b now is = ap (λ (c : Board). last_text c c.cpu.jam) is
+last-at_end entries limit b now is = ap (λ (c : Board). last_text c c.cpu.jam) is
 
 module _ (entries : List TapeEntry) (limit : ℕ) (b : Board) (none : HasNoRecords b) (frames : FrameValue) (is : frames ≡ begun 0 b.peripherals.clock)
     (out0 out1 : Option (List ℕ)) where
@@ -95,7 +95,7 @@ module _ (entries : List TapeEntry) (limit : ℕ) (b : Board) (none : HasNoRecor
         → now ≡ cleared (to_boundary entries limit b) → Takes out2 out3 (last_text now now.cpu.jam) result
         → Takes out0 out3 (framed_text entries limit b) result
     framed-all out3 now result line board took =
-        let there : Takes out2 out3 end_line result = rw (last-told entries limit b now board) at took in
+        let there : Takes out2 out3 end_line result = rw (last-at_end entries limit b now board) at took in
         rw (framed-is entries limit b none)
         (takes-then out0 out1 out3 lines (one_line ++ end_line) result (whole ∙ ap (grown out0) lines-are)
         (takes-then out1 out2 out3 one_line end_line result (line ∙ ap (grown out1) (line-is last end)) there))
@@ -137,7 +137,7 @@ module _ (entries : List TapeEntry) (limit : ℕ) (b : Board) (first p : Profile
       → now ≡ cleared (to_boundary entries limit b) → Takes out2 out3 (last_text now now.cpu.jam) result
       → Takes out0 out3 (profiled_text entries limit b) result
   profiled-all out3 now result text board took =
-      let there : Takes out2 out3 bottom result = rw (last-told entries limit b now board) at took in
+      let there : Takes out2 out3 bottom result = rw (last-at_end entries limit b now board) at took in
       rw (profiled-is entries limit b)
       (takes-then out0 out2 out3 (profile_text (run_profile entries limit b)) bottom result
       (text ∙ ap (λ out. grown out (profile_text p)) start ∙ ap (λ (q : ProfileValue). grown out0 (profile_text q)) profile-is) there)
