@@ -7,9 +7,9 @@ ghost use Rattle.bench_work.specs.BoardLaws.{tallied_in_parts};
 
 use crate::tally::Tally;
 use board_base::{CLOCK_LIMIT, Trails};
-use run_windows::{NullSink, RecordObserver, SyncedMachine, Until};
 use catchup_engine::Machine;
 use outside_io::{Sink, SinkFault};
+use run_windows::{NullSink, RecordObserver, SyncedMachine, Until};
 use tape_ports::Tape;
 
 /// What records a board has made, part by part: strokes, levels of each POKEY, and latches and
@@ -39,7 +39,7 @@ impl BoardTally {
 impl RecordObserver for BoardTally {
     ghost can_take = { λ _ _ _ _. ⊤ };
 
-    ghost tells = { λ _ _ _. [] };
+    ghost writes = { λ _ _ _. [] };
 
     ghost next = { λ t records _. with_records t records };
 

@@ -1,5 +1,5 @@
-//! The work of a measure: pictures that are drawn, tunes that are played, registers that are shifted, instructions and
-//! boards that are run, each with what records it made.
+//! The work of a measure: pictures that are drawn, tunes that are played, registers that are
+//! shifted, instructions and boards that are run, each with what records it made.
 #![tactic(auto)]
 
 mod board;

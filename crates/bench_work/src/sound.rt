@@ -22,7 +22,8 @@ const TONE: u8 = 0xAF;
 /// What a POKEY plays.
 #[derive(Clone, Copy, PartialEq, Eq)]
 pub enum Tune {
-    /// Four channels on the base clock, with periods of 21, 81, 141 and 201 pulses of 28 clocks each.
+    /// Four channels on the base clock, with periods of 21, 81, 141 and 201 pulses of 28 clocks
+    /// each.
     FourOnTheBaseClock,
     /// One channel on the chip clock, with a period of 24 clocks.
     OneOnTheChipClock,

@@ -16,7 +16,8 @@ use Rattle.board_calls.specs.declared.report.Status.TheVariants.{Done, Jammed, N
 use Rattle.board_calls.specs.Places.{place_of_assembly, place_of_stretch}
 use Rattle.board_calls.specs.Statuses.{number_of, status_of_assembly, status_of_stretch}
 
--- a call as its caller sees it: what stood at a place and in a buffer before, what stands there after, and the answer
+-- a call as its caller sees it: what stood at a place and in a buffer before, what stands there
+-- after, and the answer
 pub record Call : Type 0 where
   pub before : List ℕ
   pub after : List ℕ
@@ -28,7 +29,7 @@ pub record Call : Type 0 where
 abbrev pub report_of : ℕ → ℕ → ℕ → GravitarReport
 report_of clock used place = record { clock = clock; used = used; place = place }
 
--- these bytes lie in front of a buffer, and behind them it is as before
+-- these bytes lie in front of a buffer, and after them it is as before
 abbrev pub put_in : List ℕ → List ℕ → List ℕ
 put_in bytes buffer = bytes ++ drop (length bytes) buffer
 
@@ -44,22 +45,23 @@ pub record Refuses (ended : Status) (numbers : GravitarReport) (c : Call) : Type
   pub buffer : c.filled ≡ c.buffer
 
 -- nothing changed but the report, and the buffer, which has the first of these words
-pub record Tells (words : List ℕ) (spot : ℕ) (ended : Status) (c : Call) : Type 0 where
+pub record States (words : List ℕ) (spot : ℕ) (ended : Status) (c : Call) : Type 0 where
   pub status : c.number ≡ number_of ended
   pub report : c.report ≡ report_of 0 (length words) spot
   pub place : c.after ≡ c.before
   pub buffer : c.filled ≡ noted_in words c.buffer
 
 -- lack of memory, or these words
-abbrev pub TellsOrNot : List ℕ → ℕ → Status → Call → Type 0
-TellsOrNot words spot ended c = Tells words spot ended c ⊎ Refuses NoMemory (report_of 0 0 0) c
+abbrev pub StatesOrNot : List ℕ → ℕ → Status → Call → Type 0
+StatesOrNot words spot ended c = States words spot ended c ⊎ Refuses NoMemory (report_of 0 0 0) c
 
--- the board stands at the end of a stretch, and the buffer, which has room for all of it, has what the stretch returns
+-- the board stands at the end of a stretch, and the buffer, which has room for all of it, has what
+-- the stretch returns
 pub record Gives (s : Stretch) (c : Call) : Type 0 where
   pub status : c.number ≡ number_of (if s.jammed then Jammed else Done)
   pub report : c.report ≡ report_of s.clock s.wanted 0
   pub place : c.after ≡ s.board
-  pub buffer : c.filled ≡ put_in s.told.items c.buffer
+  pub buffer : c.filled ≡ put_in s.output.items c.buffer
   pub room : s.wanted ≤ length c.buffer
 
 -- the buffer is too short for it
@@ -70,13 +72,14 @@ pub record WantsRoom (s : Stretch) (c : Call) : Type 0 where
 -- what comes of a stretch
 abbrev pub AnswersStretch : Result Stretch StretchFault → Call → Type 0
 AnswersStretch (Ok s) c = Gives s c ⊎ WantsRoom s c
-AnswersStretch (Err fault) c = TellsOrNot (stretch_fault_text fault) (place_of_stretch fault) (status_of_stretch fault) c
+AnswersStretch (Err fault) c = StatesOrNot (stretch_fault_text fault) (place_of_stretch fault) (status_of_stretch fault) c
 
 abbrev pub call_of : List ℕ → List ℕ → List ℕ → List ℕ → GravitarReport → ℕ → Call
 call_of before after buffer filled report number =
     record { before = before; after = after; buffer = buffer; filled = filled; report = report; number = number }
 
--- a call answers what comes of the bytes of an image, a board and a tape: a stretch of this kind over their parts, or their refusal
+-- a call answers what comes of the bytes of an image, a board and a tape: a stretch of this kind
+-- over their parts, or their refusal
 pub record AnswersOver (image board tape : List ℕ) (holds : Parts → Stretch → Type 0) (c : Call) : Type 0 where
   pub came : Result Stretch StretchFault
   pub comes : Comes image board tape holds came
@@ -92,7 +95,7 @@ pub record Makes (image : List ℕ) (c : Call) : Type 0 where
 -- what comes of two sources
 abbrev pub AnswersAssembly : Result (List ℕ) AssemblyFault → Call → Type 0
 AnswersAssembly (Ok image) c = Makes image c
-AnswersAssembly (Err fault) c = TellsOrNot (assembly_fault_text fault) (place_of_assembly fault) (status_of_assembly fault) c
+AnswersAssembly (Err fault) c = StatesOrNot (assembly_fault_text fault) (place_of_assembly fault) (status_of_assembly fault) c
 
 -- a call answers what comes of two sources
 pub record AnswersSources (processor generator : List ℕ) (c : Call) : Type 0 where

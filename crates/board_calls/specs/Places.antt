@@ -10,7 +10,8 @@ use Rattle.run_stretch.specs.declared.assembling.AssemblyFault.TheVariants as so
 use Rattle.run_stretch.specs.declared.fault.StretchFault.{StretchFault}
 use Rattle.run_stretch.specs.declared.fault.StretchFault.TheVariants.{Image, Board, Tape}
 
--- the length of an image; the length, the version or the offset of a saved board; the line of a tape
+-- the length of an image; the length, the version or the offset of a saved board; the line of a
+-- tape
 abbrev pub place_of_stretch : StretchFault → ℕ
 place_of_stretch (Image (image.Length n)) = n
 place_of_stretch (Board (state.Length n)) = n

@@ -2,7 +2,7 @@
 ghost use Rattle.std.specs.Prelude.{◌≡◌, ◌≤◌, ◌⊎◌, ℕ, List, length};
 ghost use Rattle.save_state.specs.declared.TheConstants.{STATE_LEN};
 ghost use Rattle.run_stretch.specs.Texts.{stretch_fault_text};
-ghost use Rattle.board_calls.specs.Answers.{Gives, TellsOrNot, WantsRoom, call_of, noted_in, put_in, report_of};
+ghost use Rattle.board_calls.specs.Answers.{Gives, StatesOrNot, WantsRoom, call_of, noted_in, put_in, report_of};
 ghost use Rattle.board_calls.specs.Places.{place_of_stretch};
 ghost use Rattle.board_calls.specs.Statuses.{number_of, status_of_stretch};
 
@@ -41,7 +41,7 @@ pub fn report_number(status: Status, used: u64, place: u64, report: &mut Gravita
 }
 
 /// Answers a refusal in words.
-pub fn tell(
+pub fn report_words(
     words: &[u8],
     place: u64,
     status: Status,
@@ -57,19 +57,19 @@ pub fn tell(
 }
 
 /// Answers the refusal of a stretch, where there is memory for its words.
-pub fn tell_stretch(
+pub fn report_fault(
     alloc: Global,
     fault: &StretchFault,
     buffer: &mut [u8],
     report: &mut GravitarReport,
 ) -> u32
-    ensures { (place : List ℕ) → TellsOrNot (stretch_fault_text fault.now) (place_of_stretch fault.now) (status_of_stretch fault.now)
+    ensures { (place : List ℕ) → StatesOrNot (stretch_fault_text fault.now) (place_of_stretch fault.now) (status_of_stretch fault.now)
         (call_of place place buffer.old buffer.new report.new result) }
 {
     let Ok(words) = format!(in alloc; "{fault}") else {
         return report_number(Status::NoMemory, 0, 0, report);
     };
-    tell(
+    report_words(
         words.as_bytes(),
         place_of(fault),
         status_of(fault),
@@ -86,7 +86,7 @@ pub fn give(
     report: &mut GravitarReport,
 ) -> u32
     requires board { length board.old ≡ STATE_LEN }
-    requires fits { length stretch.now.told.items ≤ stretch.now.wanted }
+    requires fits { length stretch.now.output.items ≤ stretch.now.wanted }
     ensures { (Gives stretch.now (call_of board.old board.new buffer.old buffer.new report.new result))
         ⊎ WantsRoom stretch.now (call_of board.old board.new buffer.old buffer.new report.new result) }
 {
@@ -94,7 +94,7 @@ pub fn give(
     if (buffer.len() as u64) < used {
         return report_number(Status::NoRoom, used, 0, report);
     }
-    put(&stretch.told, buffer);
+    put(&stretch.output, buffer);
     board.copy_from_slice(&stretch.board);
     *report = GravitarReport {
         clock: stretch.clock,

@@ -4,8 +4,8 @@ ghost use Rattle.board_calls.specs.Places.{place_of_assembly, place_of_source, p
 ghost use Rattle.board_calls.specs.Statuses.{number_of, status_of_assembly, status_of_stretch};
 
 use asm_text::AsmFault;
-use run_stretch::{AssemblyFault, StretchFault};
 use rom_image::ImageFault;
+use run_stretch::{AssemblyFault, StretchFault};
 use save_state::StateFault;
 use tape_ports::TapeFault;
 
@@ -86,8 +86,8 @@ pub fn status_of(fault: &StretchFault) -> Status
     }
 }
 
-/// Where bytes are wrong: the length of an image, the length, version or offset of a saved board, the
-/// line of a tape, or 0.
+/// Where bytes are wrong: the length of an image, the length, version or offset of a saved board,
+/// the line of a tape, or 0.
 pub fn place_of(fault: &StretchFault) -> u64
     ensures { result ≡ place_of_stretch fault.now }
 {

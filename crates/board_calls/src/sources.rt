@@ -8,7 +8,7 @@ ghost use Rattle.board_calls.specs.Answers.{AnswersSources, Refuses, call_of, pu
 ghost use Rattle.board_calls.specs.declared.report.Status.TheVariants.{Done, NoRoom};
 ghost use Rattle.board_calls.specs.Statuses.{number_of};
 
-use crate::answer::{put, report_number, tell};
+use crate::answer::{put, report_number, report_words};
 use crate::report::{GravitarReport, Status, place_of_sources, status_of_sources};
 use rom_image::IMAGE_LEN;
 use save_state::STATE_LEN;
@@ -33,9 +33,9 @@ pub fn power_on(board: &mut [u8]) -> u32
     Status::Done.number()
 }
 
-/// Assembles the processor's source and then the generator's into one image of 43,008 bytes, which has
-/// zeros elsewhere. Where a source is refused, `note` gets the words of it, `place` says the line, and
-/// the image stays as it was.
+/// Assembles the processor's source and then the generator's into one image of 43,008 bytes, which
+/// has zeros elsewhere. Where a source is refused, `note` gets the words of it, `place` says the
+/// line, and the image stays as it was.
 pub fn assemble(
     alloc: Global,
     processor: &[u8],
@@ -59,7 +59,7 @@ pub fn assemble(
             let Ok(words) = format!(in alloc; "{fault}") else {
                 return report_number(Status::NoMemory, 0, 0, report);
             };
-            tell(
+            report_words(
                 words.as_bytes(),
                 place_of_sources(&fault),
                 status_of_sources(&fault),

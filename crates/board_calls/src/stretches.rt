@@ -8,7 +8,7 @@ ghost use Rattle.run_stretch.specs.Stretches.{IsAdvanced, IsRecorded, IsSampled}
 ghost use Rattle.board_calls.specs.Answers.{AnswersOver, AnswersStretch, Refuses, call_of, end_asked, is_asked, report_of};
 ghost use Rattle.board_calls.specs.declared.report.Status.TheVariants.{BadNumber};
 
-use crate::answer::{give, report_number, tell_stretch};
+use crate::answer::{give, report_fault, report_number};
 use crate::report::{GravitarReport, Status};
 use board_base::CLOCK_LIMIT;
 use run_stretch::{Start, Stretch, StretchFault, sample};
@@ -44,22 +44,23 @@ fn answer(
     report: &mut GravitarReport,
 ) -> u32
     requires board { IfOk came (λ _. length board.old ≡ STATE_LEN) }
-    requires fits { IfOk came (λ s. length s.told.items ≤ s.wanted) }
+    requires fits { IfOk came (λ s. length s.output.items ≤ s.wanted) }
     ensures { AnswersStretch came (call_of board.old board.new buffer.old buffer.new report.new result) }
 {
     match came {
         Ok(stretch) => give(&stretch, board, buffer, report),
-        Err(fault) => tell_stretch(alloc, &fault, buffer, report),
+        Err(fault) => report_fault(alloc, &fault, buffer, report),
     }
 }
 
-/// Runs an image with a tape from a saved board to a clock, or where `boundary` isn't 0 to the first
-/// boundary that isn't before it, and puts the board at the end in its place. The buffer gets the lines
-/// of the records on the way, as the log of `gravitar run` has them, without a last line.
+/// Runs an image with a tape from a saved board to a clock, or where `boundary` isn't 0 to the
+/// first boundary that isn't before it, and puts the board at the end in its place. The buffer gets
+/// the lines of the records on the way, as the log of `gravitar run` has them, without a last line.
 ///
-/// `image` is 43,008 bytes, `board` 4,356, `tape` a text, `clock` 2^48 at most; with `timers` other than
-/// 0 the POKEYs' requests reach the interrupt line. Where bytes are refused, the buffer gets the words
-/// of it. Where the buffer is too short, `used` says what is wanted. A call that isn't done leaves the board as it was.
+/// `image` is 43,008 bytes, `board` 4,356, `tape` a text, `clock` 2^48 at most; with `timers` other
+/// than 0 the POKEYs' requests reach the interrupt line. Where bytes are refused, the buffer gets
+/// the words of it. Where the buffer is too short, `used` says what is wanted. A call that isn't
+/// done leaves the board as it was.
 pub fn advance(
     alloc: Global,
     image: &[u8],
@@ -89,11 +90,11 @@ pub fn advance(
     answer(alloc, came, board, text, report)
 }
 
-/// Runs an image with a tape as `advance` does. The buffer gets the records on the way, 40 bytes each:
-/// those of which `advance` gives lines, in the same order. A record is its clock in 8 bytes, its kind in
-/// 4 (0 a stroke, 1 and 2 the levels of a POKEY, 3 a write of the latch, 4 a watchdog reset), six numbers
-/// of 4 (of a stroke x0, y0, x1, y1, colour and intensity, of levels all four, of the latch its byte), and
-/// 4 bytes of 0, each number with its lowest byte first.
+/// Runs an image with a tape as `advance` does. The buffer gets the records on the way, 40 bytes
+/// each: those of which `advance` gives lines, in the same order. A record is its clock in 8 bytes,
+/// its kind in 4 (0 a stroke, 1 and 2 the levels of a POKEY, 3 a write of the latch, 4 a watchdog
+/// reset), six numbers of 4 (of a stroke x0, y0, x1, y1, colour and intensity, of levels all four,
+/// of the latch its byte), and 4 bytes of 0, each number with its lowest byte first.
 pub fn records(
     alloc: Global,
     image: &[u8],
@@ -123,10 +124,10 @@ pub fn records(
     answer(alloc, came, board, array, report)
 }
 
-/// Runs an image with a tape from a saved board to the first boundary that isn't before a clock, and
-/// puts the board at the end in its place. The buffer gets a sample for each `per` clocks, 1 to 65,535:
-/// the sum of both POKEYs' eight levels over them, as four bytes, the lowest first. Clocks at the end
-/// that are no whole group give none. All else is as in `advance`.
+/// Runs an image with a tape from a saved board to the first boundary that isn't before a clock,
+/// and puts the board at the end in its place. The buffer gets a sample for each `per` clocks, 1 to
+/// 65,535: the sum of both POKEYs' eight levels over them, as four bytes, the lowest first. Clocks
+/// at the end that are no whole group give none. All else is as in `advance`.
 pub fn pcm(
     alloc: Global,
     image: &[u8],

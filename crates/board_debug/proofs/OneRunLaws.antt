@@ -157,7 +157,8 @@ clock-most entries cut b h = let e = clock-of entries cut b in let f = clock_ste
 abbrev pub last_clock : List Keyframe → Keyframe → ℕ
 last_clock kept d = (get_or kept (length kept - 1) d).board.clock
 
--- The boards of the clocks up to one are kept, and a run from the start comes to the last of them in as many clocks as lie between.
+-- The boards of the clocks up to one are kept, and a run from the start comes to the last of them
+-- in as many clocks as lie between.
 pub record Way (entries : List TapeEntry) (clocks : List ℕ) (b : Board) (before : ℕ) (keys : KeyframesValue) (done last : ℕ) : Type 0 where
   pub some : 0 < length keys.kept
   pub pages : live_of keys + 16 * above clocks last ≤ keys.capacity
@@ -345,7 +346,8 @@ module _ (entries : List TapeEntry) (clocks : List ℕ) (b now : Board) (before 
     | inr same ↦ way-same same.0 same.1
   ]
 
--- at the end of the way all clocks are reached, in no more clocks than lie between the start and the last of them
+-- at the end of the way all clocks are reached, in no more clocks than lie between the start and
+-- the last of them
 module _ (entries : List TapeEntry) (clocks : List ℕ) (b : Board) (before done last : ℕ) (keys : KeyframesValue)
     (way : Way entries clocks b before keys done last) where
   pub way-cost : (most : ℕ) → All (λ clock. clock ≤ most) clocks → done ≤ before + (most - b.peripherals.clock)

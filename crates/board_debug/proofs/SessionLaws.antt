@@ -7,7 +7,7 @@ use Rattle.tape_ports.specs.Tape.{TapeValue}
 use Rattle.lockstep_board.specs.Lockstep.{Board}
 use Rattle.debug_script.specs.declared.command.Command.{Command}
 use Rattle.debug_script.specs.Breakpoints.{Fit, StopsValue, are_few, stops_after}
-use Rattle.board_debug.specs.declared.found.StopReason.{StopReason}
+use Rattle.board_debug.specs.declared.stop_reason.StopReason.{StopReason}
 use Rattle.board_debug.specs.Looks.{stop_text}
 use Rattle.board_debug.specs.Session.{Reached, board_after, board_at, command_text, reached_by, session_board, session_text, shown_text, text_at}
 

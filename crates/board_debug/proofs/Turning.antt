@@ -14,8 +14,8 @@ use Rattle.lockstep_board.proofs.Ended.{cleared-empty}
 use Rattle.catchup_engine.proofs.RunsOn.{open-before}
 use Rattle.lockstep_board.proofs.TurnLaws.{turn-behind, turn-boundary, turn-later, turned-next, turned-placed, turns-to}
 use Rattle.debug_script.specs.Breakpoints.{StopsValue}
-use Rattle.board_debug.specs.declared.found.StopReason.{StopReason}
-use Rattle.board_debug.specs.declared.found.StopReason.TheVariants.{Jam, End, Step, Until}
+use Rattle.board_debug.specs.declared.stop_reason.StopReason.{StopReason}
+use Rattle.board_debug.specs.declared.stop_reason.StopReason.TheVariants.{Jam, End, Step, Until}
 use Rattle.board_debug.specs.Looks.{break_look, first_of, jam_look, look_after, look_before, look_until}
 use Rattle.board_debug.specs.Session.{Reached, go_from, turn_done, step_from, turning, unless_found, until_from}
 

@@ -4,7 +4,7 @@ use Rattle.std.specs.Option.{option_map}
 use Rattle.std.proofs.lemmas.Bool.{eq-eqb, ne_eqb}
 use Rattle.std.proofs.lemmas.List.{get_or-map}
 use Rattle.lockstep_board.specs.Lockstep.{Board}
-use Rattle.board_debug.specs.declared.found.StopReason.TheVariants.{Watch}
+use Rattle.board_debug.specs.declared.stop_reason.StopReason.TheVariants.{Watch}
 use Rattle.board_debug.specs.Looks.{watch_look, watched_byte}
 
 first-changed : (f g : ℕ → ℕ) (xs : List ℕ) (i : ℕ) → i < length xs → ((j : ℕ) → j < i → g (get_or xs j 0) ≡ f (get_or xs j 0))

@@ -30,7 +30,8 @@ pub record RanNothing (before now : EngineValue) (out0 out1 : Option (List ℕ))
   pub text : out1 ≡ out0
   pub faults : faults1 ≡ faults0
 
--- A script whose lines all have a form is run; else its first malformed line is reported, before anything is run.
+-- A script whose lines all have a form is run; else its first malformed line is reported, before
+-- anything is run.
 abbrev pub Debugs : TapeValue → List ℕ → EngineValue → EngineValue → Option (List ℕ) → Option (List ℕ) → ℕ → ℕ → Result (Unit {0}) DebugFault → Type 0
 Debugs tape script before now out0 out1 faults0 faults1 (Ok _) =
     (commands : List Command) × (script_of script ≡ Ok commands) × RanWhole tape commands before now out0 out1 faults0 faults1

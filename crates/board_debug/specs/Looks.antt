@@ -5,9 +5,9 @@ use Rattle.text_line.specs.Words.{line, hex_byte, hex_word}
 use Rattle.lockstep_board.specs.Lockstep.{Board}
 use Rattle.lockstep_board.specs.Memory.{memory_byte}
 use Rattle.debug_script.specs.Breakpoints.{StopsValue}
-use Rattle.board_debug.specs.declared.found.StopReason.{StopReason}
+use Rattle.board_debug.specs.declared.stop_reason.StopReason.{StopReason}
 use Rattle.board_debug.specs.declared.looks.Before.{Before}
-use Rattle.board_debug.specs.declared.found.StopReason.TheVariants.{Jam, End, Break, Watch, Vg, Step, Until}
+use Rattle.board_debug.specs.declared.stop_reason.StopReason.TheVariants.{Jam, End, Break, Watch, Vg, Step, Until}
 
 -- the first of some looks that found something
 abbrev pub first_of : List (Option StopReason) → Option StopReason
@@ -51,7 +51,8 @@ look_before end b = first_of (jam_look b ∷ end_look end b ∷ [])
 abbrev pub look_until : ℕ → ℕ → Board → Option StopReason
 look_until end clock b = first_of (jam_look b ∷ end_look end b ∷ until_look clock b ∷ [])
 
--- after a turn of `go`: a jam, the tape's END, the breaks and the watches in their order, and then the generator
+-- after a turn of `go`: a jam, the tape's END, the breaks and the watches in their order, and then
+-- the generator
 abbrev pub look_after : ℕ → StopsValue → Board → Board → Option StopReason
 look_after end stops before b =
     first_of (jam_look b ∷ end_look end b ∷ break_look stops.breaks b ∷ watch_look stops.watches before b ∷ vg_look stops.vg before b ∷ [])

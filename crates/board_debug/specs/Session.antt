@@ -1,4 +1,5 @@
--- A debugger's session: the commands of its script over lockstep boards. This project's own profile.
+-- A debugger's session: the commands of its script over lockstep boards. This project's own
+-- profile.
 use Rattle.std.specs.Prelude.{ℕ, ◌+◌, ◌-◌, List, [], ◌∷◌, ◌++◌, Option, Some, None, zero, suc}
 use Rattle.tape_ports.specs.declared.entry.TapeEntry.{TapeEntry}
 use Rattle.tape_ports.specs.Tape.{TapeValue}
@@ -13,13 +14,13 @@ use Rattle.debug_lines.specs.Statements.{vdis_text}
 use Rattle.debug_script.specs.declared.command.Command.{Command}
 use Rattle.debug_script.specs.declared.command.Command.TheVariants as command
 use Rattle.debug_script.specs.Breakpoints.{StopsValue, stops_after}
-use Rattle.board_debug.specs.declared.found.StopReason.{StopReason}
-use Rattle.board_debug.specs.declared.found.StopReason.TheVariants.{End, Step}
+use Rattle.board_debug.specs.declared.stop_reason.StopReason.{StopReason}
+use Rattle.board_debug.specs.declared.stop_reason.StopReason.TheVariants.{End, Step}
 use Rattle.board_text.specs.BoardText.{devices_text, registers_text}
 use Rattle.board_debug.specs.Looks.{jam_look, look_after, look_before, look_until, stop_text}
 
--- a turn: what is left of the sequence under way, or else one instruction or sequence. A debugger shows no records, and
--- forgets them.
+-- a turn: what is left of the sequence under way, or else one instruction or sequence. A debugger
+-- shows no records, and forgets them.
 unfoldable pub turn_done : List TapeEntry → Board → Board
 turn_done entries b = cleared (turn entries b)
 
@@ -91,7 +92,8 @@ text_at (Some reached) shown = reached_text reached
 abbrev pub command_text : TapeValue → StopsValue → Command → Board → List ℕ
 command_text tape stops command b = text_at (reached_by tape stops command b) (shown_text command b)
 
--- what the commands of a script print, one after another, each over the board and the stops that the one before it left
+-- what the commands of a script print, one after another, each over the board and the stops that
+-- the one before it left
 unfoldable pub session_text : TapeValue → StopsValue → List Command → Board → List ℕ
 session_text tape stops [] b = []
 session_text tape stops (command ∷ commands) b =

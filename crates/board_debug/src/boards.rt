@@ -82,7 +82,8 @@ fn write_each<M: Machine, O: Sink>(
     ensures loan { loan_of synced.new ≡ loan_of synced.old }
     ensures same { run_start keys.new.kept (value_of synced.new).board ≡ run_start keys.old.kept (value_of synced.old).board }
     ensures along { Along keys.new.kept tape.now.entries (run_start keys.new.kept (value_of synced.new).board) }
-    // where there is room for all of them, no more clocks than from the start to the last, in whatever order they are asked for
+    // where there is room for all of them, no more clocks than from the start to the last, in
+    // whatever order they are asked for
     ensures done { HasRoom keys.old (length clocks.now) → (most : ℕ) → All (λ clock. clock ≤ most) clocks.now
         → (value_of synced.new).done ≤ (value_of synced.old).done + (most - (run_start keys.old.kept (value_of synced.old).board).peripherals.clock) }
 {
@@ -96,12 +97,13 @@ fn write_each<M: Machine, O: Sink>(
     Ok(())
 }
 
-/// Writes the texts of the boards of a run at some clocks, in the order in which they are asked for.
+/// Writes the texts of the boards of a run at some clocks, in the order in which they are asked
+/// for.
 ///
-/// The run begins at the first kept board, and below its clock that board is shown. The boards are first
-/// kept from the least clock to the greatest, in one run, and then written in the asked order. Where there
-/// is no room for all of them, a board is run to from the last kept one at or below its clock. It takes no
-/// memory. After a fault of `out` a first part of the text was taken.
+/// The run begins at the first kept board, and below its clock that board is shown. The boards are
+/// first kept from the least clock to the greatest, in one run, and then written in the asked
+/// order. Where there is no room for all of them, a board is run to from the last kept one at or
+/// below its clock. It takes no memory. After a fault of `out` a first part of the text was taken.
 pub fn write_boards<V: VectorUnit, P: SoundUnit, C: CellUnit, D: DividerUnit, O: Sink>(
     engine: &mut Engine<V, P, C, D>,
     keys: &mut Keyframes,
@@ -119,7 +121,8 @@ pub fn write_boards<V: VectorUnit, P: SoundUnit, C: CellUnit, D: DividerUnit, O:
     ensures empty { HasNoRecords engine.new.board }
     ensures same { run_start keys.new.kept engine.new.board ≡ run_start keys.old.kept engine.old.board }
     ensures along { Along keys.new.kept tape.now.entries (run_start keys.new.kept engine.new.board) }
-    // where there is room for all of them, no more clocks than from the start to the last, in whatever order they are asked for
+    // where there is room for all of them, no more clocks than from the start to the last, in
+    // whatever order they are asked for
     ensures done { HasRoom keys.old (length clocks.now) → (most : ℕ) → All (λ clock. clock ≤ most) clocks.now
         → engine.new.done ≤ engine.old.done + (most - (run_start keys.old.kept engine.old.board).peripherals.clock) }
 {

@@ -4,7 +4,7 @@ ghost use Rattle.lockstep_board.specs.Lockstep as lockstep;
 ghost use Rattle.run_windows.specs.SyncedMachine.{value_of};
 ghost use Rattle.board_debug.specs.Looks.{IsBefore, break_look, jam_look, look_after, look_before, look_until, vg_look, watch_look, watched_byte};
 
-use crate::found::StopReason;
+use crate::stop_reason::StopReason;
 use arrayvec::ArrayVec;
 use catchup_engine::Machine;
 use debug_script::{Breakpoints, STOPS};
@@ -133,8 +133,8 @@ impl Before {
     }
 }
 
-/// What `go` looks at after a turn, in order: a jam, the tape's END, the breaks, the watches, and the
-/// generator.
+/// What `go` looks at after a turn, in order: a jam, the tape's END, the breaks, the watches, and
+/// the generator.
 pub fn look_after<M: Machine>(
     synced: &SyncedMachine<'_, M>,
     end: u64,

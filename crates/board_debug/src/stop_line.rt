@@ -3,7 +3,7 @@ ghost use Rattle.outside_io.specs.Causes.{HasCause};
 ghost use Rattle.outside_io.specs.Sink.{Takes};
 ghost use Rattle.board_debug.specs.Looks.{stop_text};
 
-use crate::found::StopReason;
+use crate::stop_reason::StopReason;
 use catchup_engine::Machine;
 use outside_io::{Sink, SinkFault};
 use text_line::Line;

@@ -3,8 +3,8 @@ ghost use Rattle.std.specs.Prelude.{◌≡◌, [], false};
 ghost use Rattle.run_windows.specs.SyncedMachine.{loan_of, value_of};
 ghost use Rattle.board_debug.specs.Session.{go_from, step_from, until_from};
 
-use crate::found::StopReason;
 use crate::looks::{Before, look_after, look_at_breaks, look_at_last, look_before, look_until};
+use crate::stop_reason::StopReason;
 use catchup_engine::Machine;
 use debug_script::Breakpoints;
 use run_windows::SyncedMachine;

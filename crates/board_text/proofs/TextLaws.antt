@@ -48,7 +48,7 @@ lines-taken lines k out0 out1 within all before =
     let e : k ≡ length lines = omega arith in
     before ∙ ap (λ taken. grown out0 (concat taken)) (ap (λ n. take n lines) e ∙ take-length lines)
 
--- bytes as two digits each, behind a blank
+-- bytes as two digits each, after a blank
 pub spaced : List ℕ → List ℕ
 spaced bytes = flat_map (λ byte. 32 ∷ hex_byte byte) bytes
 
@@ -88,7 +88,7 @@ spaced-line first second bytes k now within all before =
     ∙ ap (λ l. first ++ (32 ∷ l)) (sym (joined second bytes))
     )
 
--- words said one after another, each behind a blank
+-- words said one after another, each after a blank
 unfoldable pub spoken : List ℕ → List (List ℕ) → List ℕ
 spoken start [] = start
 spoken start (word ∷ words) = spoken (start ++ 32 ∷ word) words

@@ -1,5 +1,6 @@
--- The text of a board, which is this project's own: a line for the clock, the processor, its jam, its place inside a sequence,
--- the ports, and each device. HH below are hexadecimal digits, other numbers are decimal, and truth values are 0 and 1.
+-- The text of a board, which is this project's own: a line for the clock, the processor, its jam,
+-- its place inside a sequence, the ports, and each device. HH below are hexadecimal digits, other
+-- numbers are decimal, and truth values are 0 and 1.
 use Rattle.std.specs.Prelude.{ℕ, ◌++◌, List, [], ◌∷◌, Option, Some, None, codes, decimal, map, take, slice_index}
 use Rattle.std.specs.Fmt.{signed_decimal}
 use Rattle.std.specs.Int.{from_bool}
@@ -69,7 +70,8 @@ vg_text v =
 unfoldable pub beam_text : VgValue → List ℕ
 beam_text v = line (codes "beam" ∷ signed_decimal v.x ∷ signed_decimal v.y ∷ [])
 
--- pk1 or pk2, audf HH HH HH HH audc HH HH HH HH audctl HH skctl HH irqen N irqst N random HH; the last is what register A, RANDOM, reads
+-- pk1 or pk2, audf HH HH HH HH audc HH HH HH HH audctl HH skctl HH irqen N irqst N random HH; the
+-- last is what register A, RANDOM, reads
 unfoldable pub pokey_text : List ℕ → PokeyValue → List ℕ
 pokey_text name p =
     line (name ∷ codes "audf" ∷ hex_byte (slice_index p.audf 0) ∷ hex_byte (slice_index p.audf 1) ∷ hex_byte (slice_index p.audf 2) ∷ hex_byte (slice_index p.audf 3)

@@ -1,4 +1,5 @@
--- A profile: the routines that are under way, and the counts of each address. It is this project's own.
+-- A profile: the routines that are under way, and the counts of each address. It is this project's
+-- own.
 use Rattle.std.specs.Prelude.{◌≡◌, ℕ, ◌+◌, ◌-◌, ◌<◌, ◌≤◌, ◌^◌, ◌==◌, List, [], ◌∷◌, ◌++◌, length, take, drop, nat_lt, slice_index_or, slice_set, if◌then◌else◌}
 use Rattle.std.specs.List.{sum_by}
 use Rattle.catchup_engine.specs.Trace.{TraceValue}
@@ -10,7 +11,8 @@ use Rattle.cycle_profile.specs.Charge.{device_accesses}
 use Rattle.cycle_profile.specs.Counts.{more_entered, more_taken, no_counts, raised}
 use Rattle.cycle_profile.specs.Turns.{turn_of}
 
--- the addresses of the routines under way, the counts of each address, and the clocks of all sequences
+-- the addresses of the routines under way, the counts of each address, and the clocks of all
+-- sequences
 pub record ProfileValue : Type 0 where
   pub routines : List ℕ
   pub counts : List Counts
@@ -49,7 +51,7 @@ charged p clocks accesses = record p {
   clocks = raised p.clocks clocks;
 }
 
--- the list after a turn, of which `pc` is the program counter behind it
+-- the list after a turn, of which `pc` is the program counter after it
 abbrev pub turned : Turn → ℕ → List ℕ → List ℕ
 turned Call pc routines = newest (routines ++ pc ∷ [])
 turned Return pc routines = returned routines
@@ -67,7 +69,8 @@ entered Stay pc counts = counts
 abbrev pub after_turn : Turn → ℕ → ProfileValue → ProfileValue
 after_turn turn pc p = record p { routines = turned turn pc p.routines; counts = entered turn pc p.counts }
 
--- the profile after a sequence, behind which the program counter is `pc`; a trace of no access is of no sequence
+-- the profile after a sequence, after which the program counter is `pc`; a trace of no access is
+-- of no sequence
 unfoldable pub after : ProfileValue → TraceValue → ℕ → ProfileValue
 after p trace pc =
     if trace.count == 0 then p else after_turn (turn_of trace.sequence trace.opcode) pc (charged p trace.count (device_accesses trace))

@@ -1,4 +1,5 @@
--- What a sequence does to the list of routines (MCS6500 Programming Manual, its subroutines and interrupts).
+-- What a sequence does to the list of routines (MCS6500 Programming Manual, its subroutines and
+-- interrupts).
 use Rattle.std.specs.Prelude.{ℕ, Option, Some, None}
 use Rattle.board_base.specs.declared.cpu.Sequence.{Sequence}
 use Rattle.board_base.specs.declared.cpu.Sequence.TheVariants as sequence

@@ -12,8 +12,8 @@ pub fn profile_numbers()
     ensures longest_list { LONGEST_LIST ≡ 128 }
 {}
 
-/// The clocks of all addresses add up to those of all sequences, at first and after each sequence, as
-/// long as these stand below the end of a count.
+/// The clocks of all addresses add up to those of all sequences, at first and after each sequence,
+/// as long as these stand below the end of a count.
 pub fn clocks_add_up()
     ensures first { (pc : ℕ) → AddsUp (record { routines = pc ∷ []; counts = replicate ADDRESSES no_counts; clocks = 0 }) }
     ensures next { (p : ProfileValue) → (trace : TraceValue) → (pc : ℕ) → KeepsTheSum p trace pc }

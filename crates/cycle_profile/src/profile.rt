@@ -46,8 +46,8 @@ impl Profile {
     ghost use Rattle.cycle_profile.specs.Profile.{after, after_turn, changed, charged, last_of, newest, returned};
     ghost use Rattle.cycle_profile.specs.Text.{profile_text};
 
-    /// A profile of no sequence, which has the routine at this address alone. It takes the memory of
-    /// the whole table.
+    /// A profile of no sequence, which has the routine at this address alone. It takes the memory
+    /// of the whole table.
     pub fn new(alloc: Global, pc: u16) -> Result<Profile, OutOfMemory>
         ensures { IfOk result (λ p. p ≡ record { routines = pc ∷ []; counts = replicate ADDRESSES no_counts; clocks = 0 }) }
     {
@@ -61,10 +61,10 @@ impl Profile {
         })
     }
 
-    /// Charges the sequence of the trace to the last routine of the list, and changes the list: JSR,
-    /// BRK and an interrupt add the address `pc` behind the sequence, of at most 128 the newest are
-    /// kept, RTS and RTI take the last one away where there are more, and a reset leaves `pc` alone.
-    /// A trace of no access changes nothing.
+    /// Charges the sequence of the trace to the last routine of the list, and changes the list:
+    /// JSR, BRK and an interrupt add the address `pc` after the sequence, of at most 128 the
+    /// newest are kept, RTS and RTI take the last one away where there are more, and a reset leaves
+    /// `pc` alone. A trace of no access changes nothing.
     pub fn take(&mut self, trace: &Trace, pc: u16)
         ensures { self.new ≡ after self.old trace.now pc }
     {

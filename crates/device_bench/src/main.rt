@@ -2,8 +2,8 @@
 //!
 //! With no word on the command line it does a small fixed amount of work and prints sums, which are
 //! the same on every machine, and whether boards of fast devices do what boards of plain ones do.
-//! With a number it does that many clocks of each kind, and prints speeds and ratios, by the processor
-//! time that they took. With `pairs FROM TO` it compares the boards of more seeds.
+//! With a number it does that many clocks of each kind, and prints speeds and ratios, by the
+//! processor time that they took. With `pairs FROM TO` it compares the boards of more seeds.
 #![tactic(auto)]
 
 mod busy;

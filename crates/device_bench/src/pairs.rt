@@ -10,12 +10,12 @@ use crate::plays::PLAYS;
 use crate::programs::Draws;
 use avg_device::{FastVg, PlainVg};
 use board_base::{BoardState, CLOCK_LIMIT};
-use run_windows::Until;
 use catchup_engine::{Devices, Engine};
 use earom_cells::Earom;
 use irq_watchdog::Divider;
 use pokey_chip::{FastPokey, PlainPokey};
 use rom_image::Image;
+use run_windows::Until;
 use std::alloc::Global;
 use std::io;
 use tape_ports::Tape;
@@ -75,8 +75,8 @@ fn are_alike(fast: &Fast, plain: &Plain) -> bool
         && made.board.records() == meant.board.records()
 }
 
-/// Forgets what both have made, and runs them to a clock, or to a boundary, or to the end of a window;
-/// whether they are equal then, with the same records.
+/// Forgets what both have made, and runs them to a clock, or to a boundary, or to the end of a
+/// window; whether they are equal then, with the same records.
 fn run_both(fast: &mut Fast, plain: &mut Plain, tape: &Tape, until: Until) -> bool
     requires limit { clock_in until ≤ CLOCK_LIMIT }
 {
@@ -106,8 +106,8 @@ fn board_at(alloc: Global, image: &Image, tape: &Tape, course: Course) -> Result
     Ok(board)
 }
 
-/// Runs a board on both kinds of devices, by boundaries and by clocks in turn; whether they are alike
-/// after each part, up to the end.
+/// Runs a board on both kinds of devices, by boundaries and by clocks in turn; whether they are
+/// alike after each part, up to the end.
 fn is_same(alloc: Global, image: &Image, tape: &Tape, course: Course) -> Result<bool, Fault> {
     let board = board_at(alloc, image, tape, course)?;
     let mut fast = Engine::new(alloc, image, &board, Devices::fast(), course.wired)?;

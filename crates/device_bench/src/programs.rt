@@ -21,8 +21,8 @@ const RAM_COUNTING: [u8; 5] = [0xE6, 0x10, 0x4C, 0x00, 0x90];
 
 /// Puts a jump to the vector ROM into the vector RAM, sets both POKEYs to play, and lets interrupts
 /// come. Then it clears the watchdog until the generator is halted, starts it again, takes new
-/// periods from RANDOM, counts a byte of the RAM, and writes the output latch; and again. The handler
-/// acknowledges the interrupt and takes AUDC3 of POKEY 1 from IN3.
+/// periods from RANDOM, counts a byte of the RAM, and writes the output latch; and again. The
+/// handler acknowledges the interrupt and takes AUDC3 of POKEY 1 from IN3.
 const SOAK: [u8; 73] = [
     0xD8, 0xA2, 0xFF, 0x9A, 0xA9, 0xE4, 0x8D, 0x01, 0x20, 0xA9, 0x03, 0x8D, 0x0F, 0x60, 0x8D, 0x0F,
     0x68, 0xA9, 0xA6, 0x8D, 0x01, 0x60, 0x8D, 0x03, 0x68, 0x58, 0x8D, 0x80, 0x89, 0xAD, 0x00, 0x78,
@@ -48,8 +48,8 @@ const HALT: u16 = 0x2000;
 pub enum Program {
     /// Counts in its registers alone.
     CountingLoop,
-    /// The soak workload: a picture of 300 short vectors drawn again and again, two POKEYs that play,
-    /// and a handler of interrupts.
+    /// The soak workload: a picture of 300 short vectors drawn again and again, two POKEYs that
+    /// play, and a handler of interrupts.
     Soak,
     /// Counts a byte of the RAM, with the generator halted and the POKEYs at rest.
     RamLoop,

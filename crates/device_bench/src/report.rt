@@ -10,12 +10,12 @@ use bench_work::{
     BoardTally, Form, ROUND_CLOCKS, Report, SLICE, Tally, Tune, long_vectors, short_vectors,
 };
 use board_base::{BoardState, CLOCK_LIMIT, CpuState, VectorMemory};
-use run_windows::SyncedMachine;
 use catchup_engine::{Devices, Engine};
 use earom_cells::Earom;
 use irq_watchdog::Divider;
 use pokey_chip::{FastPokey, PlainPokey, SoundUnit};
 use rom_image::Image;
+use run_windows::SyncedMachine;
 use std::alloc::Global;
 use std::io;
 use std::time::CpuClock;

@@ -83,13 +83,14 @@ is_in marks k stroke = is_above (first_mark marks k) (clock_of stroke) && is_up_
 and-no : (a b : Bool) → a ≡ false → a && b ≡ false
 and-no a b fail = rw fail refl
 
--- a stroke above a mark is in a frame behind it exactly where it is in that frame of the marks that are left
+-- a stroke above a mark is in a frame after it exactly where it is in that frame of the marks that
+-- are left
 same-later : (marks : List ℕ) (mark k : ℕ) (stroke : Record) → mark < clock_of stroke → is_in (mark ∷ marks) (suc k) stroke ≡ is_in marks k stroke
 same-later marks mark zero stroke high = rw (lt-ltb mark (clock_of stroke) high) refl
 same-later marks mark (suc k) stroke high = refl
 
--- the strokes of frame 0, and those of a later one, which are those of the frame before it among the strokes and marks that
--- are left
+-- the strokes of frame 0, and those of a later one, which are those of the frame before it among
+-- the strokes and marks that are left
 abbrev up_to : ℕ → List Record → List Record
 up_to mark strokes = take (through mark strokes) strokes
 
@@ -121,7 +122,7 @@ strokes-later mark marks strokes split k rises within =
     filter-same p (is_in marks k) (above mark strokes) (λ i d inside. same-later marks mark k (get_or (above mark strokes) i d) (split.after i d inside)) in
     parts p mark strokes ∙ ap (λ l. l ++ filter p (above mark strokes)) none ∙ same
 
--- frame k behind frame n
+-- frame k after frame n
 abbrev frame_from : ℕ → ℕ → List Record → List ℕ → ℕ → FrameValue
 frame_from n clock strokes marks k = under_way (begun (n + k) (get_or (clock ∷ marks) k 0)) (map stroke_of (strokes_in strokes marks k))
 

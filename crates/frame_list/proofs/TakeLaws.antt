@@ -71,8 +71,8 @@ pub takes-cut : {T E : Type 0} (out0 out1 : Option (List ℕ)) (text : List ℕ)
 takes-cut out0 out1 text (Ok v) fault cut = cc
 takes-cut out0 out1 text (Err e) fault cut = cut
 
--- of the events from the frame `from` on, those from the frame `now` on are left, and the sink took the lines of the frames
--- that ended
+-- of the events from the frame `from` on, those from the frame `now` on are left, and the sink took
+-- the lines of the frames that ended
 pub record Went (out0 out1 : Option (List ℕ)) (from : FrameValue) (all : List Event) (now : FrameValue) (left : List Event) : Type 0 where
   pub sent : List ℕ
   pub taken : out1 ≡ grown out0 sent

@@ -60,7 +60,7 @@ each_stroke_in_one_frame frame strokes (mark ∷ marks) made =
     rw (frames-mark frame first mark (by_clock later marks), sum_by-cons (λ (f : FrameValue). f.strokes) last (frames_of next (by_clock later marks)))
     (omega (arith, here, there, whole))
 
--- a first part that passes, and one behind it that doesn't
+-- a first part that passes, and one after it that doesn't
 pub prefix-all : {X : Type 0} (p : X → Bool) (xs ys : List X) → All (λ x. p x ≡ true) xs → prefix_len p (xs ++ ys) ≡ length xs + prefix_len p ys
 prefix-all p [] ys passes = sym (zero-add _)
 prefix-all p (x ∷ xs) ys passes =
@@ -71,7 +71,7 @@ prefix-none p [] [] passes = refl
 prefix-none p [] (y ∷ ys) passes = rw (All-head (λ x. p x ≡ false) y ys passes) refl
 prefix-none p (x ∷ xs) ys passes = ap (λ n. cond (p x) (1 + n) 0) (prefix-none p xs ys passes)
 
--- strokes up to a mark, and behind it
+-- strokes up to a mark, and after it
 pub up_to : (mark : ℕ) (marks : List ℕ) (strokes : List Record) → All (λ stroke. All (λ mark. clock_of stroke ≤ mark) (mark ∷ marks)) strokes
     → All (λ stroke. nat_le (clock_of stroke) mark ≡ true) strokes
 up_to mark marks strokes before k d below = le-leb _ _ (before k d below 0 0 (omega arith))

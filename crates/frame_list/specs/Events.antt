@@ -1,4 +1,5 @@
--- What frames are made of: the strokes of the generator, and the writes that start it. This project's own.
+-- What frames are made of: the strokes of the generator, and the writes that start it. This
+-- project's own.
 use Rattle.std.specs.Prelude.{ℕ, List, [], ◌∷◌, ◌++◌, Bool, true, false, Option, Some, None, map, take, drop, nat_le, ◌&&◌, if◌then◌else◌}
 use Rattle.std.specs.List.{filter_map, prefix_len}
 use Rattle.board_base.specs.declared.record.Record.{Record}

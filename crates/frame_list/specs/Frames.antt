@@ -56,7 +56,8 @@ bounds_words (Some bounds) =
     signed_decimal bounds.least.x ∷ signed_decimal bounds.least.y ∷ signed_decimal bounds.greatest.x
     ∷ signed_decimal bounds.greatest.y ∷ []
 
--- the line of a frame: its number, its mark, the number of its strokes, and its bounds where it has any
+-- the line of a frame: its number, its mark, the number of its strokes, and its bounds where it has
+-- any
 unfoldable pub frame_text : FrameValue → List ℕ
 frame_text frame =
     line (codes "F" ∷ decimal frame.number ∷ decimal frame.mark ∷ decimal frame.strokes ∷ bounds_words frame.bounds)
@@ -69,26 +70,28 @@ frames_text frames = flat_map frame_text frames
 abbrev pub frames_of : FrameValue → List Event → List FrameValue
 frames_of frame events = ended frame events ++ under_way frame events ∷ []
 
--- Each stroke is in exactly one frame: the numbers of strokes of all frames add up to the strokes, and those that the first
--- frame had before.
+-- Each stroke is in exactly one frame: the numbers of strokes of all frames add up to the strokes,
+-- and those that the first frame had before.
 abbrev pub EachStrokeInOneFrame : FrameValue → List Record → List ℕ → Type 0
 EachStrokeInOneFrame frame strokes marks =
     All (Makes Generator) strokes
     → sum_by (λ f. f.strokes) (frames_of frame (by_clock strokes marks)) ≡ frame.strokes + length strokes
 
--- no mark of a first part stands behind a stroke of the rest, and no stroke of it behind a mark of the rest
+-- no mark of a first part comes after a stroke of the rest, and no stroke of it after a mark of
+-- the rest
 pub record IsBefore (strokes1 : List Record) (marks1 : List ℕ) (strokes2 : List Record) (marks2 : List ℕ) : Type 0 where
   pub marks : All (λ mark. All (λ stroke. mark < clock_of stroke) strokes2) marks1
   pub strokes : All (λ stroke. All (λ mark. clock_of stroke ≤ mark) marks2) strokes1
 
--- a first part and then the rest make the frames of the whole: the same frame is under way, and the same lines come out
+-- a first part and then the rest make the frames of the whole: the same frame is under way, and the
+-- same lines come out
 pub record MakeTheWhole (start : FrameValue) (first rest whole : List Event) : Type 0 where
   pub frame : under_way start whole ≡ under_way (under_way start first) rest
   pub text : frames_text (ended start whole)
       ≡ frames_text (ended start first) ++ frames_text (ended (under_way start first) rest)
 
--- Strokes and marks may be taken in parts. A stroke may come later than the marks around it, as long as no mark before it
--- that was taken has its own clock or a later one.
+-- Strokes and marks may be taken in parts. A stroke may come later than the marks around it, as
+-- long as no mark before it that was taken has its own clock or a later one.
 abbrev pub PartsMakeTheWhole : FrameValue → List Record → List ℕ → List Record → List ℕ → Type 0
 PartsMakeTheWhole frame strokes1 marks1 strokes2 marks2 =
     IsBefore strokes1 marks1 strokes2 marks2

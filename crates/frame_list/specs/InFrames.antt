@@ -7,7 +7,8 @@ use Rattle.board_base.specs.Records.{clock_of}
 use Rattle.frame_list.specs.Events.{stroke_of, by_clock}
 use Rattle.frame_list.specs.Frames.{FrameValue, begun, under_way, frames_of}
 
--- the write that begins a frame, which frame 0 doesn't have, and the one that ends it, which the last frame doesn't have
+-- the write that begins a frame, which frame 0 doesn't have, and the one that ends it, which the
+-- last frame doesn't have
 abbrev pub first_mark : List ℕ → ℕ → Option ℕ
 first_mark marks zero = None
 first_mark marks (suc k) = slice_get marks k
@@ -30,12 +31,13 @@ abbrev pub strokes_in : List Record → List ℕ → ℕ → List Record
 strokes_in strokes marks k =
     filter (λ stroke. is_above (first_mark marks k) (clock_of stroke) && is_up_to (last_mark marks k) (clock_of stroke)) strokes
 
--- frame k: it begins at its mark, frame 0 at the first clock, and counts its strokes and their bounds
+-- frame k: it begins at its mark, frame 0 at the first clock, and counts its strokes and their
+-- bounds
 abbrev pub frame_at : ℕ → List Record → List ℕ → ℕ → FrameValue
 frame_at clock strokes marks k = under_way (begun k (get_or (clock ∷ marks) k 0)) (map stroke_of (strokes_in strokes marks k))
 
--- Where neither the clocks of the strokes nor the marks fall, there is a frame more than there are marks, and each has its
--- own strokes.
+-- Where neither the clocks of the strokes nor the marks fall, there is a frame more than there are
+-- marks, and each has its own strokes.
 abbrev pub EachFrameHasItsStrokes : ℕ → List Record → List ℕ → Type 0
 EachFrameHasItsStrokes clock strokes marks =
     IsNonDecreasingBy clock_of strokes → IsNonDecreasing marks

@@ -74,7 +74,7 @@ fn count_through(clock: u64, strokes: &[Record]) -> usize
         .count()
 }
 
-/// Puts the four numbers of the bounds behind a line.
+/// Appends the four numbers of the bounds to a line.
 fn put_bounds(line: Line, bounds: Bounds) -> Line
     requires { length line + 48 ≤ LONGEST }
     ensures text { result ≡ line ++ 32 ∷ signed_decimal bounds.least.x ++ 32 ∷ signed_decimal bounds.least.y ++ 32 ∷ signed_decimal bounds.greatest.x ++ 32 ∷ signed_decimal bounds.greatest.y }
@@ -122,8 +122,8 @@ impl Frames {
         self.take_marks(&marks, trails, out)
     }
 
-    /// Does what `take` does, by the clocks of the writes that start the generator, of which there are
-    /// seven at most.
+    /// Does what `take` does, by the clocks of the writes that start the generator, of which there
+    /// are seven at most.
     pub fn take_marks<O: Sink>(
         &mut self,
         marks: &[u64],

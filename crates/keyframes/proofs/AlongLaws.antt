@@ -1,24 +1,22 @@
--- Boards kept along a run, and the run's windows.
-use Rattle.std.proofs.Common.{◌≡◌, ◌≢◌, ℕ, ◌+◌, ◌-◌, ◌<◌, ◌≤◌, ◌&&◌, ◌||◌, nat_le, is_some, is_none, Bool, true, false, List, [], ◌∷◌, ◌++◌, Option, length, get_or, take, drop, take-append-drop, zero, suc, refl, sym, ap, ◌∙◌, arith}
+-- Boards kept along a run, and the run's parts.
+use Rattle.std.proofs.Common.{◌≡◌, ℕ, ◌+◌, ◌-◌, ◌<◌, ◌≤◌, ◌||◌, nat_le, is_some, true, false, List, [], ◌∷◌, ◌++◌, Option, Some, None, length, get_or, take, drop, take-append-drop, zero, suc, refl, sym, ap, ◌∙◌, subst, arith}
 use Rattle.std.proofs.lemmas.Bool.Decides.{nat_tests}
 use Rattle.std.proofs.Math.Seq.{drop-append_seam}
 use Rattle.std.proofs.lemmas.List.{append_cancel_left}
 use Rattle.board_base.specs.declared.vector_memory.TheConstants.{VECTOR_RAM_LEN}
 use Rattle.board_base.specs.Board.{BoardValue}
 use Rattle.tape_ports.specs.declared.entry.TapeEntry.{TapeEntry}
-use Rattle.lockstep_board.specs.declared.stop.Stop.TheVariants.{Window}
 use Rattle.lockstep_board.specs.Order.{cleared, records_of}
 use Rattle.lockstep_board.specs.Lockstep.{Board, step}
-use Rattle.lockstep_board.specs.Run.{cause_of, cut_steps, is_at, is_cut, stepped, to_clock, to_cut}
+use Rattle.lockstep_board.specs.Run.{clock_steps, is_at, stepped, to_clock}
 use Rattle.lockstep_board.specs.Steps.{StepsTo}
 use Rattle.lockstep_board.proofs.Behind.{behind-cleared, to_clock-behind}
 use Rattle.lockstep_board.proofs.Clocks.{step-clock, stepped-clock}
-use Rattle.lockstep_board.proofs.Ended.{at-stop}
-use Rattle.lockstep_board.proofs.Ends.{to_clock-cut, to_clock-split}
+use Rattle.lockstep_board.proofs.Ends.{to_clock-ended, to_clock-split}
 use Rattle.lockstep_board.proofs.Runs.{steps-none, steps-reached, steps_until-is}
 use Rattle.keyframes.specs.Keys.{Keyframe}
 use Rattle.keyframes.specs.Seeking.{Along, IsOnRun, over_image, run_start, state_of}
-use Rattle.keyframes.proofs.ImageLaws.{Image, clock-image, cut-image, image_of}
+use Rattle.keyframes.proofs.ImageLaws.{Image, clock-image, image_of}
 
 -- a state over an image
 abbrev laid : BoardValue → Image → Board
@@ -65,7 +63,7 @@ start-image e state whole =
     ap (λ (rom : List ℕ). let image : Image = record { wired = e.peripherals.wired; program = e.peripherals.program; rom = rom } in image)
     (rom-behind VECTOR_RAM_LEN state.vram (drop VECTOR_RAM_LEN e.peripherals.memory) (ap (λ (s : BoardValue). s.vram) whole))
 
--- the vector ROM stands behind the whole vector RAM
+-- the vector ROM follows the whole vector RAM
 pub rom-after : (n : ℕ) (ram rom : List ℕ) → length ram ≡ n → drop n (ram ++ rom) ≡ rom
 rom-after n ram rom whole = ap (λ k. drop k (ram ++ rom)) (sym whole) ∙ drop-append_seam ram rom
 
@@ -118,61 +116,68 @@ clock-none entries cut b over = ap (λ n. stepped entries n b) (steps-none entri
 pub clock-past : (entries : List TapeEntry) (cut : ℕ) (b : Board) → cut ≤ b.peripherals.clock → to_clock entries cut b ≡ b
 clock-past entries cut b past = clock-none entries cut b (not-before b.cpu.jam cut b.peripherals.clock past)
 
-not-at : (jam : Option ℕ) (boundary : Bool) (cut wrap until clock : ℕ)
-    → is_some jam || (nat_le cut clock || (boundary && nat_le wrap clock)) ≡ false → clock < until → is_some jam || nat_le until clock ≡ false
-not-at jam boundary cut wrap until clock e h = grind (arith, nat_tests)
+not-at : (jam : Option ℕ) (cut until clock : ℕ) → is_some jam || nat_le cut clock ≡ false → clock < until → is_some jam || nat_le until clock ≡ false
+not-at jam cut until clock e h = grind (arith, nat_tests)
 
-reached-at : (entries : List TapeEntry) (cut wrap until n : ℕ) (b last : Board) → StepsTo entries (is_cut cut wrap) n b last → b.peripherals.clock + n ≤ until
+reached-at : (entries : List TapeEntry) (cut until n : ℕ) (b last : Board) → StepsTo entries (is_at cut) n b last → b.peripherals.clock + n ≤ until
     → StepsTo entries (is_at until) n b last
-reached-at entries cut wrap until zero b last r h = r
-reached-at entries cut wrap until (suc n) b last r h =
+reached-at entries cut until zero b last r h = r
+reached-at entries cut until (suc n) b last r h =
     let one = step-clock entries b in (
-      not-at b.cpu.jam (is_none b.cpu.mid) cut wrap until b.peripherals.clock r.0 (omega arith),
-      reached-at entries cut wrap until n (step entries b) last r.1 (omega (arith, one)),
+      not-at b.cpu.jam cut until b.peripherals.clock r.0 (omega arith),
+      reached-at entries cut until n (step entries b) last r.1 (omega (arith, one)),
     )
 
--- the end of a window is the board of the run at its own clock
-cut-clock : (entries : List TapeEntry) (cut wrap : ℕ) (b : Board)
-    → to_cut entries cut wrap b ≡ to_clock entries (to_cut entries cut wrap b).peripherals.clock b
-unfolding to_cut to_clock
-cut-clock entries cut wrap b =
-    let n = cut_steps entries cut wrap b in
+-- the end of a run to a clock is the board of the run at its own clock
+own-clock : (entries : List TapeEntry) (cut : ℕ) (b : Board) → to_clock entries cut b ≡ to_clock entries (to_clock entries cut b).peripherals.clock b
+unfolding to_clock
+own-clock entries cut b =
+    let n = clock_steps entries cut b in
     let last = stepped entries n b in
     let all = stepped-clock entries n b in
-    let reached = steps-reached entries (is_cut cut wrap) (cut - b.peripherals.clock) b in
+    let reached = steps-reached entries (is_at cut) (cut - b.peripherals.clock) b in
     sym (ap (λ k. stepped entries k b) (steps_until-is entries (is_at last.peripherals.clock) n (last.peripherals.clock - b.peripherals.clock) b last
-    (reached-at entries cut wrap last.peripherals.clock n b last reached (omega (arith, all)))
+    (reached-at entries cut last.peripherals.clock n b last reached (omega (arith, all)))
     (not-before last.cpu.jam last.peripherals.clock last.peripherals.clock (omega arith)) (omega (arith, all))))
 
-pub cut-later : (entries : List TapeEntry) (cut wrap : ℕ) (b : Board) → b.peripherals.clock ≤ (to_cut entries cut wrap b).peripherals.clock
-unfolding to_cut
-cut-later entries cut wrap b = let all = stepped-clock entries (cut_steps entries cut wrap b) b in omega (arith, all)
+clock-later : (entries : List TapeEntry) (cut : ℕ) (b : Board) → b.peripherals.clock ≤ (to_clock entries cut b).peripherals.clock
+unfolding to_clock
+clock-later entries cut b = let all = stepped-clock entries (clock_steps entries cut b) b in omega (arith, all)
 
--- a window more of a run
-module _ (entries : List TapeEntry) (b now then : Board) (cut wrap : ℕ) (is : then ≡ cleared (to_cut entries cut wrap now)) where
-  pub window-on_run : IsOnRun entries b now → IsOnRun entries b then
-  window-on_run on_run =
-      let end = to_cut entries cut wrap now in
-      let clock = end.peripherals.clock in
+-- a run to a clock, as a part of a longer one
+module _ (entries : List TapeEntry) (now then : Board) (cut : ℕ) (is : then ≡ cleared (to_clock entries cut now)) where
+  pub part-on_run : (b : Board) → IsOnRun entries b now → IsOnRun entries b then
+  part-on_run b on_run =
+      let clock = (to_clock entries cut now).peripherals.clock in
       let there = to_clock entries now.peripherals.clock b in
       let same : then.peripherals.clock ≡ clock = ap (λ (c : Board). c.peripherals.clock) is in
-      is ∙ ap cleared (cut-clock entries cut wrap now)
+      is ∙ ap cleared (own-clock entries cut now)
       ∙ ap (λ (c : Board). cleared (to_clock entries clock c)) on_run
       ∙ clock-cleared entries clock there
-      ∙ sym (ap cleared (to_clock-split entries now.peripherals.clock clock b (cut-later entries cut wrap now)))
+      ∙ sym (ap cleared (to_clock-split entries now.peripherals.clock clock b (clock-later entries cut now)))
       ∙ ap (λ n. cleared (to_clock entries n b)) (sym same)
 
-  pub window-rest : cleared (to_clock entries cut then) ≡ cleared (to_clock entries cut now)
-  window-rest =
-      ap (λ (c : Board). cleared (to_clock entries cut c)) is
-      ∙ clock-cleared entries cut (to_cut entries cut wrap now)
-      ∙ sym (ap cleared (to_clock-cut entries cut wrap now))
+  pub part-image : image_of then.peripherals ≡ image_of now.peripherals
+  part-image = ap (λ (c : Board). image_of c.peripherals) is ∙ clock-image entries cut now
 
-  pub window-image : image_of then.peripherals ≡ image_of now.peripherals
-  window-image = ap (λ (c : Board). image_of c.peripherals) is ∙ cut-image entries cut wrap now
+  -- from its end a run to a later clock goes on
+  pub part-rest : (later : ℕ) → cut ≤ later → cleared (to_clock entries later then) ≡ cleared (to_clock entries later now)
+  part-rest later h =
+      ap (λ (c : Board). cleared (to_clock entries later c)) is
+      ∙ clock-cleared entries later (to_clock entries cut now)
+      ∙ sym (ap cleared (to_clock-split entries cut later now h))
 
-  -- the last window ends with the run
-  pub window-last : (first : Board) → (cause_of cut then ≢ Window) → cleared (to_clock entries cut now) ≡ cleared (to_clock entries cut first)
-      → then ≡ cleared (to_clock entries cut first)
-  window-last first not_window rest =
-      is ∙ sym (ap cleared is) ∙ sym (ap cleared (clock-none entries cut then (at-stop then.cpu.jam cut then not_window))) ∙ window-rest ∙ rest
+  -- and it is over at its own clock
+  pub part-ended : is_at cut then ≡ true
+  part-ended = subst (λ (c : Board). is_at cut c ≡ true) (sym is) (to_clock-ended entries cut now)
+
+  -- where the longer one is over too, it is all of it
+  pub part-last : (later : ℕ) (first : Board) → is_at later then ≡ true → cleared (to_clock entries later then) ≡ cleared (to_clock entries later first)
+      → then ≡ cleared (to_clock entries later first)
+  part-last later first over rest = is ∙ sym (ap cleared is) ∙ sym (ap cleared (clock-none entries later then over)) ∙ rest
+
+-- a run that is over at one clock and not at a later one stands between them
+pub between : (jam : Option ℕ) (sooner later clock : ℕ) → is_some jam || nat_le sooner clock ≡ true → is_some jam || nat_le later clock ≡ false
+    → (sooner ≤ clock) × (clock < later)
+between (Some opcode) sooner later clock over open_yet = cc
+between None sooner later clock over open_yet = grind (arith, nat_tests)

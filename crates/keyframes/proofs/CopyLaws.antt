@@ -5,7 +5,7 @@ use Rattle.std.proofs.lemmas.Grind.{flat_map-append}
 use Rattle.std.proofs.lemmas.Slice.{drop-append-drop}
 use Rattle.std.proofs.Math.Seq.{take-append_seam}
 
--- the first n pieces, and what was there behind them
+-- the first n pieces, and what was there after them
 pub record Written (f : ℕ → List ℕ) (pages : List ℕ) (n : ℕ) (old now : List ℕ) : Type 0 where
   pub len : length (flat_map f (take n pages)) ≡ 256 * n
   pub bytes : now ≡ flat_map f (take n pages) ++ drop (256 * n) old

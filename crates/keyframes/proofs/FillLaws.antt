@@ -122,7 +122,7 @@ row-page old pool row place (Some p) bytes held holders kept live is =
       | false ↦ λ none. new-page old pool row place held holders none
     ]) (subst (λ (xs : List ℕ). MatchBool (bytes_eq xs bytes) (place ≡ p) (held_at pool place ≡ None)) (kept p live).1 is)
 
--- a page stays as it is as another one is put behind
+-- a page stays as it is as another one is appended
 old-new_page : (pool : List (Option Holding)) (row : List ℕ) (place k : ℕ) → k < length row → IsNewPage pool row k → IsNewPage pool (row ++ place ∷ []) k
 old-new_page pool row place k h new =
     rw (get_or_append_left row (place ∷ []) 0 k h) (new.0, λ j before same. new.1 j before (sym (get_or_append_left row (place ∷ []) 0 j (omega (arith, h, before))) ∙ same))

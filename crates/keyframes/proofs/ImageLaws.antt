@@ -21,10 +21,10 @@ use Rattle.tape_ports.specs.declared.entry.Port.TheVariants as port
 use Rattle.tape_ports.specs.declared.entry.TapeEntry.{TapeEntry}
 use Rattle.tape_ports.specs.Due.{due_at}
 use Rattle.lockstep_board.specs.Lockstep.{Board, accessed, accessed_by, after_access, at_fetch, begun, sequence_due, step}
-use Rattle.lockstep_board.specs.Run.{clock_steps, cut_steps, stepped, to_clock, to_cut}
+use Rattle.lockstep_board.specs.Run.{clock_steps, stepped, to_clock}
 use Rattle.lockstep_board.specs.Peripherals.{Peripherals, applied, byte_put, devices_ticked, port_set, put_in, reset_begun, reset_by, ticked}
 
--- what a state doesn't tell
+-- what a state doesn't have
 pub record Image : Type 0 where
   pub wired : Bool
   pub program : List ℕ
@@ -49,7 +49,7 @@ ticked-image : (entries : List TapeEntry) (w : Peripherals) → image_of (ticked
 unfolding ticked devices_ticked
 ticked-image entries w = applied-image (due_at w.clock entries) w
 
--- a write reaches the vector RAM and not the vector ROM behind it
+-- a write reaches the vector RAM and not the vector ROM after it
 put_in-image : (put : Writes) (k value : ℕ) (w : Peripherals) → IsWritable put k → image_of (put_in put k value w) ≡ image_of w
 put_in-image writes.VectorRam k value w at =
     ap (λ (rom : List ℕ). let image : Image = record { wired = w.wired; program = w.program; rom = rom } in image) (drop-set-lt VECTOR_RAM_LEN w.memory k value at)
@@ -96,7 +96,3 @@ stepped-image entries (suc n) b = stepped-image entries n (step entries b) ∙ s
 pub clock-image : (entries : List TapeEntry) (cut : ℕ) (b : Board) → image_of (to_clock entries cut b).peripherals ≡ image_of b.peripherals
 unfolding to_clock
 clock-image entries cut b = stepped-image entries (clock_steps entries cut b) b
-
-pub cut-image : (entries : List TapeEntry) (cut wrap : ℕ) (b : Board) → image_of (to_cut entries cut wrap b).peripherals ≡ image_of b.peripherals
-unfolding to_cut
-cut-image entries cut wrap b = stepped-image entries (cut_steps entries cut wrap b) b

@@ -167,7 +167,7 @@ module _ (pool : List (Option Holding)) (frames : List Frame) (holds : HoldsFram
       ],
     )
 
-  -- each page, as the value tells it
+  -- each page, as the value has it
   page-is : (last : Option Frame) → IfSome last (IsFrame pool) → ((k : ℕ) → k < 16 → IsRowPage pool (page_at last k) (page_of b k) pages k) → (k : ℕ) → k < 16
       → MatchOption (option_map (the_keyframe pool) last) (IsFresh (map (the_keyframe pool) frames) pages k)
       (λ before. (page_of b k ≡ page_of before.board k → get_or pages k 0 ≡ get_or before.pages k 0)

@@ -1,5 +1,5 @@
 -- The kept boards when one more is kept, and where a seek begins.
-use Rattle.std.proofs.Common.{◌≡◌, ℕ, ◌-◌, ◌<◌, ◌≤◌, List, [], ◌∷◌, ◌++◌, All, IfSome, length, get_or, take, drop, zero, suc, refl, sym, ap, ◌∙◌, subst, inl, inr, arith}
+use Rattle.std.proofs.Common.{◌≡◌, ℕ, ◌+◌, ◌-◌, ◌^◌, ◌<◌, ◌≤◌, min, List, [], ◌∷◌, ◌++◌, All, IfSome, length, get_or, take, drop, zero, suc, refl, sym, ap, ◌∙◌, subst, inl, inr, arith}
 use Rattle.std.proofs.lemmas.Bool.{cases_lt}
 use Rattle.std.proofs.lemmas.List.Elements.{All-append}
 use Rattle.std.proofs.Math.Seq.{take-append_seam}
@@ -93,9 +93,9 @@ module _ (old roomy new : KeyframesValue) (state : BoardValue) (room : MakesRoom
       last-joined (a ∷ []) = holds
       last-joined (a ∷ b ∷ kept) = last-joined (b ∷ kept)
 
--- over an image a whole state is told as it is
-over_image-told : (e : Board) (state : BoardValue) → IsBoard state → state ≡ state_of (over_image e state)
-over_image-told e state is =
+-- over an image a whole state is as it was
+over_image-whole : (e : Board) (state : BoardValue) → IsBoard state → state ≡ state_of (over_image e state)
+over_image-whole e state is =
     let rom = drop VECTOR_RAM_LEN e.peripherals.memory in
     ap (λ (vram : List ℕ). let again : BoardValue = record state { vram = vram } in again)
     (sym (ap (λ k. take k (state.vram ++ rom)) (sym is.vram) ∙ take-append_seam state.vram rom))
@@ -105,12 +105,12 @@ along-alone : (keyframe : Keyframe) (entries : List TapeEntry) (e : Board) → I
     → Along (keyframe ∷ []) entries (over_image e keyframe.board)
 along-alone keyframe entries e is loadable =
     let b = over_image e keyframe.board in
-    let told = over_image-told e keyframe.board is in
+    let same = over_image-whole e keyframe.board is in
     record {
       some = omega arith;
-      first = λ d. told;
+      first = λ d. same;
       each = all-one (λ k. k.board ≡ state_of (to_clock entries k.board.clock b)) keyframe
-          (told ∙ sym (ap state_of (clock-past entries keyframe.board.clock b (omega arith))));
+          (same ∙ sym (ap state_of (clock-past entries keyframe.board.clock b (omega arith))));
       loadable = all-one (λ k. CanBeLoaded k.board) keyframe loadable;
     }
 
@@ -182,6 +182,29 @@ pub last-clock : (P : ℕ → Type 0) (kept : List Keyframe) (len last : ℕ) �
     → ((d : Keyframe) → last ≡ (get_or kept (len - 1) d).board.clock) → P last → IfSome (last_of kept) (λ keyframe. P keyframe.board.clock)
 last-clock P kept len last is at holds =
     last-at (λ keyframe. P keyframe.board.clock) kept (λ d. subst P (at d ∙ ap (λ n. (get_or kept (n - 1) d).board.clock) is) holds)
+
+-- the clock of the last kept board
+abbrev pub clock_kept : List Keyframe → ℕ
+clock_kept [] = 0
+clock_kept (a ∷ []) = a.board.clock
+clock_kept (a ∷ b ∷ kept) = clock_kept (b ∷ kept)
+
+of-last : (P : ℕ → Type 0) (kept : List Keyframe) → 0 < length kept → IfSome (last_of kept) (λ keyframe. P keyframe.board.clock) → P (clock_kept kept)
+of-last P [] some holds = absurd (omega (arith, some))
+of-last P (a ∷ []) some holds = holds
+of-last P (a ∷ b ∷ kept) some holds = of-last P (b ∷ kept) (omega arith) holds
+
+-- a stride that isn't the last keeps a later board
+pub stride-smaller : (old new : List Keyframe) (clock stride due next at : ℕ) → 0 < length old → 0 < length new → clock < 2 ^ 64 - 1
+    → IfSome (last_of old) (λ last. due ≡ min (last.board.clock + stride) (2 ^ 64 - 1)) → next ≡ min clock due
+    → IfSome (last_of new) (λ last. at < last.board.clock + stride) → (next ≤ at) × (at < clock)
+    → clock - clock_kept new < clock - clock_kept old
+stride-smaller old new clock stride due next at some_old some_new low is_due is_next near between =
+    let is : due ≡ min (clock_kept old + stride) (2 ^ 64 - 1) = of-last (λ n. due ≡ min (n + stride) (2 ^ 64 - 1)) old some_old is_due in
+    let most : at < clock_kept new + stride = of-last (λ n. at < n + stride) new some_new near in
+    let from = between.0 in
+    let before = between.1 in
+    omega (arith, is, most, is_next, from, before, low)
 
 -- where a seek begins
 module _ (kept : List Keyframe) (clock index : ℕ) (rising : HaveRisingClocks kept) (within : index < length kept)

@@ -61,6 +61,7 @@ IsRowPage pool (Some before) bytes row k =
 abbrev pub page_at : Option Frame → ℕ → Option ℕ
 page_at frame k = option_map (λ frame. get_or frame.pages.items k 0) frame
 
--- how many of the first n pages of a board are taken, where equal ones are shared with those of a frame
+-- how many of the first n pages of a board are taken, where equal ones are shared with those of a
+-- frame
 abbrev pub row_taken : List (Option Holding) → Option Frame → BoardValue → ℕ → ℕ
 row_taken pool frame b n = sum_by (λ k. taken_for pool (page_at frame k) (page_of b k)) (range_with_len 0 n)

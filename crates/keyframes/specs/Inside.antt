@@ -30,7 +30,8 @@ keys_view inside = keys_of inside.store inside.limit
 abbrev pub AreRising : List Frame → Type 0
 AreRising frames = (i j : ℕ) (d : Frame) → i < j → j < length frames → (get_or frames i d).rest.clock < (get_or frames j d).rest.clock
 
--- the frames have rising clocks and hold all live pages, and there is memory for as many as the limit
+-- the frames have rising clocks and hold all live pages, and there is memory for as many as the
+-- limit
 pub record IsStore (store : Store) (limit : ℕ) : Type 0 where
   pub pages : PAGES_MIN ≤ length store.pool
   pub least : FRAMES_MIN ≤ limit

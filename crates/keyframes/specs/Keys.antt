@@ -61,7 +61,8 @@ abbrev pub IsFresh : List Keyframe → List ℕ → ℕ → Type 0
 IsFresh kept pages k = (list_any (eqb (get_or pages k 0)) (places_of kept) ≡ false)
     × ((j : ℕ) → j < BOARD_PAGES → j ≢ k → get_or pages j 0 ≢ get_or pages k 0)
 
--- a page that is equal to the one at its place of the board before is shared with it, and any other is at a fresh place
+-- a page that is equal to the one at its place of the board before is shared with it, and any other
+-- is at a fresh place
 abbrev pub IsPageOf : List Keyframe → BoardValue → List ℕ → ℕ → Type 0
 IsPageOf kept b pages k = MatchOption (last_of kept) (IsFresh kept pages k)
     (λ before. (page_of b k ≡ page_of before.board k → get_or pages k 0 ≡ get_or before.pages k 0)
@@ -72,7 +73,8 @@ abbrev pub pages_taken : Option Keyframe → BoardValue → ℕ
 pages_taken None b = BOARD_PAGES
 pages_taken (Some before) b = count_by (λ k. not (bytes_eq (page_of before.board k) (page_of b k))) (range_with_len 0 BOARD_PAGES)
 
--- the board is kept as the last, and as many pages more are live as differ from those of the board before
+-- the board is kept as the last, and as many pages more are live as differ from those of the board
+-- before
 pub record Keeps (old new : KeyframesValue) (b : BoardValue) : Type 0 where
   pub pages : List ℕ
   pub kept : new ≡ record old { kept = old.kept ++ (record { board = b; pages = pages }) ∷ [] }

@@ -24,13 +24,14 @@ abbrev pub run_start : List Keyframe → Board → Board
 run_start [] e = e
 run_start (first ∷ rest) e = over_image e first.board
 
--- an engine can take the state on: its jam opcode is undocumented, and it stands at a place of a sequence or between two
+-- an engine can take the state on: its jam opcode is undocumented, and it stands at a place of a
+-- sequence or between two
 pub record CanBeLoaded (state : BoardValue) : Type 0 where
   pub undocumented : IfSome state.cpu.jam (λ o. row_of o ≡ None)
   pub place : IfSome state.cpu.mid (λ _. IsMiddle state.cpu)
 
--- the kept boards lie along the run that begins at b: the first is b, each is the run's board at its own clock, and an
--- engine can take each on
+-- the kept boards lie along the run that begins at b: the first is b, each is the run's board at
+-- its own clock, and an engine can take each on
 pub record Along (kept : List Keyframe) (entries : List TapeEntry) (b : Board) : Type 0 where
   pub some : 0 < length kept
   pub first : (d : Keyframe) → (get_or kept 0 d).board ≡ state_of b

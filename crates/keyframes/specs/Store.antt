@@ -14,7 +14,8 @@ use Rattle.keyframes.specs.Holders.{AreHeld, IsRowPage, holders_of, page_at, tim
 abbrev pub frame_places : List Frame → List ℕ
 frame_places frames = flat_map (λ frame. frame.pages.items) frames
 
--- the pages of these frames are live, and no others, and each has just the holders that the frames are
+-- the pages of these frames are live, and no others, and each has just the holders that the frames
+-- are
 pub record HoldsFrames (pool : List (Option Holding)) (frames : List Frame) : Type 0 where
   pub held : AreHeld pool
   pub holders : (place : ℕ) → holders_of pool place ≡ times_in (frame_places frames) place
@@ -37,7 +38,8 @@ pub record IsFrame (pool : List (Option Holding)) (frame : Frame) : Type 0 where
   pub live : All (IsLive pool) frame.pages.items
   pub whole : All (λ place. length (page_bytes pool place) ≡ PAGE_LEN) frame.pages.items
 
--- a frame of the board stands behind the others, with pages that it shares with the last of them where they are equal
+-- a frame of the board comes after the others, with pages that it shares with the last of them
+-- where they are equal
 pub record IsKept (before : List (Option Holding)) (old : List Frame) (pool : List (Option Holding)) (b : BoardValue) (new : List Frame) : Type 0 where
   pub frame : Frame
   pub joined : new ≡ old ++ frame ∷ []

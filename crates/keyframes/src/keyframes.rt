@@ -35,8 +35,8 @@ impl Model for Keyframes {
 }
 
 impl Keyframes {
-    /// No board, with the memory for up to `frames` of them, 2 to `FRAMES_LIMIT`, in `pages` pages, 32
-    /// to `POOL_LIMIT`.
+    /// No board, with the memory for up to `frames` of them, 2 to `FRAMES_LIMIT`, in `pages` pages,
+    /// 32 to `POOL_LIMIT`.
     pub fn new(alloc: Global, pages: u32, frames: u32) -> Result<Keyframes, OutOfMemory>
         requires pages { PAGES_MIN ≤ pages }
         requires pages_limit { pages ≤ POOL_LIMIT }
@@ -51,8 +51,8 @@ impl Keyframes {
         })
     }
 
-    /// Keeps a board, whose clock is past that of the last one. Where there may be too few pages or no
-    /// room, every second board is dropped before, as often as it takes.
+    /// Keeps a board, whose clock is past that of the last one. Where there may be too few pages or
+    /// no room, every second board is dropped before, as often as it takes.
     pub fn keep(&mut self, state: &BoardState)
         requires later { IfSome (last_of self.old.kept) (λ last. last.board.clock < state.now.clock) }
         ensures { (roomy : KeyframesValue) × MakesRoom self.old roomy × Keeps roomy self.new state.now }
@@ -61,8 +61,8 @@ impl Keyframes {
         self.store.keep(state);
     }
 
-    /// The last kept board whose clock isn't above this one; none where there is none. The clocks of the
-    /// kept boards rise.
+    /// The last kept board whose clock isn't above this one; none where there is none. The clocks
+    /// of the kept boards rise.
     pub fn nearest(&self, clock: u64) -> Option<u32>
         ensures rising { HaveRisingClocks self.now.kept }
         ensures some { IfSome result (λ index. IsNearest self.now.kept clock index) }

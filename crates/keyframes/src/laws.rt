@@ -16,8 +16,8 @@ pub fn keyframe_numbers()
     ensures frames { (FRAMES_MIN ≡ 2) × (FRAMES_LIMIT ≡ 4096) }
 {}
 
-/// A new engine stands at the board of its state: over the image of that board the state is the board
-/// itself.
+/// A new engine stands at the board of its state: over the image of that board the state is the
+/// board itself.
 pub fn engines_begin_at_their_board()
     ensures new { (image : List ℕ) → (wired : Bool) → (state : BoardValue) → IsBoard state
         → (let b : Board = record { cpu = state.cpu; peripherals = peripherals_of image wired state } in over_image b state ≡ b) }

@@ -1,11 +1,11 @@
 //! A clock of a run, sought among the boards that are kept along it.
-ghost use Rattle.std.specs.Prelude.{◌≡◌, ◌<◌, ◌≤◌, ◌+◌, false, All, IfSome, List, [], None, length, get_or};
+ghost use Rattle.std.specs.Prelude.{◌≡◌, ◌<◌, ◌≤◌, ◌+◌, ◌-◌, ◌^◌, false, min, All, IfSome, List, [], None, length, get_or};
 ghost use Rattle.cpu_core.specs.Places.{IsMiddle};
 ghost use Rattle.cpu_table.specs.Opcodes.{row_of};
 ghost use Rattle.tape_ports.specs.declared.entry.TapeEntry.{TapeEntry};
 ghost use Rattle.lockstep_board.specs.Order.{HasNoRecords, cleared};
 ghost use Rattle.lockstep_board.specs.Lockstep.{Board};
-ghost use Rattle.lockstep_board.specs.Run.{cause_of, to_clock, to_cut, wrap_of};
+ghost use Rattle.lockstep_board.specs.Run.{is_at, to_clock};
 ghost use Rattle.run_windows.specs.SyncedMachine.{loan_of, value_of};
 ghost use Rattle.keyframes.specs.Keys.{HaveRisingClocks, IsNearest, Keyframe, is_crowded, last_of};
 ghost use Rattle.keyframes.specs.Seeking.{AddsBoard, Along, CanBeLoaded, IsOnRun, over_image, run_start};
@@ -13,11 +13,11 @@ ghost use Rattle.keyframes.specs.Seeking.{AddsBoard, Along, CanBeLoaded, IsOnRun
 use crate::keyframes::Keyframes;
 use avg_device::VectorUnit;
 use board_base::{BoardState, CLOCK_LIMIT};
-use run_windows::{NullObserver, NullSink, SyncedMachine, Until};
-use catchup_engine::{Engine, Machine, Stop};
+use catchup_engine::{Engine, Machine};
 use earom_cells::CellUnit;
 use irq_watchdog::DividerUnit;
 use pokey_chip::SoundUnit;
+use run_windows::{NullObserver, NullSink, SyncedMachine, Until};
 use tape_ports::Tape;
 
 /// Keeps the board at which a run begins. No other is kept yet.
@@ -60,23 +60,7 @@ fn load_kept<M: Machine>(synced: &mut SyncedMachine<'_, M>, keys: &Keyframes, in
     synced.load(&state);
 }
 
-/// Runs to a clock, or to the end of a window where that comes first, and forgets the records.
-fn run_window<M: Machine>(synced: &mut SyncedMachine<'_, M>, tape: &Tape, clock: u64) -> Stop
-    requires limit { clock ≤ CLOCK_LIMIT }
-    ensures loan { loan_of synced.new ≡ loan_of synced.old }
-    ensures board { (value_of synced.new).board ≡ cleared (to_cut tape.now.entries clock (wrap_of (value_of synced.old).board) (value_of synced.old).board) }
-    ensures stop { result ≡ cause_of clock (value_of synced.new).board }
-    ensures later { result ≡ Stop.Window → (value_of synced.old).board.peripherals.clock < (value_of synced.new).board.peripherals.clock }
-    ensures before { result ≡ Stop.Window → (value_of synced.new).board.peripherals.clock < clock }
-    ensures done { (value_of synced.new).done + (value_of synced.old).board.peripherals.clock ≤ (value_of synced.old).done + (value_of synced.new).board.peripherals.clock }
-{
-    let Ok(stop) = synced.window(tape, Until::Clock(clock), &mut NullObserver, &mut NullSink) else {
-        unreachable!();
-    };
-    stop
-}
-
-/// Runs to a clock, window by window.
+/// Runs to a clock, and forgets the records.
 fn run_on<M: Machine>(synced: &mut SyncedMachine<'_, M>, tape: &Tape, clock: u64)
     requires limit { clock ≤ CLOCK_LIMIT }
     ensures loan { loan_of synced.new ≡ loan_of synced.old }
@@ -85,12 +69,27 @@ fn run_on<M: Machine>(synced: &mut SyncedMachine<'_, M>, tape: &Tape, clock: u64
     ensures same { (kept : List Keyframe) → 0 < length kept → run_start kept (value_of synced.new).board ≡ run_start kept (value_of synced.old).board }
     ensures done { (value_of synced.new).done + (value_of synced.old).board.peripherals.clock ≤ (value_of synced.old).done + (value_of synced.new).board.peripherals.clock }
 {
-    'windows: loop {
-        match run_window(synced, tape, clock) {
-            Stop::Window => {}
-            _ => return,
-        }
-    }
+    let until = Until::Clock(clock);
+    let Ok(_) = synced.watch(tape, until, &mut NullObserver, &mut NullSink) else {
+        unreachable!();
+    };
+}
+
+/// Whether a run to a clock is over: with a jam, and else at that clock.
+fn is_reached<M: Machine>(synced: &SyncedMachine<'_, M>, clock: u64) -> bool
+    ensures { result ≡ is_at clock (value_of synced.now).board }
+{
+    let machine = synced.machine();
+    machine.cpu().jam.is_some() || clock <= machine.clock()
+}
+
+/// The clock at which the next board is due, `stride` clocks after the last kept one.
+fn due_clock(keys: &Keyframes, stride: u64) -> u64
+    requires some { 0 < length keys.now.kept }
+    ensures { IfSome (last_of keys.now.kept) (λ last. result ≡ min (last.board.clock + stride) (2 ^ 64 - 1)) }
+{
+    let last = keys.clock_of(keys.len() - 1);
+    last.saturating_add(stride)
 }
 
 /// Keeps the board of a machine that stands `stride` clocks or more after the last kept one.
@@ -110,8 +109,7 @@ fn keep_if_due<M: Machine>(synced: &SyncedMachine<'_, M>, keys: &mut Keyframes, 
     }
 }
 
-/// Runs to a clock, window by window, and keeps a board after each window that ends `stride` clocks or
-/// more after the last kept one.
+/// Runs to a clock, and keeps a board each `stride` clocks after the last kept one.
 fn run_keeping<M: Machine>(
     synced: &mut SyncedMachine<'_, M>,
     keys: &mut Keyframes,
@@ -130,21 +128,22 @@ fn run_keeping<M: Machine>(
     ensures done { (value_of synced.new).done + (value_of synced.old).board.peripherals.clock ≤ (value_of synced.old).done + (value_of synced.new).board.peripherals.clock }
     ensures near { IfSome (last_of keys.new.kept) (λ last. (value_of synced.new).board.peripherals.clock < last.board.clock + stride) }
 {
-    'windows: loop {
-        let stop = run_window(synced, tape, clock);
+    'strides: loop {
+        let next = clock.min(due_clock(keys, stride));
+        run_on(synced, tape, next);
         keep_if_due(synced, keys, stride);
-        match stop {
-            Stop::Window => {}
-            _ => return,
+        if is_reached(synced, clock) {
+            return;
         }
     }
 }
 
-/// Brings a machine to the board of a run at a clock, which may be inside a sequence, and keeps no board.
+/// Brings a machine to the board of a run at a clock, which may be inside a sequence, and keeps no
+/// board.
 ///
 /// The run begins at the first kept board, and all kept boards lie along it. Below the clock of the
-/// first one it is that board; from a jam on it is the jammed board. The machine goes on from the last
-/// kept board at or below the clock. It takes no memory.
+/// first one it is that board; from a jam on it is the jammed board. The machine goes on from the
+/// last kept board at or below the clock. It takes no memory.
 pub fn go_to<M: Machine>(
     synced: &mut SyncedMachine<'_, M>,
     keys: &Keyframes,
@@ -167,8 +166,8 @@ pub fn go_to<M: Machine>(
     run_on(synced, tape, clock);
 }
 
-/// Keeps the board of a machine where its clock is past that of the last kept one. Where there is no room
-/// more, every second kept board is dropped before.
+/// Keeps the board of a machine where its clock is past that of the last kept one. Where there is
+/// no room more, every second kept board is dropped before.
 pub fn keep_board<M: Machine>(synced: &SyncedMachine<'_, M>, keys: &mut Keyframes)
     requires some { 0 < length keys.old.kept }
     ensures first { (e : Board) → run_start keys.new.kept e ≡ run_start keys.old.kept e }
@@ -209,14 +208,14 @@ fn seek_synced<M: Machine>(
     run_keeping(synced, keys, tape, clock, stride);
 }
 
-/// Brings an engine to the board of a run at a clock, which may be inside a sequence, and keeps boards
-/// on the way.
+/// Brings an engine to the board of a run at a clock, which may be inside a sequence, and keeps
+/// boards on the way.
 ///
 /// The run begins at the first kept board, and all kept boards lie along it. Below the clock of the
-/// first one it is that board; from a jam on it is the jammed board. The engine goes on from the last
-/// kept board at or below the clock, and keeps the board after each window that ends `stride` clocks or
-/// more after the last kept one. It takes no memory: where there is no room more, every second kept
-/// board is dropped.
+/// first one it is that board; from a jam on it is the jammed board. The engine goes on from the
+/// last kept board at or below the clock, and keeps a board each `stride` clocks after the last
+/// kept one, which may be inside a sequence. It takes no memory: where there is no room more, every
+/// second kept board is dropped.
 pub fn seek<V: VectorUnit, P: SoundUnit, C: CellUnit, D: DividerUnit>(
     engine: &mut Engine<V, P, C, D>,
     keys: &mut Keyframes,

@@ -1,4 +1,5 @@
--- The log of a first part of the records, and then that of the rest, is the log of the whole. So are their bytes.
+-- The log of a first part of the records, and then that of the rest, is the log of the whole. So
+-- are their bytes.
 use Rattle.board_base.specs.declared.part.Part.TheVariants.{Generator, Pokey1, Pokey2, Board}
 use Rattle.board_base.proofs.RecordLaws.{trail-made}
 use Rattle.std.proofs.Common.{◌≡◌, ℕ, List, ◌++◌, ap, ◌∙◌, refl}

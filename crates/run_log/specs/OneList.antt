@@ -11,7 +11,8 @@ use Rattle.lockstep_board.specs.Run.{boundary_steps}
 abbrev pub added : List Record → List Record → List Record
 added before after = drop (length before) after
 
--- the records that one clock makes: those of the generator, of POKEY 1, of POKEY 2 and of the rest of the board
+-- the records that one clock makes: those of the generator, of POKEY 1, of POKEY 2 and of the rest
+-- of the board
 unfoldable pub records_of_clock : List TapeEntry → lockstep.Board → List PartRecord
 records_of_clock entries b =
     let next = lockstep.step entries b in

@@ -1,4 +1,5 @@
--- A run in slices: it is cut at clocks, and the board of each cut is saved, and read back for the slice that follows.
+-- A run in slices: it is cut at clocks, and the board of each cut is saved, and read back for the
+-- slice that follows.
 use Rattle.std.specs.Prelude.{ℕ, ◌+◌, ◌*◌, ◌≤◌, Bool, min, List, [], ◌∷◌, ◌++◌, length, Option, if◌then◌else◌}
 use Rattle.std.specs.Borrow.{Bor}
 use Rattle.std.specs.Option.{option_map}
@@ -19,8 +20,8 @@ use Rattle.run_log.specs.Slice.{slice_text}
 unfoldable pub saved_bytes : Board → List ℕ
 saved_bytes b = state_bytes (board_of b.cpu b.peripherals)
 
--- what a run is asked to store and to write besides its log: the board under a name, the cells of the EAROM under a name, and
--- the device calls
+-- what a run is asked to store and to write besides its log: the board under a name, the cells of
+-- the EAROM under a name, and the device calls
 pub record Wanted : Type 0 where
   pub save : Option (List ℕ)
   pub earom : Option (List ℕ)
@@ -60,8 +61,8 @@ unfoldable pub last_board : List TapeEntry → ℕ → List ℕ → Board → Bo
 last_board entries limit [] b = to_boundary entries limit b
 last_board entries limit (cut ∷ cuts) b = last_board entries limit cuts (to_clock entries (min cut limit) b)
 
--- the device calls that a run of so many slices may cost: two for each device access, ten for each wrap and each slice, five
--- for each entry, reset and request of a wired POKEY, and five more
+-- the device calls that a run of so many slices may cost: two for each device access, ten for each
+-- wrap and each slice, five for each entry, reset and request of a wired POKEY, and five more
 unfoldable pub run_budget : List TapeEntry → ℕ → ℕ → Board → ℕ
 run_budget entries limit slices b =
     let n = boundary_steps entries limit b in
@@ -71,13 +72,14 @@ run_budget entries limit slices b =
     + counted entries (λ c. requests entries c.peripherals) n b)
     + 5
 
--- the device calls after a run with so many cuts, where there were some before it: five for each load at least, or the
--- greatest number of 64 bits, and the budget less five at most
+-- the device calls after a run with so many cuts, where there were some before it: five for each
+-- load at least, or the greatest number of 64 bits, and the budget less five at most
 pub record FitsCalls (entries : List TapeEntry) (limit : ℕ) (cuts : ℕ) (b : Board) (before calls : ℕ) : Type 0 where
   pub least : counted_on before (5 * cuts) ≤ calls
   pub most : calls + 5 ≤ before + run_budget entries limit (cuts + 1) b
 
--- a run that stopped at a fault: the first part of its events was done, with some number of device calls that fits
+-- a run that stopped at a fault: the first part of its events was done, with some number of device
+-- calls that fits
 pub record StopsIn (entries : List TapeEntry) (limit : ℕ) (wanted : Wanted) (before : ℕ) (cuts : List ℕ) (b : Board) (out0 out1 : Option (List ℕ))
     (stores0 stores1 : Option (List Kept)) : Type 0 where
   pub calls : ℕ

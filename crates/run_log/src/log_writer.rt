@@ -21,7 +21,7 @@ pub struct LogWriter;
 impl RecordObserver for LogWriter {
     ghost can_take = { λ _ _ records _. AreTrails records };
 
-    ghost tells = { λ _ records _. text_of_records records };
+    ghost writes = { λ _ records _. text_of_records records };
 
     ghost next = { λ w _ _. w };
 

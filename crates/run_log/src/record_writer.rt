@@ -13,7 +13,7 @@ pub struct RecordWriter;
 impl RecordObserver for RecordWriter {
     ghost can_take = { λ _ _ records _. AreTrails records };
 
-    ghost tells = { λ _ records _. bytes_of_records records };
+    ghost writes = { λ _ records _. bytes_of_records records };
 
     ghost next = { λ w _ _. w };
 

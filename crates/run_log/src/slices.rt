@@ -67,7 +67,8 @@ fn write_calls<O: Sink>(cost: bool, calls: u64, out: &mut O) -> Result<(), SinkF
     write_cost(calls, out)
 }
 
-/// Writes the last line of a run that has ended, and then its device calls where they are asked for.
+/// Writes the last line of a run that has ended, and then its device calls where they are asked
+/// for.
 fn write_ending<M: Machine, O: Sink>(
     synced: &SyncedMachine<'_, M>,
     cost: bool,
@@ -149,15 +150,15 @@ fn run_synced<M: Machine, S: Shelf, O: Sink>(
     end_slice(synced, tape, limit, save, earom, cost, host)
 }
 
-/// Runs the board over a tape, in slices, to the first boundary that isn't before the limit or to an
-/// undocumented opcode, and writes its log. At each cut, and at the end, its board is stored under the
-/// name `save`, if there is one, and each slice after a cut goes on from the bytes of that board; at
-/// the end the 64 cells of the EAROM are stored under the name `earom`. With `cost` the device calls of the
-/// engine are written after the last line.
+/// Runs the board over a tape, in slices, to the first boundary that isn't before the limit or to
+/// an undocumented opcode, and writes its log. At each cut, and at the end, its board is stored
+/// under the name `save`, if there is one, and each slice after a cut goes on from the bytes of
+/// that board; at the end the 64 cells of the EAROM are stored under the name `earom`. With `cost`
+/// the device calls of the engine are written after the last line.
 ///
-/// A cut above the limit falls on the limit, and one below the board's clock where the board stands.
-/// After a fault the first part of all this was done, and the engine is only to be dropped. It takes
-/// no memory.
+/// A cut above the limit falls on the limit, and one below the board's clock where the board
+/// stands. After a fault the first part of all this was done, and the engine is only to be dropped.
+/// It takes no memory.
 pub fn run_slices<V: VectorUnit, P: SoundUnit, C: CellUnit, D: DividerUnit, S: Shelf, O: Sink>(
     engine: &mut Engine<V, P, C, D>,
     tape: &Tape,

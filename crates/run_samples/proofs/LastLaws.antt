@@ -97,7 +97,7 @@ after_access-keeps None c w =
     keeps-then w b.peripherals (begun q b).peripherals (accessed-keeps (start_of q c) q [] w) (begun-keeps q b)
 after_access-keeps (Some mid) c w = accessed-keeps (registers_of c) mid.sequence (given_by mid) w
 
--- the levels after a record of a change are those that it tells
+-- the levels after a record of a change are those in it
 change-after : (clock a b c d : ℕ) (before : List ℕ)
     → samples.levels_after before (change clock before (a ∷ b ∷ c ∷ d ∷ [])) ≡ a ∷ b ∷ c ∷ d ∷ []
 unfolding change samples.levels_after
@@ -141,36 +141,36 @@ module _ (entries : List TapeEntry) where
       )
 
   -- the levels that both POKEYs put out are those after their records
-  pub record Told (before1 before2 : List ℕ) (b : Board) : Type 0 where
+  pub record AreLast (before1 before2 : List ℕ) (b : Board) : Type 0 where
     pub last1 : samples.levels_after before1 b.peripherals.levels1 ≡ b.peripherals.sound1.last
     pub last2 : samples.levels_after before2 b.peripherals.levels2 ≡ b.peripherals.sound2.last
 
-  told-on : (before last now : List ℕ) (records after : List Record) → samples.levels_after before records ≡ last → StepsLast last now records after
+  last-on : (before last now : List ℕ) (records after : List Record) → samples.levels_after before records ≡ last → StepsLast last now records after
       → samples.levels_after before after ≡ now
-  told-on before last now records after is steps =
+  last-on before last now records after is steps =
       ap (samples.levels_after before) steps.after_is
       ∙ after-append before records steps.added
       ∙ ap (λ l. samples.levels_after l steps.added) is
       ∙ steps.levels
 
-  told-step : (before1 before2 : List ℕ) (b : Board) → Told before1 before2 b → Told before1 before2 (step entries b)
-  told-step before1 before2 b t =
+  last-step : (before1 before2 : List ℕ) (b : Board) → AreLast before1 before2 b → AreLast before1 before2 (step entries b)
+  last-step before1 before2 b t =
       let one = step-last b in
       record {
-        last1 = told-on before1 _ _ _ _ t.last1 one.0;
-        last2 = told-on before2 _ _ _ _ t.last2 one.1;
+        last1 = last-on before1 _ _ _ _ t.last1 one.0;
+        last2 = last-on before2 _ _ _ _ t.last2 one.1;
       }
 
-  told-stepped : (n : ℕ) (before1 before2 : List ℕ) (b : Board) → Told before1 before2 b → Told before1 before2 (stepped entries n b)
+  last-stepped : (n : ℕ) (before1 before2 : List ℕ) (b : Board) → AreLast before1 before2 b → AreLast before1 before2 (stepped entries n b)
   unfolding stepped
-  told-stepped zero before1 before2 b t = t
-  told-stepped (suc n) before1 before2 b t = told-stepped n before1 before2 (step entries b) (told-step before1 before2 b t)
+  last-stepped zero before1 before2 b t = t
+  last-stepped (suc n) before1 before2 b t = last-stepped n before1 before2 (step entries b) (last-step before1 before2 b t)
 
   -- from a board without records
-  pub told-run : (n : ℕ) (b : Board) → HasNoRecords b → Told b.peripherals.sound1.last b.peripherals.sound2.last (stepped entries n b)
+  pub last-run : (n : ℕ) (b : Board) → HasNoRecords b → AreLast b.peripherals.sound1.last b.peripherals.sound2.last (stepped entries n b)
   unfolding samples.levels_after
-  told-run n b none =
-      told-stepped n b.peripherals.sound1.last b.peripherals.sound2.last b (record {
+  last-run n b none =
+      last-stepped n b.peripherals.sound1.last b.peripherals.sound2.last b (record {
         last1 = ap (samples.levels_after b.peripherals.sound1.last) none.levels1;
         last2 = ap (samples.levels_after b.peripherals.sound2.last) none.levels2;
       })

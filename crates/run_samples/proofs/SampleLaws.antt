@@ -25,7 +25,7 @@ use Rattle.sound_pcm.proofs.MixLaws.{made-from}
 use Rattle.sound_pcm.proofs.RunLaws.{makes_run}
 use Rattle.run_samples.specs.BoardSamples.{IsMixerOf, board_sample, board_samples, sampled_bytes, weight_of}
 use Rattle.run_samples.specs.Sampling.{CanMix, before-made}
-use Rattle.run_samples.proofs.LastLaws.{told-run}
+use Rattle.run_samples.proofs.LastLaws.{last-run}
 
 -- a level of some, or 0
 or-low : (levels : List ℕ) → AreLevels levels → (i : ℕ) → slice_index_or levels i 0 ≤ MAX_LEVEL
@@ -105,15 +105,15 @@ module _ (entries : List TapeEntry) (b : Board) (none : HasNoRecords b) where
       let first = stepped-made entries b.peripherals.clock (suc i) b (none-made b none) in
       let later = stepped-made entries there.peripherals.clock m (cleared there)
       (none-made (cleared there) (record { strokes = refl; levels1 = refl; levels2 = refl; written = refl })) in
-      let told = told-run entries (suc i) b none in
+      let last = last-run entries (suc i) b none in
       let one = at-clock b.peripherals.sound1.last there.peripherals.sound1.last (stepped entries n b).peripherals.levels1 there.peripherals.levels1 rest.peripherals.levels1 (b.peripherals.clock + i)
       (ap (λ (c : Board). c.peripherals.levels1) whole)
       (rw (sym same) (before-made Pokey1 b.peripherals.clock there.peripherals.clock there.peripherals.levels1 first.levels1))
-      (rw (sym same) (made-from Pokey1 there.peripherals.clock rest.peripherals.clock rest.peripherals.levels1 later.levels1)) told.last1 in
+      (rw (sym same) (made-from Pokey1 there.peripherals.clock rest.peripherals.clock rest.peripherals.levels1 later.levels1)) last.last1 in
       let two = at-clock b.peripherals.sound2.last there.peripherals.sound2.last (stepped entries n b).peripherals.levels2 there.peripherals.levels2 rest.peripherals.levels2 (b.peripherals.clock + i)
       (ap (λ (c : Board). c.peripherals.levels2) whole)
       (rw (sym same) (before-made Pokey2 b.peripherals.clock there.peripherals.clock there.peripherals.levels2 first.levels2))
-      (rw (sym same) (made-from Pokey2 there.peripherals.clock rest.peripherals.clock rest.peripherals.levels2 later.levels2)) told.last2 in
+      (rw (sym same) (made-from Pokey2 there.peripherals.clock rest.peripherals.clock rest.peripherals.levels2 later.levels2)) last.last2 in
       ap (λ l. sum l + sum (levels_at b.peripherals.sound2.last (stepped entries n b).peripherals.levels2 (b.peripherals.clock + i))) one
       ∙ ap (λ l. sum there.peripherals.sound1.last + sum l) two
 

@@ -23,7 +23,8 @@ board_samples entries limit per b = map (board_sample entries per b) (range_with
 unfoldable pub sampled_bytes : List TapeEntry → ℕ → ℕ → Board → List ℕ
 sampled_bytes entries limit per b = bytes_of (board_samples entries limit per b)
 
--- a mixer that begins a group of `per` clocks where a board stands, with the levels that its POKEYs put out
+-- a mixer that begins a group of `per` clocks where a board stands, with the levels that its POKEYs
+-- put out
 abbrev pub IsMixerOf : Board → ℕ → MixerValue → Type 0
 IsMixerOf b per m =
     m ≡ record { clock = b.peripherals.clock; per = per; sound1 = b.peripherals.sound1.last; sound2 = b.peripherals.sound2.last; sum = 0; count = 0 }

@@ -10,9 +10,9 @@ ghost use Rattle.run_samples.specs.BoardSamples.{sampled_bytes, IsMixerOf};
 ghost use Rattle.run_samples.specs.Sampling.{CanMix, IsSamplerOf, sampled_in_parts, sampler_after, samples_in};
 
 use board_base::{BoardState, CLOCK_LIMIT, PokeyState, Trails};
-use run_windows::{RecordObserver, SyncedMachine, Until};
 use catchup_engine::Machine;
 use outside_io::{Sink, SinkFault};
+use run_windows::{RecordObserver, SyncedMachine, Until};
 use sound_pcm::Mixer;
 use tape_ports::Tape;
 
@@ -25,7 +25,7 @@ pub struct Sampler {
 impl RecordObserver for Sampler {
     ghost can_take = { λ s from records upto. CanMix s.mixer from records upto };
 
-    ghost tells = { samples_in };
+    ghost writes = { samples_in };
 
     ghost next = { sampler_after };
 
@@ -77,8 +77,8 @@ fn mixer_at<M: Machine>(synced: &SyncedMachine<'_, M>, per: u32) -> Mixer
 }
 
 impl Sampler {
-    /// A sampler that begins a group of `per` clocks, 1 to 65,535, where the board of a synchronised machine
-    /// stands.
+    /// A sampler that begins a group of `per` clocks, 1 to 65,535, where the board of a
+    /// synchronised machine stands.
     pub fn of<M: Machine>(synced: &SyncedMachine<'_, M>, per: u32) -> Sampler
         requires some { 1 ≤ per }
         requires longest { per ≤ MAX_PER }
@@ -91,10 +91,11 @@ impl Sampler {
     }
 }
 
-/// Runs the board over a tape to the first boundary that isn't before the limit or to an undocumented
-/// opcode, and writes its samples: each is the sum of the eight levels of the two POKEYs over `per`
-/// clocks, 1 to 65,535, as four bytes, the lowest first. The last clocks, which are no whole group,
-/// give none. After a fault the machine is only to be dropped. It takes no memory.
+/// Runs the board over a tape to the first boundary that isn't before the limit or to an
+/// undocumented opcode, and writes its samples: each is the sum of the eight levels of the two
+/// POKEYs over `per` clocks, 1 to 65,535, as four bytes, the lowest first. The last clocks, which
+/// are no whole group, give none. After a fault the machine is only to be dropped. It takes no
+/// memory.
 pub fn run_sampled<M: Machine, O: Sink>(
     synced: &mut SyncedMachine<'_, M>,
     tape: &Tape,

@@ -37,7 +37,8 @@ module _ (entries : List TapeEntry) where
   end-behind (Clock cut) l b = to_clock-behind entries cut l b
   end-behind (Boundary limit) l b = to_boundary-behind entries limit l b
 
-  -- what doesn't look at records is the same at a run's end, whatever records stood at its beginning
+  -- what doesn't look at records is the same at a run's end, whatever records stood at its
+  -- beginning
   end-cleared : {X : Type 0} (f : Board → X) → ((l : Recorded) (b : Board) → f (behind l b) ≡ f b) → (until : Until) (b : Board)
       → f (end_of entries until (cleared b)) ≡ f (end_of entries until b)
   end-cleared f law until = from-behind (λ b. f (end_of entries until b)) (λ l b. ap f (end-behind until l b) ∙ law l (end_of entries until b))
@@ -70,10 +71,10 @@ module _ (entries : List TapeEntry) where
         → EndsAt all (slice_text entries other b) (end_of entries other b) whole → AreOne first second whole
     unfolding half
     one-run some more all first second whole e1 e2 e3 = record {
-      told = λ has_first has_second has_whole.
+      output = λ has_first has_second has_whole.
           ends-all all _ _ whole e3 has_whole
           ∙ text-whole
-          ∙ sym (ap (λ (l : List ℕ). l ++ second.told.items) (ends-all some _ _ first e1 has_first)
+          ∙ sym (ap (λ (l : List ℕ). l ++ second.output.items) (ends-all some _ _ first e1 has_first)
           ∙ ap (λ (l : List ℕ). slice_text entries one b ++ l) (ends-all more _ _ second e2 has_second));
       wanted =
           let sum : length (slice_text entries other b) ≡ length (slice_text entries one b) + length (slice_text entries other (cleared half)) =

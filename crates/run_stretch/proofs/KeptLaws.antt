@@ -4,7 +4,7 @@ use Rattle.std.specs.Prelude.{nat_le}
 use Rattle.std.proofs.lemmas.Bool.{le-leb, lt-leb}
 use Rattle.std.proofs.lemmas.List.{length-append}
 use Rattle.run_stretch.specs.Kept.{kept, IsKept}
-use Rattle.run_stretch.specs.declared.told.Told.{Told}
+use Rattle.run_stretch.specs.declared.kept_text.KeptText.{KeptText}
 
 -- a text that fits is kept whole
 pub kept-whole : (room : ℕ) (text : List ℕ) → length text ≤ room → kept room text ≡ text
@@ -36,7 +36,7 @@ kept-all room text = by_test (nat_le (length text) room) text
     by_test false (x ∷ text) e = absurd (omega (arith, e))
 
 -- nothing is kept of a text that has nothing
-pub kept-nothing : (room : ℕ) (t : Told) → t.room ≡ room → t.bytes.items ≡ [] → t.wanted ≡ 0 → IsKept room [] t
+pub kept-nothing : (room : ℕ) (t : KeptText) → t.room ≡ room → t.bytes.items ≡ [] → t.wanted ≡ 0 → IsKept room [] t
 kept-nothing room t same none zero = record {
   limit = same;
   bytes = none ∙ sym (kept-whole room [] (omega arith));
@@ -44,7 +44,7 @@ kept-nothing room t same none zero = record {
 }
 
 -- more of a text that fits with it
-pub kept-longer : (room : ℕ) (text more : List ℕ) (t u : Told) → IsKept room text t → u.room ≡ t.room → u.bytes.items ≡ t.bytes.items ++ more
+pub kept-longer : (room : ℕ) (text more : List ℕ) (t u : KeptText) → IsKept room text t → u.room ≡ t.room → u.bytes.items ≡ t.bytes.items ++ more
     → u.wanted ≡ t.wanted + length more → u.wanted ≤ t.room → IsKept room (text ++ more) u
 kept-longer room text more t u before same bytes wanted fits =
     let n = length-append text more in
@@ -59,7 +59,7 @@ kept-longer room text more t u before same bytes wanted fits =
     }
 
 -- and of one that doesn't fit
-pub kept-too-long : (room : ℕ) (text more : List ℕ) (t u : Told) → IsKept room text t → u.room ≡ t.room → u.bytes.items ≡ []
+pub kept-too-long : (room : ℕ) (text more : List ℕ) (t u : KeptText) → IsKept room text t → u.room ≡ t.room → u.bytes.items ≡ []
     → u.wanted ≡ t.wanted + length more → t.room < u.wanted → IsKept room (text ++ more) u
 kept-too-long room text more t u before same none wanted longer =
     let n = length-append text more in

@@ -65,7 +65,8 @@ first-image timers p whole =
     ap (λ (r : List ℕ). let i : Image = record { wired = timers; program = drop VECTOR_ROM_LEN p.image; rom = r } in i)
     (rom-after VECTOR_RAM_LEN p.board.vram rom whole.board.vram)
 
--- a board over the image of some parts, saved and read again over the same image, is the board without its records
+-- a board over the image of some parts, saved and read again over the same image, is the board
+-- without its records
 pub begins-again : (image board bytes tape : List ℕ) (timers : Bool) (p q : Parts) (half : Board)
     → ReadsParts image board tape (Ok p) → ReadsParts image bytes tape (Ok q) → bytes ≡ saved_bytes half → IsWhole (board_of half.cpu half.peripherals)
     → image_of half.peripherals ≡ image_of (first_board timers p).peripherals → first_board timers q ≡ cleared half

@@ -12,8 +12,8 @@ use Rattle.run_stretch.specs.Stretches.{EndsAt}
 use Rattle.run_stretch.proofs.KeptLaws.{kept-all, kept-most}
 
 -- a stretch ends where its engine stands, but for the records
-pub ends-behind : (room : ℕ) (told : List ℕ) (now last : Board) (s : Stretch) → EndsAt room told now s → now ≡ cleared last → EndsAt room told last s
-ends-behind room told now last s ends is = record {
+pub ends-behind : (room : ℕ) (text : List ℕ) (now last : Board) (s : Stretch) → EndsAt room text now s → now ≡ cleared last → EndsAt room text last s
+ends-behind room text now last s ends is = record {
   bytes = ends.bytes;
   wanted = ends.wanted;
   board = saved-cleared last now s.board is ends.board;
@@ -22,18 +22,18 @@ ends-behind room told now last s ends is = record {
   jammed = ends.jammed ∙ ap (λ (b : Board). is_some b.cpu.jam) is;
 }
 
--- it has no more bytes than it tells
-pub ends-fit : (room : ℕ) (told : List ℕ) (last : Board) (s : Stretch) → EndsAt room told last s → length s.told.items ≤ s.wanted
-ends-fit room told last s ends =
-    let most = kept-most room told in
-    let bytes : length s.told.items ≡ length (kept room told) = ap length ends.bytes in
+-- it has no more bytes than it counts
+pub ends-fit : (room : ℕ) (text : List ℕ) (last : Board) (s : Stretch) → EndsAt room text last s → length s.output.items ≤ s.wanted
+ends-fit room text last s ends =
+    let most = kept-most room text in
+    let bytes : length s.output.items ≡ length (kept room text) = ap length ends.bytes in
     let wanted = ends.wanted in
     omega arith
 
 -- and where it has as many, it has all
-pub ends-all : (room : ℕ) (told : List ℕ) (last : Board) (s : Stretch) → EndsAt room told last s → length s.told.items ≡ s.wanted → s.told.items ≡ told
-ends-all room told last s ends all = ends.bytes ∙ kept-all room told (ap length (sym ends.bytes) ∙ all ∙ ends.wanted)
+pub ends-all : (room : ℕ) (text : List ℕ) (last : Board) (s : Stretch) → EndsAt room text last s → length s.output.items ≡ s.wanted → s.output.items ≡ text
+ends-all room text last s ends all = ends.bytes ∙ kept-all room text (ap length (sym ends.bytes) ∙ all ∙ ends.wanted)
 
 -- a sink that had taken nothing has what it took
-pub told-whole : (now before text : List ℕ) → Some now ≡ grown (Some before) text → before ≡ [] → now ≡ text
-told-whole now before text taken none = cc
+pub grown-whole : (now before text : List ℕ) → Some now ≡ grown (Some before) text → before ≡ [] → now ≡ text
+grown-whole now before text taken none = cc

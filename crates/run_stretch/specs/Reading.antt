@@ -31,8 +31,9 @@ ReadsTapePart text (Err _) = ⊥
 abbrev pub AreBoard : List ℕ → Type 0
 AreBoard bytes = (b : BoardValue) × ReadsState bytes (Ok b)
 
--- how an image, a board and a tape are read, each wholly before the next: a fault is that of the first that is no such file.
--- Want of memory may come where the files that it is wanted for are good.
+-- how an image, a board and a tape are read, each wholly before the next: a fault is that of the
+-- first that is no such file. A lack of memory may come where the files that it is wanted for are
+-- good.
 abbrev pub ReadsParts : List ℕ → List ℕ → List ℕ → Result Parts StretchFault → Type 0
 ReadsParts image board tape (Ok parts) =
     ReadsImagePart image (Ok parts.image) × ReadsState board (Ok parts.board) × ReadsTapePart tape (Ok parts.tape)

@@ -20,10 +20,11 @@ use Rattle.run_stretch.specs.Reading.{ReadsParts}
 abbrev pub first_board : Bool → Parts → Board
 first_board timers parts = record { cpu = parts.board.cpu; peripherals = peripherals_of parts.image timers parts.board }
 
--- a stretch that returns these bytes, where there is room for so many, and ended at this board, each of whose fields is in its range
-pub record EndsAt (room : ℕ) (told : List ℕ) (last : Board) (s : Stretch) : Type 0 where
-  pub bytes : s.told.items ≡ kept room told
-  pub wanted : s.wanted ≡ length told
+-- a stretch that returns these bytes, where there is room for so many, and ended at this board,
+-- each of whose fields is in its range
+pub record EndsAt (room : ℕ) (text : List ℕ) (last : Board) (s : Stretch) : Type 0 where
+  pub bytes : s.output.items ≡ kept room text
+  pub wanted : s.wanted ≡ length text
   pub board : s.board ≡ saved_bytes last
   pub whole : IsWhole (board_of last.cpu last.peripherals)
   pub clock : s.clock ≡ last.peripherals.clock
@@ -47,7 +48,8 @@ IsSampled room timers limit per parts s =
     let first = first_board timers parts in
     EndsAt room (sampled_bytes parts.tape.entries limit per first) (end_of parts.tape.entries (Boundary limit) first) s
 
--- what comes of the bytes of an image, a board and a tape: this stretch over their parts, or their refusal
+-- what comes of the bytes of an image, a board and a tape: this stretch over their parts, or their
+-- refusal
 abbrev pub Comes : List ℕ → List ℕ → List ℕ → (Parts → Stretch → Type 0) → Result Stretch StretchFault → Type 0
 Comes image board tape holds (Ok s) = (parts : Parts) × ReadsParts image board tape (Ok parts) × holds parts s
 Comes image board tape holds (Err fault) = ReadsParts image board tape (Err fault)

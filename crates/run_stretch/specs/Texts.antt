@@ -9,7 +9,7 @@ use Rattle.run_stretch.specs.declared.assembling.AssemblyFault.TheVariants as so
 use Rattle.run_stretch.specs.declared.fault.StretchFault.{StretchFault}
 use Rattle.run_stretch.specs.declared.fault.StretchFault.TheVariants.{Image, Board, Tape, NoMemory}
 
--- the words that `gravitar` has behind the file's name
+-- the words that `gravitar` has after the file's name
 abbrev pub stretch_fault_text : StretchFault → List ℕ
 stretch_fault_text (Image fault) = image_fault_text fault
 stretch_fault_text (Board fault) = state_fault_text fault

@@ -17,7 +17,8 @@ pub enum AssemblyFault {
     NoMemory,
 }
 
-/// Assembles the processor's source and then the generator's into one image, which has zeros elsewhere.
+/// Assembles the processor's source and then the generator's into one image, which has zeros
+/// elsewhere.
 pub fn assemble(alloc: Global, processor: &[u8], generator: &[u8]) -> Result<Image, AssemblyFault>
     ensures { Assembles processor.now generator.now result }
 {

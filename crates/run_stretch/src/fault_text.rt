@@ -1,4 +1,4 @@
-//! What is said of bytes that are refused, as `gravitar` says it behind a file's name.
+//! What is said of bytes that are refused, as `gravitar` says it after a file's name.
 ghost use Rattle.std.specs.Prelude.{Some};
 ghost use Rattle.run_stretch.specs.Texts.{assembly_fault_text, stretch_fault_text};
 

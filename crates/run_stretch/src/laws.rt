@@ -5,9 +5,10 @@ ghost use Rattle.run_stretch.specs.declared.ended.Stretch.{Stretch as stretch_va
 ghost use Rattle.run_stretch.specs.Joined.{AreOne, IsOnTheWay};
 ghost use Rattle.run_stretch.specs.Stretches.{Comes, IsAdvanced};
 
-/// A run that is done in stretches is the run: where a first stretch goes part of the way and a second
-/// goes on from the bytes of its board, over the same image, tape and wiring, what they return, joined, is
-/// what the whole returns, and the second ends where the whole does. Each may have a room of its own.
+/// A run that is done in stretches is the run: where a first stretch goes part of the way and a
+/// second goes on from the bytes of its board, over the same image, tape and wiring, what they
+/// return, joined, is what the whole returns, and the second ends where the whole does. Each may
+/// have a room of its own.
 pub fn stretches_are_the_run()
     ensures { (image board tape : List ℕ) → (timers : Bool) → (some more all : ℕ) → (one other : until_value) → IsOnTheWay one other
         → (first second whole : stretch_value)

@@ -7,10 +7,10 @@ mod ended;
 mod fault;
 mod fault_text;
 mod growing;
+mod kept_text;
 mod laws;
 mod parts;
 mod stretch;
-mod told;
 mod watching;
 
 pub use assembling::{AssemblyFault, assemble};

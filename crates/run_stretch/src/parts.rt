@@ -17,7 +17,8 @@ pub struct Start<'a> {
     pub board: &'a [u8],
     /// A tape, as text.
     pub tape: &'a [u8],
-    /// Whether the timer requests of the POKEYs reach the interrupt line. A saved board doesn't say it.
+    /// Whether the timer requests of the POKEYs reach the interrupt line. A saved board doesn't say
+    /// it.
     pub timers: bool,
 }
 

@@ -39,7 +39,7 @@ fn advance_parts(
     requires place { IsProcessor parts.now.board.cpu }
     requires limit { clock_in until ≤ CLOCK_LIMIT }
     ensures done { IfOk result (λ s. IsAdvanced room timers until parts.now s) }
-    ensures fits { IfOk result (λ s. length s.told.items ≤ s.wanted) }
+    ensures fits { IfOk result (λ s. length s.output.items ≤ s.wanted) }
     ensures memory { IfErr result (λ fault. fault ≡ StretchFault.NoMemory) }
 {
     let Ok(mut engine) = Engine::new(alloc, &parts.image, &parts.board, Devices::fast(), timers)
@@ -48,17 +48,18 @@ fn advance_parts(
     };
     let mut synced = SyncedMachine::of(&mut engine);
     match watch_within(alloc, &mut synced, &parts.tape, until, &mut LogWriter, room) {
-        Ok(told) => Ok(ended(&synced, told)),
+        Ok(kept) => Ok(ended(&synced, kept)),
         Err(_) => Err(StretchFault::NoMemory),
     }
 }
 
-/// Runs an image with a tape from a saved board to a clock, or to the first boundary that isn't before
-/// it. It returns the lines of the records on the way, as the log of `run` has them, without a last line.
-/// Where they are more bytes than there is room for, it returns only how many they are.
+/// Runs an image with a tape from a saved board to a clock, or to the first boundary that isn't
+/// before it. It returns the lines of the records on the way, as the log of `run` has them, without
+/// a last line. Where they are more bytes than there is room for, it returns only how many they
+/// are.
 ///
-/// Entries of the tape whose clocks are done aren't applied, and its END is only a line. A board that has
-/// come so far stays as it is, and a jammed one too.
+/// Entries of the tape whose clocks are done aren't applied, and its END is only a line. A board
+/// that has come so far stays as it is, and a jammed one too.
 pub fn advance(
     alloc: Global,
     start: Start<'_>,
@@ -67,7 +68,7 @@ pub fn advance(
 ) -> Result<Stretch, StretchFault>
     requires limit { clock_in until ≤ CLOCK_LIMIT }
     ensures comes { Comes start.entry.image.now start.entry.board.now start.entry.tape.now (IsAdvanced room start.entry.timers until) result }
-    ensures fits { IfOk result (λ s. length s.told.items ≤ s.wanted) }
+    ensures fits { IfOk result (λ s. length s.output.items ≤ s.wanted) }
 {
     let parts = read_parts(alloc, start)?;
     advance_parts(alloc, &parts, start.timers, until, room)
@@ -84,7 +85,7 @@ fn record_parts(
     requires place { IsProcessor parts.now.board.cpu }
     requires limit { clock_in until ≤ CLOCK_LIMIT }
     ensures done { IfOk result (λ s. IsRecorded room timers until parts.now s) }
-    ensures fits { IfOk result (λ s. length s.told.items ≤ s.wanted) }
+    ensures fits { IfOk result (λ s. length s.output.items ≤ s.wanted) }
     ensures memory { IfErr result (λ fault. fault ≡ StretchFault.NoMemory) }
 {
     let Ok(mut engine) = Engine::new(alloc, &parts.image, &parts.board, Devices::fast(), timers)
@@ -100,13 +101,13 @@ fn record_parts(
         &mut RecordWriter,
         room,
     ) {
-        Ok(told) => Ok(ended(&synced, told)),
+        Ok(kept) => Ok(ended(&synced, kept)),
         Err(_) => Err(StretchFault::NoMemory),
     }
 }
 
-/// Runs an image with a tape as `advance` does, and returns the records on the way as bytes, 40 of each:
-/// those that `advance` returns as lines, in the same order.
+/// Runs an image with a tape as `advance` does, and returns the records on the way as bytes, 40 of
+/// each: those that `advance` returns as lines, in the same order.
 pub fn records(
     alloc: Global,
     start: Start<'_>,
@@ -115,7 +116,7 @@ pub fn records(
 ) -> Result<Stretch, StretchFault>
     requires limit { clock_in until ≤ CLOCK_LIMIT }
     ensures comes { Comes start.entry.image.now start.entry.board.now start.entry.tape.now (IsRecorded room start.entry.timers until) result }
-    ensures fits { IfOk result (λ s. length s.told.items ≤ s.wanted) }
+    ensures fits { IfOk result (λ s. length s.output.items ≤ s.wanted) }
 {
     let parts = read_parts(alloc, start)?;
     record_parts(alloc, &parts, start.timers, until, room)
@@ -135,7 +136,7 @@ fn sample_parts(
     requires some { 1 ≤ per }
     requires longest { per ≤ MAX_PER }
     ensures done { IfOk result (λ s. IsSampled room timers limit per parts.now s) }
-    ensures fits { IfOk result (λ s. length s.told.items ≤ s.wanted) }
+    ensures fits { IfOk result (λ s. length s.output.items ≤ s.wanted) }
     ensures memory { IfErr result (λ fault. fault ≡ StretchFault.NoMemory) }
 {
     let Ok(mut engine) = Engine::new(alloc, &parts.image, &parts.board, Devices::fast(), timers)
@@ -146,15 +147,15 @@ fn sample_parts(
     let mut sampler = Sampler::of(&synced, per);
     let until = Until::Boundary(limit);
     match watch_within(alloc, &mut synced, &parts.tape, until, &mut sampler, room) {
-        Ok(told) => Ok(ended(&synced, told)),
+        Ok(kept) => Ok(ended(&synced, kept)),
         Err(_) => Err(StretchFault::NoMemory),
     }
 }
 
 /// Runs an image with a tape from a saved board to the first boundary that isn't before a clock. It
-/// returns a sample for each `per` clocks, 1 to 65,535: the sum of both POKEYs' eight levels over them, as
-/// four bytes, the lowest first. Clocks at the end that are no whole group give none. Where the samples
-/// are more bytes than there is room for, it returns only how many they are.
+/// returns a sample for each `per` clocks, 1 to 65,535: the sum of both POKEYs' eight levels over
+/// them, as four bytes, the lowest first. Clocks at the end that are no whole group give none.
+/// Where the samples are more bytes than there is room for, it returns only how many they are.
 pub fn sample(
     alloc: Global,
     start: Start<'_>,
@@ -166,7 +167,7 @@ pub fn sample(
     requires some { 1 ≤ per }
     requires longest { per ≤ MAX_PER }
     ensures comes { Comes start.entry.image.now start.entry.board.now start.entry.tape.now (IsSampled room start.entry.timers limit per) result }
-    ensures fits { IfOk result (λ s. length s.told.items ≤ s.wanted) }
+    ensures fits { IfOk result (λ s. length s.output.items ≤ s.wanted) }
 {
     let parts = read_parts(alloc, start)?;
     sample_parts(alloc, &parts, start.timers, limit, per, room)

@@ -1,4 +1,4 @@
--- Tallies and summaries add up, and stay as small as the lists that they tell of.
+-- Tallies and summaries add up, and stay as small as the lists that they count.
 use Rattle.std.proofs.Common.{◌≡◌, ℕ, ◌+◌, ◌≤◌, ◌<◌, ℤ, Bool, true, false, List, [], ◌∷◌, ◌++◌, length, take, get_or, refl, sym, ap, ◌∙◌, arith, add-zero, add-one}
 use Rattle.std.specs.List.{count_by, sum_by}
 use Rattle.std.proofs.Math.Bool.{cond}

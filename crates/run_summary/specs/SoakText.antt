@@ -20,6 +20,7 @@ soak_text s clock =
     ∷ count_line (codes "latches") s.latches ∷ count_line (codes "resets") s.resets ∷ count_line (codes "sum") s.sum
     ∷ count_line (codes "clock") clock ∷ [])
 
--- The lines of a run to the first boundary that isn't before the limit: of all records that the board has there.
+-- The lines of a run to the first boundary that isn't before the limit: of all records that the
+-- board has there.
 abbrev pub run_text : List TapeEntry → ℕ → Board → List ℕ
 run_text entries limit b = let last = to_boundary entries limit b in soak_text (summary_of (records_of last)) last.peripherals.clock

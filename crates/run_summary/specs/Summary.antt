@@ -40,7 +40,8 @@ strength_of (Levels clock l1 l2 l3 l4) = l1 + l2 + l3 + l4
 strength_of (Latch clock value) = 0
 strength_of (WatchdogReset clock) = 0
 
--- The records of each part by kind, and the sum of all intensities of strokes and of all four levels of both POKEYs.
+-- The records of each part by kind, and the sum of all intensities of strokes and of all four
+-- levels of both POKEYs.
 unfoldable pub summary_of : Recorded → Summary
 summary_of l = record {
   strokes = count_by is_stroke l.strokes;

@@ -6,8 +6,8 @@ ghost use Rattle.run_summary.specs.Summary.{no_records, summary_of};
 
 use crate::summary::Summary;
 use board_base::Trails;
-use run_windows::RecordObserver;
 use outside_io::{Sink, SinkFault};
+use run_windows::RecordObserver;
 use std::marker::Model;
 
 /// Counts the records of a run, and writes nothing.
@@ -64,7 +64,7 @@ impl Counter {
 impl RecordObserver for Counter {
     ghost can_take = { λ c _ records _. HasRoom c records };
 
-    ghost tells = { λ _ _ _. [] };
+    ghost writes = { λ _ _ _. [] };
 
     ghost next = { λ c records _. counted c records };
 

@@ -11,9 +11,9 @@ use crate::counter::Counter;
 use crate::summary::Summary;
 use crate::text::write_summary;
 use board_base::CLOCK_LIMIT;
-use run_windows::{NullSink, SyncedMachine, Until};
 use catchup_engine::Machine;
 use outside_io::{Sink, SinkFault};
+use run_windows::{NullSink, SyncedMachine, Until};
 use tape_ports::Tape;
 
 /// Runs the board to the first boundary that isn't before the limit, and counts its records.
@@ -30,10 +30,10 @@ fn run_counted<M: Machine>(synced: &mut SyncedMachine<'_, M>, tape: &Tape, limit
     counter.total()
 }
 
-/// Runs the board over a tape to the first boundary that isn't before the limit or to an undocumented
-/// opcode, and writes seven lines in place of its log: how many strokes, levels of each POKEY, latch
-/// writes and watchdog resets were recorded, the sum of all intensities and levels, and the board's
-/// clock.
+/// Runs the board over a tape to the first boundary that isn't before the limit or to an
+/// undocumented opcode, and writes seven lines in place of its log: how many strokes, levels of
+/// each POKEY, latch writes and watchdog resets were recorded, the sum of all intensities and
+/// levels, and the board's clock.
 ///
 /// Records are counted and forgotten window by window. It takes no memory.
 pub fn run_soak<M: Machine, O: Sink>(

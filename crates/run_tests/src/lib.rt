@@ -1,10 +1,9 @@
-//! Tests of runs: the engine, what watches it, and the commands, each in the file of its crate's name.
+//! Tests of runs: the engine, what watches it, and the commands, each in the file of its crate's
+//! name.
 #![tactic(auto)]
 
 #[cfg(test)]
 mod board_calls_tests;
-#[cfg(test)]
-mod run_stretch_tests;
 #[cfg(test)]
 mod catchup_engine_tests;
 #[cfg(test)]
@@ -15,5 +14,7 @@ mod keyframes_tests;
 mod programs;
 #[cfg(test)]
 mod run_slices_tests;
+#[cfg(test)]
+mod run_stretch_tests;
 #[cfg(test)]
 mod run_summary_tests;

@@ -82,8 +82,8 @@ fn assert_same_stores<R: Abort>(rt: &R, line: &str, one: &MemoryShelf, two: &Mem
     }
 }
 
-/// Asserts that a run by the program, with its line of the device calls, and its stores are those of
-/// its slices.
+/// Asserts that a run by the program, with its line of the device calls, and its stores are those
+/// of its slices.
 fn assert_same<R: Abort + Alloc<A = Global>>(
     rt: &R,
     line: &str,

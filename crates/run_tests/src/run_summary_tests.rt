@@ -3,7 +3,6 @@ ghost use Rattle.lockstep_board.specs.Order.{HasNoRecords};
 
 use avg_device::FastVg;
 use board_base::BoardState;
-use run_windows::SyncedMachine;
 use catchup_engine::{Devices, Engine};
 use earom_cells::Earom;
 use irq_watchdog::Divider;
@@ -11,6 +10,7 @@ use outside_io::MemorySink;
 use pokey_chip::FastPokey;
 use rom_image::Image;
 use run_summary::run_soak;
+use run_windows::SyncedMachine;
 use std::alloc::Global;
 use std::test::Fail;
 use tape_ports::Tape;

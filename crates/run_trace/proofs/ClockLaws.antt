@@ -30,7 +30,7 @@ use Rattle.cycle_profile.specs.Counts.{more_entered}
 use Rattle.cycle_profile.specs.Profile.{AddsUp, IsProfile, ProfileValue, after, after_turn, changed, charged, last_of, newest, returned}
 use Rattle.cycle_profile.specs.Turns.{turn_of, turn_of_op, turn_of_row}
 use Rattle.cycle_profile.proofs.SumLaws.{keeps_the_sum}
-use Rattle.run_trace.specs.BoardProfile.{AddressesAddUp, AllClocksAreTold, no_profile, run_profile, run_turns}
+use Rattle.run_trace.specs.BoardProfile.{AddressesAddUp, AllClocksAreCounted, no_profile, run_profile, run_turns}
 use Rattle.run_trace.specs.PartLaws.{first-turn, later-turns, turned-steps, turns_steps}
 use Rattle.run_trace.specs.ProfilingLaws.{run_turns-open, run_turns-over}
 
@@ -44,7 +44,7 @@ after-clocks : (p : ProfileValue) (trace : TraceValue) (pc : ℕ) → p.clocks +
 unfolding after
 after-clocks p trace pc room = after-test (trace.count == 0) p trace pc refl room
 
--- the trace of a turn tells all of its clocks
+-- the trace of a turn has all of its clocks
 trace-count : (entries : List TapeEntry) (limit : ℕ) (b : Board) → is_over limit b ≡ false
     → (step_trace entries b).count ≡ boundary_steps entries (b.peripherals.clock + 1) b
 unfolding step_trace trace_of
@@ -104,7 +104,7 @@ run-small entries limit b low placed =
     let few = boundary_steps-few entries limit b in
     omega arith
 
-pub all_told : (entries : List TapeEntry) (limit : ℕ) (b : Board) → AllClocksAreTold entries limit b
+pub all_told : (entries : List TapeEntry) (limit : ℕ) (b : Board) → AllClocksAreCounted entries limit b
 unfolding run_profile
 all_told entries limit b low placed =
     let run = run-turns entries limit b placed in

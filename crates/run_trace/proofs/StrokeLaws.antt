@@ -16,11 +16,11 @@ use Rattle.frame_list.specs.Events.{marks_of}
 use Rattle.frame_list.proofs.InFrameLaws.{each_frame_has_its_strokes}
 use Rattle.frame_list.proofs.WholeLaws.{each_stroke_in_one_frame}
 use Rattle.catchup_engine.specs.Trace.{accesses_in, accesses_of}
-use Rattle.run_trace.specs.BoardFrames.{AllStrokesAreTold, FramesHaveTheirStrokes, run_events, run_frames, run_marks}
+use Rattle.run_trace.specs.BoardFrames.{AllStrokesAreCounted, FramesHaveTheirStrokes, run_events, run_frames, run_marks}
 use Rattle.run_trace.specs.MarkLaws.{marks-append, marks-nothing, marks-within, one-mark}
 use Rattle.run_trace.specs.PartLaws.{made-none}
 
-pub all_told : (entries : List TapeEntry) (limit : ℕ) (b : Board) → AllStrokesAreTold entries limit b
+pub all_told : (entries : List TapeEntry) (limit : ℕ) (b : Board) → AllStrokesAreCounted entries limit b
 unfolding run_events run_frames
 all_told entries limit b none =
     let last = to_boundary entries limit b in
@@ -28,7 +28,7 @@ all_told entries limit b none =
     let made : All (Makes Generator) last.peripherals.strokes = (trail-made Generator b.peripherals.clock last.peripherals.clock last.peripherals.strokes order.strokes).kinds in
     each_stroke_in_one_frame (begun 0 b.peripherals.clock) last.peripherals.strokes (run_marks entries limit b) made ∙ zero-add (length last.peripherals.strokes)
 
--- numbers that don't fall, behind others that are none above them
+-- numbers that don't fall, after others that are none above them
 rising-cons : (x : ℕ) (xs : List ℕ) → All (λ y. x ≤ y) xs → IsNonDecreasing xs → IsNonDecreasing (x ∷ xs)
 rising-cons x xs low rises zero zero d order inside = omega arith
 rising-cons x xs low rises zero (suc j) d order inside = low j d (omega (arith, inside))

@@ -1,4 +1,4 @@
--- The text of a run whose lines are told in parts.
+-- The text of a run whose lines are written in parts.
 use Rattle.std.proofs.Common.{◌≡◌, ℕ, List, [], ◌∷◌, ◌++◌, take, Option, Result, refl, sym, ap, ◌∙◌, append_assoc, append-nil}
 use Rattle.std.proofs.lemmas.Grind.{flat_map-append}
 use Rattle.std.proofs.lemmas.List.Concat.{flat_map-cons}
@@ -48,9 +48,9 @@ framed-is entries limit b none =
     ∙ ap (λ l. frames_text (ended first l) ++ (frame_text (under_way first l) ++ last_line (cleared last))) same
 
 -- the last line, by the board at the end
-pub last-told : (entries : List TapeEntry) (limit : ℕ) (b now : Board) → now ≡ cleared (to_boundary entries limit b)
+pub last-at_end : (entries : List TapeEntry) (limit : ℕ) (b now : Board) → now ≡ cleared (to_boundary entries limit b)
     → last_line now ≡ last_line (cleared (to_boundary entries limit b))
-last-told entries limit b now is = ap last_line is
+last-at_end entries limit b now is = ap last_line is
 
 module _ (entries : List TapeEntry) (limit : ℕ) (b : Board) (none : HasNoRecords b) (frames : FrameValue) (is : frames ≡ begun 0 b.peripherals.clock)
     (out0 out1 : Option (List ℕ)) where
@@ -91,7 +91,7 @@ module _ (entries : List TapeEntry) (limit : ℕ) (b : Board) (none : HasNoRecor
         → now ≡ cleared (to_boundary entries limit b) → Takes out2 out3 (last_line now) result
         → Takes out0 out3 (framed_text entries limit b) result
     framed-all out3 now result line board took =
-        let there : Takes out2 out3 end_line result = rw (last-told entries limit b now board) at took in
+        let there : Takes out2 out3 end_line result = rw (last-at_end entries limit b now board) at took in
         rw (framed-is entries limit b none)
         (takes-then out0 out1 out3 lines (one_line ++ end_line) result (whole ∙ ap (grown out0) lines-are)
         (takes-then out1 out2 out3 one_line end_line result (line ∙ ap (grown out1) (line-is last end)) there))
@@ -133,7 +133,7 @@ module _ (entries : List TapeEntry) (limit : ℕ) (b : Board) (first p : Profile
       → now ≡ cleared (to_boundary entries limit b) → Takes out2 out3 (last_line now) result
       → Takes out0 out3 (profiled_text entries limit b) result
   profiled-all out3 now result text board took =
-      let there : Takes out2 out3 bottom result = rw (last-told entries limit b now board) at took in
+      let there : Takes out2 out3 bottom result = rw (last-at_end entries limit b now board) at took in
       rw (profiled-is entries limit b)
       (takes-then out0 out2 out3 (profile_text (run_profile entries limit b)) bottom result
       (text ∙ ap (λ out. grown out (profile_text p)) start ∙ ap (λ (q : ProfileValue). grown out0 (profile_text q)) profile-is) there)

@@ -29,14 +29,14 @@ framed_text entries limit b =
     let last = to_boundary entries limit b in
     frames_text (run_frames entries limit b) ++ last_text last.peripherals.clock last.cpu.pc last.cpu.jam
 
--- Each stroke of a run from a board without records is in one of its frames: the numbers of strokes of all frames add up to
--- the strokes of the run.
-abbrev pub AllStrokesAreTold : List TapeEntry → ℕ → Board → Type 0
-AllStrokesAreTold entries limit b =
+-- Each stroke of a run from a board without records is in one of its frames: the numbers of strokes
+-- of all frames add up to the strokes of the run.
+abbrev pub AllStrokesAreCounted : List TapeEntry → ℕ → Board → Type 0
+AllStrokesAreCounted entries limit b =
     HasNoRecords b → sum_by (λ f. f.strokes) (run_frames entries limit b) ≡ length (to_boundary entries limit b).peripherals.strokes
 
--- The frames of a run from a board without records: one more than the marks, and each with exactly the strokes of the run that
--- are above its mark and up to the next one.
+-- The frames of a run from a board without records: one more than the marks, and each with exactly
+-- the strokes of the run that are above its mark and up to the next one.
 abbrev pub FramesHaveTheirStrokes : List TapeEntry → ℕ → Board → Type 0
 FramesHaveTheirStrokes entries limit b =
     HasNoRecords b

@@ -18,7 +18,8 @@ turns_until entries limit zero b = 0
 turns_until entries limit (suc most) b =
     if is_over limit b then 0 else suc (turns_until entries limit most (turn entries b))
 
--- a turn takes a clock at least, and what is left of a sequence is one that may begin at the limit or behind it
+-- a turn takes a clock at least, and what is left of a sequence is one that may begin at the limit
+-- or after it
 abbrev pub run_turns : List TapeEntry → ℕ → Board → ℕ
 run_turns entries limit b = turns_until entries limit ((limit - b.peripherals.clock) + 1) b
 
@@ -37,8 +38,8 @@ profiled_text entries limit b =
     profile_text (run_profile entries limit b) ++ last_text last.peripherals.clock last.cpu.pc last.cpu.jam
 
 -- The clocks of the profile of a run are the clocks that the run takes.
-abbrev pub AllClocksAreTold : List TapeEntry → ℕ → Board → Type 0
-AllClocksAreTold entries limit b =
+abbrev pub AllClocksAreCounted : List TapeEntry → ℕ → Board → Type 0
+AllClocksAreCounted entries limit b =
     limit ≤ CLOCK_LIMIT → IsPlaced b
     → (run_profile entries limit b).clocks ≡ (to_boundary entries limit b).peripherals.clock - b.peripherals.clock
 

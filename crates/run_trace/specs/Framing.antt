@@ -24,14 +24,15 @@ pub record IsFramer (f : FramerValue) : Type 0 where
   pub marks : length f.marks ≤ 7
 
 -- they are kept until the records are taken
-abbrev pub framer_told : FramerValue → TraceValue → ℕ → FramerValue
-framer_told f trace pc = if has_marks trace then record f { marks = marks_in trace } else f
+abbrev pub framer_after_turn : FramerValue → TraceValue → ℕ → FramerValue
+framer_after_turn f trace pc = if has_marks trace then record f { marks = marks_in trace } else f
 
 abbrev pub keeps_marks : FramerValue → Bool
 keeps_marks f = not (length f.marks == 0)
 
--- No marks are kept yet, and the board stands where a run to the limit can go on, with six clocks for the end of a sequence. The
--- frame's number and its strokes are no more than the clocks done: a clock adds one stroke and one mark at most.
+-- No marks are kept yet, and the board stands where a run to the limit can go on, with six clocks
+-- for the end of a sequence. The frame's number and its strokes are no more than the clocks done: a
+-- clock adds one stroke and one mark at most.
 pub record CanFrame (f : FramerValue) (limit : ℕ) (b : Board) : Type 0 where
   pub marks : f.marks ≡ []
   pub low : limit ≤ CLOCK_LIMIT
@@ -53,7 +54,7 @@ part_events f records = by_clock records.strokes f.marks
 abbrev pub part_framed : FramerValue → Recorded → List ℕ
 part_framed f records = frames_text (ended f.frames (part_events f records))
 
--- and the framer behind them
+-- and the framer after them
 abbrev pub after_part : FramerValue → Recorded → FramerValue
 after_part f records = record { frames = under_way f.frames (part_events f records); marks = [] }
 
@@ -61,6 +62,6 @@ after_part f records = record { frames = under_way f.frames (part_events f recor
 abbrev pub run_framed_text : FramerValue → List TapeEntry → ℕ → Board → List ℕ
 run_framed_text f entries limit b = frames_text (ended f.frames (run_events entries limit (cleared b)))
 
--- and the framer behind it
+-- and the framer after it
 abbrev pub after_run : FramerValue → List TapeEntry → ℕ → Board → FramerValue
 after_run f entries limit b = record f { frames = under_way f.frames (run_events entries limit (cleared b)) }

@@ -24,7 +24,7 @@ use Rattle.frame_list.specs.Frames.{FrameValue, IsBefore, begun, ended, frames_t
 use Rattle.frame_list.proofs.FrameLaws.{strokes-most, strokes-number, under_way-append}
 use Rattle.frame_list.proofs.WholeLaws.{parts_make_the_whole}
 use Rattle.run_trace.specs.BoardFrames.{run_events, run_marks}
-use Rattle.run_trace.specs.Framing.{FramerValue, after_part, after_run, framer_told, has_marks, keeps_marks, part_framed, run_framed_text, CanFrame, HasNumbers}
+use Rattle.run_trace.specs.Framing.{FramerValue, after_part, after_run, framer_after_turn, has_marks, keeps_marks, part_framed, run_framed_text, CanFrame, HasNumbers}
 use Rattle.run_trace.specs.MarkLaws.{marks-append, marks-few, marks-within, run_marks-cleared, turn-marks, unmarked}
 use Rattle.run_trace.specs.PartLaws.{accesses-add, cleared-none, end-behind, made-none, open-later, strokes-before, strokes-few, strokes-from, turned-low, turned-steps, turns-go, turns_steps}
 
@@ -38,16 +38,16 @@ record KeptOne (entries : List TapeEntry) (w v : FramerValue) (b : Board) : Type
   frames : v.frames ≡ w.frames
   marks : marks_in (step_trace entries b) ≡ v.marks
 
-kept-one : (entries : List TapeEntry) (w : FramerValue) (b : Board) → w.marks ≡ [] → KeptOne entries w (told_once framer_told entries w b) b
+kept-one : (entries : List TapeEntry) (w : FramerValue) (b : Board) → w.marks ≡ [] → KeptOne entries w (told_once framer_after_turn entries w b) b
 kept-one entries w b none = by_trace (has_marks (step_trace entries b)) refl
   where
-    by_trace : (t : Bool) → has_marks (step_trace entries b) ≡ t → KeptOne entries w (told_once framer_told entries w b) b
+    by_trace : (t : Bool) → has_marks (step_trace entries b) ≡ t → KeptOne entries w (told_once framer_after_turn entries w b) b
     by_trace true is =
-        let kept : told_once framer_told entries w b ≡ (let f : FramerValue = record w { marks = marks_in (step_trace entries b) } in f) =
+        let kept : told_once framer_after_turn entries w b ≡ (let f : FramerValue = record w { marks = marks_in (step_trace entries b) } in f) =
         ap (λ t. let f : FramerValue = if t then record w { marks = marks_in (step_trace entries b) } else w in f) is in
         record { frames = ap (λ (f : FramerValue). f.frames) kept; marks = ap (λ (f : FramerValue). f.marks) (sym kept) }
     by_trace false is =
-        let same : told_once framer_told entries w b ≡ w =
+        let same : told_once framer_after_turn entries w b ≡ w =
         ap (λ t. let f : FramerValue = if t then record w { marks = marks_in (step_trace entries b) } else w in f) is in
         record {
           frames = ap (λ (f : FramerValue). f.frames) same;
@@ -65,8 +65,8 @@ empty-marks (mark ∷ marks) is = absurd (some-mark (length marks) is)
 -- no turn but the last gave it a mark
 kept-turns : (entries : List TapeEntry) (limit n : ℕ) (w : FramerValue) (b : Board) → w.marks ≡ []
     → ((k : ℕ) → k < n → is_over limit (turned entries k b) ≡ false)
-    → ((k : ℕ) → 1 ≤ k → k < n → keeps_marks (told framer_told entries k w b) ≡ false)
-    → Kept entries n w (told framer_told entries n w b) b
+    → ((k : ℕ) → 1 ≤ k → k < n → keeps_marks (told framer_after_turn entries k w b) ≡ false)
+    → Kept entries n w (told framer_after_turn entries n w b) b
 unfolding told turned accesses_of turns_steps marks_of stepped to_boundary
 kept-turns entries limit zero w b none open_yet goes = record { frames = refl; marks = sym none }
 kept-turns entries limit (suc zero) w b none open_yet goes =
@@ -81,11 +81,11 @@ kept-turns entries limit (suc zero) w b none open_yet goes =
     }
 kept-turns entries limit (suc (suc m)) w b none open_yet goes =
     let one = kept-one entries w b none in
-    let v = told_once framer_told entries w b in
+    let v = told_once framer_after_turn entries w b in
     let n = boundary_steps entries (b.peripherals.clock + 1) b in
     let next = turn entries b in
     let still : v.marks ≡ [] = empty-marks v.marks (goes 1 (omega arith) (omega arith)) in
-    let rest : Kept entries (suc m) v (told framer_told entries (suc m) v next) next =
+    let rest : Kept entries (suc m) v (told framer_after_turn entries (suc m) v next) next =
     kept-turns entries limit (suc m) v next still (λ k few. open_yet (suc k) (omega (arith, few)))
     (λ k some few. goes (suc k) (omega (arith, some)) (omega (arith, few))) in
     let first : marks_of (accesses_of entries n b) ≡ [] =
@@ -225,12 +225,12 @@ numbers-small w limit b may =
 -- to frame a first part of a run, and then the rest, is to frame the whole
 part-framed-so : (w : FramerValue) (entries : List TapeEntry) (limit part n : ℕ) (b : Board) → part ≤ limit → IsPlaced b → HasNoRecords b
     → CanFrame w limit b → ((k : ℕ) → k < n → is_over part (turned entries k b) ≡ false)
-    → ((k : ℕ) → 1 ≤ k → k < n → keeps_marks (told framer_told entries k w b) ≡ false)
-    → IsFollowedInParts framer_told keeps_marks (λ f _ limit b. CanFrame f limit b) run_framed_text after_run (λ f _. HasNumbers f) part_framed after_part
-    w (told framer_told entries n w b) entries limit b (turned entries n b)
+    → ((k : ℕ) → 1 ≤ k → k < n → keeps_marks (told framer_after_turn entries k w b) ≡ false)
+    → IsFollowedInParts framer_after_turn keeps_marks (λ f _ limit b. CanFrame f limit b) run_framed_text after_run (λ f _. HasNumbers f) part_framed after_part
+    w (told framer_after_turn entries n w b) entries limit b (turned entries n b)
 unfolding run_events
 part-framed-so w entries limit part n b low placed none may open_part goes =
-    let v = told framer_told entries n w b in
+    let v = told framer_after_turn entries n w b in
     let c = turned entries n b in
     let last = to_boundary entries limit (cleared c) in
     let made = marks_of (accesses_of entries (turns_steps entries n b) b) in
@@ -284,12 +284,12 @@ part-framed-so w entries limit part n b low placed none may open_part goes =
           } in f) may.marks;
     }
 
-pub framed_in_parts : FollowsInParts framer_told keeps_marks (λ f _ limit b. CanFrame f limit b) run_framed_text after_run (λ f _. HasNumbers f) part_framed after_part
+pub framed_in_parts : FollowsInParts framer_after_turn keeps_marks (λ f _ limit b. CanFrame f limit b) run_framed_text after_run (λ f _. HasNumbers f) part_framed after_part
 framed_in_parts w v entries limit part b c low placed none may run =
-    subst (λ (f : FramerValue). IsFollowedInParts framer_told keeps_marks (λ f _ limit b. CanFrame f limit b) run_framed_text after_run (λ f _. HasNumbers f) part_framed after_part
+    subst (λ (f : FramerValue). IsFollowedInParts framer_after_turn keeps_marks (λ f _ limit b. CanFrame f limit b) run_framed_text after_run (λ f _. HasNumbers f) part_framed after_part
     w f entries limit b c) (sym run.tracer)
-    (subst (λ (d : Board). IsFollowedInParts framer_told keeps_marks (λ f _ limit b. CanFrame f limit b) run_framed_text after_run (λ f _. HasNumbers f) part_framed after_part
-    w (told framer_told entries run.count w b) entries limit b d) (sym run.board)
+    (subst (λ (d : Board). IsFollowedInParts framer_after_turn keeps_marks (λ f _ limit b. CanFrame f limit b) run_framed_text after_run (λ f _. HasNumbers f) part_framed after_part
+    w (told framer_after_turn entries run.count w b) entries limit b d) (sym run.board)
     (part-framed-so w entries limit part run.count b low placed none may run.over run.goes_on))
 
 -- a run that is over has no events

@@ -24,7 +24,7 @@ use Rattle.lockstep_board.proofs.Clocks.{step-clock}
 use Rattle.catchup_engine.proofs.Traces.{over-running}
 use Rattle.frame_list.specs.Events.{is_go, mark_of, marks_in, marks_of, starts_generator}
 use Rattle.run_trace.specs.BoardFrames.{run_marks}
-use Rattle.run_trace.specs.Framing.{FramerValue, framer_told, has_marks}
+use Rattle.run_trace.specs.Framing.{FramerValue, framer_after_turn, has_marks}
 use Rattle.run_trace.specs.PartLaws.{accesses-behind, accesses-few}
 
 pub marks-append : (first rest : List Access) → marks_of (first ++ rest) ≡ marks_of first ++ marks_of rest
@@ -224,7 +224,7 @@ reaching-marks (access ∷ rest) = by_test (reaches_device (made_of access)) ref
 
 -- the marks that a framer keeps of the accesses that reach a device are those of the trace
 pub kept-by : (f : FramerValue) (trace : TraceValue) (pc : ℕ) (made : List Access) (t : Bool) → made ≡ reaching (take trace.count trace.accesses)
-    → list_any starts_generator made ≡ t → (let g : FramerValue = if t then record f { marks = marks_of made } else f in g) ≡ framer_told f trace pc
+    → list_any starts_generator made ≡ t → (let g : FramerValue = if t then record f { marks = marks_of made } else f in g) ≡ framer_after_turn f trace pc
 kept-by f trace pc made t is any =
     let all = take trace.count trace.accesses in
     let tested : t ≡ has_marks trace = sym any ∙ ap (list_any starts_generator) is ∙ reaching-any all in

@@ -1,4 +1,5 @@
--- Turns of a run: the steps that they make, the accesses and the strokes of their clocks, and the run that goes on behind them.
+-- Turns of a run: the steps that they make, the accesses and the strokes of their clocks, and the
+-- run that goes on after them.
 use Rattle.std.proofs.Common.{◌≡◌, ℕ, ◌+◌, ◌≤◌, ◌<◌, Bool, true, false, ◌&&◌, ◌||◌, nat_le, is_some, is_none, List, [], ◌∷◌, ◌++◌, length, Option, Some, None, IsSome, zero, suc, refl, sym, ap, subst, ◌∙◌, arith, rules, inl, inr, zero-add, append_assoc, length-append}
 use Rattle.std.specs.Prelude.{All, if◌then◌else◌}
 use Rattle.std.proofs.lemmas.Bool.{cases_lt}
@@ -35,7 +36,7 @@ over-later jam boundary x y clock h e = grind (arith, nat_tests)
 pub open-later : (x y : ℕ) (b : Board) → x ≤ y → is_over x b ≡ false → is_over y b ≡ false
 open-later x y b low open_yet = over-later b.cpu.jam (is_none b.cpu.mid) x y b.peripherals.clock low open_yet
 
--- a first board of some turns, and those behind it
+-- a first board of some turns, and those after it
 pub first-turn : (P : Board → Type 0) (entries : List TapeEntry) (n : ℕ) (b : Board)
     → ((k : ℕ) → k < suc n → P (turned entries k b)) → P b
 unfolding turned
@@ -58,7 +59,7 @@ turned-steps entries (suc n) b =
     turned-steps entries n (turn entries b)
     ∙ sym (stepped-add entries (boundary_steps entries (b.peripherals.clock + 1) b) (turns_steps entries n (turn entries b)) b)
 
--- where a run isn't over, it goes on behind the next turn
+-- where a run isn't over, it goes on after the next turn
 pub turn-goes : (entries : List TapeEntry) (limit : ℕ) (b : Board) → IsPlaced b → is_over limit b ≡ false
     → to_boundary entries limit b ≡ to_boundary entries limit (turn entries b)
 turn-goes entries limit b placed open_yet =
@@ -80,7 +81,7 @@ turns-go entries limit (suc n) b placed open_yet =
     turn-goes entries limit b placed (first-turn (λ c. is_over limit c ≡ false) entries n b open_yet)
     ∙ turns-go entries limit n (turn entries b) (turn-placed entries b placed) (later-turns (λ c. is_over limit c ≡ false) entries n b open_yet)
 
--- inside a sequence a board stands sixteen clocks behind the limit at most, and else seven more
+-- inside a sequence a board stands sixteen clocks after the limit at most, and else seven more
 pub record StandsLow (b : Board) : Type 0 where
   pub clock : b.peripherals.clock ≤ CLOCK_LIMIT + 23
   pub inside : IsSome b.cpu.mid → b.peripherals.clock ≤ CLOCK_LIMIT + 16
@@ -192,7 +193,7 @@ made-none b none = rw (none.strokes, none.levels1, none.levels2, none.written) (
 pub cleared-none : (b : Board) → HasNoRecords (cleared b)
 cleared-none b = record { strokes = refl; levels1 = refl; levels2 = refl; written = refl }
 
--- the end of a run from a board is that from the board without its records, behind them
+-- the end of a run from a board is that from the board without its records, after them
 pub end-behind : (entries : List TapeEntry) (limit : ℕ) (b : Board)
     → to_boundary entries limit b ≡ behind (records_of b) (to_boundary entries limit (cleared b))
 end-behind entries limit b =

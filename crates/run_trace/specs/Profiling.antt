@@ -9,8 +9,8 @@ use Rattle.run_trace.specs.declared.profiling.Profiler.{Profiler}
 use Rattle.run_trace.specs.BoardProfile.{run_turns}
 
 -- a profiler that gets a turn
-abbrev pub profiler_told : Profiler → TraceValue → ℕ → Profiler
-profiler_told p trace pc = record { profile = after p.profile trace pc }
+abbrev pub profiler_after_turn : Profiler → TraceValue → ℕ → Profiler
+profiler_after_turn p trace pc = record { profile = after p.profile trace pc }
 
 -- and of all turns of a run
 abbrev pub after_run : Profiler → List TapeEntry → ℕ → Board → Profiler

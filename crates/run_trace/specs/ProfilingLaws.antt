@@ -17,7 +17,7 @@ use Rattle.run_windows.specs.TurnObserver.{FollowsInParts, StandsStill}
 use Rattle.cycle_profile.specs.Profile.{ProfileValue, after}
 use Rattle.run_trace.specs.declared.profiling.Profiler.{Profiler}
 use Rattle.run_trace.specs.BoardProfile.{run_turns, turns_until}
-use Rattle.run_trace.specs.Profiling.{after_run, profiler_told}
+use Rattle.run_trace.specs.Profiling.{after_run, profiler_after_turn}
 use Rattle.run_trace.specs.PartLaws.{first-turn, later-turns, open-later, trace-behind}
 
 -- a run that is over takes no turn
@@ -46,7 +46,7 @@ late-over jam (Some m) limit clock boundary late = cc
 late : (limit : ℕ) (b : Board) → b.cpu.mid ≡ None → limit ≤ b.peripherals.clock → is_over limit b ≡ true
 late limit b boundary far = late-over b.cpu.jam b.cpu.mid limit b.peripherals.clock boundary far
 
--- two numbers of turns that are enough behind the next turn are enough before it
+-- two numbers of turns that are enough after the next turn are enough before it
 enough-next : (entries : List TapeEntry) (limit most more : ℕ) (b : Board) (t : Bool) → is_over limit b ≡ t
     → (is_over limit b ≡ false → turns_until entries limit most (turn entries b) ≡ turns_until entries limit more (turn entries b))
     → turns_until entries limit (suc most) b ≡ turns_until entries limit (suc more) b
@@ -74,7 +74,7 @@ turns-enough entries limit (suc most) (suc more) b placed boundary near far =
     turns-enough entries limit most more (turn entries b) (turn-placed entries b placed) (turn-boundary entries b placed running)
     (omega arith) (omega arith))
 
--- a run that isn't over takes a turn, and those from the board behind it
+-- a run that isn't over takes a turn, and those from the board after it
 pub run_turns-open : (entries : List TapeEntry) (limit : ℕ) (b : Board) → IsPlaced b → is_over limit b ≡ false
     → run_turns entries limit b ≡ suc (run_turns entries limit (turn entries b))
 run_turns-open entries limit b placed open_yet =
@@ -121,10 +121,10 @@ told-cleared next entries n w b =
 
 -- the profiler gets what its profile gets
 profiler-is : (entries : List TapeEntry) (n : ℕ) (w : Profiler) (b : Board)
-    → told profiler_told entries n w b ≡ (let p : Profiler = record { profile = told after entries n w.profile b } in p)
+    → told profiler_after_turn entries n w b ≡ (let p : Profiler = record { profile = told after entries n w.profile b } in p)
 unfolding told
 profiler-is entries zero w b = refl
-profiler-is entries (suc n) w b = profiler-is entries n (told_once profiler_told entries w b) (turn entries b)
+profiler-is entries (suc n) w b = profiler-is entries n (told_once profiler_after_turn entries w b) (turn entries b)
 
 -- some turns, and then those of the rest of the run
 profile-split : (entries : List TapeEntry) (limit n : ℕ) (p : ProfileValue) (b : Board) → IsPlaced b
@@ -140,25 +140,25 @@ profile-split entries limit (suc n) p b placed open_yet =
 
 profiled-so : (w : Profiler) (entries : List TapeEntry) (limit part n : ℕ) (b : Board) → part ≤ limit → IsPlaced b
     → ((k : ℕ) → k < n → is_over part (turned entries k b) ≡ false)
-    → after_run w entries limit b ≡ after_run (told profiler_told entries n w b) entries limit (cleared (turned entries n b))
+    → after_run w entries limit b ≡ after_run (told profiler_after_turn entries n w b) entries limit (cleared (turned entries n b))
 profiled-so w entries limit part n b low placed open_part =
     let c = turned entries n b in
     let p = told after entries n w.profile b in
-    let same : (told profiler_told entries n w b).profile ≡ p = ap (λ (v : Profiler). v.profile) (profiler-is entries n w b) in
+    let same : (told profiler_after_turn entries n w b).profile ≡ p = ap (λ (v : Profiler). v.profile) (profiler-is entries n w b) in
     ap (λ (q : ProfileValue). let v : Profiler = record { profile = q } in v)
     (profile-split entries limit n w.profile b placed (λ k few. open-later part limit (turned entries k b) low (open_part k few))
     ∙ sym (told-cleared after entries (run_turns entries limit c) p c)
     ∙ ap (λ k. told after entries k p (cleared c)) (sym (run_turns-cleared entries limit c))
     ∙ ap (λ (q : ProfileValue). told after entries (run_turns entries limit (cleared c)) q (cleared c)) (sym same))
 
-pub profiled_in_parts : FollowsInParts profiler_told (λ _. false) (λ _ _ _ _. Unit {0}) (λ _ _ _ _. []) after_run (λ _ _. Unit {0}) (λ _ _. []) (λ p _. p)
+pub profiled_in_parts : FollowsInParts profiler_after_turn (λ _. false) (λ _ _ _ _. Unit {0}) (λ _ _ _ _. []) after_run (λ _ _. Unit {0}) (λ _ _. []) (λ p _. p)
 profiled_in_parts w v entries limit part b c low placed none may run = record {
   room = tt;
   rest = tt;
   text = refl;
   state =
       profiled-so w entries limit part run.count b low placed run.over
-      ∙ ap (λ (d : Board). after_run (told profiler_told entries run.count w b) entries limit (cleared d)) (sym run.board)
+      ∙ ap (λ (d : Board). after_run (told profiler_after_turn entries run.count w b) entries limit (cleared d)) (sym run.board)
       ∙ ap (λ (f : Profiler). after_run f entries limit (cleared c)) (sym run.tracer);
 }
 

@@ -7,7 +7,7 @@ ghost use Rattle.lockstep_board.specs.Run.{to_boundary};
 ghost use Rattle.run_windows.specs.SyncedMachine.{loan_of, value_of};
 ghost use Rattle.frame_list.specs.Frames.{begun};
 ghost use Rattle.run_trace.specs.BoardFrames.{framed_text};
-ghost use Rattle.run_trace.specs.Framing.{after_part, after_run, framer_told, keeps_marks, part_framed, run_framed_text, CanFrame, HasNumbers};
+ghost use Rattle.run_trace.specs.Framing.{after_part, after_run, framer_after_turn, keeps_marks, part_framed, run_framed_text, CanFrame, HasNumbers};
 ghost use Rattle.run_trace.specs.FramingLaws.{framed_in_parts, framed_still};
 
 use arrayvec::ArrayVec;
@@ -20,8 +20,8 @@ use run_windows::{SyncedMachine, TurnObserver};
 use std::marker::Model;
 use tape_ports::Tape;
 
-/// Groups the strokes of a run by the writes that start the generator. The clocks of a turn's writes
-/// are kept until the strokes before them are taken.
+/// Groups the strokes of a run by the writes that start the generator. The clocks of a turn's
+/// writes are kept until the strokes before them are taken.
 #[derive(Drop)]
 pub(crate) struct Framer {
     frames: Frames,
@@ -39,7 +39,7 @@ impl Model for Framer {
 }
 
 impl Tracer for Framer {
-    ghost next = { framer_told };
+    ghost next = { framer_after_turn };
 
     ghost has_enough = { keeps_marks };
 
@@ -54,13 +54,13 @@ impl Tracer for Framer {
 impl TurnObserver for Framer {
     ghost can_follow = { λ f _ limit b. CanFrame f limit b };
 
-    ghost tells = { run_framed_text };
+    ghost writes = { run_framed_text };
 
     ghost after_run = { after_run };
 
     ghost can_take = { λ f _. HasNumbers f };
 
-    ghost part_tells = { part_framed };
+    ghost part_writes = { part_framed };
 
     ghost after_part = { after_part };
 
@@ -89,11 +89,11 @@ fn framer_at<M: Machine>(synced: &SyncedMachine<'_, M>) -> Framer
     }
 }
 
-/// Runs the board over a tape to the first boundary that isn't before the limit or to an undocumented
-/// opcode, and writes its frames: a line for each as it ends, one for the frame that is under way at
-/// the end, and the last line of the run. The first frame begins where the board stands, and each
-/// write that starts the generator begins the next. After a fault the machine is only to be dropped.
-/// It takes no memory.
+/// Runs the board over a tape to the first boundary that isn't before the limit or to an
+/// undocumented opcode, and writes its frames: a line for each as it ends, one for the frame that
+/// is under way at the end, and the last line of the run. The first frame begins where the board
+/// stands, and each write that starts the generator begins the next. After a fault the machine is
+/// only to be dropped. It takes no memory.
 pub fn run_framed<M: Machine, O: Sink>(
     synced: &mut SyncedMachine<'_, M>,
     tape: &Tape,

@@ -6,5 +6,5 @@ mod laws;
 mod profiling;
 
 pub use framing::run_framed;
-pub use laws::{all_clocks_are_told, all_strokes_are_told, frames_have_their_strokes};
+pub use laws::{all_clocks_are_counted, all_strokes_are_counted, frames_have_their_strokes};
 pub use profiling::run_profiled;

@@ -6,7 +6,7 @@ ghost use Rattle.lockstep_board.specs.Order.{cleared};
 ghost use Rattle.lockstep_board.specs.Run.{to_boundary};
 ghost use Rattle.run_windows.specs.SyncedMachine.{loan_of, value_of};
 ghost use Rattle.run_trace.specs.BoardProfile.{no_profile, profiled_text};
-ghost use Rattle.run_trace.specs.Profiling.{after_run, profiler_told};
+ghost use Rattle.run_trace.specs.Profiling.{after_run, profiler_after_turn};
 ghost use Rattle.run_trace.specs.ProfilingLaws.{profiled_in_parts, profiled_still};
 
 use board_base::{CLOCK_LIMIT, Trails};
@@ -24,7 +24,7 @@ pub(crate) struct Profiler {
 }
 
 impl Tracer for Profiler {
-    ghost next = { profiler_told };
+    ghost next = { profiler_after_turn };
 
     ghost has_enough = { λ _. false };
 
@@ -37,13 +37,13 @@ impl Tracer for Profiler {
 impl TurnObserver for Profiler {
     ghost can_follow = { λ _ _ _ _. Unit };
 
-    ghost tells = { λ _ _ _ _. [] };
+    ghost writes = { λ _ _ _ _. [] };
 
     ghost after_run = { after_run };
 
     ghost can_take = { λ _ _. Unit };
 
-    ghost part_tells = { λ _ _. [] };
+    ghost part_writes = { λ _ _. [] };
 
     ghost after_part = { λ p _. p };
 
@@ -56,10 +56,10 @@ impl TurnObserver for Profiler {
     ghost stands_still = { profiled_still };
 }
 
-/// Runs the board over a tape to the first boundary that isn't before the limit or to an undocumented
-/// opcode, counts its turns in the profile, and then writes it and the last line of the run. The
-/// profile is a new one, of the address at which the processor stands. After a fault the machine is
-/// only to be dropped. It takes no memory.
+/// Runs the board over a tape to the first boundary that isn't before the limit or to an
+/// undocumented opcode, counts its turns in the profile, and then writes it and the last line of
+/// the run. The profile is a new one, of the address at which the processor stands. After a fault
+/// the machine is only to be dropped. It takes no memory.
 pub fn run_profiled<M: Machine, O: Sink>(
     synced: &mut SyncedMachine<'_, M>,
     tape: &Tape,

@@ -111,7 +111,7 @@ abbrev pub clocks_left : ℕ → Board → ℕ
 clocks_left limit b = (limit - b.peripherals.clock) + (if is_some b.cpu.mid then 1 else 0)
 
 module _ {F : Type 0} (next : F → TraceValue → ℕ → F) (enough : F → Bool) where
-  -- a part of a run: its end, and what he is there who is told of its turns
+  -- a part of a run: its end, and the observer after its turns
   abbrev pub IsPart : List TapeEntry → ℕ → Board → Board → F → F → Type 0
   IsPart entries limit b c w v = TracedRun next enough entries (window_limit limit b) b c w v
 
@@ -156,14 +156,15 @@ module _ {F : Type 0} (next : F → TraceValue → ℕ → F) (enough : F → Bo
           rw (boundary, none) (omega arith)
       smaller (Some m) inside off later clock = rw (boundary, inside) (omega arith)
 
-module _ {F : Type 0} (can_follow : F → List TapeEntry → ℕ → Board → Type 0) (tells : F → List TapeEntry → ℕ → Board → List ℕ)
+module _ {F : Type 0} (can_follow : F → List TapeEntry → ℕ → Board → Type 0) (writes : F → List TapeEntry → ℕ → Board → List ℕ)
     (after_run : F → List TapeEntry → ℕ → Board → F) where
-  -- the run has come from b and w to a board and one who have told these bytes, and behind them it is the same run
+  -- the run has come from b and w to a board and an observer that has written these bytes, and from
+  -- there it is the same run
   pub record Followed (entries : List TapeEntry) (limit : ℕ) (b now : Board) (w v : F) (taken0 taken : Option (List ℕ)) (faults0 faults : ℕ) : Type 0 where
     pub sent : List ℕ
     pub took : taken ≡ grown taken0 sent
     pub sound : faults ≡ faults0
-    pub text : tells w entries limit b ≡ sent ++ tells v entries limit now
+    pub text : writes w entries limit b ≡ sent ++ writes v entries limit now
     pub state : after_run w entries limit b ≡ after_run v entries limit now
     pub room : can_follow v entries limit now
     pub board : cleared (to_boundary entries limit b) ≡ cleared (to_boundary entries limit now)
@@ -180,10 +181,10 @@ module _ {F : Type 0} (can_follow : F → List TapeEntry → ℕ → Board → T
     board = refl;
   }
 
-  -- a run that is over has told all
-  pub followed-over : StandsStill tells after_run → (entries : List TapeEntry) (limit : ℕ) (b now : Board) (w v : F) (taken0 taken : Option (List ℕ)) (faults0 faults : ℕ)
+  -- a run that is over has written all
+  pub followed-over : StandsStill writes after_run → (entries : List TapeEntry) (limit : ℕ) (b now : Board) (w v : F) (taken0 taken : Option (List ℕ)) (faults0 faults : ℕ)
       → Followed entries limit b now w v taken0 taken faults0 faults → is_over limit now ≡ true
-      → (taken ≡ grown taken0 (tells w entries limit b)) × (v ≡ after_run w entries limit b) × (cleared now ≡ cleared (to_boundary entries limit b))
+      → (taken ≡ grown taken0 (writes w entries limit b)) × (v ≡ after_run w entries limit b) × (cleared now ≡ cleared (to_boundary entries limit b))
   followed-over still entries limit b now w v taken0 taken faults0 faults h over =
       let s = still v entries limit now over in (
         h.took ∙ ap (grown taken0) (sym (h.text ∙ ap (λ l. h.sent ++ l) s.text ∙ append-nil h.sent)),
@@ -192,12 +193,12 @@ module _ {F : Type 0} (can_follow : F → List TapeEntry → ℕ → Board → T
       )
 
 module _ {F : Type 0} (next : F → TraceValue → ℕ → F) (enough : F → Bool) (can_follow : F → List TapeEntry → ℕ → Board → Type 0)
-    (tells : F → List TapeEntry → ℕ → Board → List ℕ) (after_run : F → List TapeEntry → ℕ → Board → F)
-    (can_take : F → Recorded → Type 0) (part_tells : F → Recorded → List ℕ) (after_part : F → Recorded → F)
-    (law : FollowsInParts next enough can_follow tells after_run can_take part_tells after_part) where
+    (writes : F → List TapeEntry → ℕ → Board → List ℕ) (after_run : F → List TapeEntry → ℕ → Board → F)
+    (can_take : F → Recorded → Type 0) (part_writes : F → Recorded → List ℕ) (after_part : F → Recorded → F)
+    (law : FollowsInParts next enough can_follow writes after_run can_take part_writes after_part) where
   -- what the law says of a part
   part-is : (entries : List TapeEntry) (limit : ℕ) (b c : Board) (w v : F) → IsPlaced b → HasNoRecords b → can_follow w entries limit b
-      → IsPart next enough entries limit b c w v → IsFollowedInParts next enough can_follow tells after_run can_take part_tells after_part w v entries limit b c
+      → IsPart next enough entries limit b c w v → IsFollowedInParts next enough can_follow writes after_run can_take part_writes after_part w v entries limit b c
   part-is entries limit b c w v placed none room part = law w v entries limit (window_limit limit b) b c (omega arith) placed none room part
 
   pub part-room : (entries : List TapeEntry) (limit : ℕ) (b c : Board) (w v : F) → IsPlaced b → HasNoRecords b → can_follow w entries limit b
@@ -206,12 +207,12 @@ module _ {F : Type 0} (next : F → TraceValue → ℕ → F) (enough : F → Bo
 
   -- a part more
   pub followed-part : (entries : List TapeEntry) (limit : ℕ) (b now c after : Board) (w v u f : F) (taken0 taken taken1 : Option (List ℕ)) (faults0 faults faults1 : ℕ)
-      → Followed can_follow tells after_run entries limit b now w v taken0 taken faults0 faults → IsPlaced now → HasNoRecords now → IsPart next enough entries limit now c v u
-      → after ≡ cleared c → f ≡ after_part u (records_of c) → taken1 ≡ grown taken (part_tells u (records_of c)) → faults1 ≡ faults
-      → Followed can_follow tells after_run entries limit b after w f taken0 taken1 faults0 faults1
+      → Followed can_follow writes after_run entries limit b now w v taken0 taken faults0 faults → IsPlaced now → HasNoRecords now → IsPart next enough entries limit now c v u
+      → after ≡ cleared c → f ≡ after_part u (records_of c) → taken1 ≡ grown taken (part_writes u (records_of c)) → faults1 ≡ faults
+      → Followed can_follow writes after_run entries limit b after w f taken0 taken1 faults0 faults1
   followed-part entries limit b now c after w v u f taken0 taken taken1 faults0 faults faults1 h placed none part is state took sound =
       let p = part-is entries limit now c v u placed none h.room part in
-      let piece = part_tells u (records_of c) in
+      let piece = part_writes u (records_of c) in
       rw (is, state) (record {
         sent = h.sent ++ piece;
         took = took ∙ ap (λ t. grown t piece) h.took ∙ grown-twice taken0 h.sent piece;
@@ -219,7 +220,7 @@ module _ {F : Type 0} (next : F → TraceValue → ℕ → F) (enough : F → Bo
         text =
             h.text
             ∙ ap (λ l. h.sent ++ l) p.text
-            ∙ sym (append_assoc h.sent piece (tells (after_part u (records_of c)) entries limit (cleared c)));
+            ∙ sym (append_assoc h.sent piece (writes (after_part u (records_of c)) entries limit (cleared c)));
         state = h.state ∙ p.state;
         room = p.rest;
         board = h.board ∙ part-board next enough entries limit now c v u placed part;
@@ -227,12 +228,12 @@ module _ {F : Type 0} (next : F → TraceValue → ℕ → F) (enough : F → Bo
 
   -- a part of which a first part was written
   pub cut-part : (entries : List TapeEntry) (limit : ℕ) (b now c : Board) (w v u : F) (taken0 taken taken1 : Option (List ℕ)) (faults0 faults : ℕ)
-      → Followed can_follow tells after_run entries limit b now w v taken0 taken faults0 faults → IsPlaced now → HasNoRecords now → IsPart next enough entries limit now c v u
-      → (k : ℕ) × (taken1 ≡ grown taken (take k (part_tells u (records_of c))))
-      → (k : ℕ) × (taken1 ≡ grown taken0 (take k (tells w entries limit b)))
+      → Followed can_follow writes after_run entries limit b now w v taken0 taken faults0 faults → IsPlaced now → HasNoRecords now → IsPart next enough entries limit now c v u
+      → (k : ℕ) × (taken1 ≡ grown taken (take k (part_writes u (records_of c))))
+      → (k : ℕ) × (taken1 ≡ grown taken0 (take k (writes w entries limit b)))
   cut-part entries limit b now c w v u taken0 taken taken1 faults0 faults h placed none part cut =
       let p = part-is entries limit now c v u placed none h.room part in
-      let rest = tells (after_part u (records_of c)) entries limit (cleared c) in
-      let piece = part_tells u (records_of c) in
+      let rest = writes (after_part u (records_of c)) entries limit (cleared c) in
+      let piece = part_writes u (records_of c) in
       let whole = took_then taken0 taken taken1 h.sent (piece ++ rest) h.took (took_first taken taken1 piece rest cut) in
       (whole.0, whole.1 ∙ ap (λ l. grown taken0 (take whole.0 l)) (sym (h.text ∙ ap (λ l. h.sent ++ l) p.text)))

@@ -8,7 +8,7 @@ use Rattle.lockstep_board.specs.declared.stop.Stop.TheVariants.{Window}
 use Rattle.lockstep_board.specs.Lockstep.{Board}
 use Rattle.lockstep_board.specs.Run.{stepped, is_over, is_at, to_boundary, to_cut, window_limit, wrap_of, cause_of, IsPlaced}
 use Rattle.lockstep_board.specs.Budget.{budget, wraps}
-use Rattle.catchup_engine.specs.EngineValue.{EngineValue}
+use Rattle.catchup_engine.specs.EngineValue.{EngineValue, counted_on}
 use Rattle.lockstep_board.specs.Order.{HasNoRecords, cleared, Recorded, AreMadeBetween, behind, records_of}
 use Rattle.lockstep_board.proofs.Ended.{at-stop, over-stop}
 use Rattle.lockstep_board.proofs.Runs.{steps-none, stepped-add}
@@ -67,7 +67,7 @@ module _ (entries : List TapeEntry) where
       let wrapped = counted-add entries (λ c. wraps c.peripherals) n m b in
       omega arith
 
-  -- the end of a run from a board is that from the board without its records, behind them
+  -- the end of a run from a board is that from the board without its records, after them
   end-behind : (until : Until) (l : Recorded) (b : Board) → end_of entries until (behind l b) ≡ behind l (end_of entries until b)
   end-behind until l b =
       ap (λ n. stepped entries n (behind l b)) (steps-behind until l b) ∙ stepped-behind entries (steps_to entries until b) l b
@@ -158,15 +158,23 @@ module _ (entries : List TapeEntry) where
       let split = price-split until e.board rest.placed in
       omega arith
 
+  -- a window's clocks are counted once
+  pub window-done : (until : Until) (b now : Board) (done after : ℕ) → now ≡ cleared (window_end entries until b)
+      → after ≡ counted_on done (now.peripherals.clock - b.peripherals.clock) → after + b.peripherals.clock ≤ done + now.peripherals.clock
+  window-done until b now done after is counted =
+      let clock : now.peripherals.clock ≡ b.peripherals.clock + window_steps entries until b =
+      ap (λ (c : Board). c.peripherals.clock) is ∙ stepped-clock entries (window_steps entries until b) b in
+      omega (arith, counted, clock)
+
   pub ruleset window_laws = (first-window, run-made)
 
-module _ {W : Type 0} (can_take : W → ℕ → Recorded → ℕ → Type 0) (tells : W → Recorded → ℕ → List ℕ) (next : W → Recorded → ℕ → W) where
+module _ {W : Type 0} (can_take : W → ℕ → Recorded → ℕ → Type 0) (writes : W → Recorded → ℕ → List ℕ) (next : W → Recorded → ℕ → W) where
   -- an observer has taken a first part of a run, and the rest of it is still to come
   pub record Watched (from : ℕ) (whole rest : Board) (w0 w : W) (taken0 taken : Option (List ℕ)) (faults0 faults : ℕ) : Type 0 where
     pub sent : List ℕ
     pub took : taken ≡ grown taken0 sent
     pub sound : faults ≡ faults0
-    pub text : tells w0 (records_of whole) whole.peripherals.clock ≡ sent ++ tells w (records_of rest) rest.peripherals.clock
+    pub text : writes w0 (records_of whole) whole.peripherals.clock ≡ sent ++ writes w (records_of rest) rest.peripherals.clock
     pub state : next w0 (records_of whole) whole.peripherals.clock ≡ next w (records_of rest) rest.peripherals.clock
     pub room : can_take w from (records_of rest) rest.peripherals.clock
     pub board : cleared whole ≡ cleared rest
@@ -183,7 +191,7 @@ module _ {W : Type 0} (can_take : W → ℕ → Recorded → ℕ → Type 0) (te
     board = refl;
   }
 
-  module _ (law : TakesInParts can_take tells next) (entries : List TapeEntry) (until : Until) (whole b : Board) (w0 w : W) (taken0 taken : Option (List ℕ))
+  module _ (law : TakesInParts can_take writes next) (entries : List TapeEntry) (until : Until) (whole b : Board) (w0 w : W) (taken0 taken : Option (List ℕ))
       (faults0 faults : ℕ) (so_far : Watched b.peripherals.clock whole (end_of entries until b) w0 w taken0 taken faults0 faults) (placed : IsPlaced b) (none : HasNoRecords b) where
     abbrev there : Board
     there = window_end entries until b
@@ -192,15 +200,15 @@ module _ {W : Type 0} (can_take : W → ℕ → Recorded → ℕ → Type 0) (te
     after = end_of entries until (cleared there)
 
     -- the next window is a first part of what is still to come
-    in_two : IsTakenInParts can_take tells next w b.peripherals.clock (records_of there) there.peripherals.clock (records_of after) after.peripherals.clock
+    in_two : IsTakenInParts can_take writes next w b.peripherals.clock (records_of there) there.peripherals.clock (records_of after) after.peripherals.clock
     in_two =
         let first = first-window entries until b placed none in
         law w b.peripherals.clock (records_of there) there.peripherals.clock (records_of after) after.peripherals.clock first.parts
         (rw (first.made, first.clock) at so_far.room)
 
-    text-window : tells w0 (records_of whole) whole.peripherals.clock
-        ≡ so_far.sent ++ (tells w (records_of there) there.peripherals.clock
-        ++ tells (next w (records_of there) there.peripherals.clock) (records_of after) after.peripherals.clock)
+    text-window : writes w0 (records_of whole) whole.peripherals.clock
+        ≡ so_far.sent ++ (writes w (records_of there) there.peripherals.clock
+        ++ writes (next w (records_of there) there.peripherals.clock) (records_of after) after.peripherals.clock)
     text-window =
         let first = first-window entries until b placed none in
         so_far.text ∙ ap (λ (l : List ℕ). so_far.sent ++ l) (rw (first.made, first.clock) in_two.text)
@@ -211,37 +219,37 @@ module _ {W : Type 0} (can_take : W → ℕ → Recorded → ℕ → Type 0) (te
 
     -- it is taken
     pub watched-window : (now : Board) (v : W) (more : Option (List ℕ)) (faults' : ℕ) → now ≡ cleared there
-        → v ≡ next w (records_of there) there.peripherals.clock → more ≡ grown taken (tells w (records_of there) there.peripherals.clock) → faults' ≡ faults
+        → v ≡ next w (records_of there) there.peripherals.clock → more ≡ grown taken (writes w (records_of there) there.peripherals.clock) → faults' ≡ faults
         → Watched now.peripherals.clock whole (end_of entries until now) w0 v taken0 more faults0 faults'
     watched-window now v more faults' is next_is took sound =
         let first = first-window entries until b placed none in
         rw (is, next_is) (record {
-          sent = so_far.sent ++ tells w (records_of there) there.peripherals.clock;
+          sent = so_far.sent ++ writes w (records_of there) there.peripherals.clock;
           took =
               took
-              ∙ ap (λ (out : Option (List ℕ)). grown out (tells w (records_of there) there.peripherals.clock)) so_far.took
-              ∙ grown-twice taken0 so_far.sent (tells w (records_of there) there.peripherals.clock);
+              ∙ ap (λ (out : Option (List ℕ)). grown out (writes w (records_of there) there.peripherals.clock)) so_far.took
+              ∙ grown-twice taken0 so_far.sent (writes w (records_of there) there.peripherals.clock);
           sound = sound ∙ so_far.sound;
-          text = text-window ∙ sym (append_assoc so_far.sent (tells w (records_of there) there.peripherals.clock) _);
+          text = text-window ∙ sym (append_assoc so_far.sent (writes w (records_of there) there.peripherals.clock) _);
           state = so_far.state ∙ rw (first.made, first.clock) in_two.state;
           room = in_two.room_rest;
           board = so_far.board ∙ first.board;
         })
 
     -- or a fault cuts it
-    pub cut-window : (now : Option (List ℕ)) → (k : ℕ) × (now ≡ grown taken (take k (tells w (records_of there) there.peripherals.clock)))
-        → (k : ℕ) × (now ≡ grown taken0 (take k (tells w0 (records_of whole) whole.peripherals.clock)))
+    pub cut-window : (now : Option (List ℕ)) → (k : ℕ) × (now ≡ grown taken (take k (writes w (records_of there) there.peripherals.clock)))
+        → (k : ℕ) × (now ≡ grown taken0 (take k (writes w0 (records_of whole) whole.peripherals.clock)))
     cut-window now cut =
         rw text-window (took_then taken0 taken now so_far.sent _ so_far.took
-        (took_first taken now (tells w (records_of there) there.peripherals.clock) _ cut))
+        (took_first taken now (writes w (records_of there) there.peripherals.clock) _ cut))
 
   -- the last window is what is still to come
   module _ (from : ℕ) (whole rest there : Board) (w0 w : W) (taken0 taken : Option (List ℕ)) (faults0 faults : ℕ)
       (so_far : Watched from whole rest w0 w taken0 taken faults0 faults) (last : there ≡ rest) where
-    pub took-last : (now : Option (List ℕ)) → now ≡ grown taken (tells w (records_of there) there.peripherals.clock)
-        → now ≡ grown taken0 (tells w0 (records_of whole) whole.peripherals.clock)
+    pub took-last : (now : Option (List ℕ)) → now ≡ grown taken (writes w (records_of there) there.peripherals.clock)
+        → now ≡ grown taken0 (writes w0 (records_of whole) whole.peripherals.clock)
     took-last now took =
-        took ∙ ap (λ (out : Option (List ℕ)). grown out (tells w (records_of there) there.peripherals.clock)) so_far.took ∙ grown-twice taken0 so_far.sent _
+        took ∙ ap (λ (out : Option (List ℕ)). grown out (writes w (records_of there) there.peripherals.clock)) so_far.took ∙ grown-twice taken0 so_far.sent _
         ∙ ap (grown taken0) (rw last (sym so_far.text))
 
     pub state-last : (v : W) → v ≡ next w (records_of there) there.peripherals.clock → v ≡ next w0 (records_of whole) whole.peripherals.clock

@@ -16,12 +16,12 @@ pub record AreParts (from : ℕ) (first : Recorded) (at : ℕ) (rest : Recorded)
   pub sooner : AreMadeBetween from first at
   pub later : AreMadeBetween at rest upto
 
-module _ {W : Type 0} (can_take : W → ℕ → Recorded → ℕ → Type 0) (tells : W → Recorded → ℕ → List ℕ) (next : W → Recorded → ℕ → W) where
+module _ {W : Type 0} (can_take : W → ℕ → Recorded → ℕ → Type 0) (writes : W → Recorded → ℕ → List ℕ) (next : W → Recorded → ℕ → W) where
   -- to take a first part, and then the rest, is to take the whole
   pub record IsTakenInParts (w : W) (from : ℕ) (first : Recorded) (at : ℕ) (rest : Recorded) (upto : ℕ) : Type 0 where
     pub room_first : can_take w from first at
     pub room_rest : can_take (next w first at) at rest upto
-    pub text : tells w (joined first rest) upto ≡ tells w first at ++ tells (next w first at) rest upto
+    pub text : writes w (joined first rest) upto ≡ writes w first at ++ writes (next w first at) rest upto
     pub state : next w (joined first rest) upto ≡ next (next w first at) rest upto
 
   abbrev pub TakesInParts : Type 0

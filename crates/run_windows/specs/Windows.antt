@@ -13,7 +13,8 @@ abbrev pub clock_in : Until → ℕ
 clock_in (Clock cut) = cut
 clock_in (Boundary limit) = limit
 
--- the steps of a run, and those of its next window: up to the run's end or the first boundary after the divider's wrap
+-- the steps of a run, and those of its next window: up to the run's end or the first boundary after
+-- the divider's wrap
 abbrev pub steps_to : List TapeEntry → Until → Board → ℕ
 steps_to entries (Clock cut) b = clock_steps entries cut b
 steps_to entries (Boundary limit) b = boundary_steps entries limit b
@@ -29,8 +30,8 @@ end_of entries until b = stepped entries (steps_to entries until b) b
 abbrev pub window_end : List TapeEntry → Until → Board → Board
 window_end entries until b = stepped entries (window_steps entries until b) b
 
--- the device calls that n steps may cost where somebody sees the records after each wrap: five more for each, since the
--- devices are brought to the present for it
+-- the device calls that n steps may cost where somebody sees the records after each wrap: five more
+-- for each, since the devices are synced for it
 abbrev pub window_price : List TapeEntry → ℕ → Board → ℕ
 window_price entries n b = budget entries n b + 5 * counted entries (λ c. wraps c.peripherals) n b
 
@@ -43,8 +44,8 @@ abbrev pub EndsSo : Until → Board → Type 0
 EndsSo (Clock cut) b = Unit {0}
 EndsSo (Boundary limit) b = b.cpu.mid ≡ None
 
--- The next window of a run is a first part of it. The rest of the run is one of its own, from the board whose records are
--- forgotten.
+-- The next window of a run is a first part of it. The rest of the run is one of its own, from the
+-- board whose records are forgotten.
 pub record IsFirstWindow (entries : List TapeEntry) (until : Until) (b : Board) : Type 0 where
   pub made : records_of (end_of entries until b)
       ≡ joined (records_of (window_end entries until b)) (records_of (end_of entries until (cleared (window_end entries until b))))

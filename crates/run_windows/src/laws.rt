@@ -7,8 +7,9 @@ ghost use Rattle.lockstep_board.specs.Run.{IsPlaced};
 ghost use Rattle.run_windows.specs.declared.until.Until.{Until as until_value};
 ghost use Rattle.run_windows.specs.Windows.{IsFirstWindow, end_of};
 
-/// The next window of a run is a first part of it: the records of the run are those of the window and
-/// then those of the rest of the run. From a board without records each of them is of the run's clocks.
+/// The next window of a run is a first part of it: the records of the run are those of the window
+/// and then those of the rest of the run. From a board without records each of them is of the run's
+/// clocks.
 #[tactic(auto, using(crate::proofs::WatchLaws::window_laws))]
 pub fn windows_are_the_run()
     ensures first { (entries : List TapeEntry) → (until : until_value) → (b : Board) → IsPlaced b → HasNoRecords b → IsFirstWindow entries until b }

@@ -1,6 +1,6 @@
 ghost use Rattle.std.specs.Prelude.{[], ⊤, refl};
 
-use crate::watch::RecordObserver;
+use crate::record_observer::RecordObserver;
 use board_base::Trails;
 use outside_io::{Sink, SinkFault};
 
@@ -11,7 +11,7 @@ pub struct NullObserver;
 impl RecordObserver for NullObserver {
     ghost can_take = { λ _ _ _ _. ⊤ };
 
-    ghost tells = { λ _ _ _. [] };
+    ghost writes = { λ _ _ _. [] };
 
     ghost next = { λ w _ _. w };
 

@@ -16,9 +16,9 @@ ghost use Rattle.lockstep_board.specs.Peripherals.{reloaded};
 ghost use Rattle.run_windows.specs.Synced.{IsSynced};
 ghost use Rattle.run_windows.specs.Windows.{EndsSo, clock_in, end_of, price_to, window_end, window_steps};
 
-use crate::follow::TurnObserver;
+use crate::record_observer::RecordObserver;
+use crate::turn_observer::TurnObserver;
 use crate::until::Until;
-use crate::watch::RecordObserver;
 use board_base::{BoardState, CLOCK_LIMIT};
 use catchup_engine::{Machine, Stop};
 use outside_io::{Sink, SinkFault};
@@ -115,9 +115,9 @@ impl<'a, M: Machine> SyncedMachine<'a, M> {
         load_synced(self.machine, state);
     }
 
-    /// Runs up to the end of a window, the first one of `watch`, and hands its records to an observer.
-    /// `Window` says that the run isn't over. After a fault the machine is synchronised too, and the
-    /// observer is only to be dropped.
+    /// Runs up to the end of a window, the first one of `watch`, and hands its records to an
+    /// observer. `Window` says that the run isn't over. After a fault the machine is synchronised
+    /// too, and the observer is only to be dropped.
     pub fn window<W: RecordObserver, O: Sink>(
         &mut self,
         tape: &Tape,
@@ -130,7 +130,7 @@ impl<'a, M: Machine> SyncedMachine<'a, M> {
             W.can_take observer.old (value_of self.old).board.peripherals.clock (records_of there) there.peripherals.clock }
         ensures same { loan_of self.new ≡ loan_of self.old }
         ensures taken { let there = window_end tape.now.entries until (value_of self.old).board in
-            Takes (O.taken out.old) (O.taken out.new) (W.tells observer.old (records_of there) there.peripherals.clock) result }
+            Takes (O.taken out.old) (O.taken out.new) (W.writes observer.old (records_of there) there.peripherals.clock) result }
         ensures cause { HasCause (O.faults out.old) (O.faults out.new) result }
         ensures next { let there = window_end tape.now.entries until (value_of self.old).board in
             OnOk result (observer.new ≡ W.next observer.old (records_of there) there.peripherals.clock) }
@@ -157,9 +157,9 @@ impl<'a, M: Machine> SyncedMachine<'a, M> {
         Ok(stop)
     }
 
-    /// Runs to a clock or to a boundary, window by window, and hands the records of each window to a
-    /// observer. A window ends with the run, or at the first boundary after the divider's next wrap.
-    /// After a fault the machine is synchronised too, and the observer is only to be dropped.
+    /// Runs to a clock or to a boundary, window by window, and hands the records of each window to
+    /// an observer. A window ends with the run, or at the first boundary after the divider's next
+    /// wrap. After a fault the machine is synchronised too, and the observer is only to be dropped.
     pub fn watch<W: RecordObserver, O: Sink>(
         &mut self,
         tape: &Tape,
@@ -172,7 +172,7 @@ impl<'a, M: Machine> SyncedMachine<'a, M> {
             W.can_take observer.old (value_of self.old).board.peripherals.clock (records_of last) last.peripherals.clock }
         ensures same { loan_of self.new ≡ loan_of self.old }
         ensures taken { let last = end_of tape.now.entries until (value_of self.old).board in
-            Takes (O.taken out.old) (O.taken out.new) (W.tells observer.old (records_of last) last.peripherals.clock) result }
+            Takes (O.taken out.old) (O.taken out.new) (W.writes observer.old (records_of last) last.peripherals.clock) result }
         ensures cause { HasCause (O.faults out.old) (O.faults out.new) result }
         ensures next { let last = end_of tape.now.entries until (value_of self.old).board in
             OnOk result (observer.new ≡ W.next observer.old (records_of last) last.peripherals.clock) }
@@ -180,6 +180,8 @@ impl<'a, M: Machine> SyncedMachine<'a, M> {
         ensures stop { IfOk result (λ stop. stop ≡ cause_of (clock_in until) (value_of self.new).board) }
         ensures calls { (value_of self.new).calls ≤ (value_of self.old).calls + price_to tape.now.entries until (value_of self.old).board + 5 }
         ensures more { (value_of self.old).calls ≤ (value_of self.new).calls }
+        ensures done { (value_of self.new).done + (value_of self.old).board.peripherals.clock
+            ≤ (value_of self.old).done + (value_of self.new).board.peripherals.clock }
     {
         'windows: loop {
             let Ok(stop) = self.window(tape, until, observer, out) else {
@@ -192,8 +194,8 @@ impl<'a, M: Machine> SyncedMachine<'a, M> {
         }
     }
 
-    /// Runs turn by turn, passes each to an observer, and hands it their records: up to the limit, to the
-    /// end of a window, or to where it has enough.
+    /// Runs turn by turn, passes each to an observer, and hands it their records: up to the limit,
+    /// to the end of a window, or to where it has enough.
     fn part<F: TurnObserver, O: Sink>(
         &mut self,
         tape: &Tape,
@@ -205,7 +207,7 @@ impl<'a, M: Machine> SyncedMachine<'a, M> {
         requires room { F.can_follow observer.old tape.now.entries limit (value_of self.old).board }
         ensures same { loan_of self.new ≡ loan_of self.old }
         ensures part { (c : lockstep.Board) × (v : F) × TracedRun F.next F.has_enough tape.now.entries (window_limit limit (value_of self.old).board) (value_of self.old).board c observer.old v
-            × Takes (O.taken out.old) (O.taken out.new) (F.part_tells v (records_of c)) result
+            × Takes (O.taken out.old) (O.taken out.new) (F.part_writes v (records_of c)) result
             × OnOk result (observer.new ≡ F.after_part v (records_of c))
             × ((value_of self.new).board ≡ cleared c) }
         ensures cause { HasCause (O.faults out.old) (O.faults out.new) result }
@@ -234,7 +236,7 @@ impl<'a, M: Machine> SyncedMachine<'a, M> {
         requires limit { limit ≤ CLOCK_LIMIT }
         requires room { F.can_follow observer.old tape.now.entries limit (value_of self.old).board }
         ensures same { loan_of self.new ≡ loan_of self.old }
-        ensures taken { Takes (O.taken out.old) (O.taken out.new) (F.tells observer.old tape.now.entries limit (value_of self.old).board) result }
+        ensures taken { Takes (O.taken out.old) (O.taken out.new) (F.writes observer.old tape.now.entries limit (value_of self.old).board) result }
         ensures cause { HasCause (O.faults out.old) (O.faults out.new) result }
         ensures next { OnOk result (observer.new ≡ F.after_run observer.old tape.now.entries limit (value_of self.old).board) }
         ensures board { OnOk result ((value_of self.new).board ≡ cleared (to_boundary tape.now.entries limit (value_of self.old).board)) }
@@ -250,8 +252,8 @@ impl<'a, M: Machine> SyncedMachine<'a, M> {
         }
     }
 
-    /// Makes one turn, what is left of the sequence under way or else one instruction or sequence, and
-    /// forgets its records.
+    /// Makes one turn, what is left of the sequence under way or else one instruction or sequence,
+    /// and forgets its records.
     pub fn turn(&mut self, tape: &Tape)
         requires clock { (value_of self.old).board.peripherals.clock < CLOCK_LIMIT }
         ensures same { loan_of self.new ≡ loan_of self.old }
@@ -263,8 +265,8 @@ impl<'a, M: Machine> SyncedMachine<'a, M> {
         forget_records(self.machine);
     }
 
-    /// Makes the turns up to a limit, or up to the end of a window where that comes first, and forgets
-    /// their records.
+    /// Makes the turns up to a limit, or up to the end of a window where that comes first, and
+    /// forgets their records.
     pub fn turns(&mut self, tape: &Tape, limit: u64)
         requires limit { limit ≤ CLOCK_LIMIT }
         requires before { (value_of self.old).board.peripherals.clock < limit }
@@ -278,8 +280,8 @@ impl<'a, M: Machine> SyncedMachine<'a, M> {
         forget_records(self.machine);
     }
 
-    /// Makes some turns, one at least, up to a limit, to where pc is one of these addresses, or to the
-    /// end of a window, and forgets their records.
+    /// Makes some turns, one at least, up to a limit, to where pc is one of these addresses, or to
+    /// the end of a window, and forgets their records.
     pub fn turns_to_break(&mut self, tape: &Tape, limit: u64, addresses: &[u16])
         requires limit { limit ≤ CLOCK_LIMIT }
         requires before { (value_of self.old).board.peripherals.clock < limit }

@@ -1,11 +1,11 @@
-use Rattle.std.proofs.Common.{◌∙◌, arith, refl}
-use Rattle.lockstep_board.specs.Run.{cause_of, wrap_of}
+use Rattle.std.proofs.Common.{◌∙◌, arith, refl, sym}
 use Rattle.keyframes.specs.Seeking.{run_start}
-use Rattle.keyframes.proofs.AlongLaws.{start-same, window-image, window-last, window-on_run, window-rest}
+use Rattle.keyframes.proofs.AlongLaws.{between, part-ended, part-last, part-rest}
+use Rattle.keyframes.proofs.SeekLaws.{stride-smaller}
 use Rattle.keyframes.proofs.seeking.run_keeping.Goals as goal
 
-pub windows-init : goal.windows-init
-windows-init g c = record {
+pub strides-init : goal.strides-init
+strides-init g c = record {
   loan = refl;
   along = c.requires.along;
   on_run = c.requires.on_run;
@@ -14,49 +14,54 @@ windows-init g c = record {
   done = omega arith;
 }
 
-pub windows-preserved : goal.windows-preserved
-windows-preserved g c =
+pub strides-preserved : goal.strides-preserved
+strides-preserved g c =
     let entries = c.args.tape.now.entries in
-    let now = (g.M.Machine.value c.windows.synced.machine.now).board in
-    let next = (g.M.Machine.value c.run_window-stop.new.synced.machine.now).board in
+    let now = (g.M.Machine.value c.strides.synced.machine.now).board in
+    let next = (g.M.Machine.value c.run_on.new.synced.machine.now).board in
     let b = run_start c.args.keys.now.kept (g.M.Machine.value c.args.synced.now.machine.now).board in
-    let is = c.run_window-stop.ensures.board in
-    let inv = c.windows.invariant in
+    let inv = c.strides.invariant in
     let before = inv.done in
-    let more = c.run_window-stop.ensures.done in
-    let on_run = window-on_run entries b now next c.args.clock (wrap_of now) is inv.on_run in
+    let more = c.run_on.ensures.done in
+    let on_run = c.run_on.ensures.on_run b inv.on_run in
+    let rest = part-rest entries now next c.min-next.result c.run_on.ensures.board c.args.clock (omega (arith, c.min-next.ensures)) ∙ inv.rest in
     record {
-      loan = c.run_window-stop.ensures.loan ∙ inv.loan;
+      loan = c.run_on.ensures.loan ∙ inv.loan;
       along = c.keep_if_due.ensures.along entries b inv.along on_run;
       on_run = on_run;
-      same =
-          c.keep_if_due.ensures.first next
-          ∙ start-same c.windows.keys.kept next now inv.along.some (window-image entries b now next c.args.clock (wrap_of now) is)
-          ∙ inv.same;
-      rest = window-rest entries b now next c.args.clock (wrap_of now) is ∙ inv.rest;
+      same = c.keep_if_due.ensures.first next ∙ c.run_on.ensures.same c.strides.keys.kept inv.along.some ∙ inv.same;
+      rest = rest;
       done = omega (arith, before, more);
     }
 
-pub returns-in_default : goal.returns-in_default
-returns-in_default g c =
+pub strides-smaller : goal.strides-smaller
+strides-smaller g c =
     let entries = c.args.tape.now.entries in
-    let now = (g.M.Machine.value c.windows.synced.machine.now).board in
-    let next = (g.M.Machine.value c.run_window-stop.new.synced.machine.now).board in
+    let now = (g.M.Machine.value c.strides.synced.machine.now).board in
+    let next = (g.M.Machine.value c.run_on.new.synced.machine.now).board in
     let b = run_start c.args.keys.now.kept (g.M.Machine.value c.args.synced.now.machine.now).board in
-    let is = c.run_window-stop.ensures.board in
-    let inv = c.windows.invariant in
+    let inv = c.strides.invariant in
+    let along = c.keep_if_due.ensures.along entries b inv.along (c.run_on.ensures.on_run b inv.on_run) in
+    stride-smaller c.strides.keys.kept c.keep_if_due.new.keys.kept c.args.clock c.args.stride c.due_clock.result c.min-next.result next.peripherals.clock
+    inv.along.some along.some (omega (arith, c.requires.limit)) c.due_clock.ensures c.min-next.ensures c.keep_if_due.ensures.near
+    (between next.cpu.jam c.min-next.result c.args.clock next.peripherals.clock (part-ended entries now next c.min-next.result c.run_on.ensures.board)
+    (sym c.is_reached.ensures ∙ c.if-is_reached.false))
+
+pub returns-then-is_reached : goal.returns-then-is_reached
+returns-then-is_reached g c =
+    let entries = c.args.tape.now.entries in
+    let now = (g.M.Machine.value c.strides.synced.machine.now).board in
+    let next = (g.M.Machine.value c.run_on.new.synced.machine.now).board in
+    let b = run_start c.args.keys.now.kept (g.M.Machine.value c.args.synced.now.machine.now).board in
+    let inv = c.strides.invariant in
     let before = inv.done in
-    let more = c.run_window-stop.ensures.done in
-    let on_run = window-on_run entries b now next c.args.clock (wrap_of now) is inv.on_run in
+    let more = c.run_on.ensures.done in
+    let on_run = c.run_on.ensures.on_run b inv.on_run in
+    let rest = part-rest entries now next c.min-next.result c.run_on.ensures.board c.args.clock (omega (arith, c.min-next.ensures)) ∙ inv.rest in
     record {
-      loan = c.run_window-stop.ensures.loan ∙ inv.loan;
-      board =
-          window-last entries b now next c.args.clock (wrap_of now) is (g.M.Machine.value c.args.synced.now.machine.now).board
-          (λ w. c.in_default.not-Window (◌∙◌ {b = cause_of c.args.clock next} c.run_window-stop.ensures.stop w)) inv.rest;
-      same =
-          c.keep_if_due.ensures.first next
-          ∙ start-same c.windows.keys.kept next now inv.along.some (window-image entries b now next c.args.clock (wrap_of now) is)
-          ∙ inv.same;
+      loan = c.run_on.ensures.loan ∙ inv.loan;
+      board = part-last entries now next c.min-next.result c.run_on.ensures.board c.args.clock (g.M.Machine.value c.args.synced.now.machine.now).board (sym c.is_reached.ensures ∙ c.if-is_reached.true) rest;
+      same = c.keep_if_due.ensures.first next ∙ c.run_on.ensures.same c.strides.keys.kept inv.along.some ∙ inv.same;
       along = c.keep_if_due.ensures.along entries b inv.along on_run;
       done = omega (arith, before, more);
       near = c.keep_if_due.ensures.near;

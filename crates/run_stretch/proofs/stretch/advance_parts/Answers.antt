@@ -20,11 +20,11 @@ returns-in-Ok-watch_within-clause-done c =
     let first = first_board c.args.timers c.args.parts.now in
     let before = c.of-synced.result.machine.now.board in
     let begins : before ≡ first = ap (λ (e : EngineValue). e.board) c.of-synced.ensures.value ∙ c.in-Ok.ensures.board in
-    let kept : IsKept c.args.room (slice_text entries until first) c.in-Ok-watch_within.told =
-    subst (λ (l : List ℕ). IsKept c.args.room l c.in-Ok-watch_within.told)
-    (run-text entries until before c.of-synced.result.is_synced.empty ∙ ap (slice_text entries until) begins) c.in-Ok-watch_within.ensures.told in
+    let kept : IsKept c.args.room (slice_text entries until first) c.in-Ok-watch_within.kept =
+    subst (λ (l : List ℕ). IsKept c.args.room l c.in-Ok-watch_within.kept)
+    (run-text entries until before c.of-synced.result.is_synced.empty ∙ ap (slice_text entries until) begins) c.in-Ok-watch_within.ensures.kept in
     let there = c.in-Ok-watch_within.ensures.board ∙ ap (λ b. cleared (end_of entries until b)) begins in
     ends-behind _ _ _ _ c.ended.result (c.ended.ensures c.args.room _ kept) there
 
 pub returns-in-Ok-watch_within-clause-fits : goal.returns-in-Ok-watch_within-clause-fits
-returns-in-Ok-watch_within-clause-fits c = ends-fit _ _ _ c.ended.result (c.ended.ensures c.args.room _ c.in-Ok-watch_within.ensures.told)
+returns-in-Ok-watch_within-clause-fits c = ends-fit _ _ _ c.ended.result (c.ended.ensures c.args.room _ c.in-Ok-watch_within.ensures.kept)

@@ -8,7 +8,7 @@ use Rattle.run_stretch.proofs.watching.watch_within.Goals as goal
 pub windows-init : goal.windows-init
 windows-init g c = record {
   same = refl;
-  kept = keeps-start g.W.RecordObserver.can_take g.W.RecordObserver.tells g.W.RecordObserver.next c.args.room _ _ _ _ c.requires.room c.in_ok-told.ensures;
+  kept = keeps-start g.W.RecordObserver.can_take g.W.RecordObserver.writes g.W.RecordObserver.next c.args.room _ _ _ _ c.requires.room c.in_ok-kept.ensures;
 }
 
 pub window-requires-clause-room : goal.window-requires-clause-room
@@ -33,7 +33,7 @@ returns-in_default-stop g c =
     (λ w. c.in_default-stop.not-Window (◌∙◌ {b = cause_of (clock_in c.args.until) (g.M.Machine.value c.window.new.self.machine.now).board} c.in-Ok.ensures.stop w)) in
     record {
       same = c.window.ensures.same ∙ c.windows.invariant.same;
-      told =
+      kept =
           keeps-last _ _ _ c.args.room _ _ _ _ _ _ _ _ _ _ c.windows.invariant.kept last c.clear.ensures
           (ap Some c.bytes.ensures ∙ c.in-Ok.ensures.taken) (λ room text before. ok-holds _ _ _ c.in_ok-take.was (c.take.ensures room text before));
       board = board-last _ _ _ _ _ _ _ _ _ _ _ _ _ c.windows.invariant.kept.watched last _ c.window.ensures.board;

@@ -1,15 +1,16 @@
 use Rattle.std.proofs.Common.{Ok, ap, ◌∙◌, arith, refl}
 use Rattle.lockstep_board.specs.Run.{cause_of}
 use Rattle.run_windows.specs.Windows.{clock_in}
-use Rattle.run_windows.proofs.WatchLaws.{board-last, cut-window, last-window, room-window, state-last, took-last, watched-start, watched-window, window-paid, wrap-paid}
+use Rattle.run_windows.proofs.WatchLaws.{board-last, cut-window, last-window, room-window, state-last, took-last, watched-start, watched-window, window-done, window-paid, wrap-paid}
 use Rattle.run_windows.proofs.synced.SyncedMachine.watch.Goals as goal
 
 pub windows-init : goal.windows-init
 windows-init g c = record {
   same = refl;
-  watched = watched-start g.W.RecordObserver.can_take g.W.RecordObserver.tells g.W.RecordObserver.next _ _ _ _ _ c.requires.room;
+  watched = watched-start g.W.RecordObserver.can_take g.W.RecordObserver.writes g.W.RecordObserver.next _ _ _ _ _ c.requires.room;
   paid = omega arith;
   more = omega arith;
+  done = omega arith;
 }
 
 pub window-requires-clause-room : goal.window-requires-clause-room
@@ -29,6 +30,13 @@ returns-in_default-clause-calls g c =
     c.window.ensures.calls in
     omega arith
 
+pub returns-in_default-clause-done : goal.returns-in_default-clause-done
+returns-in_default-clause-done g c =
+    let so_far = c.windows.invariant.done in
+    let more = window-done c.args.tape.now.entries c.args.until (g.M.Machine.value c.windows.self.machine.now).board (g.M.Machine.value c.window.new.self.machine.now).board _ _
+    c.window.ensures.board c.window.ensures.done in
+    omega (arith, so_far, more)
+
 pub windows-preserved : goal.windows-preserved
 windows-preserved g c =
     let far = c.window.ensures.wrap (c.in-Ok.is ∙ ap Ok c.in-Window.is) in
@@ -37,6 +45,9 @@ windows-preserved g c =
     let before = c.windows.invariant.paid in
     let first = c.windows.invariant.more in
     let then_ = c.window.ensures.more in
+    let counted = c.windows.invariant.done in
+    let window_counted = window-done c.args.tape.now.entries c.args.until (g.M.Machine.value c.windows.self.machine.now).board (g.M.Machine.value c.window.new.self.machine.now).board _ _
+    c.window.ensures.board c.window.ensures.done in
     record {
       same = c.window.ensures.same ∙ c.windows.invariant.same;
       watched =
@@ -45,6 +56,7 @@ windows-preserved g c =
           c.window.ensures.board c.in-Ok.ensures.next c.in-Ok.ensures.taken c.in-Ok.ensures.cause;
       paid = omega arith;
       more = omega arith;
+      done = omega (arith, counted, window_counted);
     }
 
 pub returns-in_default-stop : goal.returns-in_default-stop
@@ -54,6 +66,9 @@ returns-in_default-stop g c =
     c.window.ensures.calls in
     let first = c.windows.invariant.more in
     let then_ = c.window.ensures.more in
+    let counted = c.windows.invariant.done in
+    let window_counted = window-done c.args.tape.now.entries c.args.until (g.M.Machine.value c.windows.self.machine.now).board (g.M.Machine.value c.window.new.self.machine.now).board _ _
+    c.window.ensures.board c.window.ensures.done in
     let last = last-window c.args.tape.now.entries c.args.until (g.M.Machine.value c.windows.self.machine.now).board (g.M.Machine.value c.window.new.self.machine.now).board
     c.windows.self.is_synced.placed c.window.ensures.board c.window.ensures.ends
     (λ w. c.in_default-stop.not-Window (◌∙◌ {b = cause_of (clock_in c.args.until) (g.M.Machine.value c.window.new.self.machine.now).board} c.in-Ok.ensures.stop w)) in
@@ -66,4 +81,5 @@ returns-in_default-stop g c =
       stop = c.in-Ok.ensures.stop;
       calls = omega arith;
       more = omega arith;
+      done = omega (arith, counted, window_counted);
     }

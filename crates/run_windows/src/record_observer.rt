@@ -13,7 +13,7 @@ pub trait RecordObserver {
     ghost can_take: { Self → ℕ → Recorded → ℕ → Type 0 };
 
     /// The bytes that it writes of these records, and of the clocks before one.
-    ghost tells: { Self → Recorded → ℕ → List ℕ };
+    ghost writes: { Self → Recorded → ℕ → List ℕ };
 
     /// What it is after them.
     ghost next: { Self → Recorded → ℕ → Self };
@@ -28,12 +28,12 @@ pub trait RecordObserver {
     ) -> Result<(), SinkFault>
         requires room { (from : ℕ) × can_take self.old from (recorded trails.now.vector.now.records trails.now.sound1.now.records
             trails.now.sound2.now.records trails.now.board.now.records) upto }
-        ensures taken { Takes (O.taken out.old) (O.taken out.new) (tells self.old (recorded trails.now.vector.now.records trails.now.sound1.now.records
+        ensures taken { Takes (O.taken out.old) (O.taken out.new) (writes self.old (recorded trails.now.vector.now.records trails.now.sound1.now.records
             trails.now.sound2.now.records trails.now.board.now.records) upto) result }
         ensures cause { HasCause (O.faults out.old) (O.faults out.new) result }
         ensures next { OnOk result (self.new ≡ next self.old (recorded trails.now.vector.now.records trails.now.sound1.now.records
             trails.now.sound2.now.records trails.now.board.now.records) upto) };
 
     /// To take a first part, and then the rest, is to take the whole.
-    ghost in_parts: { TakesInParts can_take tells next };
+    ghost in_parts: { TakesInParts can_take writes next };
 }

@@ -4,7 +4,7 @@ use Rattle.cycle_profile.specs.declared.counts.Counts.{Counts}
 use Rattle.cycle_profile.specs.declared.profile.TheConstants.{ADDRESSES}
 use Rattle.cycle_profile.specs.Counts.{no_counts}
 use Rattle.run_trace.proofs.ClockLaws.{addresses_told, all_told}
-use Rattle.run_trace.proofs.laws.all_clocks_are_told.Goals as goal
+use Rattle.run_trace.proofs.laws.all_clocks_are_counted.Goals as goal
 
 pub returns-clause-clocks : goal.returns-clause-clocks
 returns-clause-clocks c = all_told

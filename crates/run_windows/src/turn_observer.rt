@@ -18,16 +18,16 @@ pub trait TurnObserver: Tracer {
     ghost can_follow: { Self → List TapeEntry → ℕ → Board → Type 0 };
 
     /// The bytes that it writes of that run.
-    ghost tells: { Self → List TapeEntry → ℕ → Board → List ℕ };
+    ghost writes: { Self → List TapeEntry → ℕ → Board → List ℕ };
 
-    /// What it is behind that run.
+    /// What it is after that run.
     ghost after_run: { Self → List TapeEntry → ℕ → Board → Self };
 
     /// It can take the records of a part, whose turns it got.
     ghost can_take: { Self → Recorded → Type 0 };
 
     /// The bytes that it writes when it takes them.
-    ghost part_tells: { Self → Recorded → List ℕ };
+    ghost part_writes: { Self → Recorded → List ℕ };
 
     /// What it is then.
     ghost after_part: { Self → Recorded → Self };
@@ -36,15 +36,15 @@ pub trait TurnObserver: Tracer {
     fn take_part<O: Sink>(&mut self, trails: &Trails<'_>, out: &mut O) -> Result<(), SinkFault>
         requires room { can_take self.old (recorded trails.now.vector.now.records trails.now.sound1.now.records
             trails.now.sound2.now.records trails.now.board.now.records) }
-        ensures taken { Takes (O.taken out.old) (O.taken out.new) (part_tells self.old (recorded trails.now.vector.now.records trails.now.sound1.now.records
+        ensures taken { Takes (O.taken out.old) (O.taken out.new) (part_writes self.old (recorded trails.now.vector.now.records trails.now.sound1.now.records
             trails.now.sound2.now.records trails.now.board.now.records)) result }
         ensures cause { HasCause (O.faults out.old) (O.faults out.new) result }
         ensures next { OnOk result (self.new ≡ after_part self.old (recorded trails.now.vector.now.records trails.now.sound1.now.records
             trails.now.sound2.now.records trails.now.board.now.records)) };
 
     /// To follow a first part, and then the rest, is to follow the whole.
-    ghost in_parts: { FollowsInParts Self.next Self.has_enough can_follow tells after_run can_take part_tells after_part };
+    ghost in_parts: { FollowsInParts Self.next Self.has_enough can_follow writes after_run can_take part_writes after_part };
 
     /// A run that is over writes nothing.
-    ghost stands_still: { StandsStill tells after_run };
+    ghost stands_still: { StandsStill writes after_run };
 }

@@ -1,6 +1,6 @@
 use Rattle.std.proofs.Common.{refl, arith}
 use Rattle.run_stretch.proofs.KeptLaws.{kept-longer, kept-too-long}
-use Rattle.run_stretch.proofs.told.Told.take.Goals as goal
+use Rattle.run_stretch.proofs.kept_text.KeptText.take.Goals as goal
 
 pub returns-then-wanted-self : goal.returns-then-wanted-self
 returns-then-wanted-self c = λ room text before.
