@@ -15,7 +15,7 @@ pub const TEXT_LIMIT: usize = 1_048_576;
 /// Appends the tokens of one line, which may end with its LF. Its first byte has the place `start`
 /// in the source, counted in bytes, and its number is `line`.
 ///
-/// It is refused for its first bad token, or for want of memory; then `tokens` is only to be dropped.
+/// It is refused for its first bad token, or because memory ran out; then `tokens` is only to be dropped.
 pub fn push_line(
     tokens: &mut Vec<Token>,
     text: &[u8],

@@ -15,7 +15,7 @@ pub(crate) fn field_of(w: u16, low: u32, width: u32) -> u16
 /// The signed number in a field, whose highest bit has the value `sign`.
 pub(crate) fn signed_of(n: u16, sign: u16) -> i16
     requires narrow { sign ≤ 4096 }
-    requires fits { n < 2 * sign }
+    requires in_range { n < 2 * sign }
     ensures value { result ≡ signed sign n }
     ensures low { neg_ℤ (pos sign) ≤ℤ result }
     ensures high { result <ℤ pos sign }

@@ -48,7 +48,7 @@ pub trait VectorUnit: Clocked {
 }
 
 /// A clock gives one stroke at most, so that a move has room where its trail has room for as many
-/// records as there are clocks; and each stroke is of its own clock. It tells a law, and does
+/// records as there are clocks; and each stroke is of its own clock. It states a law, and does
 /// nothing.
 #[tactic(auto, using(crate::proofs::ManyTicks::few_records))]
 pub fn one_record_a_clock()

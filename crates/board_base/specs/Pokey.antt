@@ -1,4 +1,4 @@
--- A POKEY, as a plain record (POKEY C012294 data sheet; what is this project's own profile is told where it is defined).
+-- A POKEY, as a plain record (POKEY C012294 data sheet; each definition states what is this project's own profile).
 use Rattle.std.specs.Prelude.{◌≡◌, ℕ, ◌<◌, ◌≤◌, List, length, replicate, All}
 use Rattle.board_base.specs.declared.pokey.TheConstants.{LONGEST_PERIOD, POT_LIMIT, PRESCALER_BASE, PRESCALER_LINE}
 

@@ -1,6 +1,6 @@
 use std::alloc::{AllocError, AllocFailed};
 
-/// The one answer for want of memory.
+/// Memory ran out.
 #[derive(Clone, Copy, Debug, PartialEq, Eq)]
 pub struct OutOfMemory;
 

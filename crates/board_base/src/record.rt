@@ -1,4 +1,4 @@
-/// What the log tells of one clock.
+/// What the log states of one clock.
 ///
 /// `Stroke` goes from the beam before to the beam after, with the colour 0 to 7 and the intensity
 /// 1 to 15; `Levels` has the four levels 0 to 15 of a POKEY; `clock` is the clock in which it came.

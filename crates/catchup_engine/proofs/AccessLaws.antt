@@ -2,7 +2,7 @@
 use Rattle.std.proofs.Common.{◌≡◌, ℕ, ◌+◌, ◌-◌, ◌≤◌, ◌<◌, Bool, true, false, List, length, refl, sym, ap, ◌∙◌, arith}
 use Rattle.board_base.specs.declared.record.Record.{Record}
 use Rattle.board_map.specs.Map.{row_of}
-use Rattle.cpu_core.specs.Course.{write_of}
+use Rattle.cpu_core.specs.BusCycles.{write_of}
 use Rattle.tape_ports.specs.declared.entry.TapeEntry.{TapeEntry}
 use Rattle.lockstep_board.specs.Peripherals.{Peripherals, byte_put}
 use Rattle.catchup_engine.specs.Bus.{BusValue, BusStep, Stays, at_clock, done_clock, in_clock, room_of}

@@ -12,7 +12,7 @@ use Rattle.board_map.specs.declared.map.Writes.{Writes}
 use Rattle.board_map.specs.declared.map.Writes.TheVariants as writes
 use Rattle.board_map.specs.Map.{row_of}
 use Rattle.cpu_alu.specs.Flags.{is_masked}
-use Rattle.cpu_core.specs.Course.{Access}
+use Rattle.cpu_core.specs.BusCycles.{Access}
 use Rattle.cpu_core.specs.Registers.{RegistersValue}
 use Rattle.cpu_core.specs.Sequences.{Moves, Runs}
 use Rattle.catchup_engine.specs.declared.horizon.Horizon.{Horizon}

@@ -59,14 +59,14 @@ module _ (tape : TapeValue) (limit : ℕ) (addresses : List ℕ) where
 
   pub horizon-starts : (horizon : Horizon) (c : CpuValue) (s : BusValue) → limit ≤ CLOCK_LIMIT → IsInRange c s → s.begun ≡ false → HasRoomTo limit s → Fits tape s
       → GoesOn limit addresses c s → IsHorizon limit horizon s → horizon.until ≡ min limit (s.event_at - 6) → AtHorizon tape limit addresses horizon c s 0 s c true
-  horizon-starts horizon c s last range between room fits goes known until =
+  horizon-starts horizon c s last range between room accepts goes known until =
       let before = goes-before c s goes in
       let early = before.clock in
       let quiet = before.quiet in
       let on = turns-start tape.entries limit addresses c s between before.boundary range in
       record {
         on = rw (passed-zero s) on;
-        counted = counted-start tape 0 s refl fits between quiet (room-before c c s s last room on early);
+        counted = counted-start tape 0 s refl accepts between quiet (room-before c c s s last room on early);
         are = known (omega arith);
         goes = λ _. rw (passed-zero s) goes;
         later = λ no. cc;
@@ -88,7 +88,7 @@ module _ (tape : TapeValue) (limit : ℕ) (addresses : List ℕ) where
       → TurnedBus tape.entries 7 e (passed made t) (passed n u) f
   horizon-turn horizon c e f s t u made n more on_yet at runs boundary =
       let goes = at.goes on_yet in
-      opcode-turn tape e (passed made t) (passed n u) f (reads-opcode e (passed made t) goes.reads).reads at.on.run.goes.between at.counted.fits runs boundary
+      opcode-turn tape e (passed made t) (passed n u) f (reads-opcode e (passed made t) goes.reads).reads at.on.run.goes.between at.counted.accepts runs boundary
 
   -- it goes on where the clocks and the flags tell so
   tells-on : (horizon : Horizon) (f : CpuValue) (u : BusValue) (n : ℕ) (more : Bool) → f.mid ≡ None → IsCounted tape n u → HoldsAhead limit horizon u

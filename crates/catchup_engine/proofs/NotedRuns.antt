@@ -6,7 +6,7 @@ use Rattle.board_base.specs.declared.divider.TheConstants.{DIVIDER_PERIOD}
 use Rattle.board_base.specs.declared.cpu.Sequence.TheVariants.{Opcode}
 use Rattle.board_base.specs.Cpu.{CpuValue}
 use Rattle.cpu_alu.specs.Flags.{is_masked}
-use Rattle.cpu_core.specs.Course as course
+use Rattle.cpu_core.specs.BusCycles as cycles
 use Rattle.cpu_core.specs.Registers.{registers_of}
 use Rattle.cpu_core.specs.Sequences.{Runs}
 use Rattle.tape_ports.specs.declared.entry.TapeEntry.{TapeEntry}
@@ -36,8 +36,8 @@ use Rattle.catchup_engine.proofs.TracedRuns.{turns-more, turns-none}
 pub kept-memories : (tape : TapeValue) (made : ℕ) (t : BusValue) → Fits tape (passed made t) → (passed made t).peripherals.clock < (passed made t).event_at
     → ((ticked tape.entries (passed made t).peripherals).ram ≡ t.peripherals.ram) × ((ticked tape.entries (passed made t).peripherals).program ≡ t.peripherals.program)
 unfolding passed later devices_ticked
-kept-memories tape made t fits quiet =
-    let same = ticked-quiet tape (passed made t) fits quiet in (ap (λ (w : Peripherals). w.ram) same, ap (λ (w : Peripherals). w.program) same)
+kept-memories tape made t accepts quiet =
+    let same = ticked-quiet tape (passed made t) accepts quiet in (ap (λ (w : Peripherals). w.ram) same, ap (λ (w : Peripherals). w.program) same)
 
 module _ {T : Type 0} (next : T → TraceValue → ℕ → T) (enough : T → Bool) (tape : TapeValue) (limit : ℕ) where
   -- From c, s and w such a run led to e, t and v, with so many clocks that t has yet to be told of. The flags say whether he has
@@ -50,8 +50,8 @@ module _ {T : Type 0} (next : T → TraceValue → ℕ → T) (enough : T → Bo
 
   pub noted-starts : (horizon : Horizon) (c : CpuValue) (s : BusValue) (w : T) → limit ≤ CLOCK_LIMIT → IsInRange c s → s.begun ≡ false → HasRoomTo limit s → Fits tape s
       → GoesOn limit [] c s → is_private c.pc ≡ true → IsHorizon limit horizon s → horizon.until ≡ min limit (s.event_at - 6) → AtNoted horizon c s 0 s c w w false true
-  noted-starts horizon c s w last range between room fits goes private known until = record {
-    at = horizon-starts tape limit [] horizon c s last range between room fits goes known until;
+  noted-starts horizon c s w last range between room accepts goes private known until = record {
+    at = horizon-starts tape limit [] horizon c s last range between room accepts goes known until;
     turns = rw (passed-zero s) (turns-none next enough tape.entries limit (over_bus c s) w).0;
     open_yet = λ _. refl;
     opcode = λ _. private;
@@ -76,7 +76,7 @@ module _ {T : Type 0} (next : T → TraceValue → ℕ → T) (enough : T → Bo
   noted-short horizon c e f s t u made n l w v full more on_yet at runs boundary =
       let goes = at.at.goes on_yet in
       let reads = (reads-opcode e (passed made t) goes.reads).reads in
-      let turn = noted-turn tape e (passed made t) (noting (passed n u) l) f reads at.at.on.run.goes.between at.at.counted.fits runs boundary in
+      let turn = noted-turn tape e (passed made t) (noting (passed n u) l) f reads at.at.on.run.goes.between at.at.counted.accepts runs boundary in
       let clock = turn.turned.turned.clock in
       record { later = omega (arith, clock); few = turn.few.0; reached = turn.few.1 }
 
@@ -93,9 +93,9 @@ module _ {T : Type 0} (next : T → TraceValue → ℕ → T) (enough : T → Bo
   noted-goes horizon c e f s t u made n code clocks l w v new full more then has on_yet last at runs boundary counted lines byte time wrap told asked goes_on =
       let goes = at.at.goes on_yet in
       let reads = (reads-opcode e (passed made t) goes.reads).reads in
-      let turn = noted-turn tape e (passed made t) (noting (passed n u) l) f reads at.at.on.run.goes.between at.at.counted.fits runs boundary in
+      let turn = noted-turn tape e (passed made t) (noting (passed n u) l) f reads at.at.on.run.goes.between at.at.counted.accepts runs boundary in
       let calm_then = nat_lt (u.peripherals.clock + n) horizon.until && (is_none f.jam && (horizon.silent || is_masked f.p)) in
-      let memories = kept-memories tape made t at.at.counted.fits reads.quiet in
+      let memories = kept-memories tape made t at.at.counted.accepts reads.quiet in
       let note = ap (λ k. opcode_note code k l) time ∙ turn.note code (byte (ticked tape.entries (passed made t).peripherals) memories.0 memories.1) in
       record {
         at = horizon-goes tape limit [] horizon c e f s t u made n more then on_yet last at.at (bus-runs e f (passed made t) (noting (passed n u) l) runs) boundary counted lines wrap
@@ -133,8 +133,8 @@ pub record IsNotedBy {S : Type 0} (entries : List TapeEntry) (seen : S → Noted
   pub same : name t ≡ name s
   pub same_then : name_then t ≡ name_then s
 
-pub noted-by : {S : Type 0} {R : course.Access → S → S → Type 0} (entries : List TapeEntry) (seen : S → NotedValue) (bus : S → BusValue) (name name_then : S → ℕ)
-    → ((x : course.Access) (a b : S) → R x a b → (name b ≡ name a) × (name_then b ≡ name_then a) × KeepsLines (bus a) (bus b) × NotedStep entries x (seen a) (seen b))
+pub noted-by : {S : Type 0} {R : cycles.Access → S → S → Type 0} (entries : List TapeEntry) (seen : S → NotedValue) (bus : S → BusValue) (name name_then : S → ℕ)
+    → ((x : cycles.Access) (a b : S) → R x a b → (name b ≡ name a) × (name_then b ≡ name_then a) × KeepsLines (bus a) (bus b) × NotedStep entries x (seen a) (seen b))
     → (e f : CpuValue) (m : ℕ) (b : BusValue) (s t : S) → seen s ≡ noting (passed m b) [] → bus s ≡ b → Runs R (registers_of e) Opcode s t f
     → IsNotedBy entries seen bus name name_then e f m b s t
 noted-by entries seen bus name name_then lift e f m b s t start from runs =

@@ -2,8 +2,8 @@
 use Rattle.std.proofs.Common.{◌≡◌, ℕ, ◌+◌, ◌-◌, ◌*◌, ◌≤◌, ◌<◌, Bool, true, false, List, [], ◌∷◌, ◌++◌, length, length-append, refl, sym, ap, arith, if◌then◌else◌}
 use Rattle.std.specs.Int.{from_bool}
 use Rattle.board_map.specs.Map.{row_of}
-use Rattle.cpu_core.specs.Course as course
-use Rattle.cpu_core.specs.Course.{read_of, write_of}
+use Rattle.cpu_core.specs.BusCycles as cycles
+use Rattle.cpu_core.specs.BusCycles.{read_of, write_of}
 use Rattle.tape_ports.specs.Tape.{TapeValue}
 use Rattle.lockstep_board.specs.Budget.{reaches_device}
 use Rattle.lockstep_board.specs.Peripherals.{byte_put, byte_read}
@@ -31,26 +31,26 @@ pub program-plain : (a v : ℕ) → 36864 ≤ a → a < 65536 → reaches_device
 unfolding reaches_device
 program-plain a v from last = rw (row-program a from last) refl
 
-made-at : (clock : ℕ) (x : course.Access) → made_of (access_at clock x) ≡ x
+made-at : (clock : ℕ) (x : cycles.Access) → made_of (access_at clock x) ≡ x
 made-at clock (read_of a v) = refl
 made-at clock (write_of a v) = refl
 
 -- so that it isn't noted
-pub plain-reached : (l : List Access) (clock : ℕ) (x : course.Access) → reaches_device x ≡ false → l ≡ with_reached l (access_at clock x)
+pub plain-reached : (l : List Access) (clock : ℕ) (x : cycles.Access) → reaches_device x ≡ false → l ≡ with_reached l (access_at clock x)
 plain-reached l clock x plain = rw (made-at clock x, plain) refl
 
 -- An access of a device over a bus that was told of the clocks before it and of its own, m: it is noted with its clock.
-pub record IsNotedAccess (tape : TapeValue) (n : ℕ) (x : course.Access) (s t : BusValue) (l : List Access) : Type 0 where
+pub record IsNotedAccess (tape : TapeValue) (n : ℕ) (x : cycles.Access) (s t : BusValue) (l : List Access) : Type 0 where
   pub lines : KeepsLines s t
   pub noted : NotedStep tape.entries x (noting (passed n s) l) (noting (passed 0 t) (with_reached l (access_at (t.peripherals.clock - 1) x)))
-  pub fits : IsCounted tape 0 t
+  pub accepts : IsCounted tape 0 t
   pub room : quiet_room n s ≤ quiet_room 0 t + 1
 
-noted-access : (tape : TapeValue) (n : ℕ) (x : course.Access) (s t : BusValue) (l : List Access) → KeepsLines s t → IsStep tape x n s 0 t → IsNotedAccess tape n x s t l
+noted-access : (tape : TapeValue) (n : ℕ) (x : cycles.Access) (s t : BusValue) (l : List Access) → KeepsLines s t → IsStep tape x n s 0 t → IsNotedAccess tape n x s t l
 noted-access tape n x s t l lines is = record {
   lines = lines;
   noted = record { step = is.step; reached = ap (λ (b : BusValue). with_reached l (access_at (b.peripherals.clock - 1) x)) (sym (passed-zero t)) };
-  fits = is.fits;
+  accepts = is.accepts;
   room = is.room;
 }
 

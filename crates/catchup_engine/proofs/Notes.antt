@@ -7,8 +7,8 @@ use Rattle.std.proofs.lemmas.List.Sums.{count_by-le-length, length-filter}
 use Rattle.board_base.specs.declared.cpu.Sequence.{Sequence}
 use Rattle.board_base.specs.declared.cpu.Sequence.TheVariants.{Opcode}
 use Rattle.board_base.specs.Cpu.{CpuValue, MidValue}
-use Rattle.cpu_core.specs.Course as course
-use Rattle.cpu_core.specs.Course.{read_of, write_of}
+use Rattle.cpu_core.specs.BusCycles as cycles
+use Rattle.cpu_core.specs.BusCycles.{read_of, write_of}
 use Rattle.cpu_core.specs.Registers.{RegistersValue, registers_of}
 use Rattle.cpu_core.specs.Sequences.{Moves, Runs, next_of, start_of}
 use Rattle.tape_ports.specs.declared.entry.TapeEntry.{TapeEntry}
@@ -47,7 +47,7 @@ reaching-more made a = by_test (reaches_device (made_of a)) refl
     by_test false is =
         rw (filter-append (λ access. reaches_device (made_of access)) made (a ∷ []), is, append-nil (filter (λ access. reaches_device (made_of access)) made)) refl
 
-noted-more : (entries : List TapeEntry) (x : course.Access) (s t : NotedValue) (made : List Access) → NotedStep entries x s t → s.reached ≡ reaching made
+noted-more : (entries : List TapeEntry) (x : cycles.Access) (s t : NotedValue) (made : List Access) → NotedStep entries x s t → s.reached ≡ reaching made
     → t.reached ≡ reaching (made ++ access_at (t.bus.peripherals.clock - 1) x ∷ [])
 noted-more entries x s t made did is =
     let a = access_at (t.bus.peripherals.clock - 1) x in did.reached ∙ ap (λ l. with_reached l a) is ∙ reaching-more made a
@@ -102,7 +102,7 @@ count-of entries n c s trace is = ap (λ (k : TraceValue). k.count) is
 
 pub noted-turn : (tape : TapeValue) (c : CpuValue) (s : BusValue) (t : NotedValue) (e : CpuValue) → ReadsOpcode c s → s.begun ≡ false → Fits tape s
     → Runs (NotedStep tape.entries) (registers_of c) Opcode (noting s []) t e → e.mid ≡ None → IsNotedTurn tape.entries c s t e
-noted-turn tape c s t e reads between fits runs boundary =
+noted-turn tape c s t e reads between accepts runs boundary =
     let entries = tape.entries in
     let r = registers_of c in
     let start = noting s [] in
@@ -110,7 +110,7 @@ noted-turn tape c s t e reads between fits runs boundary =
     let moves = (moves-seen (BusStep entries) (λ (k : NotedValue). k.bus) (λ k. 0) (λ x a b h. (refl, h.step)) r Opcode [] runs.bytes start t runs.moves).1 in
     let few = moves-length entries r Opcode [] runs.bytes s t.bus moves (omega arith) in
     let lifted = lift entries r Opcode [] runs.bytes start t [] runs.moves refl few in
-    let due : Opcode ≡ sequence_due c (ticked entries s.peripherals) = sym (ap (sequence_due c) (ticked-quiet tape s fits reads.quiet) ∙ reads.due) in
+    let due : Opcode ≡ sequence_due c (ticked entries s.peripherals) = sym (ap (sequence_due c) (ticked-quiet tape s accepts reads.quiet) ∙ reads.due) in
     let full = traced t.bus (of_accesses lifted.made) in
     let told = opcode-told entries c s full e reads.boundary between due (record { bytes = runs.bytes; moves = lifted.moves; ends = runs.ends }) in
     let o = first_value (seven_of lifted.made) in
@@ -119,7 +119,7 @@ noted-turn tape c s t e reads between fits runs boundary =
     let is =
     trace-named entries (over_bus c s) full Opcode o told (due ∙ sym (ap (λ (mid : Option MidValue). sequence_at mid c (ticked entries s.peripherals)) reads.boundary)) byte in
     let clocks : length lifted.made ≡ t.bus.peripherals.clock - s.peripherals.clock = count-of entries (t.bus.peripherals.clock - s.peripherals.clock) c s trace is in
-    let turned = opcode-turn tape c s t.bus e reads between fits bus boundary in
+    let turned = opcode-turn tape c s t.bus e reads between accepts bus boundary in
     record {
       turned = turned;
       trace = trace;

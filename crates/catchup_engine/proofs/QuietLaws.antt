@@ -12,7 +12,7 @@ use Rattle.avg_device.specs.Tick.{vg_gives, vg_tick}
 use Rattle.earom_cells.specs.Tick.{earom_tick}
 use Rattle.irq_watchdog.specs.Tick.{divider_tick}
 use Rattle.pokey_chip.specs.Tick.{levels_made, pokey_gives, pokey_tick}
-use Rattle.cpu_core.specs.Course.{Access, read_of, write_of}
+use Rattle.cpu_core.specs.BusCycles.{Access, read_of, write_of}
 use Rattle.cpu_core.specs.Registers.{RegistersValue}
 use Rattle.cpu_core.specs.Sequences.{Runs}
 use Rattle.tape_ports.specs.declared.entry.TapeEntry.{TapeEntry}
@@ -118,7 +118,7 @@ passed-clock n s = refl
 pub in-quiet : (tape : TapeValue) (n : ℕ) (s : BusValue) → IsCounted tape n s → s.peripherals.clock + n < s.event_at
     → in_clock tape.entries (passed n s).begun (passed n s).peripherals ≡ devices_ticked (later n s.peripherals)
 unfolding passed in_clock
-in-quiet tape n s c h = rw c.between (ticked-quiet tape (passed n s) c.fits (rw (passed-clock n s) h))
+in-quiet tape n s c h = rw c.between (ticked-quiet tape (passed n s) c.accepts (rw (passed-clock n s) h))
 
 -- and the clock is done after it
 pub quiet-entered : (tape : TapeValue) (n : ℕ) (s : BusValue) → IsCounted tape n s → s.peripherals.clock + n < s.event_at
@@ -130,7 +130,7 @@ quiet-entered tape n s c h = later-more n s.peripherals ∙ ap done_clock (sym (
 pub counted-more : (tape : TapeValue) (n : ℕ) (s : BusValue) → IsCounted tape n s → 1 ≤ quiet_room n s → IsCounted tape (n + 1) s
 unfolding passed later
 counted-more tape n s c room = record {
-  fits = fits-quiet tape (passed n s) (passed (n + 1) s) c.fits (omega arith) (omega arith) refl refl;
+  accepts = fits-quiet tape (passed n s) (passed (n + 1) s) c.accepts (omega arith) (omega arith) refl refl;
   between = c.between;
   quiet = omega arith;
   last = omega arith;
@@ -199,7 +199,7 @@ counted-ram : (tape : TapeValue) (n a v : ℕ) (s t : BusValue) → IsCounted ta
     → IsCounted tape n t
 unfolding passed later
 counted-ram tape n a v s t c is = rw is (record {
-  fits = record { valid = c.fits.valid; place = c.fits.place; quiet = c.fits.quiet };
+  accepts = record { valid = c.accepts.valid; place = c.accepts.place; quiet = c.accepts.quiet };
   between = c.between;
   quiet = c.quiet;
   last = c.last;
@@ -209,7 +209,7 @@ counted-ram tape n a v s t c is = rw is (record {
 -- one access of a bus that counts: n clocks were counted before it and k after it
 pub record IsStep (tape : TapeValue) (x : Access) (n : ℕ) (s : BusValue) (k : ℕ) (t : BusValue) : Type 0 where
   pub step : BusStep tape.entries x (passed n s) (passed k t)
-  pub fits : IsCounted tape k t
+  pub accepts : IsCounted tape k t
   pub room : quiet_room n s ≤ quiet_room k t + 1
 
 room-near : (n : ℕ) (s t : BusValue) → t.peripherals.clock ≡ s.peripherals.clock → t.peripherals.written ≡ s.peripherals.written → t.rooms ≡ s.rooms
@@ -227,7 +227,7 @@ ram-reads tape n a v s c room near is =
     let quiet = more.quiet in
     record {
       step = ram-read tape n a v s c (omega arith) near is;
-      fits = more;
+      accepts = more;
       room = room-near n s s refl refl refl refl refl;
     }
 
@@ -238,7 +238,7 @@ program-reads tape n a v s c room near last is =
     let quiet = more.quiet in
     record {
       step = program-read tape n a v s c (omega arith) near last is;
-      fits = more;
+      accepts = more;
       room = room-near n s s refl refl refl refl refl;
     }
 
@@ -249,7 +249,7 @@ ram-writes tape n a v s t c room near is =
     let quiet = more.quiet in
     record {
       step = ram-written tape n a v s t c (omega arith) near is;
-      fits = counted-ram tape (n + 1) a v s t more is;
+      accepts = counted-ram tape (n + 1) a v s t more is;
       room = room-near n s t (ap (λ (b : BusValue). b.peripherals.clock) is) (ap (λ (b : BusValue). b.peripherals.written) is) (ap (λ (b : BusValue). b.rooms) is)
           (ap (λ (b : BusValue). b.until) is) (ap (λ (b : BusValue). b.event_at) is);
     }
@@ -317,10 +317,10 @@ counted-told tape n x s m t c room r =
     let more_last = more.last in
     let more_until = more.until in
     record {
-      fits = rw (passed-zero t) (record {
-        valid = c.fits.valid;
-        place = rw (clock, next) more.fits.place;
-        quiet = rw (event, next) c.fits.quiet;
+      accepts = rw (passed-zero t) (record {
+        valid = c.accepts.valid;
+        place = rw (clock, next) more.accepts.place;
+        quiet = rw (event, next) c.accepts.quiet;
       });
       between = r.begun ∙ ap (λ (b : BusValue). b.begun) r.told ∙ c.between;
       quiet = omega arith;
@@ -373,7 +373,7 @@ device-reads tape n k a v s m t c room told none does is current =
         rw (passed-zero t) (stays-told tape.entries n (read_of a v) s m t c.between r),
         rw (passed-zero t) current,
       );
-      fits = counted-told tape n (read_of a v) s m t c room r;
+      accepts = counted-told tape n (read_of a v) s m t c room r;
       room = room-told n (read_of a v) s m t r (omega arith);
     })
 
@@ -388,7 +388,7 @@ device-writes tape n k a v s m t c room told none does few =
       step =
           rw (passed-zero t) (write-step tape.entries a v (passed n s) m t (told-entered tape n s m c (omega arith) told)
           (ap (λ (b : BusValue). b.peripherals) does.value) (stays-told tape.entries n (write_of a v) s m t c.between r));
-      fits = counted-told tape n (write_of a v) s m t c room r;
+      accepts = counted-told tape n (write_of a v) s m t c room r;
       room = room-told n (write_of a v) s m t r few;
     })
 
@@ -412,7 +412,7 @@ entered-value tape s f h between =
 -- the clock of an access in which nothing comes, on a bus that doesn't count
 pub record IsEntered (tape : TapeValue) (s t : BusValue) : Type 0 where
   pub value : t ≡ record s { peripherals = done_clock (in_clock tape.entries s.begun s.peripherals); begun = false; next = t.next; event_at = t.event_at; lagging = t.lagging; until = t.until; calls = t.calls }
-  pub fits : Fits tape t
+  pub accepts : Fits tape t
   pub until : s.until ≤ t.until
   pub calls : t.calls ≤ s.calls + begin_price tape.entries s.begun s.peripherals
   pub more : s.calls ≤ t.calls
@@ -426,7 +426,7 @@ entered-quiet tape s t f h between told =
     let calls : t.calls ≡ s.calls = ap (λ (b : BusValue). b.calls) told in
     record {
       value = rw told (entered-value tape s f h between);
-      fits = fits-quiet tape s t f h clock (ap (λ (b : BusValue). b.next) told) (ap (λ (b : BusValue). b.event_at) told);
+      accepts = fits-quiet tape s t f h clock (ap (λ (b : BusValue). b.next) told) (ap (λ (b : BusValue). b.event_at) told);
       until = omega arith;
       calls = omega arith;
       more = omega arith;
@@ -436,8 +436,8 @@ entered-quiet tape s t f h between told =
 -- before the first of them
 pub counted-start : (tape : TapeValue) (n : ℕ) (s : BusValue) → n ≡ 0 → Fits tape s → s.begun ≡ false → s.peripherals.clock + MAX_SEQUENCE_CLOCKS ≤ s.event_at → MAX_SEQUENCE_CLOCKS ≤ room_of s
     → IsCounted tape n s
-counted-start tape n s none fits between quiet room =
-    rw none (record { fits = rw (passed-zero s) fits; between = between; quiet = omega arith; last = omega arith; until = omega arith })
+counted-start tape n s none accepts between quiet room =
+    rw none (record { accepts = rw (passed-zero s) accepts; between = between; quiet = omega arith; last = omega arith; until = omega arith })
 
 -- the accesses of a whole sequence, of whose clocks the bus has yet to be told
 pub quiet-runs : {S : Type 0} {T : Access → S → S → Type 0} (entries : List TapeEntry) (bus : S → BusValue) (made : S → ℕ) (name : S → ℕ)

@@ -2,7 +2,7 @@
 use Rattle.std.proofs.Common.{◌≡◌, ℕ, List, [], ◌∷◌, ◌++◌, Option, Some, None, IfSome, IsSome, ap, ◌∙◌}
 use Rattle.board_base.specs.declared.cpu.Sequence.{Sequence}
 use Rattle.board_base.specs.Cpu.{CpuValue, MidValue}
-use Rattle.cpu_core.specs.Course.{Access}
+use Rattle.cpu_core.specs.BusCycles.{Access}
 use Rattle.cpu_core.specs.Registers.{RegistersValue, registers_of}
 use Rattle.cpu_core.specs.Sequences.{Moves, Runs}
 use Rattle.cpu_core.specs.Places.{Advances, given_by}

@@ -6,7 +6,7 @@ use Rattle.board_base.specs.Cpu.{CpuValue}
 use Rattle.cpu_core.specs.declared.replay.Next.{Next}
 use Rattle.cpu_core.specs.declared.replay.Next.TheVariants.{Read, Write, End}
 use Rattle.cpu_core.specs.Registers.{RegistersValue}
-use Rattle.cpu_core.specs.Course.{Access, read_of, write_of}
+use Rattle.cpu_core.specs.BusCycles.{Access, read_of, write_of}
 use Rattle.cpu_core.specs.Sequences.{next_of, IsAccess, IsEnd, Moves}
 use Rattle.cpu_core.specs.Places.{standing, stopped, paused}
 use Rattle.cpu_core.proofs.LengthLemmas.{six_before_end}

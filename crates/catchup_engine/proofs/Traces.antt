@@ -6,8 +6,8 @@ use Rattle.board_base.specs.declared.cpu.Sequence.TheVariants.{Opcode, Interrupt
 use Rattle.board_base.specs.Cpu.{CpuValue, MidValue}
 use Rattle.cpu_core.specs.declared.replay.Next.{Next}
 use Rattle.cpu_core.specs.declared.replay.Next.TheVariants.{Read, Write, End}
-use Rattle.cpu_core.specs.Course as course
-use Rattle.cpu_core.specs.Course.{read_of, write_of}
+use Rattle.cpu_core.specs.BusCycles as cycles
+use Rattle.cpu_core.specs.BusCycles.{read_of, write_of}
 use Rattle.cpu_core.specs.Registers.{RegistersValue, registers_of}
 use Rattle.cpu_core.specs.Sequences.{next_of, start_of, IsAccess, IsEnd, Moves, Runs}
 use Rattle.cpu_core.specs.Places.{paused, standing, given_by, Advances, IsPlace, IsMiddle}
@@ -30,15 +30,15 @@ use Rattle.catchup_engine.proofs.Steps.{board_after, in_clock-between, moves-len
 use Rattle.catchup_engine.proofs.Turns.{Begins, First, HasEffects, ResetBegun, clock-some, due-clock, effects-by, fetch-first, given-some, in_clock-begun, next-first, opcode-first, reset-begun, reset-first, reset-turn, resets-more, resume-first, resume-turn, standing-paused, turned-clock}
 
 -- the access that was made is the one that the board makes
-made_by-is : (entries : List TapeEntry) (next : Next) (v : ℕ) (x : course.Access) (s t : BusValue) → IsAccess next v x → BusStep entries x s t
+made_by-is : (entries : List TapeEntry) (next : Next) (v : ℕ) (x : cycles.Access) (s t : BusValue) → IsAccess next v x → BusStep entries x s t
     → made_by next (in_clock entries s.begun s.peripherals) ≡ Some x
 made_by-is entries (Read a) v x s t is did =
     let d = subst (λ y. BusStep entries y s t) is did in
-    ap (λ b. Some (read_of a b)) (sym d.0) ∙ ap (λ (y : course.Access). Some y) (sym is)
-made_by-is entries (Write a w) v x s t is did = ap (λ b. Some (write_of a b)) (sym is.0) ∙ ap (λ (y : course.Access). Some y) (sym is.1)
+    ap (λ b. Some (read_of a b)) (sym d.0) ∙ ap (λ (y : cycles.Access). Some y) (sym is)
+made_by-is entries (Write a w) v x s t is did = ap (λ b. Some (write_of a b)) (sym is.0) ∙ ap (λ (y : cycles.Access). Some y) (sym is.1)
 made_by-is entries (End e) v x s t is did = absurd is
 
-access-resumed : (entries : List TapeEntry) (c : CpuValue) (m : MidValue) (v : ℕ) (x : course.Access) (s t : BusValue) → c.mid ≡ Some m → s.begun ≡ false
+access-resumed : (entries : List TapeEntry) (c : CpuValue) (m : MidValue) (v : ℕ) (x : cycles.Access) (s t : BusValue) → c.mid ≡ Some m → s.begun ≡ false
     → IsAccess (next_of (registers_of c) m.sequence (given_by m)) v x → BusStep entries x s t → access_in entries (over_bus c s) ≡ Some x
 unfolding access_in
 access-resumed entries c m v x s t inside between is did =
@@ -46,7 +46,7 @@ access-resumed entries c m v x s t inside between is did =
     ∙ ap (made_by (next_of (registers_of c) m.sequence (given_by m))) (sym (in_clock-between entries s between))
     ∙ made_by-is entries (next_of (registers_of c) m.sequence (given_by m)) v x s t is did
 
-access-fetched : (entries : List TapeEntry) (c : CpuValue) (q : Sequence) (v : ℕ) (x : course.Access) (s b t : BusValue) → c.mid ≡ None
+access-fetched : (entries : List TapeEntry) (c : CpuValue) (q : Sequence) (v : ℕ) (x : cycles.Access) (s b t : BusValue) → c.mid ≡ None
     → Begins entries s b → q ≡ sequence_due c b.peripherals → IsAccess (next_of (start_of q c) q []) v x → BusStep entries x b t
     → access_in entries (over_bus c s) ≡ Some x
 unfolding access_in
@@ -95,7 +95,7 @@ access-paused : (entries : List TapeEntry) (r : RegistersValue) (q : Sequence) (
 unfolding access_in
 access-paused entries r q bytes w = rw (given_paused bytes) refl
 
-access-inside : (entries : List TapeEntry) (r : RegistersValue) (q : Sequence) (bytes : List ℕ) (v : ℕ) (x : course.Access) (s t : BusValue)
+access-inside : (entries : List TapeEntry) (r : RegistersValue) (q : Sequence) (bytes : List ℕ) (v : ℕ) (x : cycles.Access) (s t : BusValue)
     → IsAccess (next_of r q bytes) v x → BusStep entries x s t → s.begun ≡ false → access_in entries (board_after r q bytes s.peripherals) ≡ Some x
 access-inside entries r q bytes v x s t is did between =
     ap (λ (c : CpuValue). access_in entries (record { cpu = c; peripherals = s.peripherals })) (paused-is (next_of r q bytes) r q bytes v x is)
@@ -159,23 +159,23 @@ pub record IsTraced (entries : List TapeEntry) (b : Board) (t : TracedValue) : T
   pub told : IsTold entries count b [] t.trace
   pub byte : first_value t.trace.accesses ≡ byte_of (access_in entries b)
 
-value-at : (clock : ℕ) (x : course.Access) → (access_at clock x).value ≡ byte_of (Some x)
+value-at : (clock : ℕ) (x : cycles.Access) → (access_at clock x).value ≡ byte_of (Some x)
 value-at clock (read_of a v) = refl
 value-at clock (write_of a v) = refl
 
 -- the byte of the first access
-first-byte : (entries : List TapeEntry) (n : ℕ) (b : Board) (x : course.Access) (trace : TraceValue) → access_in entries b ≡ Some x
+first-byte : (entries : List TapeEntry) (n : ℕ) (b : Board) (x : cycles.Access) (trace : TraceValue) → access_in entries b ≡ Some x
     → trace ≡ of_accesses (accesses_of entries (suc n) b) → first_value trace.accesses ≡ byte_of (access_in entries b)
 unfolding accesses_of
 first-byte entries n b x trace access is =
     let rest = accesses_of entries n (step entries b) in
     ap (λ (t : TraceValue). first_value t.accesses) is
-    ∙ ap (λ (y : Option course.Access). first_value (seven_of (accesses_in b.peripherals.clock y ++ rest))) access
+    ∙ ap (λ (y : Option cycles.Access). first_value (seven_of (accesses_in b.peripherals.clock y ++ rest))) access
     ∙ value-at b.peripherals.clock x
     ∙ ap byte_of (sym access)
 
 -- the first clock, and then the others
-turn-told : (entries : List TapeEntry) (b : Board) (r : RegistersValue) (q : Sequence) (bytes more : List ℕ) (s : BusValue) (m t : TracedValue) (x : course.Access)
+turn-told : (entries : List TapeEntry) (b : Board) (r : RegistersValue) (q : Sequence) (bytes more : List ℕ) (s : BusValue) (m t : TracedValue) (x : cycles.Access)
     → First entries b r q bytes s m.bus → access_in entries b ≡ Some x → m.trace ≡ of_accesses (access_at (m.bus.peripherals.clock - 1) x ∷ [])
     → Moves (TracedStep entries) r q bytes more m t → length more ≤ 6 → IsTraced entries b t
 turn-told entries b r q bytes more s m t x first access told moves few =
@@ -219,7 +219,7 @@ whole-told entries c q s b t e boundary begins due other runs = by_bytes runs.by
         (did.1 ∙ pushed-is [] (access_at (m.bus.peripherals.clock - 1) x) (omega arith)) rest (omega arith)
 
 -- an instruction in whose first clock nothing comes of itself
-access-opcode : (entries : List TapeEntry) (c : CpuValue) (v : ℕ) (x : course.Access) (s t : BusValue) → c.mid ≡ None → s.begun ≡ false
+access-opcode : (entries : List TapeEntry) (c : CpuValue) (v : ℕ) (x : cycles.Access) (s t : BusValue) → c.mid ≡ None → s.begun ≡ false
     → Opcode ≡ sequence_due c (ticked entries s.peripherals) → IsAccess (next_of (start_of Opcode c) Opcode []) v x → BusStep entries x s t
     → access_in entries (over_bus c s) ≡ Some x
 unfolding access_in
@@ -317,7 +317,7 @@ reset-rest entries c k v s t e stands rest =
     subst (λ (j : CpuValue). IfSome j.mid (λ m. (made : ℕ) × Advances (TracedStep entries) (registers_of j) m.sequence (given_by m) 6 made s t e)) stands rest
 
 -- from the move of its read
-reset-of : (entries : List TapeEntry) (c : CpuValue) (s b : BusValue) (m t : TracedValue) (k e : CpuValue) (v : ℕ) (x : course.Access) → c.mid ≡ None
+reset-of : (entries : List TapeEntry) (c : CpuValue) (s b : BusValue) (m t : TracedValue) (k e : CpuValue) (v : ℕ) (x : cycles.Access) → c.mid ≡ None
     → Begins entries s b → Reset ≡ sequence_due c b.peripherals → IsAccess (next_of (start_of Reset c) Reset []) v x → TracedStep entries x (traced b no_trace) m
     → k ≡ paused (start_of Reset c) Reset (v ∷ []) → (taken : BusValue) → HasEffects m.bus taken
     → IfSome k.mid (λ p. (made : ℕ) × Advances (TracedStep entries) (registers_of k) p.sequence (given_by p) 6 made (traced taken m.trace) t e)
@@ -396,7 +396,7 @@ pub first-room : (entries : List TapeEntry) (c k : CpuValue) (b : BusValue) (tra
 unfolding next_of in_clock
 first-room entries c k b trace m begun (made, a) = by_more a.more a.moves a.count
   where
-    read-room : (v : ℕ) (x : course.Access) (t : BusValue) → IsAccess (next_of (start_of Reset c) Reset []) v x → BusStep entries x b t → room_of b ≤ room_of t + 1
+    read-room : (v : ℕ) (x : cycles.Access) (t : BusValue) → IsAccess (next_of (start_of Reset c) Reset []) v x → BusStep entries x b t → room_of b ≤ room_of t + 1
     read-room v x t is did =
         let d = subst (λ y. BusStep entries y b t) is did in
         let peripherals = d.1 ∙ ap (λ f. done_clock (if f then at_clock (b.peripherals.clock - 1) b.peripherals else ticked entries b.peripherals)) begun in

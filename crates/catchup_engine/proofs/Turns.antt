@@ -8,7 +8,7 @@ use Rattle.board_base.specs.Cpu.{CpuValue, MidValue}
 use Rattle.cpu_core.specs.declared.replay.Next.{Next}
 use Rattle.cpu_core.specs.declared.replay.Next.TheVariants.{Read, Write, End}
 use Rattle.cpu_core.specs.Registers.{RegistersValue, registers_of}
-use Rattle.cpu_core.specs.Course.{Access, read_of, write_of}
+use Rattle.cpu_core.specs.BusCycles.{Access, read_of, write_of}
 use Rattle.cpu_core.specs.Sequences.{next_of, start_of, IsAccess, IsEnd, Moves, Runs}
 use Rattle.cpu_core.specs.Places.{standing, stopped, paused, given_by, Advances, IsPlace, IsMiddle}
 use Rattle.cpu_core.proofs.LengthLemmas.{six_before_end}
@@ -554,10 +554,10 @@ opcode-first entries c s m v x boundary between due is did =
 pub opcode-turn : (tape : TapeValue) (c : CpuValue) (s t : BusValue) (e : CpuValue) → ReadsOpcode c s
     → s.begun ≡ false → Fits tape s → Runs (BusStep tape.entries) (registers_of c) Opcode s t e → e.mid ≡ None
     → TurnedBus tape.entries 7 c s t e
-opcode-turn tape c s t e reads between fits runs boundary =
+opcode-turn tape c s t e reads between accepts runs boundary =
     let entries = tape.entries in
     let due : Opcode ≡ sequence_due c (ticked entries s.peripherals) =
-    sym (ap (sequence_due c) (ticked-quiet tape s fits reads.quiet) ∙ reads.due) in
+    sym (ap (sequence_due c) (ticked-quiet tape s accepts reads.quiet) ∙ reads.due) in
     let a = runs-advance entries (registers_of c) Opcode s t e runs boundary in
     let p = part entries (registers_of c) Opcode [] 7 a.0 s t e (omega arith) (next-first (registers_of c) Opcode) a.1 in
     let first = opcode-first entries c s p.then_s p.value p.access reads.boundary between due p.is p.did in

@@ -3,7 +3,7 @@ use Rattle.std.specs.Prelude.{◌≡◌, ℕ, ◌+◌, ◌-◌, ◌*◌, ◌<◌
 use Rattle.std.specs.Int.{from_bool}
 use Rattle.board_base.specs.declared.board.TheConstants.{CLOCK_END, RAM_LEN}
 use Rattle.board_map.specs.Map.{row_of}
-use Rattle.cpu_core.specs.Course.{Access, read_of, write_of}
+use Rattle.cpu_core.specs.BusCycles.{Access, read_of, write_of}
 use Rattle.tape_ports.specs.declared.entry.TapeEntry.{TapeEntry}
 use Rattle.tape_ports.specs.Tape.{TapeValue, IsTape}
 use Rattle.lockstep_board.specs.Peripherals.{Peripherals, ticked, byte_read, byte_put}

@@ -2,7 +2,7 @@
 use Rattle.std.specs.Prelude.{◌≡◌, ℕ, ◌-◌, ◌≤◌, List, [], ◌∷◌, ◌++◌, length, take, if◌then◌else◌}
 use Rattle.std.specs.List.{filter}
 use Rattle.board_base.specs.declared.cpu.Sequence.{Sequence}
-use Rattle.cpu_core.specs.Course as course
+use Rattle.cpu_core.specs.BusCycles as cycles
 use Rattle.tape_ports.specs.declared.entry.TapeEntry.{TapeEntry}
 use Rattle.lockstep_board.specs.Budget.{reaches_device}
 use Rattle.catchup_engine.specs.declared.trace.Access.{Access}
@@ -47,6 +47,6 @@ abbrev pub noting : BusValue → List Access → NotedValue
 noting bus reached = record { bus = bus; reached = reached }
 
 -- an access is made, and noted with its clock
-pub record NotedStep (entries : List TapeEntry) (x : course.Access) (s t : NotedValue) : Type 0 where
+pub record NotedStep (entries : List TapeEntry) (x : cycles.Access) (s t : NotedValue) : Type 0 where
   pub step : BusStep entries x s.bus t.bus
   pub reached : t.reached ≡ with_reached s.reached (access_at (t.bus.peripherals.clock - 1) x)

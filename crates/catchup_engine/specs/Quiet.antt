@@ -31,7 +31,7 @@ passed n s = record s { peripherals = later n s.peripherals; lagging = if n == 0
 
 -- a bus that has yet to be told of n clocks: with them its tape fits, nothing comes in them, and there is room for them
 pub record IsCounted (tape : TapeValue) (n : ℕ) (s : BusValue) : Type 0 where
-  pub fits : Fits tape (passed n s)
+  pub accepts : Fits tape (passed n s)
   pub between : s.begun ≡ false
   pub quiet : s.peripherals.clock + n ≤ s.event_at
   pub last : s.peripherals.clock + n ≤ CLOCK_END

@@ -3,8 +3,8 @@ use Rattle.std.specs.Prelude.{◌≡◌, ℕ, ◌+◌, ◌-◌, ◌≤◌, List,
 use Rattle.board_base.specs.Cpu.{CpuValue, MidValue}
 use Rattle.board_base.specs.declared.cpu.Sequence.{Sequence}
 use Rattle.board_base.specs.declared.cpu.Sequence.TheVariants.{Opcode, Interrupt, Reset}
-use Rattle.cpu_core.specs.Course as course
-use Rattle.cpu_core.specs.Course.{read_of, write_of}
+use Rattle.cpu_core.specs.BusCycles as cycles
+use Rattle.cpu_core.specs.BusCycles.{read_of, write_of}
 use Rattle.cpu_core.specs.Places.{given_by, Advances}
 use Rattle.cpu_core.specs.Registers.{registers_of}
 use Rattle.cpu_core.specs.Sequences.{start_of}
@@ -37,16 +37,16 @@ seven_of made =
     made ++ drop (length made) (no_access ∷ no_access ∷ no_access ∷ no_access ∷ no_access ∷ no_access ∷ no_access ∷ [])
 
 -- an access in a clock
-abbrev pub access_at : ℕ → course.Access → Access
+abbrev pub access_at : ℕ → cycles.Access → Access
 access_at clock (read_of address value) = record { clock = clock; addr = address; value = value; write = false }
 access_at clock (write_of address value) = record { clock = clock; addr = address; value = value; write = true }
 
 -- the access that it records
-abbrev pub made_of : Access → course.Access
+abbrev pub made_of : Access → cycles.Access
 made_of access = if access.write then write_of access.addr access.value else read_of access.addr access.value
 
 -- the access that the next clock of a board makes
-abbrev pub accesses_in : ℕ → Option course.Access → List Access
+abbrev pub accesses_in : ℕ → Option cycles.Access → List Access
 accesses_in clock None = []
 accesses_in clock (Some access) = access_at clock access ∷ []
 
@@ -56,7 +56,7 @@ accesses_of entries zero b = []
 accesses_of entries (suc n) b = accesses_in b.peripherals.clock (access_in entries b) ++ accesses_of entries n (step entries b)
 
 -- the byte of an access
-abbrev pub byte_of : Option course.Access → ℕ
+abbrev pub byte_of : Option cycles.Access → ℕ
 byte_of None = 0
 byte_of (Some (read_of address value)) = value
 byte_of (Some (write_of address value)) = value
@@ -66,7 +66,7 @@ abbrev pub sequence_at : Option MidValue → CpuValue → Peripherals → Sequen
 sequence_at None c w = sequence_due c w
 sequence_at (Some mid) c w = mid.sequence
 
-abbrev pub first_byte : Option MidValue → Option course.Access → ℕ
+abbrev pub first_byte : Option MidValue → Option cycles.Access → ℕ
 first_byte None access = byte_of access
 first_byte (Some mid) access = slice_index mid.bytes 0
 
@@ -113,7 +113,7 @@ abbrev pub pushed : TraceValue → Access → TraceValue
 pushed trace access = record trace { count = trace.count + 1; accesses = slice_set trace.accesses trace.count access }
 
 -- an access is made, and traced with its clock
-abbrev pub TracedStep : List TapeEntry → course.Access → TracedValue → TracedValue → Type 0
+abbrev pub TracedStep : List TapeEntry → cycles.Access → TracedValue → TracedValue → Type 0
 TracedStep entries x s t =
     BusStep entries x s.bus t.bus × (t.trace ≡ pushed s.trace (access_at (t.bus.peripherals.clock - 1) x))
 

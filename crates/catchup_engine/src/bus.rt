@@ -136,7 +136,7 @@ impl<V: VectorUnit, P: SoundUnit, C: CellUnit, D: DividerUnit> Bus for BoardBus<
 
     ghost step = { λ tape x s t. BusStep tape.entries x s t };
 
-    ghost fits = { λ tape s. Fits tape s };
+    ghost accepts = { λ tape s. Fits tape s };
 
     ghost room = { room_of };
 

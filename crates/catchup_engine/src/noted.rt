@@ -2,7 +2,7 @@
 ghost use Rattle.std.specs.Prelude.{◌≡◌, ◌+◌, ◌-◌, ◌<◌, ◌≤◌, ◌&&◌, ◌||◌, [], false, true, is_none, length, nat_lt, not};
 ghost use Rattle.board_base.specs.declared.divider.TheConstants.{DIVIDER_PERIOD};
 ghost use Rattle.cpu_alu.specs.Flags.{is_masked};
-ghost use Rattle.cpu_core.specs.Course.{read_of, write_of};
+ghost use Rattle.cpu_core.specs.BusCycles.{read_of, write_of};
 ghost use Rattle.lockstep_board.specs.Peripherals.{Peripherals, byte_read};
 ghost use Rattle.catchup_engine.specs.Bus.{Fits, is_private};
 ghost use Rattle.catchup_engine.specs.Horizon.{KeepsLines};
@@ -46,12 +46,12 @@ fn read_noted<V: VectorUnit, P: SoundUnit, C: CellUnit, D: DividerUnit>(
     _tape: &Tape,
     addr: u16,
 ) -> u8
-    requires fits { IsCounted _tape.now made bus.old }
+    requires accepts { IsCounted _tape.now made bus.old }
     requires room { 1 ≤ quiet_room made bus.old }
     requires few { length reached.old < 7 }
     ensures lines { KeepsLines bus.old bus.new }
     ensures noted { NotedStep _tape.now.entries (read_of addr result) (noting (passed made bus.old) reached.old) (noting (passed 0 bus.new) reached.new) }
-    ensures fits { IsCounted _tape.now 0 bus.new }
+    ensures accepts { IsCounted _tape.now 0 bus.new }
     ensures room { quiet_room made bus.old ≤ quiet_room 0 bus.new + 1 }
 {
     bus.pass(made + 1);
@@ -81,12 +81,12 @@ fn write_noted<V: VectorUnit, P: SoundUnit, C: CellUnit, D: DividerUnit>(
     addr: u16,
     value: u8,
 )
-    requires fits { IsCounted _tape.now made bus.old }
+    requires accepts { IsCounted _tape.now made bus.old }
     requires room { 1 ≤ quiet_room made bus.old }
     requires few { length reached.old < 7 }
     ensures lines { KeepsLines bus.old bus.new }
     ensures noted { NotedStep _tape.now.entries (write_of addr value) (noting (passed made bus.old) reached.old) (noting (passed 0 bus.new) reached.new) }
-    ensures fits { IsCounted _tape.now 0 bus.new }
+    ensures accepts { IsCounted _tape.now 0 bus.new }
     ensures room { quiet_room made bus.old ≤ quiet_room 0 bus.new + 1 }
 {
     bus.pass(made + 1);
@@ -152,7 +152,7 @@ impl<'a, V: VectorUnit, P: SoundUnit, C: CellUnit, D: DividerUnit, T: Tracer> Bu
 
     ghost step = { λ tape x s t. (t.quiet.bus.ghost_name ≡ s.quiet.bus.ghost_name) × (t.reached.ghost_name ≡ s.reached.ghost_name) × KeepsLines s.quiet.bus.now t.quiet.bus.now × NotedStep tape.entries x (noting (passed s.quiet.made s.quiet.bus.now) s.reached.now) (noting (passed t.quiet.made t.quiet.bus.now) t.reached.now) };
 
-    ghost fits = { λ tape s. IsCounted tape s.quiet.made s.quiet.bus.now × (length s.reached.now ≤ 7) };
+    ghost accepts = { λ tape s. IsCounted tape s.quiet.made s.quiet.bus.now × (length s.reached.now ≤ 7) };
 
     ghost room = { λ s. min (quiet_room s.quiet.made s.quiet.bus.now) (7 - length s.reached.now) };
 
@@ -206,13 +206,13 @@ pub(crate) fn trace_to_horizon<V: VectorUnit, P: SoundUnit, C: CellUnit, D: Divi
     requires range { IsInRange cpu bus.old }
     requires between { bus.old.begun ≡ false }
     requires room { HasRoomTo limit bus.old }
-    requires fits { Fits tape.now bus.old }
+    requires accepts { Fits tape.now bus.old }
     requires goes_on { GoesOn limit [] cpu bus.old }
     requires opcode { is_private cpu.pc ≡ true }
     ensures on { TurnsOn tape.now.entries limit [] cpu bus.old bus.new result.cpu }
     ensures told { ToldTurns T.next T.has_enough tape.now.entries limit (over_bus cpu bus.old) (over_bus result.cpu bus.new) tracer.old tracer.new result.enough }
     ensures later { bus.old.peripherals.clock < bus.new.peripherals.clock }
-    ensures fits { Fits tape.now bus.new }
+    ensures accepts { Fits tape.now bus.new }
 {
     let horizon = horizon_from(bus, limit);
     let mut reached = Reached::new();

@@ -95,7 +95,7 @@ impl<'a, V: VectorUnit, P: SoundUnit, C: CellUnit, D: DividerUnit, U> Bus
 
     ghost step = { λ tape x s t. (t.bus.ghost_name ≡ s.bus.ghost_name) × KeepsLines s.bus.now t.bus.now × BusStep tape.entries x (passed s.made s.bus.now) (passed t.made t.bus.now) };
 
-    ghost fits = { λ tape s. IsCounted tape s.made s.bus.now };
+    ghost accepts = { λ tape s. IsCounted tape s.made s.bus.now };
 
     ghost room = { λ s. quiet_room s.made s.bus.now };
 
@@ -138,11 +138,11 @@ pub(crate) fn run_to_horizon<V: VectorUnit, P: SoundUnit, C: CellUnit, D: Divide
     requires range { IsInRange cpu bus.old }
     requires between { bus.old.begun ≡ false }
     requires room { HasRoomTo limit bus.old }
-    requires fits { Fits tape.now bus.old }
+    requires accepts { Fits tape.now bus.old }
     requires goes_on { GoesOn limit (B.addresses breaks.now) cpu bus.old }
     ensures on { TurnsOn tape.now.entries limit (B.addresses breaks.now) cpu bus.old bus.new result }
     ensures later { bus.old.peripherals.clock < bus.new.peripherals.clock }
-    ensures fits { Fits tape.now bus.new }
+    ensures accepts { Fits tape.now bus.new }
 {
     let horizon = horizon_from(bus, limit);
     let mut quiet = QuietBus::<V, P, C, D, B>::new(bus);

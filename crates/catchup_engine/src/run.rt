@@ -95,9 +95,9 @@ fn run_fast<V: VectorUnit, P: SoundUnit, C: CellUnit, D: DividerUnit, B: Breaks>
     requires range { IsInRange cpu bus.old }
     requires between { bus.old.begun ≡ false }
     requires room { HasRoomTo limit bus.old }
-    requires fits { Fits tape.now bus.old }
+    requires accepts { Fits tape.now bus.old }
     ensures runs { QuietRun tape.now.entries limit (B.addresses breaks.now) cpu bus.old bus.new result }
-    ensures fits { Fits tape.now bus.new }
+    ensures accepts { Fits tape.now bus.new }
 {
     while goes_on(&cpu, bus, limit, breaks) {
         cpu = run_to_horizon(cpu, bus, tape, limit, breaks);
@@ -122,9 +122,9 @@ fn run_turns<V: VectorUnit, P: SoundUnit, C: CellUnit, D: DividerUnit, B: Breaks
     requires range { IsInRange cpu bus.old }
     requires between { bus.old.begun ≡ false }
     requires room { HasRoomTo limit bus.old }
-    requires fits { Fits tape.now bus.old }
+    requires accepts { Fits tape.now bus.old }
     ensures runs { TurnsRun tape.now.entries limit (B.addresses breaks.now) cpu bus.old bus.new result }
-    ensures fits { Fits tape.now bus.new }
+    ensures accepts { Fits tape.now bus.new }
 {
     // opens its range
     let _clock = bus.clock();
@@ -149,7 +149,7 @@ fn run_turns_to_break<V: VectorUnit, P: SoundUnit, C: CellUnit, D: DividerUnit>(
     requires range { IsInRange cpu bus.old }
     requires between { bus.old.begun ≡ false }
     requires room { HasRoomTo limit bus.old }
-    requires fits { Fits tape.now bus.old }
+    requires accepts { Fits tape.now bus.old }
     ensures runs { TurnsRun tape.now.entries limit addresses.now cpu bus.old bus.new result }
 {
     if addresses.is_empty() {
@@ -173,7 +173,7 @@ pub(crate) fn run_until<V: VectorUnit, P: SoundUnit, C: CellUnit, D: DividerUnit
     requires between { bus.old.begun ≡ false }
     requires until { bus.old.peripherals.clock + TRAIL_ROOM ≤ bus.old.until }
     requires written { bus.old.peripherals.written ≡ [] }
-    requires fits { Fits tape.now bus.old }
+    requires accepts { Fits tape.now bus.old }
     ensures runs { BoundaryRun tape.now.entries limit cpu bus.old bus.new result }
 {
     // opens its range
@@ -200,7 +200,7 @@ pub(crate) fn run_to_break<V: VectorUnit, P: SoundUnit, C: CellUnit, D: DividerU
     requires between { bus.old.begun ≡ false }
     requires until { bus.old.peripherals.clock + TRAIL_ROOM ≤ bus.old.until }
     requires written { bus.old.peripherals.written ≡ [] }
-    requires fits { Fits tape.now bus.old }
+    requires accepts { Fits tape.now bus.old }
     ensures runs { BreakRunBus tape.now.entries limit addresses.now cpu bus.old bus.new result }
 {
     // opens its range
@@ -227,7 +227,7 @@ pub(crate) fn run_traced<V: VectorUnit, P: SoundUnit, C: CellUnit, D: DividerUni
     requires between { bus.old.begun ≡ false }
     requires until { bus.old.peripherals.clock + TRAIL_ROOM ≤ bus.old.until }
     requires written { bus.old.peripherals.written ≡ [] }
-    requires fits { Fits tape.now bus.old }
+    requires accepts { Fits tape.now bus.old }
     ensures runs { TracedBusRun T.next T.has_enough tape.now.entries limit cpu bus.old bus.new result tracer.old tracer.new }
 {
     // opens its range
@@ -277,7 +277,7 @@ pub(crate) fn run_to_cut<V: VectorUnit, P: SoundUnit, C: CellUnit, D: DividerUni
     requires between { bus.old.begun ≡ false }
     requires until { bus.old.peripherals.clock + TRAIL_ROOM ≤ bus.old.until }
     requires written { bus.old.peripherals.written ≡ [] }
-    requires fits { Fits tape.now bus.old }
+    requires accepts { Fits tape.now bus.old }
     ensures runs { CutRun tape.now.entries cut wrap cpu bus.old bus.new result }
 {
     // A turn that begins before this clock ends at the cut at the latest.

@@ -137,14 +137,14 @@ impl<'a, V: VectorUnit, P: SoundUnit, C: CellUnit, D: DividerUnit> TracedBus<'a,
     fn perform(&mut self, cpu: &mut Cpu, sequence: Sequence, tape: &Tape)
         requires running { cpu.old.jam ≡ None }
         requires boundary { cpu.old.mid ≡ None }
-        requires fits { Fits tape.now self.old.bus.now }
+        requires accepts { Fits tape.now self.old.bus.now }
         requires room { MAX_SEQUENCE_CLOCKS ≤ room_of self.old.bus.now }
         requires first { self.old.trace.count ≡ 0 }
         requires no_reset { sequence ≢ Sequence.Reset }
         ensures same_reference { self.new.bus.ghost_name ≡ self.old.bus.ghost_name }
         ensures runs { Runs (TracedStep tape.now.entries) (start_of sequence cpu.old) sequence (traced self.old.bus.now self.old.trace) (traced self.new.bus.now self.new.trace) cpu.new }
         ensures boundary { cpu.new.mid ≡ None }
-        ensures fits { Fits tape.now self.new.bus.now }
+        ensures accepts { Fits tape.now self.new.bus.now }
     {
         perform(cpu, sequence, self, tape);
     }
@@ -154,12 +154,12 @@ impl<'a, V: VectorUnit, P: SoundUnit, C: CellUnit, D: DividerUnit> TracedBus<'a,
         requires running { cpu.old.jam ≡ None }
         requires boundary { cpu.old.mid ≡ None }
         requires begun { self.old.bus.now.begun ≡ true }
-        requires fits { Fits tape.now self.old.bus.now }
+        requires accepts { Fits tape.now self.old.bus.now }
         requires room { 1 ≤ room_of self.old.bus.now }
         requires first { self.old.trace.count ≡ 0 }
         ensures same_reference { self.new.bus.ghost_name ≡ self.old.bus.ghost_name }
         ensures advances { (made : ℕ) × Advances (TracedStep tape.now.entries) (start_of Sequence.Reset cpu.old) Sequence.Reset [] 1 made (traced self.old.bus.now self.old.trace) (traced self.new.bus.now self.new.trace) cpu.new }
-        ensures fits { Fits tape.now self.new.bus.now }
+        ensures accepts { Fits tape.now self.new.bus.now }
         ensures room { room_of self.old.bus.now ≤ room_of self.new.bus.now + 1 }
     {
         let _fetched = cpu.begin(Sequence::Reset, self, tape, 1);
@@ -168,13 +168,13 @@ impl<'a, V: VectorUnit, P: SoundUnit, C: CellUnit, D: DividerUnit> TracedBus<'a,
     /// Does what is left of the sequence under way, in so many clocks at most.
     fn resume(&mut self, cpu: &mut Cpu, tape: &Tape, clocks: u8)
         requires middle { IsSome cpu.old.mid }
-        requires fits { Fits tape.now self.old.bus.now }
+        requires accepts { Fits tape.now self.old.bus.now }
         requires some { 1 ≤ clocks }
         requires few { self.old.trace.count + clocks ≤ 7 }
         requires room { clocks ≤ room_of self.old.bus.now }
         ensures same_reference { self.new.bus.ghost_name ≡ self.old.bus.ghost_name }
         ensures advances { IfSome cpu.old.mid (λ m. (made : ℕ) × Advances (TracedStep tape.now.entries) (registers_of cpu.old) m.sequence (given_by m) clocks made (traced self.old.bus.now self.old.trace) (traced self.new.bus.now self.new.trace) cpu.new) }
-        ensures fits { Fits tape.now self.new.bus.now }
+        ensures accepts { Fits tape.now self.new.bus.now }
     {
         // the place in the sequence, for the proof
         let _place = cpu.state();
@@ -192,7 +192,7 @@ impl<'a, V: VectorUnit, P: SoundUnit, C: CellUnit, D: DividerUnit> Bus
 
     ghost step = { λ tape x s t. (t.bus.ghost_name ≡ s.bus.ghost_name) × TracedStep tape.entries x (traced s.bus.now s.trace) (traced t.bus.now t.trace) };
 
-    ghost fits = { λ tape s. Fits tape s.bus.now };
+    ghost accepts = { λ tape s. Fits tape s.bus.now };
 
     ghost room = { λ s. min (room_of s.bus.now) (7 - s.trace.count) };
 
@@ -227,12 +227,12 @@ fn trace_whole<V: VectorUnit, P: SoundUnit, C: CellUnit, D: DividerUnit>(
 ) -> Trace
     requires running { cpu.old.jam ≡ None }
     requires boundary { cpu.old.mid ≡ None }
-    requires fits { Fits tape.now bus.old }
+    requires accepts { Fits tape.now bus.old }
     requires room { MAX_SEQUENCE_CLOCKS ≤ room_of bus.old }
     requires no_reset { sequence ≢ Sequence.Reset }
     ensures runs { Runs (TracedStep tape.now.entries) (start_of sequence cpu.old) sequence (traced bus.old no_trace) (traced bus.new result) cpu.new }
     ensures boundary { cpu.new.mid ≡ None }
-    ensures fits { Fits tape.now bus.new }
+    ensures accepts { Fits tape.now bus.new }
 {
     let mut told = TracedBus::new(bus, Trace::new());
     told.perform(cpu, sequence, tape);
@@ -251,10 +251,10 @@ fn trace_first<V: VectorUnit, P: SoundUnit, C: CellUnit, D: DividerUnit>(
     requires running { cpu.old.jam ≡ None }
     requires boundary { cpu.old.mid ≡ None }
     requires begun { bus.old.begun ≡ true }
-    requires fits { Fits tape.now bus.old }
+    requires accepts { Fits tape.now bus.old }
     requires room { 1 ≤ room_of bus.old }
     ensures advances { (made : ℕ) × Advances (TracedStep tape.now.entries) (start_of Sequence.Reset cpu.old) Sequence.Reset [] 1 made (traced bus.old no_trace) (traced bus.new result) cpu.new }
-    ensures fits { Fits tape.now bus.new }
+    ensures accepts { Fits tape.now bus.new }
     ensures room { room_of bus.old ≤ room_of bus.new + 1 }
 {
     let mut told = TracedBus::new(bus, Trace::new());
@@ -275,12 +275,12 @@ fn trace_rest<V: VectorUnit, P: SoundUnit, C: CellUnit, D: DividerUnit>(
     clocks: u8,
 ) -> Trace
     requires middle { IsSome cpu.old.mid }
-    requires fits { Fits tape.now bus.old }
+    requires accepts { Fits tape.now bus.old }
     requires some { 1 ≤ clocks }
     requires few { trace.count + clocks ≤ 7 }
     requires room { clocks ≤ room_of bus.old }
     ensures advances { IfSome cpu.old.mid (λ m. (made : ℕ) × Advances (TracedStep tape.now.entries) (registers_of cpu.old) m.sequence (given_by m) clocks made (traced bus.old trace) (traced bus.new result) cpu.new) }
-    ensures fits { Fits tape.now bus.new }
+    ensures accepts { Fits tape.now bus.new }
 {
     let mut told = TracedBus::new(bus, trace);
     told.resume(cpu, tape, clocks);
@@ -299,10 +299,10 @@ fn trace_reset<V: VectorUnit, P: SoundUnit, C: CellUnit, D: DividerUnit>(
     requires running { cpu.old.jam ≡ None }
     requires boundary { cpu.old.mid ≡ None }
     requires begun { bus.old.begun ≡ true }
-    requires fits { Fits tape.now bus.old }
+    requires accepts { Fits tape.now bus.old }
     requires room { 8 ≤ room_of bus.old }
     ensures resets { TracedReset tape.now.entries cpu.old bus.old (traced bus.new result) cpu.new }
-    ensures fits { Fits tape.now bus.new }
+    ensures accepts { Fits tape.now bus.new }
 {
     let trace = trace_first(cpu, bus, tape);
     bus.begin_reset();
@@ -318,11 +318,11 @@ fn trace_fetch<V: VectorUnit, P: SoundUnit, C: CellUnit, D: DividerUnit>(
     requires running { cpu.old.jam ≡ None }
     requires boundary { cpu.old.mid ≡ None }
     requires between { bus.old.begun ≡ false }
-    requires fits { Fits tape.now bus.old }
+    requires accepts { Fits tape.now bus.old }
     requires room { 9 ≤ room_of bus.old }
     ensures turned { TurnedBus tape.now.entries MAX_SEQUENCE_CLOCKS cpu.old bus.old bus.new cpu.new }
     ensures trace { result ≡ trace_of tape.now.entries (bus.new.peripherals.clock - bus.old.peripherals.clock) (over_bus cpu.old bus.old) }
-    ensures fits { Fits tape.now bus.new }
+    ensures accepts { Fits tape.now bus.new }
 {
     bus.begin(tape);
     let sequence = due(cpu, bus);
@@ -347,11 +347,11 @@ fn trace_middle<V: VectorUnit, P: SoundUnit, C: CellUnit, D: DividerUnit>(
 ) -> Trace
     requires middle { IsSome cpu.old.mid }
     requires between { bus.old.begun ≡ false }
-    requires fits { Fits tape.now bus.old }
+    requires accepts { Fits tape.now bus.old }
     requires room { MAX_SEQUENCE_CLOCKS ≤ room_of bus.old }
     ensures turned { TurnedBus tape.now.entries MAX_SEQUENCE_CLOCKS cpu.old bus.old bus.new cpu.new }
     ensures trace { result ≡ trace_of tape.now.entries (bus.new.peripherals.clock - bus.old.peripherals.clock) (over_bus cpu.old bus.old) }
-    ensures fits { Fits tape.now bus.new }
+    ensures accepts { Fits tape.now bus.new }
 {
     let Some(mid) = cpu.state().mid else {
         unreachable!()
@@ -371,11 +371,11 @@ pub(crate) fn trace_running<V: VectorUnit, P: SoundUnit, C: CellUnit, D: Divider
 ) -> Trace
     requires running { cpu.old.jam ≡ None }
     requires between { bus.old.begun ≡ false }
-    requires fits { Fits tape.now bus.old }
+    requires accepts { Fits tape.now bus.old }
     requires room { 9 ≤ room_of bus.old }
     ensures turned { TurnedBus tape.now.entries MAX_SEQUENCE_CLOCKS cpu.old bus.old bus.new cpu.new }
     ensures trace { result ≡ trace_of tape.now.entries (bus.new.peripherals.clock - bus.old.peripherals.clock) (over_bus cpu.old bus.old) }
-    ensures fits { Fits tape.now bus.new }
+    ensures accepts { Fits tape.now bus.new }
 {
     if cpu.state().mid.is_some() {
         trace_middle(cpu, bus, tape)
@@ -391,7 +391,7 @@ pub(crate) fn trace_sequence<V: VectorUnit, P: SoundUnit, C: CellUnit, D: Divide
     tape: &Tape,
 ) -> Trace
     requires between { bus.old.begun ≡ false }
-    requires fits { Fits tape.now bus.old }
+    requires accepts { Fits tape.now bus.old }
     requires range { IsInRange cpu.old bus.old }
     requires early { cpu.old.mid ≡ None → bus.old.peripherals.clock < CLOCK_LIMIT }
     requires room { 9 ≤ room_of bus.old }

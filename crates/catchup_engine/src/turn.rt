@@ -37,12 +37,12 @@ pub(crate) fn due<V: VectorUnit, P: SoundUnit, C: CellUnit, D: DividerUnit>(
 pub(crate) fn perform<B: Bus>(cpu: &mut Cpu, sequence: Sequence, bus: &mut B, feed: &B::Feed)
     requires running { cpu.old.jam ≡ None }
     requires boundary { cpu.old.mid ≡ None }
-    requires fits { B.fits feed.now bus.old }
+    requires accepts { B.accepts feed.now bus.old }
     requires room { MAX_SEQUENCE_CLOCKS ≤ B.room bus.old }
     requires no_reset { sequence ≢ Sequence.Reset }
     ensures runs { Runs (B.step feed.now) (start_of sequence cpu.old) sequence bus.old bus.new cpu.new }
     ensures boundary { cpu.new.mid ≡ None }
-    ensures fits { B.fits feed.now bus.new }
+    ensures accepts { B.accepts feed.now bus.new }
 {
     match sequence {
         Sequence::Interrupt => cpu.take_irq(bus, feed),
@@ -62,13 +62,13 @@ fn begin_sequence<V: VectorUnit, P: SoundUnit, C: CellUnit, D: DividerUnit>(
 )
     requires running { cpu.old.jam ≡ None }
     requires boundary { cpu.old.mid ≡ None }
-    requires fits { Fits tape.now bus.old }
+    requires accepts { Fits tape.now bus.old }
     requires some { 1 ≤ clocks }
     requires few { clocks ≤ MAX_SEQUENCE_CLOCKS }
     requires room { clocks ≤ room_of bus.old }
     requires no_reset { sequence ≢ Sequence.Reset }
     ensures advances { (made : ℕ) × Advances (BusStep tape.now.entries) (start_of sequence cpu.old) sequence [] clocks made bus.old bus.new cpu.new }
-    ensures fits { Fits tape.now bus.new }
+    ensures accepts { Fits tape.now bus.new }
 {
     if clocks == MAX_SEQUENCE_CLOCKS {
         perform(cpu, sequence, bus, tape);
@@ -87,12 +87,12 @@ fn take_reset<V: VectorUnit, P: SoundUnit, C: CellUnit, D: DividerUnit>(
 )
     requires running { cpu.old.jam ≡ None }
     requires boundary { cpu.old.mid ≡ None }
-    requires fits { Fits tape.now bus.old }
+    requires accepts { Fits tape.now bus.old }
     requires some { 1 ≤ clocks }
     requires few { clocks ≤ MAX_SEQUENCE_CLOCKS }
     requires room { clocks + 1 ≤ room_of bus.old }
     ensures resets { Resets tape.now.entries cpu.old clocks bus.old bus.new cpu.new }
-    ensures fits { Fits tape.now bus.new }
+    ensures accepts { Fits tape.now bus.new }
 {
     let _fetched = cpu.begin(Sequence::Reset, bus, tape, 1);
     bus.begin_reset();
@@ -112,12 +112,12 @@ fn fetch<V: VectorUnit, P: SoundUnit, C: CellUnit, D: DividerUnit>(
     requires running { cpu.old.jam ≡ None }
     requires boundary { cpu.old.mid ≡ None }
     requires between { bus.old.begun ≡ false }
-    requires fits { Fits tape.now bus.old }
+    requires accepts { Fits tape.now bus.old }
     requires some { 1 ≤ clocks }
     requires few { clocks ≤ MAX_SEQUENCE_CLOCKS }
     requires room { clocks + 2 ≤ room_of bus.old }
     ensures turned { TurnedBus tape.now.entries clocks cpu.old bus.old bus.new cpu.new }
-    ensures fits { Fits tape.now bus.new }
+    ensures accepts { Fits tape.now bus.new }
 {
     bus.begin(tape);
     let sequence = due(cpu, bus);
@@ -136,12 +136,12 @@ fn resume<V: VectorUnit, P: SoundUnit, C: CellUnit, D: DividerUnit>(
 )
     requires middle { IsSome cpu.old.mid }
     requires between { bus.old.begun ≡ false }
-    requires fits { Fits tape.now bus.old }
+    requires accepts { Fits tape.now bus.old }
     requires some { 1 ≤ clocks }
     requires few { clocks ≤ MAX_SEQUENCE_CLOCKS }
     requires room { clocks ≤ room_of bus.old }
     ensures turned { TurnedBus tape.now.entries clocks cpu.old bus.old bus.new cpu.new }
-    ensures fits { Fits tape.now bus.new }
+    ensures accepts { Fits tape.now bus.new }
 {
     if let Some(mid) = cpu.state().mid {
         // opens the model
@@ -160,12 +160,12 @@ pub(crate) fn step_slow<V: VectorUnit, P: SoundUnit, C: CellUnit, D: DividerUnit
 ) -> Cpu
     requires running { cpu.jam ≡ None }
     requires between { bus.old.begun ≡ false }
-    requires fits { Fits tape.now bus.old }
+    requires accepts { Fits tape.now bus.old }
     requires some { 1 ≤ clocks }
     requires few { clocks ≤ MAX_SEQUENCE_CLOCKS }
     requires room { clocks + 2 ≤ room_of bus.old }
     ensures turned { TurnedBus tape.now.entries clocks cpu bus.old bus.new result }
-    ensures fits { Fits tape.now bus.new }
+    ensures accepts { Fits tape.now bus.new }
 {
     if cpu.state().mid.is_some() {
         resume(&mut cpu, bus, tape, clocks);

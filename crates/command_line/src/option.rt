@@ -14,7 +14,7 @@ pub enum Opt {
     Cuts,
     /// The file that states are stored in.
     Save,
-    /// Tells a run's device calls after its last line.
+    /// Prints a run's device calls after its last line.
     Cost,
     /// Lets the POKEYs' timers interrupt.
     Timers,

@@ -12,22 +12,22 @@ use Rattle.cpu_core.specs.declared.operations.Kind.TheVariants.{Load, Store, Rea
 use Rattle.cpu_core.specs.Kinds.{kind_of}
 use Rattle.cpu_core.specs.declared.replay.Next.TheVariants.{End}
 use Rattle.cpu_core.specs.Registers.{RegistersValue}
-use Rattle.cpu_core.specs.Course.{Course, finish, read, write}
+use Rattle.cpu_core.specs.BusCycles.{BusCycles, finish, read, write}
 use Rattle.cpu_core.specs.Operations.{is_taken}
-use Rattle.cpu_core.specs.Patterns.{address_of, load_course, store_course, indexed, directly_addressed, addressed, is_accumulator, executed_by, row_course, modify_a_course, read_modify_write_course, landed, target_of, ends_with, dummy_read}
-use Rattle.cpu_core.specs.Sequences.{course_of, after, head_of, next_of}
+use Rattle.cpu_core.specs.Patterns.{address_of, load_cycles, store_cycles, indexed, directly_addressed, addressed, is_accumulator, executed_by, row_cycles, modify_a_cycles, read_modify_write_cycles, landed, target_of, ends_with, dummy_read}
+use Rattle.cpu_core.specs.Sequences.{cycles_of, after, head_of, next_of}
 
--- whatever the bytes are, the processor stands inside no sequence at the end of the course
-abbrev Closes : Course → Type 0
+-- whatever the bytes are, the processor is inside no sequence after the last bus cycle
+abbrev Closes : BusCycles → Type 0
 Closes (finish e) = e.mid ≡ None
 Closes (read a k) = (v : ℕ) → Closes (k v)
 Closes (write a v c) = Closes c
 
-either_closes : (b : Bool) (c d : Course) → Closes c → Closes d → Closes (if b then c else d)
+either_closes : (b : Bool) (c d : BusCycles) → Closes c → Closes d → Closes (if b then c else d)
 either_closes true c d h k = h
 either_closes false c d h k = k
 
-indexed_closes : (low high index : ℕ) (always : Bool) (k : ℕ → Course) → ((a : ℕ) → Closes (k a)) → Closes (indexed low high index always k)
+indexed_closes : (low high index : ℕ) (always : Bool) (k : ℕ → BusCycles) → ((a : ℕ) → Closes (k a)) → Closes (indexed low high index always k)
 indexed_closes low high index always k h = either_closes (always || nat_lt 255 (low + index)) _ _ (λ _. h _) (h _)
 
 abbrev raised : RegistersValue → RegistersValue
@@ -36,7 +36,7 @@ raised r = record r { pc = (r.pc + 1) % 65536 }
 abbrev twice_raised : RegistersValue → RegistersValue
 twice_raised r = raised (raised r)
 
-direct_closes : (mode : Mode) (always : Bool) (r : RegistersValue) (k : RegistersValue → ℕ → Course)
+direct_closes : (mode : Mode) (always : Bool) (r : RegistersValue) (k : RegistersValue → ℕ → BusCycles)
     → ((s : RegistersValue) (a : ℕ) → Closes (k s a)) → Closes (directly_addressed mode always r k)
 direct_closes Immediate always r k h = h _ _
 direct_closes ZeroPage always r k h = λ _. h _ _
@@ -47,7 +47,7 @@ direct_closes AbsoluteX always r k h = λ low high. indexed_closes low high r.x 
 direct_closes AbsoluteY always r k h = λ low high. indexed_closes low high r.y always (k (twice_raised r)) (h (twice_raised r))
 direct_closes _ always r k h = h _ _
 
-addressed_closes : (mode : Mode) (always : Bool) (r : RegistersValue) (k : RegistersValue → ℕ → Course)
+addressed_closes : (mode : Mode) (always : Bool) (r : RegistersValue) (k : RegistersValue → ℕ → BusCycles)
     → ((s : RegistersValue) (a : ℕ) → Closes (k s a)) → Closes (addressed mode always r k)
 addressed_closes IndirectX always r k h = λ _ _ _ _. h _ _
 addressed_closes IndirectY always r k h = λ b low high. indexed_closes low high r.y always (k (raised r)) (h (raised r))
@@ -55,7 +55,7 @@ addressed_closes mode always r k h = direct_closes mode always r k h
 
 modify_closes : (op : Op) (mode : Mode) (r : RegistersValue) → Closes (executed_by ReadModifyWrite op mode r)
 modify_closes op mode r =
-    either_closes (is_accumulator mode) (modify_a_course op r) (read_modify_write_course op mode r) (λ _. refl) (direct_closes mode true r _ (λ _ _ _. refl))
+    either_closes (is_accumulator mode) (modify_a_cycles op r) (read_modify_write_cycles op mode r) (λ _. refl) (direct_closes mode true r _ (λ _ _ _. refl))
 
 landed_closes : (r : RegistersValue) (target : ℕ) → Closes (landed r target)
 landed_closes r target =
@@ -86,22 +86,22 @@ executed_closes Push op mode r = λ _. refl
 executed_closes Pull op mode r = λ _ _ _. refl
 executed_closes Break op mode r = λ _ _ _. refl
 
-row_closes : (r : RegistersValue) (o : ℕ) (row : Option (Op × Mode)) → Closes (row_course r o row)
+row_closes : (r : RegistersValue) (o : ℕ) (row : Option (Op × Mode)) → Closes (row_cycles r o row)
 row_closes r o None = refl
 row_closes r o (Some row) = executed_closes (kind_of row.0) row.0 row.1 _
 
-course_closes : (r : RegistersValue) (q : Sequence) → Closes (course_of r q)
-course_closes r Opcode = λ o. row_closes r o (row_of o)
-course_closes r Interrupt = λ _ _ _ _. refl
-course_closes r Reset = λ _ _ _ _ _ _ _. refl
+cycles_closes : (r : RegistersValue) (q : Sequence) → Closes (cycles_of r q)
+cycles_closes r Opcode = λ o. row_closes r o (row_of o)
+cycles_closes r Interrupt = λ _ _ _ _. refl
+cycles_closes r Reset = λ _ _ _ _ _ _ _. refl
 
-after_closes : (c : Course) (bytes : List ℕ) → Closes c → Closes (after c bytes)
+after_closes : (c : BusCycles) (bytes : List ℕ) → Closes c → Closes (after c bytes)
 after_closes c [] h = h
 after_closes (finish e) (b ∷ bytes) h = h
 after_closes (read a k) (b ∷ bytes) h = after_closes (k b) bytes (h b)
 after_closes (write a v c) (b ∷ bytes) h = after_closes c bytes h
 
-head_closes : (c : Course) (e : CpuValue) → Closes c → head_of c ≡ End e → e.mid ≡ None
+head_closes : (c : BusCycles) (e : CpuValue) → Closes c → head_of c ≡ End e → e.mid ≡ None
 head_closes (finish f) e h is = let same : f ≡ e = cc in subst (λ (k : CpuValue). k.mid ≡ None) same h
 head_closes (read a k) e h is = cc
 head_closes (write a v c) e h is = cc
@@ -109,4 +109,4 @@ head_closes (write a v c) e h is = cc
 -- a processor at the end of a sequence stands inside none
 pub end-closes : (r : RegistersValue) (q : Sequence) (bytes : List ℕ) (e : CpuValue) → next_of r q bytes ≡ End e → e.mid ≡ None
 unfolding next_of
-end-closes r q bytes e is = head_closes (after (course_of r q) bytes) e (after_closes (course_of r q) bytes (course_closes r q)) is
+end-closes r q bytes e is = head_closes (after (cycles_of r q) bytes) e (after_closes (cycles_of r q) bytes (cycles_closes r q)) is

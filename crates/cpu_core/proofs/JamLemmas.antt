@@ -14,17 +14,17 @@ use Rattle.cpu_core.specs.Kinds.{kind_of}
 use Rattle.cpu_core.specs.declared.replay.Next.{Next}
 use Rattle.cpu_core.specs.declared.replay.Next.TheVariants.{Read, Write, End}
 use Rattle.cpu_core.specs.Registers.{RegistersValue, registers_of, at_boundary, jammed_on}
-use Rattle.cpu_core.specs.Course.{Access, read_of, Course, finish, read, write, EndsRunning}
+use Rattle.cpu_core.specs.BusCycles.{Access, read_of, BusCycles, finish, read, write, EndsRunning}
 use Rattle.cpu_core.specs.Operations.{is_taken}
-use Rattle.cpu_core.specs.Patterns.{address_of, ends_with, dummy_read, landed, target_of, indexed, directly_addressed, addressed, is_accumulator, executed_by, row_course, modify_a_course, read_modify_write_course}
-use Rattle.cpu_core.specs.Sequences.{start_of, course_of, after, head_of, next_of, IsAccess, Moves}
+use Rattle.cpu_core.specs.Patterns.{address_of, ends_with, dummy_read, landed, target_of, indexed, directly_addressed, addressed, is_accumulator, executed_by, row_cycles, modify_a_cycles, read_modify_write_cycles}
+use Rattle.cpu_core.specs.Sequences.{start_of, cycles_of, after, head_of, next_of, IsAccess, Moves}
 use Rattle.cpu_core.specs.Places.{IsPlace, given_by, stopped, standing, Gone, Fetches, BeginsWith}
 
-either_ends : (b : Bool) (c d : Course) → EndsRunning c → EndsRunning d → EndsRunning (if b then c else d)
+either_ends : (b : Bool) (c d : BusCycles) → EndsRunning c → EndsRunning d → EndsRunning (if b then c else d)
 either_ends true c d h k = h
 either_ends false c d h k = k
 
-indexed_ends : (low high index : ℕ) (always : Bool) (k : ℕ → Course) → ((a : ℕ) → EndsRunning (k a)) → EndsRunning (indexed low high index always k)
+indexed_ends : (low high index : ℕ) (always : Bool) (k : ℕ → BusCycles) → ((a : ℕ) → EndsRunning (k a)) → EndsRunning (indexed low high index always k)
 indexed_ends low high index always k h = either_ends (always || nat_lt 255 (low + index)) _ _ (λ _. h _) (h _)
 
 abbrev fetched_once : RegistersValue → RegistersValue
@@ -33,7 +33,7 @@ fetched_once r = record r { pc = (r.pc + 1) % 65536 }
 abbrev fetched_twice : RegistersValue → RegistersValue
 fetched_twice r = fetched_once (fetched_once r)
 
-direct_ends : (mode : Mode) (always : Bool) (r : RegistersValue) (k : RegistersValue → ℕ → Course)
+direct_ends : (mode : Mode) (always : Bool) (r : RegistersValue) (k : RegistersValue → ℕ → BusCycles)
     → ((s : RegistersValue) (a : ℕ) → EndsRunning (k s a)) → EndsRunning (directly_addressed mode always r k)
 direct_ends Immediate always r k h = h _ _
 direct_ends ZeroPage always r k h = λ _. h _ _
@@ -44,7 +44,7 @@ direct_ends AbsoluteX always r k h = λ low high. indexed_ends low high r.x alwa
 direct_ends AbsoluteY always r k h = λ low high. indexed_ends low high r.y always (k (fetched_twice r)) (h (fetched_twice r))
 direct_ends _ always r k h = h _ _
 
-addressed_ends : (mode : Mode) (always : Bool) (r : RegistersValue) (k : RegistersValue → ℕ → Course)
+addressed_ends : (mode : Mode) (always : Bool) (r : RegistersValue) (k : RegistersValue → ℕ → BusCycles)
     → ((s : RegistersValue) (a : ℕ) → EndsRunning (k s a)) → EndsRunning (addressed mode always r k)
 addressed_ends IndirectX always r k h = λ _ _ _ _. h _ _
 addressed_ends IndirectY always r k h = λ _ low high. indexed_ends low high r.y always (k (fetched_once r)) (h (fetched_once r))
@@ -65,7 +65,7 @@ executed_ends : (kind : Kind) (op : Op) (mode : Mode) (r : RegistersValue) → E
 executed_ends Load op mode r = addressed_ends mode false r _ (λ _ _ _. refl)
 executed_ends Store op mode r = addressed_ends mode true r _ (λ _ _. refl)
 executed_ends ReadModifyWrite op mode r =
-    either_ends (is_accumulator mode) (modify_a_course op r) (read_modify_write_course op mode r) (λ _. refl)
+    either_ends (is_accumulator mode) (modify_a_cycles op r) (read_modify_write_cycles op mode r) (λ _. refl)
     (direct_ends mode true r _ (λ _ _ _. refl))
 executed_ends Implied op mode r = λ _. refl
 executed_ends Branch op mode r = λ offset. branch_ends op (fetched_once r) offset
@@ -78,17 +78,17 @@ executed_ends Pull op mode r = λ _ _ _. refl
 executed_ends Break op mode r = λ _ _ _. refl
 
 -- a documented opcode doesn't jam
-row_ends : (r : RegistersValue) (o : ℕ) (row : Option (Op × Mode)) → row ≢ None → EndsRunning (row_course r o row)
+row_ends : (r : RegistersValue) (o : ℕ) (row : Option (Op × Mode)) → row ≢ None → EndsRunning (row_cycles r o row)
 row_ends r o None h = absurd (h refl)
 row_ends r o (Some row) h = executed_ends (kind_of row.0) row.0 row.1 _
 
-after_ends : (c : Course) (bytes : List ℕ) → EndsRunning c → EndsRunning (after c bytes)
+after_ends : (c : BusCycles) (bytes : List ℕ) → EndsRunning c → EndsRunning (after c bytes)
 after_ends c [] h = h
 after_ends (finish e) (b ∷ bytes) h = h
 after_ends (read a k) (b ∷ bytes) h = after_ends (k b) bytes (h b)
 after_ends (write a v c) (b ∷ bytes) h = after_ends c bytes h
 
-head_ends : (c : Course) (e : CpuValue) → EndsRunning c → head_of c ≡ End e → e.jam ≡ None
+head_ends : (c : BusCycles) (e : CpuValue) → EndsRunning c → head_of c ≡ End e → e.jam ≡ None
 head_ends (finish f) e h k = let same : f ≡ e = cc in subst (λ (x : CpuValue). x.jam ≡ None) same h
 head_ends (read a k) e h p = absurd (cc)
 head_ends (write a v c) e h p = absurd (cc)
@@ -99,11 +99,11 @@ ends_running : (r : RegistersValue) (q : Sequence) (bytes : List ℕ) → 1 ≤ 
 unfolding next_of
 ends_running r q [] begun h e k = absurd (omega arith)
 ends_running r Opcode (o ∷ bytes) begun h e k =
-    head_ends (after (row_course r o (row_of o)) bytes) e (after_ends _ bytes (row_ends r o (row_of o) (h refl))) k
+    head_ends (after (row_cycles r o (row_of o)) bytes) e (after_ends _ bytes (row_ends r o (row_of o) (h refl))) k
 ends_running r Interrupt (o ∷ bytes) begun h e k =
-    head_ends (after (course_of r Interrupt) (o ∷ bytes)) e (after_ends (course_of r Interrupt) (o ∷ bytes) (λ _ _ _ _. refl)) k
+    head_ends (after (cycles_of r Interrupt) (o ∷ bytes)) e (after_ends (cycles_of r Interrupt) (o ∷ bytes) (λ _ _ _ _. refl)) k
 ends_running r Reset (o ∷ bytes) begun h e k =
-    head_ends (after (course_of r Reset) (o ∷ bytes)) e (after_ends (course_of r Reset) (o ∷ bytes) (λ _ _ _ _ _ _ _. refl)) k
+    head_ends (after (cycles_of r Reset) (o ∷ bytes)) e (after_ends (cycles_of r Reset) (o ∷ bytes) (λ _ _ _ _ _ _ _. refl)) k
 
 stopped_running : (r : RegistersValue) (q : Sequence) (bytes : List ℕ) (n : Next) → ((e : CpuValue) → n ≡ End e → e.jam ≡ None)
     → (stopped r q bytes n).jam ≡ None
@@ -159,7 +159,7 @@ outcome_of step r o rest s t e (Some row) k n moves h =
 
 next_jam : (r : RegistersValue) (o : ℕ) → row_of o ≡ None → next_of r Opcode (o ∷ []) ≡ End (jammed_on r o)
 unfolding next_of
-next_jam r o h = ap (λ (row : Option (Op × Mode)). head_of (row_course r o row)) h
+next_jam r o h = ap (λ (row : Option (Op × Mode)). head_of (row_cycles r o row)) h
 
 first_read : {S : Type 0} (step : Access → S → S → Type 0) (r : RegistersValue) (o : ℕ) (x : Access) (s m : S)
     → IsAccess (next_of r Opcode []) o x → step x s m → step (read_of r.pc o) s m

@@ -1,4 +1,4 @@
-pub mod CourseLemmas
+pub mod BusCycleLemmas
 pub mod EndLemmas
 pub mod JamLemmas
 pub mod LengthLemmas

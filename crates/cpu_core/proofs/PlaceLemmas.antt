@@ -13,11 +13,11 @@ use Rattle.cpu_table.specs.declared.instruction.Mode.{Mode}
 use Rattle.cpu_table.specs.Opcodes.{row_of}
 use Rattle.cpu_alu.specs.Flags.{is_masked}
 use Rattle.cpu_core.specs.Registers.{RegistersValue, registers_of, jammed_on}
-use Rattle.cpu_core.specs.Patterns.{row_course}
-use Rattle.cpu_core.specs.Course.{Access, Course, finish, read, write}
-use Rattle.cpu_core.specs.Sequences.{course_of, after, head_of, next_of, IsEnd, IsAccess, Moves, Runs}
+use Rattle.cpu_core.specs.Patterns.{row_cycles}
+use Rattle.cpu_core.specs.BusCycles.{Access, BusCycles, finish, read, write}
+use Rattle.cpu_core.specs.Sequences.{cycles_of, after, head_of, next_of, IsEnd, IsAccess, Moves, Runs}
 use Rattle.cpu_core.specs.Places.{Gone, IsPlace, IsProcessor, padded, given_by, paused, stopped, Advances}
-use Rattle.cpu_core.proofs.CourseLemmas.{after-append, after-finish}
+use Rattle.cpu_core.proofs.BusCycleLemmas.{after-append, after-finish}
 use Rattle.cpu_core.proofs.LengthLemmas.{six_before_end}
 
 -- one access after others
@@ -80,12 +80,12 @@ gone_begun step r q given (v ∷ now) clocks made s t g full some = omega arith
 pub ruleset gone = (gone_none, gone_on, gone_begun, ended_begun)
 
 -- what has ended has ended
-ended_stays : (c : Course) (xs ys : List ℕ) → IsEnd (head_of (after c xs)) → IsEnd (head_of (after c (xs ++ ys)))
+ended_stays : (c : BusCycles) (xs ys : List ℕ) → IsEnd (head_of (after c xs)) → IsEnd (head_of (after c (xs ++ ys)))
 ended_stays c xs ys h =
-    subst (λ (d : Course). IsEnd (head_of d)) (sym (after-append c xs ys)) (end_stays (after c xs) ys h)
+    subst (λ (d : BusCycles). IsEnd (head_of d)) (sym (after-append c xs ys)) (end_stays (after c xs) ys h)
   where
-    end_stays : (d : Course) (ys : List ℕ) → IsEnd (head_of d) → IsEnd (head_of (after d ys))
-    end_stays (finish e) ys h = subst (λ (d : Course). IsEnd (head_of d)) (sym (after-finish e ys)) tt
+    end_stays : (d : BusCycles) (ys : List ℕ) → IsEnd (head_of d) → IsEnd (head_of (after d ys))
+    end_stays (finish e) ys h = subst (λ (d : BusCycles). IsEnd (head_of d)) (sym (after-finish e ys)) tt
     end_stays (read a k) ys h = absurd h
     end_stays (write a v c) ys h = absurd h
 
@@ -94,11 +94,11 @@ ended_early : (r : RegistersValue) (q : Sequence) (bytes : List ℕ) (n : ℕ) �
 unfolding next_of
 ended_early r q bytes n h =
     subst (λ (xs : List ℕ). IsEnd (next_of r q xs)) (take-append-drop n bytes)
-    (ended_stays (course_of r q) (take n bytes) (drop n bytes) h)
+    (ended_stays (cycles_of r q) (take n bytes) (drop n bytes) h)
 
 -- an undocumented opcode is an end
-jam_ends : (r : RegistersValue) (row : Option (Op × Mode)) (o : ℕ) (bytes : List ℕ) → row ≡ None → IsEnd (head_of (after (row_course r o row) bytes))
-jam_ends r None o bytes h = subst (λ (d : Course). IsEnd (head_of d)) (sym (after-finish (jammed_on r o) bytes)) tt
+jam_ends : (r : RegistersValue) (row : Option (Op × Mode)) (o : ℕ) (bytes : List ℕ) → row ≡ None → IsEnd (head_of (after (row_cycles r o row) bytes))
+jam_ends r None o bytes h = subst (λ (d : BusCycles). IsEnd (head_of d)) (sym (after-finish (jammed_on r o) bytes)) tt
 jam_ends r (Some row) o bytes h = absurd (cc)
 
 documented_first : (r : RegistersValue) (q : Sequence) (bytes : List ℕ) (rest : List ℕ) → q ≡ Opcode → 1 ≤ length bytes

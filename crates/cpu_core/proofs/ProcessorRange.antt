@@ -1,4 +1,4 @@
--- The processor stays in its range, sequence by sequence: so does each course, whatever bytes it reads.
+-- The processor stays in its range, sequence by sequence: so do the bus cycles of each, whatever bytes they read.
 use Rattle.std.proofs.Common.{◌≡◌, ◌≤◌, ◌<◌, ◌+◌, ◌-◌, ◌*◌, ◌/◌, ◌%◌, ◌==◌, ◌||◌, ℕ, Bool, true, false, nat_lt, if◌then◌else◌, List, [], ◌∷◌, length, Option, Some, None, IfSome, All, ℤ, pos, negsuc, bit_and, bit_or, bit_xor, refl, ap, subst, arith}
 use Rattle.std.specs.Int.{from_bool}
 use Rattle.std.proofs.lemmas.Nat.{and_le_l, or_lt, xor_lt}
@@ -26,10 +26,10 @@ use Rattle.cpu_core.specs.Kinds.{kind_of}
 use Rattle.cpu_core.specs.declared.replay.Next.{Next}
 use Rattle.cpu_core.specs.declared.replay.Next.TheVariants.{Read, Write, End}
 use Rattle.cpu_core.specs.Registers.{RegistersValue, registers_of}
-use Rattle.cpu_core.specs.Course.{Course, finish, read, write}
+use Rattle.cpu_core.specs.BusCycles.{BusCycles, finish, read, write}
 use Rattle.cpu_core.specs.Operations.{flags_by_interrupt, flags_by_program, is_taken, loaded, masked, modified, pulled, pulled_flags, pushed, stored, worked_alone}
-use Rattle.cpu_core.specs.Patterns.{address_of, directly_addressed, addressed, dummy_read, ends_with, executed_by, indexed, interrupted, is_accumulator, landed, modify_a_course, read_modify_write_course, row_course, target_of}
-use Rattle.cpu_core.specs.Sequences.{after, course_of, head_of, next_of, start_of, IsEnd}
+use Rattle.cpu_core.specs.Patterns.{address_of, directly_addressed, addressed, dummy_read, ends_with, executed_by, indexed, interrupted, is_accumulator, landed, modify_a_cycles, read_modify_write_cycles, row_cycles, target_of}
+use Rattle.cpu_core.specs.Sequences.{after, cycles_of, head_of, next_of, start_of, IsEnd}
 use Rattle.cpu_core.specs.Places.{padded, paused, standing, stopped}
 use Rattle.cpu_core.proofs.EndLemmas.{end-closes}
 use Rattle.cpu_core.proofs.LengthLemmas.{six_before_end}
@@ -231,7 +231,7 @@ record EndsInRange (e : CpuValue) : Type 0 where
   jam : IfSome e.jam (λ o. IsByte o × (row_of o ≡ None))
 
 -- whatever the bytes read are, those written are bytes too, and the processor at the end is in range
-abbrev StaysInRange : Course → Type 0
+abbrev StaysInRange : BusCycles → Type 0
 StaysInRange (finish e) = EndsInRange e
 StaysInRange (read a k) = (v : ℕ) → IsByte v → StaysInRange (k v)
 StaysInRange (write a v c) = IsByte v × StaysInRange c
@@ -239,11 +239,11 @@ StaysInRange (write a v c) = IsByte v × StaysInRange c
 ends_stays : (r : RegistersValue) → AreRegistersInRange r → StaysInRange (ends_with r)
 ends_stays r h = record { registers = h; jam = tt }
 
-either_stays : (b : Bool) (c d : Course) → StaysInRange c → StaysInRange d → StaysInRange (if b then c else d)
+either_stays : (b : Bool) (c d : BusCycles) → StaysInRange c → StaysInRange d → StaysInRange (if b then c else d)
 either_stays true c d h k = h
 either_stays false c d h k = k
 
-indexed_stays : (low high index : ℕ) (always : Bool) (k : ℕ → Course) → ((a : ℕ) → StaysInRange (k a)) → StaysInRange (indexed low high index always k)
+indexed_stays : (low high index : ℕ) (always : Bool) (k : ℕ → BusCycles) → ((a : ℕ) → StaysInRange (k a)) → StaysInRange (indexed low high index always k)
 indexed_stays low high index always k h = either_stays (always || nat_lt 255 (low + index)) _ _ (λ _ _. h _) (h _)
 
 abbrev raised : RegistersValue → RegistersValue
@@ -258,7 +258,7 @@ raised_in r h = pc_in r ((r.pc + 1) % 65536) (omega arith) h
 twice_in : (r : RegistersValue) → AreRegistersInRange r → AreRegistersInRange (twice_raised r)
 twice_in r h = raised_in (raised r) (raised_in r h)
 
-direct_stays : (mode : Mode) (always : Bool) (r : RegistersValue) (k : RegistersValue → ℕ → Course)
+direct_stays : (mode : Mode) (always : Bool) (r : RegistersValue) (k : RegistersValue → ℕ → BusCycles)
     → ((s : RegistersValue) (a : ℕ) → AreRegistersInRange s → StaysInRange (k s a)) → AreRegistersInRange r
     → StaysInRange (directly_addressed mode always r k)
 direct_stays Immediate always r k h is = h _ _ (raised_in r is)
@@ -272,7 +272,7 @@ direct_stays AbsoluteY always r k h is =
     λ low _ high _. indexed_stays low high r.y always (k (twice_raised r)) (λ a. h (twice_raised r) a (twice_in r is))
 direct_stays _ always r k h is = h _ _ is
 
-addressed_stays : (mode : Mode) (always : Bool) (r : RegistersValue) (k : RegistersValue → ℕ → Course)
+addressed_stays : (mode : Mode) (always : Bool) (r : RegistersValue) (k : RegistersValue → ℕ → BusCycles)
     → ((s : RegistersValue) (a : ℕ) → AreRegistersInRange s → StaysInRange (k s a)) → AreRegistersInRange r
     → StaysInRange (addressed mode always r k)
 addressed_stays IndirectX always r k h is = λ _ _ _ _ _ _ _ _. h _ _ (raised_in r is)
@@ -280,12 +280,12 @@ addressed_stays IndirectY always r k h is =
     λ _ _ low _ high _. indexed_stays low high r.y always (k (raised r)) (λ a. h (raised r) a (raised_in r is))
 addressed_stays mode always r k h is = direct_stays mode always r k h is
 
-modify_a_stays : (op : Op) (r : RegistersValue) → AreRegistersInRange r → StaysInRange (modify_a_course op r)
+modify_a_stays : (op : Op) (r : RegistersValue) → AreRegistersInRange r → StaysInRange (modify_a_cycles op r)
 modify_a_stays op r h = λ _ _.
     let k = modified_in op r.a r.p h.a (status_of r h) in
     ends_stays _ (a_in r _ _ k.byte k.status h)
 
-modify_memory_stays : (op : Op) (mode : Mode) (r : RegistersValue) → AreRegistersInRange r → StaysInRange (read_modify_write_course op mode r)
+modify_memory_stays : (op : Op) (mode : Mode) (r : RegistersValue) → AreRegistersInRange r → StaysInRange (read_modify_write_cycles op mode r)
 modify_memory_stays op mode r h =
     direct_stays mode true r _
     (λ s a is m b.
@@ -360,7 +360,7 @@ executed_stays : (kind : Kind) (op : Op) (mode : Mode) (r : RegistersValue) → 
 executed_stays Load op mode r h = addressed_stays mode false r _ (λ s a is m b. ends_stays _ (loaded_in op m s b is)) h
 executed_stays Store op mode r h = addressed_stays mode true r _ (λ s a is. (stored_in op s is, ends_stays s is)) h
 executed_stays ReadModifyWrite op mode r h =
-    either_stays (is_accumulator mode) (modify_a_course op r) (read_modify_write_course op mode r) (modify_a_stays op r h)
+    either_stays (is_accumulator mode) (modify_a_cycles op r) (read_modify_write_cycles op mode r) (modify_a_stays op r h)
     (modify_memory_stays op mode r h)
 executed_stays Implied op mode r h = λ _ _. ends_stays _ (worked_in op r h)
 executed_stays Branch op mode r h = λ offset _. branch_stays op (raised r) offset (raised_in r h)
@@ -374,16 +374,16 @@ executed_stays Break op mode r h = λ _ _.
     let one = raised_in r h in
     interrupted_stays (flags_by_program r.p) (raised r) (by_program_in r.p (status_of r h)) one
 
-row_stays : (r : RegistersValue) (o : ℕ) (row : Option (Op × Mode)) → row_of o ≡ row → IsByte o → AreRegistersInRange r → StaysInRange (row_course r o row)
+row_stays : (r : RegistersValue) (o : ℕ) (row : Option (Op × Mode)) → row_of o ≡ row → IsByte o → AreRegistersInRange r → StaysInRange (row_cycles r o row)
 row_stays r o None is b h = record { registers = h; jam = (b, is) }
 row_stays r o (Some row) is b h = executed_stays (kind_of row.0) row.0 row.1 (raised r) (raised_in r h)
 
-course_stays : (r : RegistersValue) (q : Sequence) → AreRegistersInRange r → StaysInRange (course_of r q)
-course_stays r Opcode h = λ o b. row_stays r o (row_of o) refl b h
-course_stays r Interrupt h = λ _ _ _ _. interrupted_stays (flags_by_interrupt r.p) r (by_interrupt_in r.p (status_of r h)) h
-course_stays r Reset h = λ _ _ _ _ _ _ _ _ _ _ low l high k. ends_stays _ (pc_in r (address_of low high) (address_in low high l k) h)
+cycles_stays : (r : RegistersValue) (q : Sequence) → AreRegistersInRange r → StaysInRange (cycles_of r q)
+cycles_stays r Opcode h = λ o b. row_stays r o (row_of o) refl b h
+cycles_stays r Interrupt h = λ _ _ _ _. interrupted_stays (flags_by_interrupt r.p) r (by_interrupt_in r.p (status_of r h)) h
+cycles_stays r Reset h = λ _ _ _ _ _ _ _ _ _ _ low l high k. ends_stays _ (pc_in r (address_of low high) (address_in low high l k) h)
 
-after_stays : (c : Course) (bytes : List ℕ) → StaysInRange c → All IsByte bytes → StaysInRange (after c bytes)
+after_stays : (c : BusCycles) (bytes : List ℕ) → StaysInRange c → All IsByte bytes → StaysInRange (after c bytes)
 after_stays c [] h all = h
 after_stays (finish e) (b ∷ bytes) h all = h
 after_stays (read a k) (b ∷ bytes) h all = after_stays (k b) bytes (h b (All-head IsByte b bytes all)) (All-tail IsByte b bytes all)
@@ -395,14 +395,14 @@ IsNextInRange (Read a) = Unit {0}
 IsNextInRange (Write a v) = IsByte v
 IsNextInRange (End e) = EndsInRange e
 
-head_in : (c : Course) → StaysInRange c → IsNextInRange (head_of c)
+head_in : (c : BusCycles) → StaysInRange c → IsNextInRange (head_of c)
 head_in (finish e) h = h
 head_in (read a k) h = tt
 head_in (write a v c) h = h.0
 
 next_in : (r : RegistersValue) (q : Sequence) (bytes : List ℕ) → AreRegistersInRange r → All IsByte bytes → IsNextInRange (next_of r q bytes)
 unfolding next_of
-next_in r q bytes h all = head_in (after (course_of r q) bytes) (after_stays (course_of r q) bytes (course_stays r q h) all)
+next_in r q bytes h all = head_in (after (cycles_of r q) bytes) (after_stays (cycles_of r q) bytes (cycles_stays r q h) all)
 
 writes_in : (n : Next) → IsNextInRange n → WritesByte n
 writes_in (Read a) h = tt

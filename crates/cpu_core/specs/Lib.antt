@@ -1,5 +1,5 @@
 pub mod Registers
-pub mod Course
+pub mod BusCycles
 pub mod Kinds
 pub mod Operations
 pub mod Patterns

@@ -10,7 +10,7 @@ use Rattle.cpu_core.specs.declared.replay.Next.{Next}
 use Rattle.cpu_core.specs.declared.replay.Next.TheVariants.{End}
 use Rattle.cpu_alu.specs.Flags.{is_masked}
 use Rattle.cpu_core.specs.Registers.{RegistersValue, registers_of, at_boundary}
-use Rattle.cpu_core.specs.Course.{Access, read_of}
+use Rattle.cpu_core.specs.BusCycles.{Access, read_of}
 use Rattle.cpu_core.specs.Sequences.{next_of, IsEnd, Moves}
 
 -- the bytes of the accesses so far

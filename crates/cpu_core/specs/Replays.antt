@@ -3,7 +3,7 @@ use Rattle.std.specs.Prelude.{◌≡◌, ℕ, List, [], ◌∷◌, Option, Some,
 use Rattle.board_base.specs.Cpu.{CpuValue}
 use Rattle.cpu_core.specs.declared.replay.Next.{Next}
 use Rattle.cpu_core.specs.declared.replay.Next.TheVariants.{Read, Write, End}
-use Rattle.cpu_core.specs.Course.{Access, read_of, write_of}
+use Rattle.cpu_core.specs.BusCycles.{Access, read_of, write_of}
 
 -- the bytes still to be given, and the first access past them
 pub record ReplayValue : Type 0 where

@@ -7,30 +7,30 @@ use Rattle.board_base.specs.declared.cpu.Sequence.TheVariants.{Opcode, Interrupt
 use Rattle.cpu_core.specs.declared.replay.Next.{Next}
 use Rattle.cpu_core.specs.declared.replay.Next.TheVariants.{Read, Write, End}
 use Rattle.cpu_core.specs.Registers.{RegistersValue, registers_of}
-use Rattle.cpu_core.specs.Course.{Access, read_of, write_of, Course, finish, read, write}
+use Rattle.cpu_core.specs.BusCycles.{Access, read_of, write_of, BusCycles, finish, read, write}
 use Rattle.cpu_core.specs.Operations.{masked}
-use Rattle.cpu_core.specs.Patterns.{instruction_course, interrupt_course, reset_course}
+use Rattle.cpu_core.specs.Patterns.{instruction_cycles, interrupt_cycles, reset_cycles}
 
--- all accesses of a sequence
-abbrev pub course_of : RegistersValue → Sequence → Course
-course_of r Opcode = instruction_course r
-course_of r Interrupt = interrupt_course r
-course_of r Reset = reset_course r
+-- the bus cycles of a sequence
+abbrev pub cycles_of : RegistersValue → Sequence → BusCycles
+cycles_of r Opcode = instruction_cycles r
+cycles_of r Interrupt = interrupt_cycles r
+cycles_of r Reset = reset_cycles r
 
 -- the registers that a sequence starts from: a reset lowers S by 3 and masks interrupts
 abbrev pub start_of : Sequence → CpuValue → RegistersValue
 start_of Reset c = record (registers_of c) { s = (c.s + 253) % 256; p = masked c.p }
 start_of _ c = registers_of c
 
--- what is left of a course after these bytes
-abbrev pub after : Course → List ℕ → Course
+-- the bus cycles that are left after these bytes
+abbrev pub after : BusCycles → List ℕ → BusCycles
 after c [] = c
 after (finish e) (b ∷ bytes) = finish e
 after (read a k) (b ∷ bytes) = after (k b) bytes
 after (write a v c) (b ∷ bytes) = after c bytes
 
--- how a course begins
-abbrev pub head_of : Course → Next
+-- the first of the bus cycles, or the end
+abbrev pub head_of : BusCycles → Next
 head_of (finish e) = End e
 head_of (read a k) = Read a
 head_of (write a v c) = Write a v
@@ -38,7 +38,7 @@ head_of (write a v c) = Write a v
 -- what comes next, from the registers at the start, the sequence and the bytes so far; a byte that
 -- was written changes nothing
 unfoldable pub next_of : RegistersValue → Sequence → List ℕ → Next
-next_of r q bytes = head_of (after (course_of r q) bytes)
+next_of r q bytes = head_of (after (cycles_of r q) bytes)
 
 -- the sequence is complete
 abbrev pub IsEnd : Next → Type 0

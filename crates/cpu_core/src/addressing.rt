@@ -1,6 +1,6 @@
 ghost use Rattle.std.specs.Prelude.{◌≡◌, ◌+◌, ◌*◌, ◌%◌, ◌≤◌, ℕ};
 ghost use Rattle.cpu_core.specs.Registers.{RegistersValue, stack_address};
-ghost use Rattle.cpu_core.specs.Course.{Course, Leads, read_of, write_of};
+ghost use Rattle.cpu_core.specs.BusCycles.{BusCycles, Leads, read_of, write_of};
 ghost use Rattle.cpu_core.specs.Patterns.{address_of, indexed, directly_addressed, addressed};
 
 use crate::bus::Bus;
@@ -18,11 +18,11 @@ pub(crate) fn address(low: u8, high: u8) -> u16
 /// Reads the byte at `pc`, and raises `pc`.
 #[inline(always)]
 pub(crate) fn fetch<B: Bus>(r: &mut Registers, bus: &mut B, feed: &B::Feed) -> u8
-    requires fits { B.fits feed.now bus.old }
+    requires accepts { B.accepts feed.now bus.old }
     requires room { 1 ≤ B.room bus.old }
     ensures step { B.step feed.now (read_of r.old.pc result) bus.old bus.new }
     ensures raised { r.new ≡ record r.old { pc = (r.old.pc + 1) % 65536 } }
-    ensures fits { B.fits feed.now bus.new }
+    ensures accepts { B.accepts feed.now bus.new }
     ensures room { B.room bus.old ≤ B.room bus.new + 1 }
 {
     let byte = bus.read(feed, r.pc);
@@ -33,10 +33,10 @@ pub(crate) fn fetch<B: Bus>(r: &mut Registers, bus: &mut B, feed: &B::Feed) -> u
 /// Reads a byte that the processor drops. Its contract alone looks at the byte.
 #[inline(always)]
 pub(crate) fn dummy_read<B: Bus>(bus: &mut B, feed: &B::Feed, addr: u16) -> u8
-    requires fits { B.fits feed.now bus.old }
+    requires accepts { B.accepts feed.now bus.old }
     requires room { 1 ≤ B.room bus.old }
     ensures step { B.step feed.now (read_of addr result) bus.old bus.new }
-    ensures fits { B.fits feed.now bus.new }
+    ensures accepts { B.accepts feed.now bus.new }
     ensures room { B.room bus.old ≤ B.room bus.new + 1 }
 {
     bus.read(feed, addr)
@@ -45,11 +45,11 @@ pub(crate) fn dummy_read<B: Bus>(bus: &mut B, feed: &B::Feed, addr: u16) -> u8
 /// Writes a byte at the stack pointer, and lowers it.
 #[inline(always)]
 pub(crate) fn push<B: Bus>(r: &mut Registers, byte: u8, bus: &mut B, feed: &B::Feed)
-    requires fits { B.fits feed.now bus.old }
+    requires accepts { B.accepts feed.now bus.old }
     requires room { 1 ≤ B.room bus.old }
     ensures step { B.step feed.now (write_of (stack_address r.old) byte) bus.old bus.new }
     ensures lowered { r.new ≡ record r.old { s = (r.old.s + 255) % 256 } }
-    ensures fits { B.fits feed.now bus.new }
+    ensures accepts { B.accepts feed.now bus.new }
     ensures room { B.room bus.old ≤ B.room bus.new + 1 }
 {
     bus.write(feed, r.stack_address(), byte);
@@ -59,11 +59,11 @@ pub(crate) fn push<B: Bus>(r: &mut Registers, byte: u8, bus: &mut B, feed: &B::F
 /// Raises the stack pointer, and reads the byte there.
 #[inline(always)]
 pub(crate) fn pull<B: Bus>(r: &mut Registers, bus: &mut B, feed: &B::Feed) -> u8
-    requires fits { B.fits feed.now bus.old }
+    requires accepts { B.accepts feed.now bus.old }
     requires room { 1 ≤ B.room bus.old }
     ensures step { B.step feed.now (read_of (stack_address r.new) result) bus.old bus.new }
     ensures raised { r.new ≡ record r.old { s = (r.old.s + 1) % 256 } }
-    ensures fits { B.fits feed.now bus.new }
+    ensures accepts { B.accepts feed.now bus.new }
     ensures room { B.room bus.old ≤ B.room bus.new + 1 }
 {
     r.s = r.s.wrapping_add(1);
@@ -80,10 +80,10 @@ pub(crate) fn add_index<B: Bus>(
     bus: &mut B,
     feed: &B::Feed,
 ) -> u16
-    requires fits { B.fits feed.now bus.old }
+    requires accepts { B.accepts feed.now bus.old }
     requires room { 1 ≤ B.room bus.old }
-    ensures leads { (k : ℕ → Course) → Leads (B.step feed.now) (indexed low high index always k) bus.old (k result) bus.new }
-    ensures fits { B.fits feed.now bus.new }
+    ensures leads { (k : ℕ → BusCycles) → Leads (B.step feed.now) (indexed low high index always k) bus.old (k result) bus.new }
+    ensures accepts { B.accepts feed.now bus.new }
     ensures room { B.room bus.old ≤ B.room bus.new + 1 }
 {
     let (uncorrected, carry) = low.overflowing_add(index);
@@ -102,10 +102,10 @@ pub(crate) fn find_direct<B: Bus>(
     bus: &mut B,
     feed: &B::Feed,
 ) -> u16
-    requires fits { B.fits feed.now bus.old }
+    requires accepts { B.accepts feed.now bus.old }
     requires room { 3 ≤ B.room bus.old }
-    ensures leads { (k : RegistersValue → ℕ → Course) → Leads (B.step feed.now) (directly_addressed mode always r.old k) bus.old (k r.new result) bus.new }
-    ensures fits { B.fits feed.now bus.new }
+    ensures leads { (k : RegistersValue → ℕ → BusCycles) → Leads (B.step feed.now) (directly_addressed mode always r.old k) bus.old (k r.new result) bus.new }
+    ensures accepts { B.accepts feed.now bus.new }
     ensures room { B.room bus.old ≤ B.room bus.new + 3 }
 {
     match mode {
@@ -153,10 +153,10 @@ pub(crate) fn find<B: Bus>(
     bus: &mut B,
     feed: &B::Feed,
 ) -> u16
-    requires fits { B.fits feed.now bus.old }
+    requires accepts { B.accepts feed.now bus.old }
     requires room { 4 ≤ B.room bus.old }
-    ensures leads { (k : RegistersValue → ℕ → Course) → Leads (B.step feed.now) (addressed mode always r.old k) bus.old (k r.new result) bus.new }
-    ensures fits { B.fits feed.now bus.new }
+    ensures leads { (k : RegistersValue → ℕ → BusCycles) → Leads (B.step feed.now) (addressed mode always r.old k) bus.old (k r.new result) bus.new }
+    ensures accepts { B.accepts feed.now bus.new }
     ensures room { B.room bus.old ≤ B.room bus.new + 4 }
 {
     match mode {

@@ -1,7 +1,7 @@
 ghost use Rattle.std.specs.Prelude.{◌≡◌, ◌+◌, ◌%◌, ◌<◌, ◌≤◌};
 ghost use Rattle.cpu_core.specs.Registers.{at_boundary};
-ghost use Rattle.cpu_core.specs.Course.{Performs};
-ghost use Rattle.cpu_core.specs.Patterns.{load_course, store_course, modify_a_course, read_modify_write_course, implied_course, branch_course, jump_course, jsr_course, rts_course, rti_course, push_course, pull_course, brk_course, vectored, interrupted, interrupt_course, reset_course, landed, target_of};
+ghost use Rattle.cpu_core.specs.BusCycles.{Performs};
+ghost use Rattle.cpu_core.specs.Patterns.{load_cycles, store_cycles, modify_a_cycles, read_modify_write_cycles, implied_cycles, branch_cycles, jump_cycles, jsr_cycles, rts_cycles, rti_cycles, push_cycles, pull_cycles, brk_cycles, vectored, interrupted, interrupt_cycles, reset_cycles, landed, target_of};
 
 use crate::addressing::{address, dummy_read, fetch, find, find_direct, pull, push};
 use crate::bus::Bus;
@@ -12,10 +12,10 @@ use cpu_table::{Mode, Op};
 /// Reads the operand and works on the registers.
 #[inline(always)]
 pub(crate) fn load<B: Bus>(r: &mut Registers, op: Op, mode: Mode, bus: &mut B, feed: &B::Feed)
-    requires fits { B.fits feed.now bus.old }
+    requires accepts { B.accepts feed.now bus.old }
     requires room { 5 ≤ B.room bus.old }
-    ensures performs { Performs (B.step feed.now) (load_course op mode r.old) bus.old bus.new (at_boundary r.new) }
-    ensures fits { B.fits feed.now bus.new }
+    ensures performs { Performs (B.step feed.now) (load_cycles op mode r.old) bus.old bus.new (at_boundary r.new) }
+    ensures accepts { B.accepts feed.now bus.new }
     ensures room { B.room bus.old ≤ B.room bus.new + 5 }
 {
     let address = find(r, mode, false, bus, feed);
@@ -26,10 +26,10 @@ pub(crate) fn load<B: Bus>(r: &mut Registers, op: Op, mode: Mode, bus: &mut B, f
 /// Writes a register.
 #[inline(always)]
 pub(crate) fn store<B: Bus>(r: &mut Registers, op: Op, mode: Mode, bus: &mut B, feed: &B::Feed)
-    requires fits { B.fits feed.now bus.old }
+    requires accepts { B.accepts feed.now bus.old }
     requires room { 5 ≤ B.room bus.old }
-    ensures performs { Performs (B.step feed.now) (store_course op mode r.old) bus.old bus.new (at_boundary r.new) }
-    ensures fits { B.fits feed.now bus.new }
+    ensures performs { Performs (B.step feed.now) (store_cycles op mode r.old) bus.old bus.new (at_boundary r.new) }
+    ensures accepts { B.accepts feed.now bus.new }
     ensures room { B.room bus.old ≤ B.room bus.new + 5 }
 {
     let address = find(r, mode, true, bus, feed);
@@ -39,10 +39,10 @@ pub(crate) fn store<B: Bus>(r: &mut Registers, op: Op, mode: Mode, bus: &mut B, 
 /// Changes A.
 #[inline(always)]
 pub(crate) fn modify_a<B: Bus>(r: &mut Registers, op: Op, bus: &mut B, feed: &B::Feed)
-    requires fits { B.fits feed.now bus.old }
+    requires accepts { B.accepts feed.now bus.old }
     requires room { 1 ≤ B.room bus.old }
-    ensures performs { Performs (B.step feed.now) (modify_a_course op r.old) bus.old bus.new (at_boundary r.new) }
-    ensures fits { B.fits feed.now bus.new }
+    ensures performs { Performs (B.step feed.now) (modify_a_cycles op r.old) bus.old bus.new (at_boundary r.new) }
+    ensures accepts { B.accepts feed.now bus.new }
     ensures room { B.room bus.old ≤ B.room bus.new + 1 }
 {
     dummy_read(bus, feed, r.pc);
@@ -59,10 +59,10 @@ pub(crate) fn read_modify_write<B: Bus>(
     bus: &mut B,
     feed: &B::Feed,
 )
-    requires fits { B.fits feed.now bus.old }
+    requires accepts { B.accepts feed.now bus.old }
     requires room { 6 ≤ B.room bus.old }
-    ensures performs { Performs (B.step feed.now) (read_modify_write_course op mode r.old) bus.old bus.new (at_boundary r.new) }
-    ensures fits { B.fits feed.now bus.new }
+    ensures performs { Performs (B.step feed.now) (read_modify_write_cycles op mode r.old) bus.old bus.new (at_boundary r.new) }
+    ensures accepts { B.accepts feed.now bus.new }
     ensures room { B.room bus.old ≤ B.room bus.new + 6 }
 {
     let address = find_direct(r, mode, true, bus, feed);
@@ -75,10 +75,10 @@ pub(crate) fn read_modify_write<B: Bus>(
 /// Works on the registers alone.
 #[inline(always)]
 pub(crate) fn implied<B: Bus>(r: &mut Registers, op: Op, bus: &mut B, feed: &B::Feed)
-    requires fits { B.fits feed.now bus.old }
+    requires accepts { B.accepts feed.now bus.old }
     requires room { 1 ≤ B.room bus.old }
-    ensures performs { Performs (B.step feed.now) (implied_course op r.old) bus.old bus.new (at_boundary r.new) }
-    ensures fits { B.fits feed.now bus.new }
+    ensures performs { Performs (B.step feed.now) (implied_cycles op r.old) bus.old bus.new (at_boundary r.new) }
+    ensures accepts { B.accepts feed.now bus.new }
     ensures room { B.room bus.old ≤ B.room bus.new + 1 }
 {
     dummy_read(bus, feed, r.pc);
@@ -97,10 +97,10 @@ fn target(pc: u16, offset: u8) -> u16
 /// Jumps, with a dropped read more where the page changes.
 #[inline(always)]
 fn land<B: Bus>(r: &mut Registers, to: u16, bus: &mut B, feed: &B::Feed)
-    requires fits { B.fits feed.now bus.old }
+    requires accepts { B.accepts feed.now bus.old }
     requires room { 1 ≤ B.room bus.old }
     ensures performs { Performs (B.step feed.now) (landed r.old to) bus.old bus.new (at_boundary r.new) }
-    ensures fits { B.fits feed.now bus.new }
+    ensures accepts { B.accepts feed.now bus.new }
     ensures room { B.room bus.old ≤ B.room bus.new + 1 }
 {
     if to / 256 != r.pc / 256 {
@@ -112,10 +112,10 @@ fn land<B: Bus>(r: &mut Registers, to: u16, bus: &mut B, feed: &B::Feed)
 /// Reads the offset, and jumps where the branch is taken.
 #[inline(always)]
 pub(crate) fn branch<B: Bus>(r: &mut Registers, op: Op, bus: &mut B, feed: &B::Feed)
-    requires fits { B.fits feed.now bus.old }
+    requires accepts { B.accepts feed.now bus.old }
     requires room { 3 ≤ B.room bus.old }
-    ensures performs { Performs (B.step feed.now) (branch_course op r.old) bus.old bus.new (at_boundary r.new) }
-    ensures fits { B.fits feed.now bus.new }
+    ensures performs { Performs (B.step feed.now) (branch_cycles op r.old) bus.old bus.new (at_boundary r.new) }
+    ensures accepts { B.accepts feed.now bus.new }
     ensures room { B.room bus.old ≤ B.room bus.new + 3 }
 {
     let offset = fetch(r, bus, feed);
@@ -129,10 +129,10 @@ pub(crate) fn branch<B: Bus>(r: &mut Registers, op: Op, bus: &mut B, feed: &B::F
 /// JMP.
 #[inline(always)]
 pub(crate) fn jump<B: Bus>(r: &mut Registers, mode: Mode, bus: &mut B, feed: &B::Feed)
-    requires fits { B.fits feed.now bus.old }
+    requires accepts { B.accepts feed.now bus.old }
     requires room { 4 ≤ B.room bus.old }
-    ensures performs { Performs (B.step feed.now) (jump_course mode r.old) bus.old bus.new (at_boundary r.new) }
-    ensures fits { B.fits feed.now bus.new }
+    ensures performs { Performs (B.step feed.now) (jump_cycles mode r.old) bus.old bus.new (at_boundary r.new) }
+    ensures accepts { B.accepts feed.now bus.new }
     ensures room { B.room bus.old ≤ B.room bus.new + 4 }
 {
     if let Mode::Indirect = mode {
@@ -151,10 +151,10 @@ pub(crate) fn jump<B: Bus>(r: &mut Registers, mode: Mode, bus: &mut B, feed: &B:
 /// JSR.
 #[inline(always)]
 pub(crate) fn jsr<B: Bus>(r: &mut Registers, bus: &mut B, feed: &B::Feed)
-    requires fits { B.fits feed.now bus.old }
+    requires accepts { B.accepts feed.now bus.old }
     requires room { 5 ≤ B.room bus.old }
-    ensures performs { Performs (B.step feed.now) (jsr_course r.old) bus.old bus.new (at_boundary r.new) }
-    ensures fits { B.fits feed.now bus.new }
+    ensures performs { Performs (B.step feed.now) (jsr_cycles r.old) bus.old bus.new (at_boundary r.new) }
+    ensures accepts { B.accepts feed.now bus.new }
     ensures room { B.room bus.old ≤ B.room bus.new + 5 }
 {
     let low = fetch(r, bus, feed);
@@ -169,10 +169,10 @@ pub(crate) fn jsr<B: Bus>(r: &mut Registers, bus: &mut B, feed: &B::Feed)
 /// RTS.
 #[inline(always)]
 pub(crate) fn rts<B: Bus>(r: &mut Registers, bus: &mut B, feed: &B::Feed)
-    requires fits { B.fits feed.now bus.old }
+    requires accepts { B.accepts feed.now bus.old }
     requires room { 5 ≤ B.room bus.old }
-    ensures performs { Performs (B.step feed.now) (rts_course r.old) bus.old bus.new (at_boundary r.new) }
-    ensures fits { B.fits feed.now bus.new }
+    ensures performs { Performs (B.step feed.now) (rts_cycles r.old) bus.old bus.new (at_boundary r.new) }
+    ensures accepts { B.accepts feed.now bus.new }
     ensures room { B.room bus.old ≤ B.room bus.new + 5 }
 {
     dummy_read(bus, feed, r.pc);
@@ -187,10 +187,10 @@ pub(crate) fn rts<B: Bus>(r: &mut Registers, bus: &mut B, feed: &B::Feed)
 /// RTI.
 #[inline(always)]
 pub(crate) fn rti<B: Bus>(r: &mut Registers, bus: &mut B, feed: &B::Feed)
-    requires fits { B.fits feed.now bus.old }
+    requires accepts { B.accepts feed.now bus.old }
     requires room { 5 ≤ B.room bus.old }
-    ensures performs { Performs (B.step feed.now) (rti_course r.old) bus.old bus.new (at_boundary r.new) }
-    ensures fits { B.fits feed.now bus.new }
+    ensures performs { Performs (B.step feed.now) (rti_cycles r.old) bus.old bus.new (at_boundary r.new) }
+    ensures accepts { B.accepts feed.now bus.new }
     ensures room { B.room bus.old ≤ B.room bus.new + 5 }
 {
     dummy_read(bus, feed, r.pc);
@@ -205,10 +205,10 @@ pub(crate) fn rti<B: Bus>(r: &mut Registers, bus: &mut B, feed: &B::Feed)
 /// PHA and PHP.
 #[inline(always)]
 pub(crate) fn push_register<B: Bus>(r: &mut Registers, op: Op, bus: &mut B, feed: &B::Feed)
-    requires fits { B.fits feed.now bus.old }
+    requires accepts { B.accepts feed.now bus.old }
     requires room { 2 ≤ B.room bus.old }
-    ensures performs { Performs (B.step feed.now) (push_course op r.old) bus.old bus.new (at_boundary r.new) }
-    ensures fits { B.fits feed.now bus.new }
+    ensures performs { Performs (B.step feed.now) (push_cycles op r.old) bus.old bus.new (at_boundary r.new) }
+    ensures accepts { B.accepts feed.now bus.new }
     ensures room { B.room bus.old ≤ B.room bus.new + 2 }
 {
     dummy_read(bus, feed, r.pc);
@@ -219,10 +219,10 @@ pub(crate) fn push_register<B: Bus>(r: &mut Registers, op: Op, bus: &mut B, feed
 /// PLA and PLP.
 #[inline(always)]
 pub(crate) fn pull_register<B: Bus>(r: &mut Registers, op: Op, bus: &mut B, feed: &B::Feed)
-    requires fits { B.fits feed.now bus.old }
+    requires accepts { B.accepts feed.now bus.old }
     requires room { 3 ≤ B.room bus.old }
-    ensures performs { Performs (B.step feed.now) (pull_course op r.old) bus.old bus.new (at_boundary r.new) }
-    ensures fits { B.fits feed.now bus.new }
+    ensures performs { Performs (B.step feed.now) (pull_cycles op r.old) bus.old bus.new (at_boundary r.new) }
+    ensures accepts { B.accepts feed.now bus.new }
     ensures room { B.room bus.old ≤ B.room bus.new + 3 }
 {
     dummy_read(bus, feed, r.pc);
@@ -235,10 +235,10 @@ pub(crate) fn pull_register<B: Bus>(r: &mut Registers, op: Op, bus: &mut B, feed
 #[inline(always)]
 fn jump_by_vector<B: Bus>(r: &mut Registers, at: u16, bus: &mut B, feed: &B::Feed)
     requires at { at < 65535 }
-    requires fits { B.fits feed.now bus.old }
+    requires accepts { B.accepts feed.now bus.old }
     requires room { 2 ≤ B.room bus.old }
     ensures performs { Performs (B.step feed.now) (vectored at r.old) bus.old bus.new (at_boundary r.new) }
-    ensures fits { B.fits feed.now bus.new }
+    ensures accepts { B.accepts feed.now bus.new }
     ensures room { B.room bus.old ≤ B.room bus.new + 2 }
 {
     let low = bus.read(feed, at);
@@ -249,10 +249,10 @@ fn jump_by_vector<B: Bus>(r: &mut Registers, at: u16, bus: &mut B, feed: &B::Fee
 /// Pushes `pc` and these flags, masks interrupts, and jumps by the vector at FFFE.
 #[inline(always)]
 fn interrupt_with<B: Bus>(r: &mut Registers, flags: u8, bus: &mut B, feed: &B::Feed)
-    requires fits { B.fits feed.now bus.old }
+    requires accepts { B.accepts feed.now bus.old }
     requires room { 5 ≤ B.room bus.old }
     ensures performs { Performs (B.step feed.now) (interrupted flags r.old) bus.old bus.new (at_boundary r.new) }
-    ensures fits { B.fits feed.now bus.new }
+    ensures accepts { B.accepts feed.now bus.new }
     ensures room { B.room bus.old ≤ B.room bus.new + 5 }
 {
     let [pc_low, pc_high] = r.pc.to_le_bytes();
@@ -266,10 +266,10 @@ fn interrupt_with<B: Bus>(r: &mut Registers, flags: u8, bus: &mut B, feed: &B::F
 /// BRK.
 #[inline(always)]
 pub(crate) fn brk<B: Bus>(r: &mut Registers, bus: &mut B, feed: &B::Feed)
-    requires fits { B.fits feed.now bus.old }
+    requires accepts { B.accepts feed.now bus.old }
     requires room { 6 ≤ B.room bus.old }
-    ensures performs { Performs (B.step feed.now) (brk_course r.old) bus.old bus.new (at_boundary r.new) }
-    ensures fits { B.fits feed.now bus.new }
+    ensures performs { Performs (B.step feed.now) (brk_cycles r.old) bus.old bus.new (at_boundary r.new) }
+    ensures accepts { B.accepts feed.now bus.new }
     ensures room { B.room bus.old ≤ B.room bus.new + 6 }
 {
     fetch(r, bus, feed);
@@ -280,10 +280,10 @@ pub(crate) fn brk<B: Bus>(r: &mut Registers, bus: &mut B, feed: &B::Feed)
 /// The interrupt.
 #[inline(always)]
 pub(crate) fn interrupt<B: Bus>(r: &mut Registers, bus: &mut B, feed: &B::Feed)
-    requires fits { B.fits feed.now bus.old }
+    requires accepts { B.accepts feed.now bus.old }
     requires room { 7 ≤ B.room bus.old }
-    ensures performs { Performs (B.step feed.now) (interrupt_course r.old) bus.old bus.new (at_boundary r.new) }
-    ensures fits { B.fits feed.now bus.new }
+    ensures performs { Performs (B.step feed.now) (interrupt_cycles r.old) bus.old bus.new (at_boundary r.new) }
+    ensures accepts { B.accepts feed.now bus.new }
     ensures room { B.room bus.old ≤ B.room bus.new + 7 }
 {
     dummy_read(bus, feed, r.pc);
@@ -295,10 +295,10 @@ pub(crate) fn interrupt<B: Bus>(r: &mut Registers, bus: &mut B, feed: &B::Feed)
 /// The reset, from registers where `s` is lowered and interrupts are masked.
 #[inline(always)]
 pub(crate) fn reset<B: Bus>(r: &mut Registers, bus: &mut B, feed: &B::Feed)
-    requires fits { B.fits feed.now bus.old }
+    requires accepts { B.accepts feed.now bus.old }
     requires room { 7 ≤ B.room bus.old }
-    ensures performs { Performs (B.step feed.now) (reset_course r.old) bus.old bus.new (at_boundary r.new) }
-    ensures fits { B.fits feed.now bus.new }
+    ensures performs { Performs (B.step feed.now) (reset_cycles r.old) bus.old bus.new (at_boundary r.new) }
+    ensures accepts { B.accepts feed.now bus.new }
     ensures room { B.room bus.old ≤ B.room bus.new + 7 }
 {
     dummy_read(bus, feed, r.pc);

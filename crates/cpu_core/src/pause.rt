@@ -2,7 +2,7 @@ ghost use Rattle.std.specs.Prelude.{◌≡◌, ◌+◌, ◌<◌, ◌≤◌, ◌�
 ghost use Rattle.cpu_table.specs.Opcodes.{row_of};
 ghost use Rattle.cpu_alu.specs.Flags.{is_masked};
 ghost use Rattle.cpu_core.specs.Registers.{at_boundary};
-ghost use Rattle.cpu_core.specs.Course.{Access};
+ghost use Rattle.cpu_core.specs.BusCycles.{Access};
 ghost use Rattle.cpu_core.specs.Sequences.{next_of, IsEnd, IsAccess};
 ghost use Rattle.cpu_core.specs.Replays.{IfEnd};
 ghost use Rattle.cpu_core.specs.Places.{Advances, BeginsWith, Gone, given_by, paused, standing, IsPlace, IsProcessor};
@@ -31,10 +31,10 @@ pub(crate) fn next_access(start: Registers, sequence: Sequence, given: &[u8]) ->
 /// Makes an access that is due, and gives its byte.
 fn make<B: Bus>(next: Next, bus: &mut B, feed: &B::Feed) -> u8
     requires due { ¬ IsEnd next }
-    requires fits { B.fits feed.now bus.old }
+    requires accepts { B.accepts feed.now bus.old }
     requires room { 1 ≤ B.room bus.old }
     ensures made { (x : Access) × IsAccess next result x × B.step feed.now x bus.old bus.new }
-    ensures fits { B.fits feed.now bus.new }
+    ensures accepts { B.accepts feed.now bus.new }
     ensures room { B.room bus.old ≤ B.room bus.new + 1 }
 {
     match next {
@@ -58,13 +58,13 @@ pub(crate) fn go_on<B: Bus>(
     feed: &B::Feed,
     clocks: u8,
 ) -> u8
-    requires fits { B.fits feed.now bus.old }
+    requires accepts { B.accepts feed.now bus.old }
     requires room { clocks ≤ B.room bus.old }
     ensures gone { Gone (B.step feed.now) start sequence seen.old seen.new result bus.old bus.new }
     ensures begun { 1 ≤ clocks → 1 ≤ length seen.new }
     ensures few { result ≤ clocks }
     ensures full { ¬ IsEnd (next_of start sequence seen.new) → result ≡ clocks }
-    ensures fits { B.fits feed.now bus.new }
+    ensures accepts { B.accepts feed.now bus.new }
     ensures room { B.room bus.old ≤ B.room bus.new + result }
 {
     for made in 0..clocks {
@@ -123,12 +123,12 @@ pub(crate) fn begin<B: Bus>(
 ) -> CpuState
     requires masked { sequence ≡ Sequence.Reset → is_masked start.p ≡ true }
     requires some { 1 ≤ clocks }
-    requires fits { B.fits feed.now bus.old }
+    requires accepts { B.accepts feed.now bus.old }
     requires room { clocks ≤ B.room bus.old }
     ensures advances { (made : ℕ) × Advances (B.step feed.now) start sequence [] clocks made bus.old bus.new result }
     ensures begins { BeginsWith (B.step feed.now) sequence (at_boundary start) bus.old bus.new result }
     ensures processor { IsProcessor result }
-    ensures fits { B.fits feed.now bus.new }
+    ensures accepts { B.accepts feed.now bus.new }
     ensures room { B.room bus.old ≤ B.room bus.new + clocks }
 {
     let mut seen = Seen::new();
@@ -148,12 +148,12 @@ pub(crate) fn resume<B: Bus>(
 ) -> (CpuState, u8)
     requires place { IsPlace start mid.now }
     requires some { 1 ≤ clocks }
-    requires fits { B.fits feed.now bus.old }
+    requires accepts { B.accepts feed.now bus.old }
     requires room { clocks ≤ B.room bus.old }
     ensures advances { Advances (B.step feed.now) start mid.now.sequence (given_by mid.now) clocks result.1 bus.old bus.new result.0 }
     ensures running { result.0.jam ≡ None }
     ensures processor { IsProcessor result.0 }
-    ensures fits { B.fits feed.now bus.new }
+    ensures accepts { B.accepts feed.now bus.new }
     ensures room { B.room bus.old ≤ B.room bus.new + result.1 }
 {
     let mut seen = Seen::of(mid);

@@ -62,13 +62,13 @@ impl Cpu {
     pub fn instruction<B: Bus>(&mut self, bus: &mut B, feed: &B::Feed) -> Fetched
         requires running { self.old.jam ≡ None }
         requires boundary { self.old.mid ≡ None }
-        requires fits { B.fits feed.now bus.old }
+        requires accepts { B.accepts feed.now bus.old }
         requires room { 7 ≤ B.room bus.old }
         ensures runs { Runs (B.step feed.now) (registers_of self.old) Sequence.Opcode bus.old bus.new self.new }
         ensures fetches { Fetches (B.step feed.now) self.old bus.old bus.new self.new }
         ensures boundary { self.new.mid ≡ None }
         ensures jammed { result ≡ fetched_of self.new.jam }
-        ensures fits { B.fits feed.now bus.new }
+        ensures accepts { B.accepts feed.now bus.new }
         ensures room { B.room bus.old ≤ B.room bus.new + 7 }
     {
         self.state = perform(Registers::of(&self.state), Sequence::Opcode, bus, feed);
@@ -79,12 +79,12 @@ impl Cpu {
     pub fn take_irq<B: Bus>(&mut self, bus: &mut B, feed: &B::Feed)
         requires running { self.old.jam ≡ None }
         requires boundary { self.old.mid ≡ None }
-        requires fits { B.fits feed.now bus.old }
+        requires accepts { B.accepts feed.now bus.old }
         requires room { 7 ≤ B.room bus.old }
         ensures runs { Runs (B.step feed.now) (registers_of self.old) Sequence.Interrupt bus.old bus.new self.new }
         ensures running { self.new.jam ≡ None }
         ensures boundary { self.new.mid ≡ None }
-        ensures fits { B.fits feed.now bus.new }
+        ensures accepts { B.accepts feed.now bus.new }
         ensures room { B.room bus.old ≤ B.room bus.new + 7 }
     {
         self.state = perform(Registers::of(&self.state), Sequence::Interrupt, bus, feed);
@@ -95,12 +95,12 @@ impl Cpu {
     pub fn take_reset<B: Bus>(&mut self, bus: &mut B, feed: &B::Feed)
         requires running { self.old.jam ≡ None }
         requires boundary { self.old.mid ≡ None }
-        requires fits { B.fits feed.now bus.old }
+        requires accepts { B.accepts feed.now bus.old }
         requires room { 7 ≤ B.room bus.old }
         ensures runs { Runs (B.step feed.now) (start_of Sequence.Reset self.old) Sequence.Reset bus.old bus.new self.new }
         ensures running { self.new.jam ≡ None }
         ensures boundary { self.new.mid ≡ None }
-        ensures fits { B.fits feed.now bus.new }
+        ensures accepts { B.accepts feed.now bus.new }
         ensures room { B.room bus.old ≤ B.room bus.new + 7 }
     {
         self.state = perform(
@@ -124,12 +124,12 @@ impl Cpu {
         requires boundary { self.old.mid ≡ None }
         requires some { 1 ≤ clocks }
         requires few { clocks ≤ 7 }
-        requires fits { B.fits feed.now bus.old }
+        requires accepts { B.accepts feed.now bus.old }
         requires room { clocks ≤ B.room bus.old }
         ensures advances { (made : ℕ) × Advances (B.step feed.now) (start_of sequence self.old) sequence [] clocks made bus.old bus.new self.new }
         ensures begins { BeginsWith (B.step feed.now) sequence self.old bus.old bus.new self.new }
         ensures jammed { result ≡ fetched_of self.new.jam }
-        ensures fits { B.fits feed.now bus.new }
+        ensures accepts { B.accepts feed.now bus.new }
         ensures room { B.room bus.old ≤ B.room bus.new + clocks }
     {
         let registers = start(sequence, &self.state);
@@ -143,11 +143,11 @@ impl Cpu {
         requires middle { IsSome self.old.mid }
         requires some { 1 ≤ clocks }
         requires few { clocks ≤ 7 }
-        requires fits { B.fits feed.now bus.old }
+        requires accepts { B.accepts feed.now bus.old }
         requires room { clocks ≤ B.room bus.old }
         ensures advances { IfSome self.old.mid (λ m. Advances (B.step feed.now) (registers_of self.old) m.sequence (given_by m) clocks result bus.old bus.new self.new) }
         ensures running { self.new.jam ≡ None }
-        ensures fits { B.fits feed.now bus.new }
+        ensures accepts { B.accepts feed.now bus.new }
         ensures room { B.room bus.old ≤ B.room bus.new + result }
     {
         let state = self.state;

@@ -76,7 +76,7 @@ impl Bus for Replay<'_> {
 
     ghost step = { λ _ x s t. Replays x s t };
 
-    ghost fits = { λ _ _. Unit {0} };
+    ghost accepts = { λ _ _. Unit {0} };
 
     ghost room = { λ _. 7 };
 

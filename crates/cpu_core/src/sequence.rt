@@ -2,10 +2,10 @@ ghost use Rattle.std.specs.Prelude.{◌≡◌, ◌+◌, ◌≤◌, None, IfSome}
 ghost use Rattle.cpu_table.specs.Opcodes.{row_of};
 ghost use Rattle.cpu_core.specs.Registers.{RegistersValue, at_boundary};
 ghost use Rattle.board_base.specs.declared.cpu.Sequence.{Sequence};
-ghost use Rattle.cpu_core.specs.Course.{Performs, AtLeast, AtMost};
+ghost use Rattle.cpu_core.specs.BusCycles.{Performs, AtLeast, AtMost};
 ghost use Rattle.cpu_core.specs.Kinds.{kind_of};
-ghost use Rattle.cpu_core.specs.Patterns.{executed_by, instruction_course, is_accumulator};
-ghost use Rattle.cpu_core.specs.Sequences.{course_of, Runs};
+ghost use Rattle.cpu_core.specs.Patterns.{executed_by, instruction_cycles, is_accumulator};
+ghost use Rattle.cpu_core.specs.Sequences.{cycles_of, Runs};
 ghost use Rattle.cpu_core.specs.Places.{BeginsWith, Fetches};
 
 use crate::bus::Bus;
@@ -25,10 +25,10 @@ fn is_accumulator(mode: Mode) -> bool
 /// Executes what follows the opcode of a documented instruction.
 #[inline(always)]
 fn execute<B: Bus>(r: &mut Registers, op: Op, mode: Mode, bus: &mut B, feed: &B::Feed)
-    requires fits { B.fits feed.now bus.old }
+    requires accepts { B.accepts feed.now bus.old }
     requires room { 6 ≤ B.room bus.old }
     ensures performs { Performs (B.step feed.now) (executed_by (kind_of op) op mode r.old) bus.old bus.new (at_boundary r.new) }
-    ensures fits { B.fits feed.now bus.new }
+    ensures accepts { B.accepts feed.now bus.new }
     ensures room { B.room bus.old ≤ B.room bus.new + 6 }
 {
     match operations::classify(op) {
@@ -51,13 +51,13 @@ fn execute<B: Bus>(r: &mut Registers, op: Op, mode: Mode, bus: &mut B, feed: &B:
 /// Does an instruction, and gives the processor after it. An undocumented opcode jams it.
 #[inline(always)]
 fn perform_instruction<B: Bus>(r: Registers, bus: &mut B, feed: &B::Feed) -> CpuState
-    requires fits { B.fits feed.now bus.old }
+    requires accepts { B.accepts feed.now bus.old }
     requires room { 7 ≤ B.room bus.old }
-    ensures performs { Performs (B.step feed.now) (instruction_course r) bus.old bus.new result }
+    ensures performs { Performs (B.step feed.now) (instruction_cycles r) bus.old bus.new result }
     ensures fetches { Fetches (B.step feed.now) (at_boundary r) bus.old bus.new result }
     ensures boundary { result.mid ≡ None }
     ensures undocumented { IfSome result.jam (λ o. row_of o ≡ None) }
-    ensures fits { B.fits feed.now bus.new }
+    ensures accepts { B.accepts feed.now bus.new }
     ensures room { B.room bus.old ≤ B.room bus.new + 7 }
 {
     let opcode = bus.read(feed, r.pc);
@@ -71,7 +71,7 @@ fn perform_instruction<B: Bus>(r: Registers, bus: &mut B, feed: &B::Feed) -> Cpu
 }
 
 /// Does a whole sequence, and gives the processor after it.
-#[tactic(auto, using(crate::proofs::CourseLemmas::runs_of))]
+#[tactic(auto, using(crate::proofs::BusCycleLemmas::runs_of))]
 #[inline(always)]
 pub(crate) fn perform<B: Bus>(
     start: Registers,
@@ -79,14 +79,14 @@ pub(crate) fn perform<B: Bus>(
     bus: &mut B,
     feed: &B::Feed,
 ) -> CpuState
-    requires fits { B.fits feed.now bus.old }
+    requires accepts { B.accepts feed.now bus.old }
     requires room { 7 ≤ B.room bus.old }
-    ensures performs { Performs (B.step feed.now) (course_of start sequence) bus.old bus.new result }
+    ensures performs { Performs (B.step feed.now) (cycles_of start sequence) bus.old bus.new result }
     ensures runs { Runs (B.step feed.now) start sequence bus.old bus.new result }
     ensures begins { BeginsWith (B.step feed.now) sequence (at_boundary start) bus.old bus.new result }
     ensures boundary { result.mid ≡ None }
     ensures undocumented { IfSome result.jam (λ o. row_of o ≡ None) }
-    ensures fits { B.fits feed.now bus.new }
+    ensures accepts { B.accepts feed.now bus.new }
     ensures room { B.room bus.old ≤ B.room bus.new + 7 }
 {
     let mut r = start;
@@ -107,8 +107,8 @@ pub(crate) fn perform<B: Bus>(
 /// fewer (MCS6500 Programming Manual, appendix B).
 #[tactic(auto, using(crate::proofs::LengthLemmas::lengths))]
 pub fn clock_range() -> (u8, u8)
-    ensures least { (r : RegistersValue) (q : Sequence) → AtLeast result.0 (course_of r q) }
-    ensures most { (r : RegistersValue) (q : Sequence) → AtMost result.1 (course_of r q) }
+    ensures least { (r : RegistersValue) (q : Sequence) → AtLeast result.0 (cycles_of r q) }
+    ensures most { (r : RegistersValue) (q : Sequence) → AtMost result.1 (cycles_of r q) }
     ensures values { result ≡ (2, 7) }
 {
     (2, 7)

@@ -7,8 +7,8 @@ use Rattle.outside_io.specs.Known.{grown}
 use Rattle.outside_io.specs.Sink.{Takes}
 use Rattle.outside_io.proofs.KnownLaws.{grown-nothing}
 use Rattle.outside_io.proofs.TakesLaws.{took_first}
-use Rattle.log_text.specs.Gathering.{IsGathered}
-use Rattle.log_text.proofs.GatherLaws.{gathered-longer, gathered-then, gathered-cut, gathered-end, takes-cut}
+use Rattle.outside_io.specs.Gathering.{IsGathered}
+use Rattle.outside_io.proofs.GatherLaws.{gathered-longer, gathered-then, gathered-cut, gathered-end, takes-cut}
 use Rattle.cycle_profile.specs.declared.counts.Counts.{Counts}
 use Rattle.cycle_profile.specs.Text.{routine_text, routines_text}
 

@@ -2,13 +2,12 @@
 ghost use Rattle.std.specs.Prelude.{◌≡◌, ◌≤◌, ◌++◌, length};
 ghost use Rattle.outside_io.specs.Causes.{HasCause};
 ghost use Rattle.outside_io.specs.Sink.{Takes};
-ghost use Rattle.log_text.specs.Gathering.{Gathers};
+ghost use Rattle.outside_io.specs.Gathering.{Gathers};
 ghost use Rattle.cycle_profile.specs.Text.{routine_line, routine_text, routines_text, total_text};
 
 use crate::counts::Counts;
 use crate::profile::ADDRESSES;
-use log_text::Block;
-use outside_io::{Sink, SinkFault};
+use outside_io::{BlockWriter, Sink, SinkFault};
 use text_line::{LONGEST, Line};
 
 /// The line of an address.
@@ -36,7 +35,7 @@ fn make_total(clocks: u64) -> Line
 
 /// Puts the line of an address, where it has clocks.
 fn put_routine<O: Sink>(
-    block: &mut Block,
+    block: &mut BlockWriter,
     address: u16,
     counts: Counts,
     out: &mut O,
@@ -60,7 +59,7 @@ pub(crate) fn write_table<O: Sink>(
     ensures taken { Takes (O.taken out.old) (O.taken out.new) (routines_text 0 counts.now ++ total_text clocks) result }
     ensures cause { HasCause (O.faults out.old) (O.faults out.new) result }
 {
-    let mut block = Block::new();
+    let mut block = BlockWriter::new();
     for address in 0..counts.len() {
         put_routine(&mut block, address as u16, counts[address], out)?;
     }

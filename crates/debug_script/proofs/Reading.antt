@@ -6,7 +6,7 @@ use Rattle.debug_script.specs.declared.command.Command.{Command}
 use Rattle.debug_script.specs.Script.{next_command, script_from, script_of, with_command, with_first}
 use Rattle.debug_script.specs.Breakpoints.{Fit, StopsValue, are_few, no_stops, stops_after}
 
--- commands in front of the others, or the number of the first line of no form
+-- commands in front of the others, or the number of the first malformed line
 abbrev pub with_front : List Command → Result (List Command) ℕ → Result (List Command) ℕ
 with_front front (Ok commands) = Ok (front ++ commands)
 with_front front (Err number) = Err number
@@ -44,7 +44,7 @@ module _ (text : List ℕ) (commands : List Command) (stops : StopsValue) (numbe
   some_line-told [] is some = absurd (omega arith)
   some_line-told (byte ∷ bytes) is some = rw (parted, ← is) refl
 
-  -- a line of no form
+  -- a malformed line
   pub so_far-bad : 0 < length line → None ≡ next_command stops line → script_of text ≡ Err (number + 1)
   so_far-bad some said =
       let step : script_from (number + 1) stops (lines_of rest) ≡ Err (number + 1) = some_line-told line refl some ∙ rw (← said) refl in

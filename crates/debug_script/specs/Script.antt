@@ -12,17 +12,17 @@ use Rattle.debug_script.specs.Breakpoints.{StopsValue, are_few, no_stops, stops_
 abbrev pub next_command : StopsValue → List ℕ → Option Command
 next_command stops line = where_it (λ command. are_few (stops_after command stops)) (command_of (words_of line))
 
--- a command in front of the others, or the number of the first line of no form
+-- a command in front of the others, or the number of the first malformed line
 abbrev pub with_first : Command → Result (List Command) ℕ → Result (List Command) ℕ
 with_first command (Ok commands) = Ok (command ∷ commands)
 with_first command (Err number) = Err number
 
--- the line with this number is of no form, or its command comes before those of the others
+-- the line with this number is malformed, or its command comes before those of the others
 abbrev pub with_command : ℕ → Option Command → (Command → Result (List Command) ℕ) → Result (List Command) ℕ
 with_command number None more = Err number
 with_command number (Some command) more = with_first command (more command)
 
--- the commands of the lines from this number on, where these stops stand, or the number of the first line of no form; an
+-- the commands of the lines from this number on, where these stops stand, or the number of the first malformed line; an
 -- empty line does nothing
 unfoldable pub script_from : ℕ → StopsValue → List (List ℕ) → Result (List Command) ℕ
 script_from number stops [] = Ok []
@@ -30,7 +30,7 @@ script_from number stops ([] ∷ lines) = script_from (number + 1) stops lines
 script_from number stops ((byte ∷ line) ∷ lines) =
     with_command number (next_command stops (byte ∷ line)) (λ command. script_from (number + 1) (stops_after command stops) lines)
 
--- the commands of a text, or the number of its first line of no form, counted from 1
+-- the commands of a text, or the number of its first malformed line, counted from 1
 abbrev pub script_of : List ℕ → Result (List Command) ℕ
 script_of text = script_from 1 no_stops (lines_of text)
 

@@ -6,7 +6,7 @@ use thiserror::Error;
 pub enum ScriptFault {
     /// More than `SCRIPT_LIMIT` bytes, which comes before all else.
     TooLong,
-    /// The first line of no form, counted from 1.
+    /// The first malformed line, counted from 1.
     BadCommand(u32),
     /// No memory for the commands.
     OutOfMemory,

@@ -28,7 +28,7 @@ fn read_next(line: &[u8], stops: &Breakpoints) -> Option<Command>
 /// Reads the text of a script. Each line ends with LF, which may be missing after the last, and an
 /// empty line does nothing.
 ///
-/// A line is a command and its arguments, parted by single spaces. It is of no form where it is
+/// A line is a command and its arguments, parted by single spaces. It is malformed where it is
 /// another, and where more than 16 breaks or watches would stand with it. The text has at most
 /// `SCRIPT_LIMIT` bytes. Memory is taken for the commands alone.
 pub fn read_script(alloc: Global, text: &[u8]) -> Result<Vec<Command>, ScriptFault>

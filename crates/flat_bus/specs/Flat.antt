@@ -3,7 +3,7 @@ use Rattle.std.specs.Prelude.{◌≡◌, ◌-◌, ◌++◌, ℕ, List, [], ◌�
 use Rattle.flat_bus.specs.declared.logged.Logged.{Logged}
 use Rattle.flat_bus.specs.declared.logged.Direction.{Direction}
 use Rattle.flat_bus.specs.declared.logged.Direction.TheVariants.{Read, Write}
-use Rattle.cpu_core.specs.Course.{Access, read_of, write_of}
+use Rattle.cpu_core.specs.BusCycles.{Access, read_of, write_of}
 
 -- the bytes, the accesses noted, and how many more can be noted
 pub record FlatValue : Type 0 where

@@ -104,7 +104,7 @@ impl Bus for FlatBus {
 
     ghost step = { λ _ x s t. FlatStep x s t };
 
-    ghost fits = { λ _ _. Unit {0} };
+    ghost accepts = { λ _ _. Unit {0} };
 
     ghost room = { λ s. s.room };
 

@@ -49,7 +49,7 @@ impl Bus for UnloggedBus {
 
     ghost step = { λ _ x s t. UnloggedStep x s t };
 
-    ghost fits = { λ _ _. Unit {0} };
+    ghost accepts = { λ _ _. Unit {0} };
 
     ghost room = { λ _. 7 };
 

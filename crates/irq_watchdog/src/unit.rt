@@ -49,7 +49,7 @@ pub trait DividerUnit: Clocked {
         ensures state { device self.new ≡ watchdog_cleared (device self.old) }
         ensures counted { Counted (Self.calls self.old) (Self.calls self.new) };
 
-    /// Tells that the pending reset is being taken.
+    /// States that the pending reset is being taken.
     fn taken(&mut self)
         ensures state { device self.new ≡ reset_taken (device self.old) }
         ensures counted { Counted (Self.calls self.old) (Self.calls self.new) };

@@ -5,7 +5,7 @@ use Rattle.std.proofs.lemmas.Bool.{lt-leb}
 use Rattle.std.proofs.lemmas.Bool.Decides.{leb_tells}
 use Rattle.board_map.specs.Map.{address_map, row_of}
 use Rattle.board_map.proofs.Rows.{passing}
-use Rattle.cpu_core.specs.Course.{read_of, write_of}
+use Rattle.cpu_core.specs.BusCycles.{read_of, write_of}
 use Rattle.lockstep_board.specs.Addresses.{device_reads, device_writes, is_among}
 use Rattle.lockstep_board.specs.Budget.{reads_device, writes_device, reaches_device}
 

@@ -24,7 +24,7 @@ either_in : (P : VgValue → Type 0) (b : Bool) (v w : VgValue) → P v → P w 
 either_in P true v w h k = h
 either_in P false v w h k = k
 
--- an element of a list, or what stands for one past it
+-- an element of a list, or the default past its end
 at_or : {X : Type 0} (P : X → Type 0) (xs : List X) (k : ℕ) (x : X) → All P xs → P x → P (slice_index_or xs k x)
 at_or P [] k x h p = p
 at_or P (y ∷ ys) zero x h p = All-head P y ys h

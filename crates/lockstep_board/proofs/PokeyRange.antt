@@ -16,7 +16,7 @@ use Rattle.pokey_chip.specs.declared.channel.Channel.{Channel}
 use Rattle.pokey_chip.specs.declared.channel.Channel.TheVariants.{First, Second, Third, Fourth}
 use Rattle.pokey_chip.specs.Channels.{extra_of, frequency_of, is_on_chip_clock, is_upper, period_of, place}
 use Rattle.pokey_chip.specs.Registers.{channel_written, pot_set, register_written, requests_enabled, timers_started}
-use Rattle.pokey_chip.specs.Tick.{base_pulses, channel_ticked, channels_ticked, clocked, is_held, is_pulsed, left_after, left_of, level, levelled, levels_of, passed, pokey_tick, pot_counted, pots_rise, prescaled, request, requested, rolled, toned, turned, underflows, with_bit, with_left}
+use Rattle.pokey_chip.specs.Tick.{base_pulses, channel_ticked, channels_ticked, clocked, is_held, is_pulsed, left_after, left_of, level, levelled, levels_of, passed, pokey_tick, pot_counted, pots_rise, prescaled, request, requested, rolled, toned, underflow_effect, underflows, with_bit, with_left}
 use Rattle.pokey_chip.proofs.BitLemmas.{with_bit_fits, with_bit_fits_two, with_bit_fits_three, bit_or_fits}
 use Rattle.pokey_chip.proofs.CountLaws.{left-is}
 use Rattle.cpu_core.specs.Ranges.{IsByte}
@@ -340,9 +340,9 @@ passed_below Second p h = h
 passed_below Third p h = with_bit_fits_two 0 (omega arith) p.pass h _
 passed_below Fourth p h = with_bit_fits_two 1 (omega arith) p.pass h _
 
-turned_in : (underflow : Bool) (c : Channel) (p : PokeyValue) → IsPokeyInRange p → IsPokeyInRange (turned underflow c p)
-unfolding turned
-turned_in underflow c p h =
+underflow_effect_in : (underflow : Bool) (c : Channel) (p : PokeyValue) → IsPokeyInRange p → IsPokeyInRange (underflow_effect underflow c p)
+unfolding underflow_effect
+underflow_effect_in underflow c p h =
     let d : IsPokey p = h.device in
     record {
       device = record {
@@ -375,7 +375,7 @@ turned_in underflow c p h =
 channel_ticked_in : (base : Bool) (c : Channel) (p : PokeyValue) → IsPokeyInRange p → IsPokeyInRange (channel_ticked base c p)
 unfolding channel_ticked
 channel_ticked_in base c p h =
-    turned_in (underflows base p c) c (with_left c (left_after base p c) p) (with_left_in c (left_after base p c) p (left_after_in base p c h) h)
+    underflow_effect_in (underflows base p c) c (with_left c (left_after base p c) p) (with_left_in c (left_after base p c) p (left_after_in base p c h) h)
 
 channels_ticked_in : (base : Bool) (p : PokeyValue) → IsPokeyInRange p → IsPokeyInRange (channels_ticked base p)
 unfolding channels_ticked

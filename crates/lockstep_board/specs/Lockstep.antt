@@ -6,7 +6,7 @@ use Rattle.board_base.specs.declared.cpu.Sequence.{Sequence}
 use Rattle.board_base.specs.declared.cpu.Sequence.TheVariants.{Opcode, Interrupt, Reset}
 use Rattle.board_base.specs.Cpu.{CpuValue, MidValue}
 use Rattle.cpu_alu.specs.Flags.{is_masked}
-use Rattle.cpu_core.specs.Course.{Access, read_of, write_of}
+use Rattle.cpu_core.specs.BusCycles.{Access, read_of, write_of}
 use Rattle.cpu_core.specs.declared.replay.Next.{Next}
 use Rattle.cpu_core.specs.declared.replay.Next.TheVariants.{Read, Write, End}
 use Rattle.cpu_core.specs.Registers.{RegistersValue, registers_of}

@@ -1,8 +1,8 @@
-//! Laws of the lockstep board, over all boards and tapes. Each function tells one, and does nothing.
+//! Laws of the lockstep board, over all boards and tapes. Each function states one, and does nothing.
 ghost use Rattle.std.specs.Prelude.{◌≡◌, ℕ, ◌+◌, ◌*◌, ◌-◌, ◌≤◌, ◌<◌, List, [], ◌∷◌, All, true, false, None};
 ghost use Rattle.board_base.specs.declared.divider.TheConstants.{DIVIDER_PERIOD};
 ghost use Rattle.tape_ports.specs.declared.entry.TapeEntry.{TapeEntry};
-ghost use Rattle.cpu_core.specs.Course.{read_of, write_of};
+ghost use Rattle.cpu_core.specs.BusCycles.{read_of, write_of};
 ghost use Rattle.cpu_core.specs.Ranges.{IsByte};
 ghost use Rattle.lockstep_board.specs.Addresses.{device_reads, device_writes, is_among};
 ghost use Rattle.lockstep_board.specs.Lockstep.{Board, step, access_in};
@@ -19,7 +19,7 @@ use crate::uses::{
 use board_map::{Reads, Writes};
 
 /// A run of the lockstep board may be cut at any clock or boundary on its way and go on from there,
-/// and each of the three runs comes to its end. It tells a law, and does nothing.
+/// and each of the three runs comes to its end. It states a law, and does nothing.
 #[tactic(auto, using(crate::proofs::Ends::splits))]
 pub fn split_runs()
     ensures clock { (entries : List TapeEntry) → (x y : ℕ) → (b : Board) → x ≤ y → to_clock entries y b ≡ to_clock entries y (to_clock entries x b) }
@@ -33,7 +33,7 @@ pub fn split_runs()
     ensures cut_end { (entries : List TapeEntry) → (cut wrap : ℕ) → (b : Board) → is_cut cut wrap (to_cut entries cut wrap b) ≡ true }
 {}
 
-/// The two parts of a run that is cut make as many steps as the whole of it. It tells a law, and
+/// The two parts of a run that is cut make as many steps as the whole of it. It states a law, and
 /// does nothing.
 #[tactic(auto, using(crate::proofs::Ends::split_steps))]
 pub fn steps_of_split_runs()
@@ -47,7 +47,7 @@ pub fn steps_of_split_runs()
         → clock_steps entries cut b ≡ cut_steps entries cut wrap b + clock_steps entries cut (to_cut entries cut wrap b) }
 {}
 
-/// After a step at least one access is made inside a sequence, and the runs keep it so. It tells a
+/// After a step at least one access is made inside a sequence, and the runs keep it so. It states a
 /// law, and does nothing.
 #[tactic(auto, using(crate::proofs::Places::places))]
 pub fn places_of_runs()
@@ -59,7 +59,7 @@ pub fn places_of_runs()
 
 /// A run to a boundary is so many turns, before each of which it isn't over. The turn of a board
 /// that isn't jammed moves its clock on and ends at a boundary, and a jammed one stays as it is;
-/// turns add to the records made before. It tells a law, and does nothing.
+/// turns add to the records made before. It states a law, and does nothing.
 #[tactic(auto, using(crate::proofs::TurnLaws::turn_laws))]
 pub fn runs_are_turns()
     ensures runs { (entries : List TapeEntry) → (limit : ℕ) → (b : Board) → IsPlaced b → TurnsTo entries limit b }
@@ -70,7 +70,7 @@ pub fn runs_are_turns()
     ensures place { (entries : List TapeEntry) → (n : ℕ) → (b : Board) → IsPlaced b → IsPlaced (turned entries n b) }
 {}
 
-/// Records made before change nothing that a board does: its runs add to them. It tells a law, and
+/// Records made before change nothing that a board does: its runs add to them. It states a law, and
 /// does nothing.
 #[tactic(auto, using(crate::proofs::Behind::behinds))]
 pub fn earlier_records()
@@ -85,7 +85,7 @@ pub fn earlier_records()
 {}
 
 /// A step adds to each part's records one at most, which is of its kind and of the clock of the
-/// step, and each of the three runs keeps the records in the order of their clocks. It tells a law,
+/// step, and each of the three runs keeps the records in the order of their clocks. It states a law,
 /// and does nothing.
 #[tactic(auto, using(crate::proofs::InOrder::orders))]
 pub fn one_record_of_each_part()
@@ -99,7 +99,7 @@ pub fn one_record_of_each_part()
 {}
 
 /// The device calls that a run may cost are two for each device access, and five for each wrap,
-/// entry, request and reset; and what some clocks and then others may cost adds up. It tells a law,
+/// entry, request and reset; and what some clocks and then others may cost adds up. It states a law,
 /// and does nothing.
 #[tactic(auto, using(crate::proofs::Budgets::budgets))]
 pub fn budget_in_parts()
@@ -115,7 +115,7 @@ pub fn budget_in_parts()
 {}
 
 /// A run that comes to the divider's wrap has counted it, and the phase stays below its period. It
-/// tells a law, and does nothing.
+/// states a law, and does nothing.
 #[tactic(auto, using(crate::proofs::Wraps::wrap_laws))]
 pub fn wraps_are_counted()
     ensures phase { (entries : List TapeEntry) → (n : ℕ) → (b : Board) → b.peripherals.divider.phase < DIVIDER_PERIOD
@@ -125,7 +125,7 @@ pub fn wraps_are_counted()
 {}
 
 /// A step keeps a board in its range, and so do some of them one after another: all that the types of
-/// its parts say of it, and bytes where the board has bytes. It tells a law, and does nothing.
+/// its parts say of it, and bytes where the board has bytes. It states a law, and does nothing.
 #[tactic(auto, using(crate::proofs::BoardRange::in_range))]
 pub fn steps_keep_range()
     ensures step { (entries : List TapeEntry) → (b : Board) → All (λ entry. IsByte entry.value) entries

@@ -1,5 +1,4 @@
 mod Each
-pub mod GatherLaws
 mod LineLaws
 pub mod LogLaws
 mod NextLaws

@@ -7,9 +7,9 @@ use Rattle.outside_io.specs.Known.{grown}
 use Rattle.outside_io.specs.Sink.{Takes}
 use Rattle.outside_io.proofs.KnownLaws.{grown-nothing}
 use Rattle.outside_io.proofs.TakesLaws.{took_first}
-use Rattle.log_text.specs.Gathering.{IsGathered}
+use Rattle.outside_io.specs.Gathering.{IsGathered}
 use Rattle.log_text.specs.LogText.{PartRecord, merged}
-use Rattle.log_text.proofs.GatherLaws.{gathered-longer, gathered-then, gathered-cut, gathered-end, takes-cut}
+use Rattle.outside_io.proofs.GatherLaws.{gathered-longer, gathered-then, gathered-cut, gathered-end, takes-cut}
 
 -- one record more is done
 pub one_more : (all done rest next : List PartRecord) (made : PartRecord) → all ≡ done ++ rest → rest ≡ made ∷ next → all ≡ (done ++ made ∷ []) ++ next

@@ -1,4 +1,3 @@
-pub mod Gathering
 pub mod Lines
 pub mod LogText
 pub mod Merging

@@ -1,5 +1,5 @@
 -- The text of the log, which is this project's own.
-use Rattle.std.specs.Prelude.{◌≡◌, ℕ, ◌≤◌, List, [], ◌∷◌, ◌++◌, codes, decimal, map, AllPairs, Some, None, nat_lt, ◌==◌, if◌then◌else◌}
+use Rattle.std.specs.Prelude.{◌≡◌, ℕ, ◌≤◌, List, [], ◌∷◌, ◌++◌, codes, decimal, map, AllPairs, Option, Some, None, nat_lt, ◌==◌, if◌then◌else◌}
 use Rattle.std.specs.List.{flat_map, filter_map}
 use Rattle.board_base.specs.declared.record.Record.{Record}
 use Rattle.board_base.specs.declared.part.Part.{Part}
@@ -51,7 +51,12 @@ end_text clock = line (codes "E" ∷ decimal clock ∷ [])
 unfoldable pub jam_text : ℕ → ℕ → ℕ → List ℕ
 jam_text clock pc opcode = line (codes "X" ∷ decimal clock ∷ hex_word pc ∷ hex_byte opcode ∷ [])
 
--- the line that tells how many device calls a run made
+-- the last line of a run that has ended at this clock and program counter, by the opcode that stopped it, if one did
+abbrev pub last_text : ℕ → ℕ → Option ℕ → List ℕ
+last_text clock pc (Some opcode) = jam_text clock pc opcode
+last_text clock pc None = end_text clock
+
+-- the line that states how many device calls a run made
 unfoldable pub cost_text : ℕ → List ℕ
 cost_text calls = line (codes "C" ∷ decimal calls ∷ [])
 

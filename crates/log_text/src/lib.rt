@@ -1,14 +1,12 @@
 //! The text of the log: a line for each record of the board, by clock, and the last lines.
 #![tactic(auto)]
 
-mod block;
 mod last;
 mod merge;
 mod merged;
 mod record_bytes;
 mod record_line;
 
-pub use block::{BLOCK, Block, block_size};
-pub use last::{write_cost, write_end, write_jam};
+pub use last::{write_cost, write_end, write_jam, write_last};
 pub use merged::{logs_join, one_log, write_merged, write_records};
 pub use record_bytes::{RECORD_LEN, record_size};

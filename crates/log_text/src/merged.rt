@@ -6,12 +6,11 @@ ghost use Rattle.log_text.specs.RecordBytes.{records_bytes};
 ghost use Rattle.outside_io.specs.Causes.{HasCause};
 ghost use Rattle.outside_io.specs.Sink.{Takes};
 
-use crate::block::Block;
 use crate::merge::Merge;
 use crate::record_bytes::RecordRow;
 use crate::record_line::set_line;
 use board_base::{Part, Trails};
-use outside_io::{Sink, SinkFault};
+use outside_io::{BlockWriter, Sink, SinkFault};
 use text_line::Line;
 
 /// Writes a line for each record, earlier clocks first. Lines of one clock come as the parts move in
@@ -27,7 +26,7 @@ pub fn write_merged<O: Sink>(trails: &Trails<'_>, out: &mut O) -> Result<(), Sin
         trails.now.sound2.now.records trails.now.board.now.records) result }
     ensures cause { HasCause (O.faults out.old) (O.faults out.new) result }
 {
-    let mut block = Block::new();
+    let mut block = BlockWriter::new();
     let mut line = Line::empty();
     for (part, record) in Merge::of(trails) {
         set_line(&mut line, part, record);
@@ -47,7 +46,7 @@ pub fn write_records<O: Sink>(trails: &Trails<'_>, out: &mut O) -> Result<(), Si
         trails.now.sound2.now.records trails.now.board.now.records)) result }
     ensures cause { HasCause (O.faults out.old) (O.faults out.new) result }
 {
-    let mut block = Block::new();
+    let mut block = BlockWriter::new();
     let mut row = RecordRow::empty();
     for (part, record) in Merge::of(trails) {
         row.set_record(part, record);
@@ -56,7 +55,7 @@ pub fn write_records<O: Sink>(trails: &Trails<'_>, out: &mut O) -> Result<(), Si
     block.flush(out)
 }
 
-/// The lines of four trails are those of the one list whose records they share out. It tells a law,
+/// The lines of four trails are those of the one list whose records they share out. It states a law,
 /// and does nothing.
 #[tactic(auto, using(crate::proofs::LogLaws::merged_is_one_log))]
 pub fn one_log()
@@ -64,7 +63,7 @@ pub fn one_log()
 {}
 
 /// The log of the records up to a clock, and then that of the records from it on up to a later one, is
-/// the log of all of them. It tells a law, and does nothing.
+/// the log of all of them. It states a law, and does nothing.
 pub fn logs_join()
     ensures { (from at upto : ℕ) → (v1 v2 a1 a2 b1 b2 w1 w2 : List record_value)
         → MadeBetween Part.Generator from v1 at → MadeBetween Part.Generator at v2 upto

@@ -9,7 +9,7 @@ use std::marker::Model;
 /// The bytes of a record.
 pub const RECORD_LEN: usize = 40;
 
-/// A record has 40 bytes. It tells a law, and does nothing.
+/// A record has 40 bytes. It states a law, and does nothing.
 pub fn record_size()
     ensures { RECORD_LEN ≡ 40 }
 {}

@@ -2,7 +2,7 @@
 use Rattle.std.specs.Prelude.{◌≡◌, ◌+◌, ◌-◌, ◌/◌, ◌%◌, ◌==◌, ◌++◌, ℕ, List, Bool, if◌then◌else◌, slice_index, slice_set}
 use Rattle.board_base.specs.declared.record.Record.{Record}
 use Rattle.board_base.specs.Pokey.{PokeyValue}
-use Rattle.cpu_core.specs.Course.{Access, read_of, write_of}
+use Rattle.cpu_core.specs.BusCycles.{Access, read_of, write_of}
 use Rattle.pokey_chip.specs.Registers.{register_read, register_written}
 use Rattle.pokey_chip.specs.Tick.{pokey_gives, pokey_tick}
 

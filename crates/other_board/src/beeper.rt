@@ -107,7 +107,7 @@ impl Bus for Beeper {
 
     ghost step = { λ _ x s t. BeeperStep x s t };
 
-    ghost fits = { λ _ _. Unit {0} };
+    ghost accepts = { λ _ _. Unit {0} };
 
     ghost room = { λ s. s.left };
 

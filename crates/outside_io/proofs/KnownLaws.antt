@@ -1,4 +1,4 @@
--- Laws of content that is told or not.
+-- Laws of content that is known or not.
 use Rattle.std.proofs.Common.{◌≡◌, List, [], ◌++◌, Some, None, Option, refl, ap, append_assoc, append-nil}
 use Rattle.outside_io.specs.Known.{grown}
 

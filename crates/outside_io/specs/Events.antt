@@ -1,4 +1,4 @@
--- What a command does to the outside, one byte or one store at a time, in order.
+-- The I/O of a command, one byte or one store at a time, in order.
 use Rattle.std.specs.Prelude.{◌≡◌, ℕ, List, [], ◌∷◌, Option, Some, None, take}
 use Rattle.outside_io.specs.Known.{grown}
 use Rattle.outside_io.specs.Shelf.{Kept}
@@ -29,7 +29,7 @@ abbrev pub storing : Option (List ℕ) → List ℕ → List Event
 storing None bytes = []
 storing (Some name) bytes = stored name bytes ∷ []
 
--- what the output took and the stores that were made are these, where they are told
+-- what the output took and the stores that were made are these, where they are known
 pub record Did (events : List Event) (out0 out1 : Option (List ℕ)) (stores0 stores1 : Option (List Kept)) : Type 0 where
   pub text : out1 ≡ grown out0 (text_of events)
   pub stores : stores1 ≡ grown stores0 (stores_of events)

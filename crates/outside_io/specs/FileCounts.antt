@@ -14,14 +14,14 @@ pub record FileCounts : Type 0 where
   pub faults : ℕ
   pub absences : ℕ
 
--- neither files nor stores are told
-abbrev pub untold_files : Option Files
-untold_files = None
+-- neither files nor stores are known
+abbrev pub unknown_files : Option Files
+unknown_files = None
 
-abbrev pub untold_stores : Option (List Kept)
-untold_stores = None
+abbrev pub unknown_stores : Option (List Kept)
+unknown_stores = None
 
--- the counts after a load: one more of what came, and want of memory is neither
+-- the counts after a load: one more of what came, and to run out of memory is neither
 abbrev pub after_file_load : FileCounts → Result Loaded ShelfFault → FileCounts
 after_file_load counts (Ok Found) = counts
 after_file_load counts (Ok Absent) = record counts { absences = one_more counts.absences }

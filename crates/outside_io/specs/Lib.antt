@@ -2,6 +2,7 @@ pub mod Causes
 pub mod Known
 pub mod Shelf
 pub mod Sink
+pub mod Gathering
 pub mod Content
 pub mod Memory
 pub mod Steady

@@ -4,7 +4,7 @@ use Rattle.outside_io.specs.Causes.{HasCause, Rose}
 use Rattle.outside_io.specs.Events.{Event, Did, DidFirst, sending, stored}
 use Rattle.outside_io.specs.Shelf.{Files, Kept}
 
--- The names of the two loans; the files, the stores and the text, each where it is told; and the counts.
+-- The names of the two loans; the files, the stores and the text, each where it is known; and the counts.
 pub record Seen : Type 0 where
   pub shelf_loan : ℕ
   pub out_loan : ℕ

@@ -1,4 +1,4 @@
--- What the calls of a shelf do. A shelf is this project's own view of the files outside.
+-- What the calls of a shelf do. A shelf is this project's own view of files.
 use Rattle.std.specs.Prelude.{◌≡◌, ◌≢◌, ℕ, ◌+◌, ◌≤◌, List, [], length, take, None, IfSome, IsSome, IsSomeAnd}
 use Rattle.std.specs.Prelude.{Option}
 use Rattle.std.specs.Prelude.{Result, Ok, Err}
@@ -17,15 +17,15 @@ abbrev pub Kept : Type 0
 Kept = List ℕ × List ℕ
 
 -- Found: the file's first bytes, all of them or one more than the limit. Absent: the name isn't there, and no byte came.
--- Want of memory comes only on the way through a file that is there.
+-- Memory runs out only on the way through a file that is there.
 abbrev pub Loads : Option Files → List ℕ → ℕ → Result Loaded ShelfFault → List ℕ → Type 0
-Loads told name limit (Ok Found) bytes =
-    (length bytes ≤ limit + 1) × IfSome told (λ files. IsSomeAnd (files name) (λ whole. bytes ≡ take (limit + 1) whole))
-Loads told name limit (Ok Absent) bytes = (bytes ≡ []) × IfSome told (λ files. files name ≡ None)
-Loads told name limit (Err OutOfMemory) bytes = IfSome told (λ files. IsSome (files name))
-Loads told name limit (Err Failed) bytes = Unit {0}
+Loads known name limit (Ok Found) bytes =
+    (length bytes ≤ limit + 1) × IfSome known (λ files. IsSomeAnd (files name) (λ whole. bytes ≡ take (limit + 1) whole))
+Loads known name limit (Ok Absent) bytes = (bytes ≡ []) × IfSome known (λ files. files name ≡ None)
+Loads known name limit (Err OutOfMemory) bytes = IfSome known (λ files. IsSome (files name))
+Loads known name limit (Err Failed) bytes = Unit {0}
 
--- want of memory is no fault of the shelf
+-- to run out of memory is no fault of the shelf
 abbrev pub LoadFaults : ℕ → ℕ → Result Loaded ShelfFault → Type 0
 LoadFaults before now (Ok _) = now ≡ before
 LoadFaults before now (Err Failed) = Raised before now
@@ -37,7 +37,7 @@ LoadAbsences before now (Ok Found) = before ≤ now
 LoadAbsences before now (Ok Absent) = Raised before now
 LoadAbsences before now (Err _) = before ≤ now
 
--- where files are told afterwards, those of other names are as before
+-- where files are known afterwards, those of other names are as before
 abbrev pub KeepsOthers : Option Files → Option Files → List ℕ → Type 0
 KeepsOthers before now name =
     IfSome now (λ after. IsSomeAnd before (λ earlier. (other : List ℕ) → other ≢ name → after other ≡ earlier other))

@@ -15,10 +15,10 @@ pub record SteadyValue : Type 0 where
   pub changed : Bool
   pub absences : ℕ
 
--- its files are told until its first store
-abbrev pub told_files : Bool → List Kept → Option Files
-told_files true files = None
-told_files false files = Some (content_of files)
+-- its files are known until its first store
+abbrev pub known_files : Bool → List Kept → Option Files
+known_files true files = None
+known_files false files = Some (content_of files)
 
 -- the shelf after a load, which counts an absence and changes nothing else
 abbrev pub after_steady_load : SteadyValue → Result Loaded ShelfFault → SteadyValue

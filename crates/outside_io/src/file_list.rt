@@ -70,7 +70,7 @@ impl FileList {
     /// Adds a file in the memory that is set aside, and takes no more.
     pub(crate) fn keep(&mut self, name: &str, bytes: &[u8])
         requires left { 0 < self.old.left }
-        requires fits { length name.now + length bytes.now ≤ self.old.room }
+        requires in_room { length name.now + length bytes.now ≤ self.old.room }
         ensures { self.new ≡ record self.old { files = self.old.files ++ (name.now, bytes.now) ∷ []; left = self.old.left - 1 } }
     {
         let buffer = self.buffers.pop().unwrap();

@@ -1,7 +1,7 @@
 //! A shelf over the files of a runtime.
 ghost use Rattle.std.specs.Prelude.{◌≡◌, ◌≤◌, [], ◌∷◌, Some, OnOk, OnErr, IfSome};
 ghost use Rattle.outside_io.specs.Causes.{HasCause};
-ghost use Rattle.outside_io.specs.FileCounts.{untold_files, untold_stores, after_file_load, after_file_store};
+ghost use Rattle.outside_io.specs.FileCounts.{unknown_files, unknown_stores, after_file_load, after_file_store};
 ghost use Rattle.outside_io.specs.Known.{grown};
 ghost use Rattle.outside_io.specs.Shelf.{Loads, LoadFaults, LoadAbsences, KeepsOthers};
 
@@ -14,7 +14,7 @@ use std::fs::OpenOptions;
 use std::marker::Model;
 use std::rt::Files;
 
-/// Files by their paths. It tells nothing of their content, and takes no memory but for what is
+/// Files by their paths. It states nothing of their content, and takes no memory but for what is
 /// loaded. A file that isn't found when it is opened to be loaded is an absence. Every other error
 /// of a call is a fault. Contracts see it as its two counts.
 #[derive(Drop)]
@@ -58,9 +58,9 @@ impl<'a, R: Files> FileShelf<'a, R> {
 }
 
 impl<'a, R: Files> Shelf for FileShelf<'a, R> {
-    ghost files = { λ _. untold_files };
+    ghost files = { λ _. unknown_files };
 
-    ghost stores = { λ _. untold_stores };
+    ghost stores = { λ _. unknown_stores };
 
     ghost faults = { λ s. s.faults };
 
@@ -69,7 +69,7 @@ impl<'a, R: Files> Shelf for FileShelf<'a, R> {
     /// A path to a folder, or one that may not be read, is a fault.
     fn load(&mut self, name: &str, limit: usize, into: &mut Vec<u8>) -> Result<Loaded, ShelfFault>
         requires { into.old.items ≡ [] }
-        ensures content { Loads untold_files name.now limit result into.new.items }
+        ensures content { Loads unknown_files name.now limit result into.new.items }
         ensures cause { LoadFaults self.old.faults self.new.faults result }
         ensures absences { LoadAbsences self.old.absences self.new.absences result }
         ensures after { self.new ≡ after_file_load self.old result }
@@ -93,10 +93,10 @@ impl<'a, R: Files> Shelf for FileShelf<'a, R> {
     /// another owner, and one in a folder that takes no new file, is written in place. It doesn't wait for
     /// the disk.
     fn store(&mut self, name: &str, bytes: &[u8]) -> Result<(), Failed>
-        ensures stored { OnOk result (untold_stores ≡ grown untold_stores ((name.now, bytes.now) ∷ [])) }
-        ensures not_stored { OnErr result (untold_stores ≡ untold_stores) }
-        ensures file { OnOk result (IfSome untold_files (λ now. now name.now ≡ Some bytes.now)) }
-        ensures others { KeepsOthers untold_files untold_files name.now }
+        ensures stored { OnOk result (unknown_stores ≡ grown unknown_stores ((name.now, bytes.now) ∷ [])) }
+        ensures not_stored { OnErr result (unknown_stores ≡ unknown_stores) }
+        ensures file { OnOk result (IfSome unknown_files (λ now. now name.now ≡ Some bytes.now)) }
+        ensures others { KeepsOthers unknown_files unknown_files name.now }
         ensures cause { HasCause self.old.faults self.new.faults result }
         ensures absences { self.old.absences ≤ self.new.absences }
         ensures after { self.new ≡ after_file_store self.old result }

@@ -1,10 +1,11 @@
-//! What stands between the program and the world outside: a shelf of files and a sink for bytes,
+//! I/O: a shelf of files and a sink for bytes, with a buffered writer,
 //! with fakes of both in memory and adapters over real files and streams, and a host that lends a
 //! shelf and an output together.
 #![tactic(auto)]
 
 pub mod answers;
 mod append;
+mod block_writer;
 mod file_list;
 pub mod file_shelf;
 mod first_bytes;
@@ -21,6 +22,7 @@ pub mod text_sink;
 mod under_name;
 
 pub use answers::{Failed, Loaded, ShelfFault, SinkFault};
+pub use block_writer::{BLOCK_LEN, BlockWriter, lemma_block_len};
 pub use file_shelf::FileShelf;
 pub use host::Host;
 pub use memory_shelf::MemoryShelf;

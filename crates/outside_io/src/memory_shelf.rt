@@ -1,4 +1,4 @@
-//! A shelf in memory that tells what it holds, and fails where a test wants it to.
+//! A shelf in memory that states what it holds, and fails where a test wants it to.
 ghost use Rattle.std.specs.Prelude.{◌≡◌, ◌≤◌, ◌↔◌, [], ◌∷◌, ◌++◌, OnOk, OnErr, IfOk, IfSome, IsErr, Some, Err};
 ghost use Rattle.outside_io.specs.Causes.{HasCause};
 ghost use Rattle.outside_io.specs.Content.{content_of};
@@ -74,7 +74,7 @@ impl MemoryShelf {
     }
 
     /// Puts these bytes under this name, in the place of what stands there. It is none of the
-    /// numbered calls and no store. Want of memory is free.
+    /// numbered calls and no store. Any call may run out of memory.
     pub fn put(&mut self, name: &str, bytes: &[u8]) -> Result<(), OutOfMemory>
         ensures ok { OnOk result (self.new ≡ record self.old { files = self.old.files ++ (name.now, bytes.now) ∷ [] }) }
         ensures err { OnErr result (self.new ≡ self.old) }

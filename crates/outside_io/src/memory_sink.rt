@@ -1,4 +1,4 @@
-//! A sink in memory that tells what it took, and fails where a test wants it to.
+//! A sink in memory that states what it took, and fails where a test wants it to.
 ghost use Rattle.std.specs.Prelude.{◌≡◌, ◌≢◌, ◌↔◌, [], IfOk, IsErr, IsOk, Some};
 ghost use Rattle.outside_io.specs.Causes.{HasCause};
 ghost use Rattle.outside_io.specs.Memory.{empty_sink, WriteFails, after_write};

@@ -1,4 +1,4 @@
-//! The two traits of the outside.
+//! The two I/O traits.
 ghost use Rattle.std.specs.Prelude.{◌≡◌, ℕ, ◌≤◌, List, [], ◌∷◌, Option, OnOk, OnErr, IfSome, IsOk};
 ghost use Rattle.outside_io.specs.Causes.{HasCause};
 ghost use Rattle.outside_io.specs.Known.{grown};
@@ -7,13 +7,13 @@ ghost use Rattle.outside_io.specs.Sink.{Takes};
 
 use crate::answers::{Failed, Loaded, ShelfFault, SinkFault};
 
-/// Files outside, each under a name. A count never falls: it stays at the greatest `u64` once it is
+/// Files, each under a name. A count never falls: it stays at the greatest `u64` once it is
 /// there.
 pub trait Shelf {
-    /// The content of each name, where it is told.
+    /// The content of each name, where it is known.
     ghost files: { Self → Option Files };
 
-    /// The successful stores in order, where they are told.
+    /// The successful stores in order, where they are known.
     ghost stores: { Self → Option (List Kept) };
 
     /// How often a call has failed.
@@ -24,7 +24,7 @@ pub trait Shelf {
 
     /// Puts the first bytes of a file into the empty `into`: all of them where there are at most
     /// `limit`, else `limit` and one more. A file that isn't there leaves it empty. After an `Err`
-    /// nothing is said of `into`, and the caller drops it. Want of memory is free.
+    /// nothing is said of `into`, and the caller drops it. Any call may run out of memory.
     fn load(&mut self, name: &str, limit: usize, into: &mut Vec<u8>) -> Result<Loaded, ShelfFault>
         requires { into.old.items ≡ [] }
         ensures content { Loads (files self.old) name.now limit result into.new.items }
@@ -46,7 +46,7 @@ pub trait Shelf {
 
 /// A stream that takes bytes. A count never falls: it stays at the greatest `u64` once it is there.
 pub trait Sink {
-    /// The bytes taken, where they are told.
+    /// The bytes taken, where they are known.
     ghost taken: { Self → Option (List ℕ) };
 
     /// How often a call has failed.

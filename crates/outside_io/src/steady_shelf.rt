@@ -1,7 +1,7 @@
 //! A shelf that never fails.
 ghost use Rattle.std.specs.Prelude.{◌≡◌, ◌≢◌, true, false, [], ◌∷◌, ◌++◌, OnOk, OnErr, IsOk, Err};
 ghost use Rattle.outside_io.specs.Shelf.{Loads, LoadFaults, LoadAbsences};
-ghost use Rattle.outside_io.specs.Steady.{told_files, after_steady_load};
+ghost use Rattle.outside_io.specs.Steady.{known_files, after_steady_load};
 
 use crate::answers::{Failed, Loaded, ShelfFault};
 use crate::file_list::FileList;
@@ -11,7 +11,7 @@ use board_base::OutOfMemory;
 use std::alloc::Global;
 use std::marker::Model;
 
-/// Tells its files until its first store, and keeps no stores. Its count of faults is always 0.
+/// States its files until its first store, and keeps no stores. Its count of faults is always 0.
 #[derive(Drop)]
 pub struct SteadyShelf {
     files: FileList,
@@ -39,7 +39,7 @@ impl SteadyShelf {
         }
     }
 
-    /// Puts these bytes under this name, in the place of what stands there. Want of memory is free.
+    /// Puts these bytes under this name, in the place of what stands there. Any call may run out of memory.
     pub fn put(&mut self, name: &str, bytes: &[u8]) -> Result<(), OutOfMemory>
         ensures ok { OnOk result (self.new ≡ record self.old { files = self.old.files ++ (name.now, bytes.now) ∷ [] }) }
         ensures err { OnErr result (self.new ≡ self.old) }
@@ -52,7 +52,7 @@ impl SteadyShelf {
 impl Shelf for SteadyShelf {
     ghost use Rattle.std.specs.Prelude.{None};
 
-    ghost files = { λ s. told_files s.changed s.files };
+    ghost files = { λ s. known_files s.changed s.files };
 
     ghost stores = { λ _. None };
 
@@ -60,11 +60,11 @@ impl Shelf for SteadyShelf {
 
     ghost absences = { λ s. s.absences };
 
-    /// It answers a fault for want of memory alone.
+    /// It fails only where memory runs out.
     fn load(&mut self, name: &str, limit: usize, into: &mut Vec<u8>) -> Result<Loaded, ShelfFault>
         requires { into.old.items ≡ [] }
-        ensures content { Loads (told_files self.old.changed self.old.files) name.now limit result into.new.items }
-        ensures files { told_files self.new.changed self.new.files ≡ told_files self.old.changed self.old.files }
+        ensures content { Loads (known_files self.old.changed self.old.files) name.now limit result into.new.items }
+        ensures files { known_files self.new.changed self.new.files ≡ known_files self.old.changed self.old.files }
         ensures cause { LoadFaults 0 0 result }
         ensures absences { LoadAbsences self.old.absences self.new.absences result }
         ensures after { self.new ≡ after_steady_load self.old result }
@@ -80,7 +80,7 @@ impl Shelf for SteadyShelf {
         }
     }
 
-    /// It takes no memory, keeps nothing, and tells no files from then on.
+    /// It takes no memory, keeps nothing, and states no files from then on.
     fn store(&mut self, _name: &str, _bytes: &[u8]) -> Result<(), Failed>
         ensures no_fault { IsOk result }
         ensures after { self.new ≡ record self.old { changed = true } }

@@ -33,7 +33,7 @@ impl Stored {
     /// Fills an empty buffer, and takes no memory.
     pub(crate) fn fill(mut buffer: Vec<u8>, name: &str, bytes: &[u8]) -> Stored
         requires empty { buffer.items ≡ [] }
-        requires fits { length name.now + length bytes.now ≤ vec_capacity buffer }
+        requires in_room { length name.now + length bytes.now ≤ vec_capacity buffer }
         ensures { result ≡ (name.now, bytes.now) }
     {
         append(&mut buffer, name.as_bytes());

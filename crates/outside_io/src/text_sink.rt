@@ -10,7 +10,7 @@ use crate::pieces::write_whole;
 use std::io::Write;
 use std::marker::Model;
 
-/// Hands each piece on to a stream, in as many of its writes as it takes. It tells nothing of what
+/// Hands each piece on to a stream, in as many of its writes as it takes. It states nothing of what
 /// the stream took. A write of the stream that fails, or that takes nothing, is a fault. Contracts
 /// see it as the pair of the stream and the count of faults.
 #[derive(Drop)]
@@ -41,7 +41,7 @@ impl<W: Write + Drop> Sink for TextSink<W> {
 
     ghost faults = { λ s. s.1 };
 
-    /// Where the stream tells what it holds, that has grown by the piece, or after an `Err` by a first part.
+    /// Where the stream states what it holds, that has grown by the piece, or after an `Err` by a first part.
     fn write(&mut self, bytes: &[u8]) -> Result<(), SinkFault>
         ensures taken { Takes None None bytes.now result }
         ensures cause { HasCause self.old.1 self.new.1 result }

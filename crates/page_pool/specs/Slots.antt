@@ -20,7 +20,7 @@ pub record IsFree (free : List ℕ) (pool : List (Option Holding)) : Type 0 wher
   pub apart : (i j d : ℕ) → i < j → j < length free → get_or free i d ≢ get_or free j d
   pub rest : live_of pool + length free ≡ length pool
 
--- a pool's memory is whole: its free places are told, with the memory for them all
+-- a pool's memory is whole: its free places are listed, with the memory for them all
 pub record IsPool (inside : Inside) : Type 0 where
   pub limit : length (pool_view inside) ≤ POOL_LIMIT
   pub room : length (pool_view inside) ≤ vec_capacity inside.free

@@ -1,4 +1,4 @@
--- What a channel counts in a clock, and that all channels may count before the first takes its turn.
+-- What a channel counts in a clock, and that all channels may count before the first underflow takes effect.
 use Rattle.std.proofs.Common.{◌≡◌, ℕ, ◌+◌, ◌-◌, ◌==◌, Bool, true, false, ◌&&◌, nat_le, if◌then◌else◌, List, [], ◌∷◌, length, slice_set, refl, ap, ◌∙◌, arith}
 use Rattle.std.proofs.lemmas.Bool.Decides.{nat_tests}
 use Rattle.board_base.specs.Pokey.{PokeyValue}
@@ -6,7 +6,7 @@ use Rattle.pokey_timer.specs.Countdown.{pulse_taken}
 use Rattle.pokey_chip.specs.declared.channel.Channel.{Channel}
 use Rattle.pokey_chip.specs.declared.channel.Channel.TheVariants.{First, Second, Third, Fourth}
 use Rattle.pokey_chip.specs.Channels.{period_of, place}
-use Rattle.pokey_chip.specs.Tick.{base_pulses, channel_ticked, channels_ticked, clocked, is_pulsed, left_after, left_of, levelled, levels_of, passed, pokey_tick, pot_counted, pots_rise, requested, toned, turned, underflows, with_left}
+use Rattle.pokey_chip.specs.Tick.{base_pulses, channel_ticked, channels_ticked, clocked, is_pulsed, left_after, left_of, levelled, levels_of, passed, pokey_tick, pot_counted, pots_rise, requested, toned, underflow_effect, underflows, with_left}
 
 -- the last pulse left is taken where at most one is left
 last-one : (left : ℕ) → (left - 1 == 0) ≡ nat_le left 1
@@ -83,15 +83,15 @@ counted_on p = record (pot_counted (pots_rise p) (clocked p)) {
       ∷ left_after (base_pulses p) p Third ∷ left_after (base_pulses p) p Fourth ∷ [];
 }
 
--- the four channels' turns in order; `p` is the POKEY before the clock
-unfoldable pub all_turned : PokeyValue → PokeyValue → PokeyValue
-all_turned p q =
-    turned (underflows (base_pulses p) p Fourth) Fourth
-    (turned (underflows (base_pulses p) p Third) Third
-    (turned (underflows (base_pulses p) p Second) Second
-    (turned (underflows (base_pulses p) p First) First q)))
+-- the effects of the four channels' underflows in order; `p` is the POKEY before the clock
+unfoldable pub all_effects : PokeyValue → PokeyValue → PokeyValue
+all_effects p q =
+    underflow_effect (underflows (base_pulses p) p Fourth) Fourth
+    (underflow_effect (underflows (base_pulses p) p Third) Third
+    (underflow_effect (underflows (base_pulses p) p Second) Second
+    (underflow_effect (underflows (base_pulses p) p First) First q)))
 
--- what a channel counts doesn't depend on another's turn, so all of them may count before the first takes its turn
-pub counts-first : (p : PokeyValue) → pokey_tick p ≡ levelled (all_turned p (counted_on p))
-unfolding pokey_tick channels_ticked channel_ticked with_left turned all_turned counted_on pot_counted clocked requested toned passed levels_of
+-- what a channel counts doesn't depend on another's underflow, so all of them may count before the first takes effect
+pub counts-first : (p : PokeyValue) → pokey_tick p ≡ levelled (all_effects p (counted_on p))
+unfolding pokey_tick channels_ticked channel_ticked with_left underflow_effect all_effects counted_on pot_counted clocked requested toned passed levels_of
 counts-first p = refl

@@ -3,7 +3,7 @@ use Rattle.std.proofs.Common.{◌≡◌, ℕ, false, zero, suc, refl, ap}
 use Rattle.board_base.specs.Pokey.{PokeyValue}
 use Rattle.board_base.specs.Ticks.{ticks, times}
 use Rattle.pokey_timer.specs.Prescaler.{counted, count_after}
-use Rattle.pokey_chip.specs.Tick.{channel_ticked, channels_ticked, clocked, is_held, pokey_tick, pot_counted, turned, with_left}
+use Rattle.pokey_chip.specs.Tick.{channel_ticked, channels_ticked, clocked, is_held, pokey_tick, pot_counted, underflow_effect, with_left}
 
 -- what no clock changes
 pub record Kept (p q : PokeyValue) : Type 0 where
@@ -15,7 +15,7 @@ pub record Kept (p q : PokeyValue) : Type 0 where
   pub targets_kept : q.targets ≡ p.targets
 
 pub kept : (n : ℕ) (p : PokeyValue) → Kept p (times pokey_tick n p)
-unfolding ticks pokey_tick channels_ticked channel_ticked with_left turned pot_counted clocked
+unfolding ticks pokey_tick channels_ticked channel_ticked with_left underflow_effect pot_counted clocked
 kept zero p = record {
   audf_kept = refl;
   audc_kept = refl;
@@ -37,13 +37,13 @@ kept (suc n) p =
 
 -- the prescalers while they aren't held
 pub pre28-after : (n : ℕ) (p : PokeyValue) → is_held p.skctl ≡ false → (times pokey_tick n p).pre28 ≡ count_after 28 p.pre28 n
-unfolding ticks count_after pokey_tick channels_ticked channel_ticked with_left turned pot_counted clocked
+unfolding ticks count_after pokey_tick channels_ticked channel_ticked with_left underflow_effect pot_counted clocked
 pre28-after zero p running = refl
 pre28-after (suc n) p running =
     rw ((kept n p).skctl_kept, running) (ap (counted 28) (pre28-after n p running))
 
 pub pre114-after : (n : ℕ) (p : PokeyValue) → is_held p.skctl ≡ false → (times pokey_tick n p).pre114 ≡ count_after 114 p.pre114 n
-unfolding ticks count_after pokey_tick channels_ticked channel_ticked with_left turned pot_counted clocked
+unfolding ticks count_after pokey_tick channels_ticked channel_ticked with_left underflow_effect pot_counted clocked
 pre114-after zero p running = refl
 pre114-after (suc n) p running =
     rw ((kept n p).skctl_kept, running) (ap (counted 114) (pre114-after n p running))

@@ -11,7 +11,7 @@ pub mod VoiceLaws
 pub mod EventLaws
 pub mod NoiseLaws
 pub mod ToneLaws
-pub mod TurnLaws
+pub mod EffectLaws
 pub mod StepLaws
 pub mod MoveLaws
 pub mod MovedLaws

@@ -10,9 +10,9 @@ use Rattle.pokey_chip.specs.declared.channel.Channel.{Channel}
 use Rattle.pokey_chip.specs.declared.channel.Channel.TheVariants.{First, Second, Third, Fourth}
 use Rattle.pokey_chip.specs.declared.voice.Voice.{Voice}
 use Rattle.pokey_chip.specs.declared.voice.Voices.{Voices}
-use Rattle.pokey_chip.specs.Moves.{due_at, IsLeft, IsPassed, IsVoice, left_of_voice, pulse_of, turns_taken}
+use Rattle.pokey_chip.specs.Moves.{due_at, IsLeft, IsPassed, IsVoice, left_of_voice, pulse_of, underflow_effects}
 use Rattle.pokey_chip.specs.Pulses.{HasNoUnderflow, NoneUnderflows, rises_of}
-use Rattle.pokey_chip.specs.Tick.{base_pulses, change, channel_ticked, channels_ticked, is_held, left_of, levelled, levels_made, levels_of, pokey_gives, pokey_tick, prescaled, turned, underflows, with_left}
+use Rattle.pokey_chip.specs.Tick.{base_pulses, change, channel_ticked, channels_ticked, is_held, left_of, levelled, levels_made, levels_of, pokey_gives, pokey_tick, prescaled, underflow_effect, underflows, with_left}
 use Rattle.pokey_chip.proofs.EventLaws.{event, none-between, same-between, stood}
 use Rattle.pokey_chip.proofs.KeptLaws.{Kept, kept}
 use Rattle.pokey_chip.proofs.PulseLaws.{pot-after}
@@ -84,7 +84,7 @@ module _ (p : PokeyValue) (k at : ℕ) (vs : Voices) (later : k < at) (small : a
   pub settled-then : (times pokey_tick at p).last ≡ levels_of (times pokey_tick at p)
   settled-then = rw clock-at (tick-settled (times pokey_tick (at - suc k) (times pokey_tick k p)))
 
-  pub with-registers : levelled (turns_taken (vs.first.due == at) (vs.second.due == at) (vs.third.due == at) (vs.fourth.due == at)
+  pub with-registers : levelled (underflow_effects (vs.first.due == at) (vs.second.due == at) (vs.third.due == at) (vs.fourth.due == at)
       (record (stood p (times pokey_tick k p)) {
         poly4 = (times pokey_tick at p).poly4;
         poly5 = (times pokey_tick at p).poly5;
@@ -141,7 +141,7 @@ module _ (c : Channel) (k at n : ℕ) (p : PokeyValue) (v : Voice) (is : IsVoice
 -- after a clock or more the four channels' pulses left are a list of four
 four-left : (p : PokeyValue) (n : ℕ) → 1 ≤ n → (times pokey_tick n p).left
     ≡ left_of First (times pokey_tick n p) ∷ left_of Second (times pokey_tick n p) ∷ left_of Third (times pokey_tick n p) ∷ left_of Fourth (times pokey_tick n p) ∷ []
-unfolding ticks pokey_tick channels_ticked channel_ticked turned with_left
+unfolding ticks pokey_tick channels_ticked channel_ticked underflow_effect with_left
 four-left p zero some = absurd (omega arith)
 four-left p (suc n) some = refl
 

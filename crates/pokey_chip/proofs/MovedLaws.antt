@@ -13,7 +13,7 @@ use Rattle.pokey_chip.specs.declared.tones.Tones.{Tones}
 use Rattle.pokey_chip.specs.declared.tones.Tuning.{Tuning}
 use Rattle.pokey_chip.specs.declared.voice.Voices.{Voices}
 use Rattle.pokey_chip.specs.Channels.{place}
-use Rattle.pokey_chip.specs.Moves.{IsPassed, IsVoice, left_of_voice, turns_taken}
+use Rattle.pokey_chip.specs.Moves.{IsPassed, IsVoice, left_of_voice, underflow_effects}
 use Rattle.pokey_chip.specs.Noise.{IsNoise, long_poly}
 use Rattle.pokey_chip.specs.Pulses.{rises_of}
 use Rattle.pokey_chip.specs.Tick.{change, filtered, is_held, levelled, levels_made, levels_of, long_register, pokey_tick, prescaled, rolled}
@@ -33,7 +33,7 @@ pub record IsMoved (p : PokeyValue) (from n at : ℕ) (x y : TrailValue) (vs : V
   pub since : noise.since ≤ k
   pub tone : tones.tone ≡ (times pokey_tick k p).tone
   pub pass : tones.pass ≡ (times pokey_tick k p).pass
-  pub irqst : requests_made tones.turned p.irqen p.irqst ≡ (times pokey_tick k p).irqst
+  pub irqst : requests_made tones.underflowed p.irqen p.irqst ≡ (times pokey_tick k p).irqst
   pub levels : last ≡ (times pokey_tick k p).last
   pub fits : All (λ level. level < 16) last
   pub known : IfSome last_on (λ on. last ≡ levels_on on p.audc)
@@ -66,7 +66,7 @@ levels-fit on audc (suc (suc (suc (suc k)))) d h = absurd (omega arith)
 
 -- a move at its first clock
 module _ (p : PokeyValue) (from n : ℕ) (x : TrailValue) (vs : Voices) (noise : Noise) (tones : Tones) (last : List ℕ) (some : 1 ≤ n) (room : n ≤ x.spare)
-    (noise_there : IsNoise p noise) (since : noise.since ≡ 0) (tone : tones.tone ≡ p.tone) (pass : tones.pass ≡ p.pass) (turned : tones.turned ≡ 0)
+    (noise_there : IsNoise p noise) (since : noise.since ≡ 0) (tone : tones.tone ≡ p.tone) (pass : tones.pass ≡ p.pass) (underflowed : tones.underflowed ≡ 0)
     (standing : p.irqst < 8) (levels : last ≡ p.last) (fits : All (λ level. level < 16) last)
     (first : IsVoice First 0 p vs.first) (second : IsVoice Second 0 p vs.second) (third : IsVoice Third 0 p vs.third) (fourth : IsVoice Fourth 0 p vs.fourth) where
   pub begun : IsMoved p from n 1 x x vs noise tones None last 0
@@ -79,7 +79,7 @@ module _ (p : PokeyValue) (from n : ℕ) (x : TrailValue) (vs : Voices) (noise :
     since = omega arith;
     tone = tone;
     pass = pass;
-    irqst = ap (λ (t : ℕ). requests_made t p.irqen p.irqst) turned ∙ requests-none p.irqen p.irqst standing;
+    irqst = ap (λ (t : ℕ). requests_made t p.irqen p.irqst) underflowed ∙ requests-none p.irqen p.irqst standing;
     levels = levels;
     fits = fits;
     known = tt;
@@ -109,8 +109,8 @@ module _ (p : PokeyValue) (from n at k : ℕ) (x y : TrailValue) (vs : Voices) (
     poly17 = (times pokey_tick at p).poly17;
   }
 
-  turns : levelled (turns_taken (vs.first.due == at) (vs.second.due == at) (vs.third.due == at) (vs.fourth.due == at) before) ≡ stood p (times pokey_tick at p)
-  turns = with-registers p k at vs is.later small is.settled is.first is.second is.third is.fourth is.first_due is.second_due is.third_due is.fourth_due
+  effects : levelled (underflow_effects (vs.first.due == at) (vs.second.due == at) (vs.third.due == at) (vs.fourth.due == at) before) ≡ stood p (times pokey_tick at p)
+  effects = with-registers p k at vs is.later small is.settled is.first is.second is.third is.fourth is.first_due is.second_due is.third_due is.fourth_due
 
   audc-before : before.audc ≡ p.audc
   unfolding stood
@@ -132,7 +132,7 @@ module _ (p : PokeyValue) (from n at k : ℕ) (x y : TrailValue) (vs : Voices) (
   unfolding stood
   pass-before = is.pass
 
-  irqst-before : requests_made tones.turned p.irqen p.irqst ≡ before.irqst
+  irqst-before : requests_made tones.underflowed p.irqen p.irqst ≡ before.irqst
   unfolding stood
   irqst-before = is.irqst
 
@@ -147,14 +147,14 @@ module _ (p : PokeyValue) (from n at k : ℕ) (x y : TrailValue) (vs : Voices) (
       (is-due : (c : Channel) → has due c ≡ of_channel (vs.first.due == at) (vs.second.due == at) (vs.third.due == at) (vs.fourth.due == at) c)
       (tone2 : (c : Channel) → has tones2.tone c ≡ (if has due c then next_tone tuning outputs c (has tones.tone c) else has tones.tone c))
       (pass2 : (j : ℕ) → j < 2 → is_bit tones2.pass j ≡ (if is_bit due (j + 2) then is_bit tones2.tone j else is_bit tones.pass j))
-      (turned2 : (c : Channel) → has tones2.turned c ≡ (has tones.turned c || has due c))
+      (underflowed2 : (c : Channel) → has tones2.underflowed c ≡ (has tones.underflowed c || has due c))
       (is-on : (c : Channel) → has on c ≡ (has tuning.steady c || filtered (has tuning.passed c) (has tones2.pass c) (has tones2.tone c)))
       (now : last2 ≡ levels_on on p.audc) (made : Extended y z (change (from + (at - 1)) last (levels_on on p.audc))) (few : y.spare ≤ z.spare + 1)
       (first2 : IsPassed at vs.first ws.first) (second2 : IsPassed at vs.second ws.second) (third2 : IsPassed at vs.third ws.third) (fourth2 : IsPassed at vs.fourth ws.fourth)
       (soonest : next ≡ min (min ws.first.due ws.second.due) (min ws.third.due ws.fourth.due)) where
     tone-there : tones2.tone ≡ (times pokey_tick at p).tone
     tone-there =
-        tone-step p before (times pokey_tick at p) _ _ _ _ turns audc-before irqen-before due is-due tuning outputs tones.tone tones2.tone tuned
+        tone-step p before (times pokey_tick at p) _ _ _ _ effects audc-before irqen-before due is-due tuning outputs tones.tone tones2.tone tuned
         (four ∙ ap (λ (r : ℕ). is_bit r 0) (sym (poly4-after p at)))
         (five ∙ ap (λ (r : ℕ). is_bit r 0) (sym (poly5-after p at)))
         (long ∙ ap (λ (r : ℕ). is_bit r 0) (long-after at p ∙ sym long-before))
@@ -165,12 +165,12 @@ module _ (p : PokeyValue) (from n at k : ℕ) (x y : TrailValue) (vs : Voices) (
 
     pass-there : tones2.pass ≡ (times pokey_tick at p).pass
     pass-there =
-        pass-step p before (times pokey_tick at p) _ _ _ _ turns audc-before irqen-before due is-due tones2.tone tones.pass tones2.pass tone-few tone-there pass-before
+        pass-step p before (times pokey_tick at p) _ _ _ _ effects audc-before irqen-before due is-due tones2.tone tones.pass tones2.pass tone-few tone-there pass-before
         tones.pass_bits tones2.pass_bits pass2
 
-    irqst-there : requests_made tones2.turned p.irqen p.irqst ≡ (times pokey_tick at p).irqst
+    irqst-there : requests_made tones2.underflowed p.irqen p.irqst ≡ (times pokey_tick at p).irqst
     irqst-there =
-        irqst-step p before (times pokey_tick at p) _ _ _ _ turns audc-before irqen-before due is-due tones.turned tones2.turned tone-few irqst-before turned2
+        irqst-step p before (times pokey_tick at p) _ _ _ _ effects audc-before irqen-before due is-due tones.underflowed tones2.underflowed tone-few irqst-before underflowed2
 
     settled-there : (times pokey_tick at p).last ≡ levels_of (times pokey_tick at p)
     settled-there = settled-then p k at vs is.later small is.settled is.first is.second is.third is.fourth is.first_due is.second_due is.third_due is.fourth_due
@@ -245,7 +245,7 @@ module _ (p : PokeyValue) (from n at k : ℕ) (x y : TrailValue) (vs : Voices) (
     poly17 = d;
     tone = tones.tone;
     pass = tones.pass;
-    irqst = requests_made tones.turned p.irqen p.irqst;
+    irqst = requests_made tones.underflowed p.irqen p.irqst;
     last = last;
   } → u ≡ record (stood p (times pokey_tick k p)) { poly4 = a; poly5 = b; poly9 = c; poly17 = d }
   unfolding stood
@@ -271,7 +271,7 @@ module _ (p : PokeyValue) (from n at k : ℕ) (x y : TrailValue) (vs : Voices) (
         poly17 = times (rolled (is_held p.skctl) Seventeen) n p.poly17;
         tone = tones.tone;
         pass = tones.pass;
-        irqst = requests_made tones.turned p.irqen p.irqst;
+        irqst = requests_made tones.underflowed p.irqen p.irqst;
         last = last;
       }
       → t ≡ record u {

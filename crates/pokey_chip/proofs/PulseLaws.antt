@@ -9,7 +9,7 @@ use Rattle.pokey_chip.specs.declared.channel.Channel.{Channel}
 use Rattle.bit_words.specs.Bits.{is_bit}
 use Rattle.pokey_chip.specs.Channels.{is_on_chip_clock, is_still}
 use Rattle.pokey_chip.specs.Pulses.{pulses_of, rises_of}
-use Rattle.pokey_chip.specs.Tick.{channel_ticked, channels_ticked, clocked, is_held, pokey_tick, pot_counted, pots_rise, turned, with_left}
+use Rattle.pokey_chip.specs.Tick.{channel_ticked, channels_ticked, clocked, is_held, pokey_tick, pot_counted, pots_rise, underflow_effect, with_left}
 use Rattle.pokey_chip.proofs.KeptLaws.{kept, pre28-after, pre114-after}
 
 -- the lower channel of a pair gets none
@@ -73,7 +73,7 @@ risen true pot rises = grind (arith, nat_tests)
 risen false pot rises = rw add-zero refl
 
 pub pot-after : (n : ℕ) (p : PokeyValue) → p.pot ≤ 228 → (times pokey_tick n p).pot ≡ min 228 (p.pot + rises_of n p)
-unfolding ticks rises_of pokey_tick channels_ticked channel_ticked with_left turned pot_counted clocked
+unfolding ticks rises_of pokey_tick channels_ticked channel_ticked with_left underflow_effect pot_counted clocked
 pot-after zero p small = omega arith
 pot-after (suc n) p small = rw (pot-after n p small) (sym (risen (pots_rise (times pokey_tick n p)) p.pot (rises_of n p)))
 

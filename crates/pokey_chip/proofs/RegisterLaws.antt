@@ -6,7 +6,7 @@ use Rattle.pokey_poly.specs.declared.poly.Poly.{Poly}
 use Rattle.pokey_poly.specs.declared.poly.Poly.TheVariants.{Four, Five, Nine, Seventeen}
 use Rattle.pokey_poly.specs.Shift.{width_of}
 use Rattle.pokey_timer.specs.Prescaler.{counted, count_after}
-use Rattle.pokey_chip.specs.Tick.{channel_ticked, channels_ticked, clocked, is_held, pokey_tick, pot_counted, prescaled, rolled, turned, with_left}
+use Rattle.pokey_chip.specs.Tick.{channel_ticked, channels_ticked, clocked, is_held, pokey_tick, pot_counted, prescaled, rolled, underflow_effect, with_left}
 use Rattle.pokey_chip.proofs.KeptLaws.{kept}
 
 -- no clock
@@ -38,31 +38,31 @@ pub ruleset prescales = (prescaled-held, prescaled-running)
 
 module _ (p : PokeyValue) where
   pub poly4-after : (n : ℕ) → (times pokey_tick n p).poly4 ≡ times (rolled (is_held p.skctl) Four) n p.poly4
-  unfolding ticks pokey_tick channels_ticked channel_ticked with_left turned pot_counted clocked
+  unfolding ticks pokey_tick channels_ticked channel_ticked with_left underflow_effect pot_counted clocked
   poly4-after zero = refl
   poly4-after (suc n) = rw (kept n p).skctl_kept (ap (rolled (is_held p.skctl) Four) (poly4-after n))
 
   pub poly5-after : (n : ℕ) → (times pokey_tick n p).poly5 ≡ times (rolled (is_held p.skctl) Five) n p.poly5
-  unfolding ticks pokey_tick channels_ticked channel_ticked with_left turned pot_counted clocked
+  unfolding ticks pokey_tick channels_ticked channel_ticked with_left underflow_effect pot_counted clocked
   poly5-after zero = refl
   poly5-after (suc n) = rw (kept n p).skctl_kept (ap (rolled (is_held p.skctl) Five) (poly5-after n))
 
   pub poly9-after : (n : ℕ) → (times pokey_tick n p).poly9 ≡ times (rolled (is_held p.skctl) Nine) n p.poly9
-  unfolding ticks pokey_tick channels_ticked channel_ticked with_left turned pot_counted clocked
+  unfolding ticks pokey_tick channels_ticked channel_ticked with_left underflow_effect pot_counted clocked
   poly9-after zero = refl
   poly9-after (suc n) = rw (kept n p).skctl_kept (ap (rolled (is_held p.skctl) Nine) (poly9-after n))
 
   pub poly17-after : (n : ℕ) → (times pokey_tick n p).poly17 ≡ times (rolled (is_held p.skctl) Seventeen) n p.poly17
-  unfolding ticks pokey_tick channels_ticked channel_ticked with_left turned pot_counted clocked
+  unfolding ticks pokey_tick channels_ticked channel_ticked with_left underflow_effect pot_counted clocked
   poly17-after zero = refl
   poly17-after (suc n) = rw (kept n p).skctl_kept (ap (rolled (is_held p.skctl) Seventeen) (poly17-after n))
 
   pub pre28-after-all : (n : ℕ) → (times pokey_tick n p).pre28 ≡ times (prescaled (is_held p.skctl) 28) n p.pre28
-  unfolding ticks pokey_tick channels_ticked channel_ticked with_left turned pot_counted clocked
+  unfolding ticks pokey_tick channels_ticked channel_ticked with_left underflow_effect pot_counted clocked
   pre28-after-all zero = refl
   pre28-after-all (suc n) = rw (kept n p).skctl_kept (ap (prescaled (is_held p.skctl) 28) (pre28-after-all n))
 
   pub pre114-after-all : (n : ℕ) → (times pokey_tick n p).pre114 ≡ times (prescaled (is_held p.skctl) 114) n p.pre114
-  unfolding ticks pokey_tick channels_ticked channel_ticked with_left turned pot_counted clocked
+  unfolding ticks pokey_tick channels_ticked channel_ticked with_left underflow_effect pot_counted clocked
   pre114-after-all zero = refl
   pre114-after-all (suc n) = rw (kept n p).skctl_kept (ap (prescaled (is_held p.skctl) 114) (pre114-after-all n))

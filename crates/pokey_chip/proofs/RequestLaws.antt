@@ -11,7 +11,7 @@ use Rattle.pokey_chip.specs.declared.channel.Channel.TheVariants.{First, Second,
 use Rattle.bit_words.specs.Bits.{is_bit}
 use Rattle.board_base.specs.Sooner.{sooner_of}
 use Rattle.pokey_chip.specs.Pulses.{has_pulse, pulses_of, asks, HasNoUnderflow, MakesNoRequest, NoneRequests, FirstFails}
-use Rattle.pokey_chip.specs.Tick.{base_pulses, channel_ticked, channels_ticked, clocked, left_of, pokey_tick, pot_counted, requested, turned, underflows, with_bit, with_left}
+use Rattle.pokey_chip.specs.Tick.{base_pulses, channel_ticked, channels_ticked, clocked, left_of, pokey_tick, pot_counted, requested, underflow_effect, underflows, with_bit, with_left}
 use Rattle.pokey_chip.specs.Quiet.{requests_after, IsEverQuiet, IsQuietBefore, AnswersEachLag}
 use Rattle.pokey_chip.proofs.KeptLaws.{kept}
 use Rattle.pokey_chip.proofs.UnderflowLaws.{calm-before, calm-now, calm-then, left-fallen, no-underflow, has-spare}
@@ -36,7 +36,7 @@ abbrev calls : PokeyValue → Channel → Bool
 calls p c = underflows (base_pulses p) p c && asks p c
 
 irqst-tick : (p : PokeyValue) → (pokey_tick p).irqst ≡ made_of (calls p First) (calls p Second) (calls p Fourth) p.irqst
-unfolding pokey_tick channels_ticked channel_ticked with_left turned pot_counted clocked requested made_of
+unfolding pokey_tick channels_ticked channel_ticked with_left underflow_effect pot_counted clocked requested made_of
 irqst-tick p =
     rw (
       same-choice (underflows (base_pulses p) p Third),

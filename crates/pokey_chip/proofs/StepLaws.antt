@@ -11,13 +11,13 @@ use Rattle.pokey_chip.specs.declared.channel.Channel.{Channel}
 use Rattle.pokey_chip.specs.declared.channel.Channel.TheVariants.{First, Second, Third, Fourth}
 use Rattle.pokey_chip.specs.declared.noise.Outputs.{Outputs}
 use Rattle.pokey_chip.specs.declared.tones.Tuning.{Tuning}
-use Rattle.pokey_chip.specs.Moves.{turns_taken}
+use Rattle.pokey_chip.specs.Moves.{underflow_effects}
 use Rattle.pokey_chip.specs.Noise.{long_poly}
 use Rattle.pokey_chip.specs.Tick.{filtered, is_held, level, levelled, levels_of, long_register, pokey_tick, rolled, signal}
 use Rattle.pokey_chip.specs.Tones.{asker, audc_of, follower, has, level_on, levels_on, next_tone, of_channel, requests_made, IsTuning}
 use Rattle.pokey_chip.proofs.EventLaws.{stood}
 use Rattle.pokey_chip.proofs.RegisterLaws.{poly9-after, poly17-after}
-use Rattle.pokey_chip.proofs.TurnLaws.{next_by, turns-irqst, turns-irqst-fits, turns-pass, turns-pass-fits, turns-tone, turns-tone-fits}
+use Rattle.pokey_chip.proofs.EffectLaws.{next_by, effects-irqst, effects-irqst-fits, effects-pass, effects-pass-fits, effects-tone, effects-tone-fits}
 
 -- numbers of a few bits that have the same bits
 same-digit : (a b j : ℕ) → is_bit a j ≡ is_bit b j → bit_at a j ≡ bit_at b j
@@ -60,16 +60,16 @@ number-fits false true false = omega arith
 number-fits false false true = omega arith
 number-fits false false false = omega arith
 
-requests-fits : (turned irqen irqst : ℕ) → requests_made turned irqen irqst < 8
+requests-fits : (underflowed irqen irqst : ℕ) → requests_made underflowed irqen irqst < 8
 unfolding requests_made
-requests-fits turned irqen irqst = number-fits _ _ _
+requests-fits underflowed irqen irqst = number-fits _ _ _
 
-requests-bit : (turned irqen irqst j : ℕ) → j < 3 → is_bit (requests_made turned irqen irqst) j ≡ (is_bit irqst j && not (has turned (asker j) && is_bit irqen j))
+requests-bit : (underflowed irqen irqst j : ℕ) → j < 3 → is_bit (requests_made underflowed irqen irqst) j ≡ (is_bit irqst j && not (has underflowed (asker j) && is_bit irqen j))
 unfolding requests_made
-requests-bit turned irqen irqst zero h = (number-bit _ _ _).0
-requests-bit turned irqen irqst (suc zero) h = (number-bit _ _ _).1
-requests-bit turned irqen irqst (suc (suc zero)) h = (number-bit _ _ _).2
-requests-bit turned irqen irqst (suc (suc (suc j))) h = absurd (omega arith)
+requests-bit underflowed irqen irqst zero h = (number-bit _ _ _).0
+requests-bit underflowed irqen irqst (suc zero) h = (number-bit _ _ _).1
+requests-bit underflowed irqen irqst (suc (suc zero)) h = (number-bit _ _ _).2
+requests-bit underflowed irqen irqst (suc (suc (suc j))) h = absurd (omega arith)
 
 without : (b : Bool) → (b && true) ≡ b
 without true = refl
@@ -106,7 +106,7 @@ pub long-after : (n : ℕ) (p : PokeyValue) → times (rolled (is_held p.skctl) 
     ≡ (if is_bit p.audctl 7 then (times pokey_tick n p).poly9 else (times pokey_tick n p).poly17)
 long-after n p = long-by (is_bit p.audctl 7) n p
 
--- the tone bit by the words is that of the turn
+-- the tone bit by the words is that of the underflow's effect
 next-same : (tuning : Tuning) (outputs : Outputs) (p r : PokeyValue) (c : Channel) (tone : Bool) → IsTuning p tuning → r.audc ≡ p.audc
     → outputs.four ≡ is_bit r.poly4 0 → outputs.five ≡ is_bit r.poly5 0 → outputs.long ≡ is_bit (long_register r) 0
     → next_tone tuning outputs c tone ≡ next_by (audc_of r c) r tone
@@ -132,20 +132,20 @@ levels-same tuning p q on is audc audctl e =
       level-same tuning p q on Fourth is audc audctl (e Fourth),
     ) refl
 
--- a POKEY `r` before the turns of a clock, and `q` after them
-module _ (p r q : PokeyValue) (a b c d : Bool) (turns : levelled (turns_taken a b c d r) ≡ stood p q) (audc : r.audc ≡ p.audc) (irqen : r.irqen ≡ p.irqen)
+-- a POKEY `r` before the effects of a clock's underflows, and `q` after them
+module _ (p r q : PokeyValue) (a b c d : Bool) (effects : levelled (underflow_effects a b c d r) ≡ stood p q) (audc : r.audc ≡ p.audc) (irqen : r.irqen ≡ p.irqen)
     (due : ℕ) (is-due : (ch : Channel) → has due ch ≡ of_channel a b c d ch) where
-  tone-is : (turns_taken a b c d r).tone ≡ q.tone
+  tone-is : (underflow_effects a b c d r).tone ≡ q.tone
   unfolding stood
-  tone-is = ap (λ (s : PokeyValue). s.tone) turns
+  tone-is = ap (λ (s : PokeyValue). s.tone) effects
 
-  pass-is : (turns_taken a b c d r).pass ≡ q.pass
+  pass-is : (underflow_effects a b c d r).pass ≡ q.pass
   unfolding stood
-  pass-is = ap (λ (s : PokeyValue). s.pass) turns
+  pass-is = ap (λ (s : PokeyValue). s.pass) effects
 
-  irqst-is : (turns_taken a b c d r).irqst ≡ q.irqst
+  irqst-is : (underflow_effects a b c d r).irqst ≡ q.irqst
   unfolding stood
-  irqst-is = ap (λ (s : PokeyValue). s.irqst) turns
+  irqst-is = ap (λ (s : PokeyValue). s.irqst) effects
 
   pub tone-step : (tuning : Tuning) (outputs : Outputs) (tone new : ℕ) → IsTuning p tuning
       → outputs.four ≡ is_bit r.poly4 0 → outputs.five ≡ is_bit r.poly5 0 → outputs.long ≡ is_bit (long_register r) 0
@@ -153,11 +153,11 @@ module _ (p r q : PokeyValue) (a b c d : Bool) (turns : levelled (turns_taken a 
       → ((ch : Channel) → has new ch ≡ (if has due ch then next_tone tuning outputs ch (has tone ch) else has tone ch)) → new ≡ q.tone
   tone-step tuning outputs tone new is four five long same small few e =
       let fits : r.tone < 16 = omega arith in
-      four-same new (turns_taken a b c d r).tone few (turns-tone-fits a b c d r fits)
+      four-same new (underflow_effects a b c d r).tone few (effects-tone-fits a b c d r fits)
       (λ ch.
       e ch
       ∙ rw (is-due ch, next-same tuning outputs p r ch (has tone ch) is audc four five long, same) refl
-      ∙ sym (turns-tone a b c d r fits ch))
+      ∙ sym (effects-tone a b c d r fits ch))
       ∙ tone-is
 
   due-follower : (k : ℕ) → k < 2 → is_bit due (k + 2) ≡ of_channel a b c d (follower k)
@@ -169,25 +169,25 @@ module _ (p r q : PokeyValue) (a b c d : Bool) (turns : levelled (turns_taken a 
       → ((k : ℕ) → k < 2 → is_bit new k ≡ (if is_bit due (k + 2) then is_bit tone k else is_bit pass k)) → new ≡ q.pass
   pass-step tone pass new tones now same small few e =
       let fits : r.pass < 4 = omega arith in
-      two-same new (turns_taken a b c d r).pass few (turns-pass-fits a b c d r tones fits)
-      (λ k h. e k h ∙ rw (due-follower k h, now ∙ sym tone-is, same) refl ∙ sym (turns-pass a b c d r tones fits k h))
+      two-same new (underflow_effects a b c d r).pass few (effects-pass-fits a b c d r tones fits)
+      (λ k h. e k h ∙ rw (due-follower k h, now ∙ sym tone-is, same) refl ∙ sym (effects-pass a b c d r tones fits k h))
       ∙ pass-is
 
   due-asker : (j : ℕ) → j < 3 → has due (asker j) ≡ of_channel a b c d (asker j)
   due-asker j h = is-due (asker j)
 
-  pub irqst-step : (turned new : ℕ) → r.tone < 16 → requests_made turned p.irqen p.irqst ≡ r.irqst
-      → ((ch : Channel) → has new ch ≡ (has turned ch || has due ch)) → requests_made new p.irqen p.irqst ≡ q.irqst
-  irqst-step turned new tones same e =
-      let fits : r.irqst < 8 = omega (arith, requests-fits turned p.irqen p.irqst) in
-      three-same (requests_made new p.irqen p.irqst) (turns_taken a b c d r).irqst (requests-fits new p.irqen p.irqst) (turns-irqst-fits a b c d r tones fits)
+  pub irqst-step : (underflowed new : ℕ) → r.tone < 16 → requests_made underflowed p.irqen p.irqst ≡ r.irqst
+      → ((ch : Channel) → has new ch ≡ (has underflowed ch || has due ch)) → requests_made new p.irqen p.irqst ≡ q.irqst
+  irqst-step underflowed new tones same e =
+      let fits : r.irqst < 8 = omega (arith, requests-fits underflowed p.irqen p.irqst) in
+      three-same (requests_made new p.irqen p.irqst) (underflow_effects a b c d r).irqst (requests-fits new p.irqen p.irqst) (effects-irqst-fits a b c d r tones fits)
       (λ j h.
-      let before : is_bit r.irqst j ≡ (is_bit p.irqst j && not (has turned (asker j) && is_bit p.irqen j))
-      = ap (λ (n : ℕ). is_bit n j) (sym same) ∙ requests-bit turned p.irqen p.irqst j h in
+      let before : is_bit r.irqst j ≡ (is_bit p.irqst j && not (has underflowed (asker j) && is_bit p.irqen j))
+      = ap (λ (n : ℕ). is_bit n j) (sym same) ∙ requests-bit underflowed p.irqen p.irqst j h in
       requests-bit new p.irqen p.irqst j h
-      ∙ ap (λ (x : Bool). is_bit p.irqst j && not (x && is_bit p.irqen j)) (e (asker j) ∙ ap (λ (x : Bool). has turned (asker j) || x) (is-due (asker j)))
-      ∙ both (is_bit p.irqst j) (has turned (asker j)) (of_channel a b c d (asker j)) (is_bit p.irqen j)
+      ∙ ap (λ (x : Bool). is_bit p.irqst j && not (x && is_bit p.irqen j)) (e (asker j) ∙ ap (λ (x : Bool). has underflowed (asker j) || x) (is-due (asker j)))
+      ∙ both (is_bit p.irqst j) (has underflowed (asker j)) (of_channel a b c d (asker j)) (is_bit p.irqen j)
       ∙ ap (λ (x : Bool). x && not (of_channel a b c d (asker j) && is_bit p.irqen j)) (sym before)
       ∙ ap (λ (i : ℕ). is_bit r.irqst j && not (of_channel a b c d (asker j) && is_bit i j)) (sym irqen)
-      ∙ sym (turns-irqst a b c d r tones fits j h))
+      ∙ sym (effects-irqst a b c d r tones fits j h))
       ∙ irqst-is

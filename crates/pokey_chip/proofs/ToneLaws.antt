@@ -152,20 +152,20 @@ pick-two mask ones zeros other h g =
 pub ruleset picks = (pick-bits, pick-four, pick-two)
 
 -- the requests
-request-code : (turned : ℕ) → turned < 256 → (m : ℕ) → m < 64
-    → bit_and (m / 8) (bit_not w8 (bit_and (bit_or (bit_and turned 3) (bit_and (turned / 2) 4)) (m % 8))) ≡ requests_made turned (m % 8) (m / 8)
+request-code : (underflowed : ℕ) → underflowed < 256 → (m : ℕ) → m < 64
+    → bit_and (m / 8) (bit_not w8 (bit_and (bit_or (bit_and underflowed 3) (bit_and (underflowed / 2) 4)) (m % 8))) ≡ requests_made underflowed (m % 8) (m / 8)
 unfolding requests_made
 request-code =
-    same_by_tables 256 64 (λ turned m. bit_and (m / 8) (bit_not w8 (bit_and (bit_or (bit_and turned 3) (bit_and (turned / 2) 4)) (m % 8))))
-    (λ turned m. requests_made turned (m % 8) (m / 8))
+    same_by_tables 256 64 (λ underflowed m. bit_and (m / 8) (bit_not w8 (bit_and (bit_or (bit_and underflowed 3) (bit_and (underflowed / 2) 4)) (m % 8))))
+    (λ underflowed m. requests_made underflowed (m % 8) (m / 8))
     refl
 
-pub requests-code : (turned irqen irqst : ℕ) → turned < 2 ^ 8 → irqen < 8 → irqst < 8
-    → bit_and irqst (bit_not w8 (bit_and (bit_or (bit_and turned 3) (bit_and (turned / 2) 4)) irqen)) ≡ requests_made turned irqen irqst
-requests-code turned irqen irqst small enabled standing =
+pub requests-code : (underflowed irqen irqst : ℕ) → underflowed < 2 ^ 8 → irqen < 8 → irqst < 8
+    → bit_and irqst (bit_not w8 (bit_and (bit_or (bit_and underflowed 3) (bit_and (underflowed / 2) 4)) irqen)) ≡ requests_made underflowed irqen irqst
+requests-code underflowed irqen irqst small enabled standing =
     let low : (irqen + 8 * irqst) % 8 ≡ irqen = omega arith in
     let high : (irqen + 8 * irqst) / 8 ≡ irqst = omega arith in
-    rw (low, high) at (request-code turned small (irqen + 8 * irqst) (omega arith))
+    rw (low, high) at (request-code underflowed small (irqen + 8 * irqst) (omega arith))
 
 pub ruleset requests = (requests-code, and_le_l)
 

@@ -11,13 +11,13 @@ use Rattle.pokey_chip.specs.declared.channel.Channel.{Channel}
 use Rattle.pokey_chip.specs.declared.channel.Channel.TheVariants.{First, Second, Third, Fourth}
 use Rattle.pokey_chip.specs.Channels.{period_of}
 use Rattle.pokey_chip.specs.Pulses.{has_pulse, pulses_of, HasNoUnderflow, NoneUnderflows}
-use Rattle.pokey_chip.specs.Tick.{base_pulses, change, channel_ticked, channels_ticked, clocked, left_after, left_of, levelled, levels_made, levels_of, pokey_gives, pokey_tick, pot_counted, signal, turned, underflows, with_left}
-use Rattle.pokey_chip.proofs.CountLaws.{all_turned, counted_on, counts-first, left-is, underflow-is}
+use Rattle.pokey_chip.specs.Tick.{base_pulses, change, channel_ticked, channels_ticked, clocked, left_after, left_of, levelled, levels_made, levels_of, pokey_gives, pokey_tick, pot_counted, signal, underflow_effect, underflows, with_left}
+use Rattle.pokey_chip.proofs.CountLaws.{all_effects, counted_on, counts-first, left-is, underflow-is}
 use Rattle.pokey_chip.proofs.KeptLaws.{kept}
 
 -- what is left of a channel one clock later
 pub left-tick : (c : Channel) (p : PokeyValue) → left_of c (pokey_tick p) ≡ left_after (base_pulses p) p c
-unfolding pokey_tick channels_ticked channel_ticked with_left turned pot_counted clocked
+unfolding pokey_tick channels_ticked channel_ticked with_left underflow_effect pot_counted clocked
 left-tick First p = refl
 left-tick Second p = refl
 left-tick Third p = refl
@@ -93,16 +93,16 @@ pub record Same (p q : PokeyValue) : Type 0 where
   pub pass_same : q.pass ≡ p.pass
   pub last_same : q.last ≡ p.last
 
-pub turned-not : (p q : PokeyValue) → IsPlain p → all_turned p q ≡ q
-unfolding all_turned turned
-turned-not p q plain = rw (plain.first, plain.second, plain.third, plain.fourth) refl
+pub no-effect : (p q : PokeyValue) → IsPlain p → all_effects p q ≡ q
+unfolding all_effects underflow_effect
+no-effect p q plain = rw (plain.first, plain.second, plain.third, plain.fourth) refl
 
 pub levels-kept : (p : PokeyValue) → levels_of (counted_on p) ≡ levels_of p
 unfolding counted_on pot_counted clocked levels_of signal
 levels-kept p = refl
 
 pub plain-tick : (p : PokeyValue) → IsPlain p → pokey_tick p ≡ levelled (counted_on p)
-plain-tick p plain = counts-first p ∙ ap levelled (turned-not p (counted_on p) plain)
+plain-tick p plain = counts-first p ∙ ap levelled (no-effect p (counted_on p) plain)
 
 pub plain-same : (p : PokeyValue) → p.last ≡ levels_of p → IsPlain p → Same p (pokey_tick p)
 unfolding counted_on pot_counted clocked

@@ -13,7 +13,7 @@ use Rattle.pokey_chip.specs.declared.voice.Voice.{Voice}
 use Rattle.pokey_chip.specs.Channels.{period_of}
 use Rattle.pokey_chip.specs.Paces.{IsPace, paced}
 use Rattle.pokey_chip.specs.Pulses.{pulses_of}
-use Rattle.pokey_chip.specs.Tick.{left_of, pokey_tick, turned}
+use Rattle.pokey_chip.specs.Tick.{left_of, pokey_tick, underflow_effect}
 
 -- the clock with which a pulse comes; the greatest number of 64 bits where none does
 abbrev pub due_at : ClockSource → ℕ → ℕ
@@ -83,7 +83,7 @@ pub record IsVoice (c : Channel) (done : ℕ) (p : PokeyValue) (v : Voice) : Typ
   pub some : 1 ≤ left_of c (times pokey_tick done p)
   pub most : left_of c (times pokey_tick done p) ≤ LONGEST_PERIOD
 
--- the turns of those channels that are due, in order
-unfoldable pub turns_taken : Bool → Bool → Bool → Bool → PokeyValue → PokeyValue
-turns_taken first second third fourth p =
-    turned fourth Fourth (turned third Third (turned second Second (turned first First p)))
+-- the effects of those channels' underflows that are due, in order
+unfoldable pub underflow_effects : Bool → Bool → Bool → Bool → PokeyValue → PokeyValue
+underflow_effects first second third fourth p =
+    underflow_effect fourth Fourth (underflow_effect third Third (underflow_effect second Second (underflow_effect first First p)))

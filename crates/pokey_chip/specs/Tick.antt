@@ -131,9 +131,9 @@ passed Second p = p.pass
 passed Third p = with_bit p.pass 0 (tone_of First p)
 passed Fourth p = with_bit p.pass 1 (tone_of Second p)
 
--- step 4, a channel's turn: what its underflow does
-unfoldable pub turned : Bool → Channel → PokeyValue → PokeyValue
-turned underflow c p = record p {
+-- step 4: what a channel's underflow does
+unfoldable pub underflow_effect : Bool → Channel → PokeyValue → PokeyValue
+underflow_effect underflow c p = record p {
   irqst = if underflow then requested c p else p.irqst;
   tone = if underflow then toned c p else p.tone;
   pass = if underflow then passed c p else p.pass;
@@ -166,9 +166,9 @@ levels_of p = level p First ∷ level p Second ∷ level p Third ∷ level p Fou
 abbrev pub levelled : PokeyValue → PokeyValue
 levelled p = record p { last = levels_of p }
 
--- steps 3 and 4 of a channel: it counts, and where it underflows it takes its turn
+-- steps 3 and 4 of a channel: it counts, and its underflow takes effect where it has one
 unfoldable pub channel_ticked : Bool → Channel → PokeyValue → PokeyValue
-channel_ticked base c p = turned (underflows base p c) c (with_left c (left_after base p c) p)
+channel_ticked base c p = underflow_effect (underflows base p c) c (with_left c (left_after base p c) p)
 
 -- steps 3 and 4: channels 1 to 4 in order
 unfoldable pub channels_ticked : Bool → PokeyValue → PokeyValue

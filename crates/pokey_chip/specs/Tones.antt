@@ -64,8 +64,8 @@ levels_on on audc = level_on on audc First ∷ level_on on audc Second ∷ level
 
 -- IRQST after underflows of these channels, with the requests of IRQEN; channel 3 makes none
 unfoldable pub requests_made : ℕ → ℕ → ℕ → ℕ
-requests_made turned irqen irqst = number (
-    (is_bit irqst 0 && not (has turned First && is_bit irqen 0))
-    ∷ (is_bit irqst 1 && not (has turned Second && is_bit irqen 1))
-    ∷ (is_bit irqst 2 && not (has turned Fourth && is_bit irqen 2))
+requests_made underflowed irqen irqst = number (
+    (is_bit irqst 0 && not (has underflowed First && is_bit irqen 0))
+    ∷ (is_bit irqst 1 && not (has underflowed Second && is_bit irqen 1))
+    ∷ (is_bit irqst 2 && not (has underflowed Fourth && is_bit irqen 2))
     ∷ [])

@@ -5,9 +5,9 @@ ghost use Rattle.pokey_chip.specs.Tick.{with_bit};
 #[tactic(auto, using(crate::proofs::BitLemmas::bit_writes))]
 pub(crate) fn put_bit(bits: u8, k: u32, bit: bool) -> u8
     requires place { k < 4 }
-    requires fits { bits < 16 }
+    requires in_range { bits < 16 }
     ensures value { result ≡ with_bit bits k bit }
-    ensures fits { result < 16 }
+    ensures in_range { result < 16 }
 {
     if bit {
         bits | (1 << k)
@@ -20,9 +20,9 @@ pub(crate) fn put_bit(bits: u8, k: u32, bit: bool) -> u8
 #[tactic(auto, using(crate::proofs::BitLemmas::bit_writes))]
 pub(crate) fn put_pass(bits: u8, k: u32, bit: bool) -> u8
     requires place { k < 2 }
-    requires fits { bits < 4 }
+    requires in_range { bits < 4 }
     ensures value { result ≡ with_bit bits k bit }
-    ensures fits { result < 4 }
+    ensures in_range { result < 4 }
 {
     put_bit(bits, k, bit)
 }
@@ -31,9 +31,9 @@ pub(crate) fn put_pass(bits: u8, k: u32, bit: bool) -> u8
 #[tactic(auto, using(crate::proofs::BitLemmas::bit_writes))]
 pub(crate) fn clear_bit(bits: u8, k: u32) -> u8
     requires place { k < 3 }
-    requires fits { bits < 8 }
+    requires in_range { bits < 8 }
     ensures value { result ≡ with_bit bits k false }
-    ensures fits { result < 8 }
+    ensures in_range { result < 8 }
 {
     put_bit(bits, k, false)
 }

@@ -70,7 +70,7 @@ fn register(held: bool, poly: Poly, word: u64, k: u64) -> u32
     requires ahead { held ≡ false → IsAhead poly (word % 2 ^ width_of poly) (REACH + width_of poly) word }
     requires reach { k ≤ REACH }
     ensures value { (r : ℕ) (since : ℕ) → (held ≡ false → IsWord poly r since word) → 1 ≤ since + k → result ≡ times (rolled held poly) (since + k) r }
-    ensures fits { result < 2 ^ width_of poly }
+    ensures in_range { result < 2 ^ width_of poly }
 {
     if held {
         all_ones(poly)
@@ -83,10 +83,10 @@ fn register(held: bool, poly: Poly, word: u64, k: u64) -> u32
 #[inline(always)]
 #[tactic(auto, using(crate::proofs::RegisterLaws::rolls))]
 fn rolled(held: bool, poly: Poly, r: u32, n: u64) -> u32
-    requires fits { r < 2 ^ width_of poly }
+    requires in_range { r < 2 ^ width_of poly }
     requires some { 1 ≤ n }
     ensures value { result ≡ times (rolled held poly) n r }
-    ensures fits { result < 2 ^ width_of poly }
+    ensures in_range { result < 2 ^ width_of poly }
 {
     if held {
         all_ones(poly)
@@ -175,7 +175,7 @@ impl Noise {
         requires since { self.since ≤ n }
         requires reach { n ≤ self.since + REACH }
         ensures value { result ≡ times (rolled (is_held start.now.skctl) Poly.Nine) n start.now.poly9 }
-        ensures fits { result < 512 }
+        ensures in_range { result < 512 }
     {
         let held = is_held(start.skctl);
         if is_set(start.audctl, NINE_BITS) {
@@ -193,7 +193,7 @@ impl Noise {
         requires since { self.since ≤ n }
         requires reach { n ≤ self.since + REACH }
         ensures value { result ≡ times (rolled (is_held start.now.skctl) Poly.Seventeen) n start.now.poly17 }
-        ensures fits { result < 131072 }
+        ensures in_range { result < 131072 }
     {
         let held = is_held(start.skctl);
         if is_set(start.audctl, NINE_BITS) {

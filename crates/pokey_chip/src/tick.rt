@@ -2,7 +2,7 @@ ghost use Rattle.std.specs.Prelude.{◌≡◌, ◌+◌, ◌-◌, ◌^◌, ◌<�
 ghost use Rattle.board_base.specs.Trail.{Extended};
 ghost use Rattle.pokey_poly.specs.Shift.{width_of};
 ghost use Rattle.pokey_timer.specs.Prescaler.{pulsed};
-ghost use Rattle.pokey_chip.specs.Tick.{base_pulses, change, channel_ticked, channels_ticked, clocked, filtered, is_held, is_pulsed, left_after, level, levels_of, line_pulses, long_register, new_tone, passed, pokey_gives, pokey_tick, pot_counted, pots_rise, prescaled, request, requested, rolled, signal, toned, tone_of, turned, underflows};
+ghost use Rattle.pokey_chip.specs.Tick.{base_pulses, change, channel_ticked, channels_ticked, clocked, filtered, is_held, is_pulsed, left_after, level, levels_of, line_pulses, long_register, new_tone, passed, pokey_gives, pokey_tick, pot_counted, pots_rise, prescaled, request, requested, rolled, signal, toned, tone_of, underflow_effect, underflows};
 
 use crate::bits::{clear_bit, put_bit, put_pass};
 use crate::channel::Channel;
@@ -40,7 +40,7 @@ pub(crate) fn all_ones(poly: Poly) -> u32
 fn roll(held: bool, poly: Poly, r: u32) -> u32
     requires { r < 2 ^ width_of poly }
     ensures value { result ≡ rolled held poly r }
-    ensures fits { result < 2 ^ width_of poly }
+    ensures in_range { result < 2 ^ width_of poly }
 {
     if held { all_ones(poly) } else { poly.shift(r) }
 }
@@ -50,7 +50,7 @@ fn roll(held: bool, poly: Poly, r: u32) -> u32
 fn prescale(held: bool, period: u8, count: u8) -> u8
     requires { count < period }
     ensures value { result ≡ prescaled held period count }
-    ensures fits { result < period }
+    ensures in_range { result < period }
 {
     if held || count + 1 == period {
         0
@@ -155,7 +155,7 @@ fn left_after(state: &PokeyState, base: bool, channel: Channel) -> u32
 fn request_made(state: &PokeyState, k: u32) -> u8
     requires { k < 3 }
     ensures value { result ≡ request k state.now }
-    ensures fits { result < 8 }
+    ensures in_range { result < 8 }
 {
     let irqst = state.irqst;
     if is_set(state.irqen, k) {
@@ -169,7 +169,7 @@ fn request_made(state: &PokeyState, k: u32) -> u8
 #[tactic(auto, unfolding(crate::specs::Tick::requested))]
 fn requests(state: &PokeyState, channel: Channel) -> u8
     ensures value { result ≡ requested channel state.now }
-    ensures fits { result < 8 }
+    ensures in_range { result < 8 }
 {
     match channel {
         Channel::First => request_made(state, 0),
@@ -182,7 +182,7 @@ fn requests(state: &PokeyState, channel: Channel) -> u8
 /// The long register.
 pub(crate) fn long_register(state: &PokeyState) -> u32
     ensures value { result ≡ long_register state.now }
-    ensures fits { result < 131072 }
+    ensures in_range { result < 131072 }
 {
     if is_set(state.audctl, NINE_BITS) {
         u32::from(state.poly9)
@@ -217,7 +217,7 @@ fn next_tone(state: &PokeyState, audc: u8, channel: Channel) -> bool
 #[tactic(auto, unfolding(crate::specs::Tick::toned))]
 fn tones(state: &PokeyState, channel: Channel) -> u8
     ensures value { result ≡ toned channel state.now }
-    ensures fits { result < 16 }
+    ensures in_range { result < 16 }
 {
     let k = channel.index();
     let bit = next_tone(state, state.audc[k], channel);
@@ -228,7 +228,7 @@ fn tones(state: &PokeyState, channel: Channel) -> u8
 #[tactic(auto, unfolding(crate::specs::Tick::passed))]
 fn passes(state: &PokeyState, channel: Channel) -> u8
     ensures value { result ≡ passed channel state.now }
-    ensures fits { result < 4 }
+    ensures in_range { result < 4 }
 {
     match channel {
         Channel::First | Channel::Second => state.pass,
@@ -237,10 +237,10 @@ fn passes(state: &PokeyState, channel: Channel) -> u8
     }
 }
 
-/// The fourth step of a clock, a channel's turn: what its underflow does.
-#[tactic(auto, unfolding(crate::specs::Tick::turned))]
-pub(crate) fn turn(state: &mut PokeyState, underflow: bool, channel: Channel)
-    ensures { state.new ≡ turned underflow channel state.old }
+/// The fourth step of a clock: what a channel's underflow does.
+#[tactic(auto, unfolding(crate::specs::Tick::underflow_effect))]
+pub(crate) fn underflow_effect(state: &mut PokeyState, underflow: bool, channel: Channel)
+    ensures { state.new ≡ underflow_effect underflow channel state.old }
 {
     if underflow {
         let irqst = requests(state, channel);
@@ -255,15 +255,15 @@ pub(crate) fn turn(state: &mut PokeyState, underflow: bool, channel: Channel)
     }
 }
 
-/// The third and fourth step of a clock for a channel: it counts its pulse, and takes its turn where
-/// it underflows.
+/// The third and fourth step of a clock for a channel: it counts its pulse, and its underflow takes
+/// effect where it has one.
 #[tactic(auto, using(crate::proofs::CountLaws::places), unfolding(crate::specs::Tick::channel_ticked, crate::specs::Tick::with_left))]
 fn tick_channel(state: &mut PokeyState, base: bool, channel: Channel)
     ensures { state.new ≡ channel_ticked base channel state.old }
 {
     let underflow = underflows(state, base, channel);
     state.left[channel.index()] = left_after(state, base, channel);
-    turn(state, underflow, channel);
+    underflow_effect(state, underflow, channel);
 }
 
 /// The third and fourth step of a clock: channels 1 to 4 in order.
@@ -308,7 +308,7 @@ fn signal_of(state: &PokeyState, channel: Channel) -> bool
 /// The level of a channel.
 fn level(state: &PokeyState, channel: Channel) -> u8
     ensures value { result ≡ level state.now channel }
-    ensures fits { result < 16 }
+    ensures in_range { result < 16 }
 {
     let audc = state.audc[channel.index()];
     if is_set(audc, VOLUME_ONLY) || signal_of(state, channel) {
@@ -322,7 +322,7 @@ fn level(state: &PokeyState, channel: Channel) -> u8
 #[tactic(auto, unfolding(crate::specs::Tick::levels_of))]
 pub(crate) fn levels(state: &PokeyState) -> [u8; 4]
     ensures value { result ≡ levels_of state.now }
-    ensures fits { All (λ level. level < 16) result }
+    ensures in_range { All (λ level. level < 16) result }
 {
     [
         level(state, Channel::First),

@@ -15,7 +15,7 @@ use board_base::PokeyState;
 #[tactic(auto, using(crate::proofs::ToneLaws::words))]
 pub(crate) fn four_bits(first: bool, second: bool, third: bool, fourth: bool) -> u8
     ensures bits { (c : AnyChannel) → has result c ≡ of_channel first second third fourth c }
-    ensures fits { result < 16 }
+    ensures in_range { result < 16 }
 {
     u8::from(first) + 2 * u8::from(second) + 4 * u8::from(third) + 8 * u8::from(fourth)
 }
@@ -25,7 +25,7 @@ pub(crate) fn four_bits(first: bool, second: bool, third: bool, fourth: bool) ->
 #[tactic(auto, using(crate::proofs::ToneLaws::words))]
 fn all(bit: bool) -> u8
     ensures bits { (c : AnyChannel) → has result c ≡ bit }
-    ensures fits { result < 16 }
+    ensures in_range { result < 16 }
 {
     if bit { 15 } else { 0 }
 }
@@ -56,7 +56,7 @@ pub struct Tuning {
 fn channels_with(audc: &[u8; 4], k: u32) -> u8
     requires { k < 8 }
     ensures bits { (c : AnyChannel) → has result c ≡ is_bit (slice_index audc.now (place c)) k }
-    ensures fits { result < 16 }
+    ensures in_range { result < 16 }
 {
     four_bits(
         is_set(audc[0], k),
@@ -92,7 +92,7 @@ impl Tuning {
 pub struct Tones {
     pub tone: u8,
     pub pass: u8,
-    pub turned: u8,
+    pub underflowed: u8,
     ghost tone_bits: { tone < 16 },
     ghost pass_bits: { pass < 4 },
 }
@@ -103,12 +103,12 @@ impl Tones {
     pub fn of(state: &PokeyState) -> Tones
         ensures tone { result.tone ≡ state.now.tone }
         ensures pass { result.pass ≡ state.now.pass }
-        ensures turned { result.turned ≡ 0 }
+        ensures underflowed { result.underflowed ≡ 0 }
     {
         Tones {
             tone: state.tone,
             pass: state.pass,
-            turned: 0,
+            underflowed: 0,
         }
     }
 
@@ -119,7 +119,7 @@ impl Tones {
         requires { due < 16 }
         ensures tone { (c : AnyChannel) → has result.tone c ≡ (if has due c then next_tone tuning.now outputs c (has self.tone c) else has self.tone c) }
         ensures pass { (k : ℕ) → k < 2 → is_bit result.pass k ≡ (if is_bit due (k + 2) then is_bit result.tone k else is_bit self.pass k) }
-        ensures turned { (c : AnyChannel) → has result.turned c ≡ (has self.turned c || has due c) }
+        ensures underflowed { (c : AnyChannel) → has result.underflowed c ≡ (has self.underflowed c || has due c) }
     {
         let noise = pick(tuning.four, all(outputs.four), all(outputs.long));
         let next = pick(tuning.pure, !self.tone, noise);
@@ -128,7 +128,7 @@ impl Tones {
         Tones {
             tone,
             pass: pick(due >> 2, tone, self.pass),
-            turned: self.turned | due,
+            underflowed: self.underflowed | due,
         }
     }
 
@@ -146,7 +146,7 @@ impl Tones {
 #[tactic(auto, unfolding(crate::specs::Tones::levels_on))]
 pub(crate) fn levels_on(on: u8, audc: &[u8; 4]) -> [u8; 4]
     ensures value { result ≡ levels_on on audc.now }
-    ensures fits { All (λ level. level < 16) result }
+    ensures in_range { All (λ level. level < 16) result }
 {
     [
         if is_set(on, 0) { audc[0] % 16 } else { 0 },
@@ -160,13 +160,13 @@ pub(crate) fn levels_on(on: u8, audc: &[u8; 4]) -> [u8; 4]
 /// and 2, where they are enabled.
 #[inline(always)]
 #[tactic(auto, using(crate::proofs::ToneLaws::requests))]
-fn requests_made(turned: u8, irqen: u8, irqst: u8) -> u8
+fn requests_made(underflowed: u8, irqen: u8, irqst: u8) -> u8
     requires enabled { irqen < 8 }
     requires standing { irqst < 8 }
-    ensures value { result ≡ requests_made turned irqen irqst }
-    ensures fits { result < 8 }
+    ensures value { result ≡ requests_made underflowed irqen irqst }
+    ensures in_range { result < 8 }
 {
-    let asked = (turned & 3) | ((turned >> 1) & 4);
+    let asked = (underflowed & 3) | ((underflowed >> 1) & 4);
     irqst & !(asked & irqen)
 }
 
@@ -178,14 +178,14 @@ pub(crate) fn put_tones(state: &mut PokeyState, tones: Tones, last: [u8; 4])
     ensures { state.new ≡ record state.old {
       tone = tones.tone;
       pass = tones.pass;
-      irqst = requests_made tones.turned state.old.irqen state.old.irqst;
+      irqst = requests_made tones.underflowed state.old.irqen state.old.irqst;
       last = last;
     } }
 {
     *state = PokeyState {
         tone: tones.tone,
         pass: tones.pass,
-        irqst: requests_made(tones.turned, state.irqen, state.irqst),
+        irqst: requests_made(tones.underflowed, state.irqen, state.irqst),
         last,
         ..*state
     };

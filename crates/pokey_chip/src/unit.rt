@@ -59,7 +59,7 @@ pub trait SoundUnit: Clocked {
 }
 
 /// A clock gives one record at most, so that a move has room where its trail has room for as many
-/// records as there are clocks; and each record is of its own clock. It tells a law, and does
+/// records as there are clocks; and each record is of its own clock. It states a law, and does
 /// nothing.
 #[tactic(auto, using(crate::proofs::RecordLemmas::few_records))]
 pub fn one_record_a_clock()

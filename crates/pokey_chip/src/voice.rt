@@ -154,7 +154,7 @@ impl Voices {
     #[inline(always)]
     pub fn due(&self, at: u64) -> u8
         ensures bits { (c : AnyChannel) → has result c ≡ of_channel (self.now.first.due == at) (self.now.second.due == at) (self.now.third.due == at) (self.now.fourth.due == at) c }
-        ensures fits { result < 16 }
+        ensures in_range { result < 16 }
     {
         four_bits(
             self.first.due == at,

@@ -81,11 +81,11 @@ impl Poly {
     #[inline(always)]
     #[tactic(auto, unfolding(crate::specs::Shift::shifted))]
     pub fn shift(self, r: u32) -> u32
-        requires fits { r < 2 ^ width_of self }
+        requires in_range { r < 2 ^ width_of self }
         ensures value { result ≡ shifted self r }
         ensures below { (k : ℕ) → k + 1 < width_of self → is_bit result k ≡ is_bit r (k + 1) }
         ensures top { is_bit result (width_of self - 1) ≡ incoming (tap_of self) r }
-        ensures fits { result < 2 ^ width_of self }
+        ensures in_range { result < 2 ^ width_of self }
     {
         match self {
             Poly::Four => moved_down(r, 1, 3),
@@ -99,9 +99,9 @@ impl Poly {
     #[inline(always)]
     #[tactic(auto, using(crate::proofs::LeapLaws::moves))]
     pub fn leap(self, r: u32, n: u64) -> u32
-        requires fits { r < 2 ^ width_of self }
+        requires in_range { r < 2 ^ width_of self }
         ensures value { result ≡ times (shifted self) n r }
-        ensures fits { result < 2 ^ width_of self }
+        ensures in_range { result < 2 ^ width_of self }
     {
         let mut now = r;
         let mut left = self.wrapped(n);
@@ -127,10 +127,10 @@ impl Poly {
     /// The register after a move.
     #[inline(always)]
     fn after(self, r: u32, n: u64) -> u32
-        requires fits { r < 2 ^ width_of self }
+        requires in_range { r < 2 ^ width_of self }
         requires reach { n ≤ REACH }
         ensures value { result ≡ times (shifted self) n r }
-        ensures fits { result < 2 ^ width_of self }
+        ensures in_range { result < 2 ^ width_of self }
     {
         self.window(self.ahead(r), n)
     }
@@ -143,7 +143,7 @@ impl Poly {
         requires ahead { IsAhead self (ahead % 2 ^ width_of self) (REACH + width_of self) ahead }
         requires reach { n ≤ REACH }
         ensures value { result ≡ times (shifted self) n (ahead % 2 ^ width_of self) }
-        ensures fits { result < 2 ^ width_of self }
+        ensures in_range { result < 2 ^ width_of self }
     {
         let low = (1 << self.width()) - 1;
         ((ahead >> n) & low) as u32
@@ -177,7 +177,7 @@ impl Poly {
     #[inline(always)]
     #[tactic(auto, using(crate::proofs::TableLaws::tables))]
     pub fn ahead(self, r: u32) -> u64
-        requires fits { r < 2 ^ width_of self }
+        requires in_range { r < 2 ^ width_of self }
         ensures ahead { IsAhead self r (REACH + width_of self) result }
         ensures start { result % 2 ^ width_of self ≡ r }
     {
@@ -193,7 +193,7 @@ impl Poly {
 /// The next 59 bits that leave the 9-bit register from a value on, the lowest first.
 #[inline(always)]
 fn nine_on(r: u32) -> u64
-    requires fits { r < 2 ^ 9 }
+    requires in_range { r < 2 ^ 9 }
     ensures ahead { IsAhead Poly.Nine r 59 result }
 {
     let mut ahead = u64::from(r);
@@ -207,7 +207,7 @@ fn nine_on(r: u32) -> u64
 /// The next 64 bits that leave the 17-bit register from a value on, the lowest first.
 #[inline(always)]
 fn seventeen_on(r: u32) -> u64
-    requires fits { r < 2 ^ 17 }
+    requires in_range { r < 2 ^ 17 }
     ensures ahead { IsAhead Poly.Seventeen r 64 result }
 {
     let mut ahead = u64::from(r);
@@ -240,11 +240,11 @@ fn lengthened(word: u64, place: u32, tap: u32) -> u64
 fn moved_down(r: u32, tap: u32, top: u32) -> u32
     requires tap { tap ≤ top }
     requires top { top < 31 }
-    requires fits { r < 2 ^ (top + 1) }
+    requires in_range { r < 2 ^ (top + 1) }
     ensures value { result ≡ moved (top + 1) tap r }
     ensures below { (k : ℕ) → k < top → is_bit result k ≡ is_bit r (k + 1) }
     ensures top { is_bit result top ≡ incoming tap r }
-    ensures fits { result < 2 ^ (top + 1) }
+    ensures in_range { result < 2 ^ (top + 1) }
 {
     let bit = ((r >> tap) ^ r) & 1;
     (r >> 1) | (bit << top)

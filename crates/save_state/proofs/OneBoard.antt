@@ -326,7 +326,7 @@ same_second b c g h same =
 same_first : (b c : BoardValue) → IsWhole b → IsWhole c → b.cpu.mid ≡ None → c.cpu.mid ≡ None → pieces_of (table 1) b ≡ pieces_of (table 1) c → b ≡ c
 same_first b c g h e f same = same_pieces 1 b c g h (ap (λ (ps : List (List ℕ)). take 19 ps) same) (e ∙ sym f) (ap (λ (ps : List (List ℕ)). drop 27 ps) same)
 
--- what the bytes of a processor inside a sequence tell of it
+-- what the bytes of a processor inside a sequence state of it
 abbrev with_mid : BoardValue → MidValue → BoardValue
 with_mid b m = record b { cpu = record b.cpu { mid = Some m } }
 

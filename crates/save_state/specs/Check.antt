@@ -63,7 +63,7 @@ pub record BreaksIn (version : ℕ) (file : List ℕ) (base : ℕ) (fields : Lis
 abbrev pub pieces_in : {V : Type 0} → ℕ → List ℕ → List (Row V) → List (List ℕ)
 pieces_in base file rows = map (λ r. take r.width (drop (base + r.at) file)) rows
 
--- a board as the fields of a file tell it
+-- a board as the fields of a file state it
 pub record IsDecoded (file : List ℕ) (b : BoardValue) : Type 0 where
   pub clock : pieces_of clock_rows b.clock ≡ pieces_in 0 file clock_rows
   pub registers : pieces_of register_rows b.cpu ≡ pieces_in 0 file register_rows

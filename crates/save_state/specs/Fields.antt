@@ -21,7 +21,7 @@ pub data Range : Type 0 where
   undocumented_opcode : Range
   place : Range
 
--- bytes are in a range, in a file that tells of this processor; numbers stand low byte first, signed ones in two's
+-- bytes are in a range, in a file of this processor; numbers stand low byte first, signed ones in two's
 -- complement
 abbrev pub Fits : CpuValue → Range → List ℕ → Type 0
 Fits cpu anything piece = Unit {0}
@@ -114,7 +114,7 @@ rows_of part rows = map (λ r. record { at = r.at; width = r.width; range = r.ra
 abbrev pub rows_at : {V : Type 0} → ℕ → List (Row V) → List (Row V)
 rows_at n rows = map (λ r. record { at = n + r.at; width = r.width; range = r.range; spelled = r.spelled }) rows
 
--- the fields of a table, in a file that tells this
+-- the fields of a table, in a file that states this
 abbrev pub fields_of : {V : Type 0} → Facts → List (Row V) → List Field
 fields_of facts rows = map (λ r. record { width = r.width; range = r.range facts }) rows
 

@@ -286,15 +286,15 @@ facts_of version file = record {
   drawing = slice_index file 45 == DRAW;
 }
 
--- the sequence that a number from 1 to 3 tells
+-- the sequence that a number from 1 to 3 represents
 abbrev pub sequence_of : ℕ → Sequence
 sequence_of n = if n == 1 then Opcode else (if n == 2 then Interrupt else Reset)
 
--- the place that a file tells, in bytes 30 to 37
+-- the place that a file states, in bytes 30 to 37
 abbrev pub middle_at : List ℕ → MidValue
 middle_at file = record { sequence = sequence_of (slice_index file 30); count = slice_index file 31; bytes = take 6 (drop 32 file) }
 
--- the processor that a file tells
+-- the processor that a file states
 abbrev pub processor_of : List ℕ → CpuValue
 processor_of file = record {
   pc = from_le_bytes w16 (take 2 (drop 12 file));

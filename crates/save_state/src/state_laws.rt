@@ -26,7 +26,7 @@ pub fn state_numbers()
     ensures second { sum_by (λ row. row.width) (table 2) ≡ 4356 }
 {}
 
-/// Each part of a board is in range, as its type keeps it. The reads stand for the prover: each
+/// Each part of a board is in range, as its type keeps it. The reads are for the prover: each
 /// opens the part that it reads.
 pub fn lemma_ranges(state: &BoardState)
     requires undocumented { IfSome state.now.cpu.jam (λ o. row_of o ≡ None) }

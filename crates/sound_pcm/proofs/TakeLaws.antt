@@ -1,15 +1,16 @@
 -- A mixer's samples as they are gathered, a record at a time.
-use Rattle.std.proofs.Common.{◌≡◌, ℕ, ◌+◌, ◌-◌, List, [], ◌++◌, Option, Some, Result, Ok, Err, OnOk, take, replicate, ap, append-nil, sym, ◌∙◌}
+use Rattle.std.proofs.Common.{◌≡◌, ℕ, ◌+◌, ◌-◌, List, [], ◌++◌, Option, Some, Result, Ok, Err, OnOk, take, replicate, ap, ◌∙◌}
 use Rattle.std.specs.List.{sum}
 use Rattle.board_base.specs.declared.part.Part.{Part}
 use Rattle.board_base.specs.declared.record.Record.{Record}
 use Rattle.board_base.specs.Records.{clock_of}
+use Rattle.outside_io.specs.Gathering.{IsGathered}
 use Rattle.outside_io.specs.Known.{grown}
-use Rattle.sound_pcm.specs.Gathering.{IsGathered}
+use Rattle.outside_io.proofs.GatherLaws.{gathered-as, gathered-cut, gathered-piece, gathered-piece-cut, gathered-then}
 use Rattle.sound_pcm.specs.Samples.{samples, bytes_of}
 use Rattle.sound_pcm.specs.Mixing.{MixerValue, samples_of, mixed, held, changed}
 use Rattle.sound_pcm.specs.Sooner.{TakesSooner}
-use Rattle.sound_pcm.proofs.GatherLaws.{gathered-as, gathered-then, gathered-cut}
+use Rattle.sound_pcm.proofs.GatherLaws.{bytes-append}
 use Rattle.sound_pcm.proofs.MixLaws.{MayTake, IsStep, step, still-samples, still-mixed}
 
 -- the samples of the clocks before one, with the levels that are held
@@ -19,17 +20,17 @@ holding m at = samples m.per m.sum m.count (replicate (at - m.clock) (sum m.soun
 module _ (out0 out1 out2 : Option (List ℕ)) (all block : List ℕ) (m : MixerValue) (sound1 sound2 left1 left2 : List Record) (part : Part)
     (made : Record) (upto at : ℕ) (is : at ≡ clock_of made) (may : MayTake m sound1 sound2 upto)
     (takes : TakesSooner sound1 sound2 left1 left2 (Some (part, made)))
-    (first : IsGathered out0 out1 all (block ++ samples_of m sound1 sound2 upto)) where
+    (first : IsGathered out0 out1 all (block ++ bytes_of (samples_of m sound1 sound2 upto))) where
   one : IsStep m sound1 sound2 left1 left2 part made upto
   one = step m sound1 sound2 left1 left2 part made upto may takes
 
-  split : IsGathered out0 out1 all (block ++ (holding m at ++ samples_of (changed (held m at) part made) left1 left2 upto))
-  split = rw is (gathered-as out0 out1 all _ _ first (ap (λ (l : List ℕ). block ++ l) one.samples))
+  split : IsGathered out0 out1 all (block ++ (bytes_of (holding m at) ++ bytes_of (samples_of (changed (held m at) part made) left1 left2 upto)))
+  split = rw is (gathered-as out0 out1 all _ _ first (ap (λ (l : List ℕ). block ++ bytes_of l) one.samples ∙ ap (λ (l : List ℕ). block ++ l) (bytes-append _ _)))
 
   -- the clocks up to a record were done, and it was taken on
-  pub step-gathered : (now : List ℕ) → IsGathered out1 out2 (block ++ holding m at) now
-      → IsGathered out0 out2 all (now ++ samples_of (changed (held m at) part made) left1 left2 upto)
-  step-gathered now second = gathered-then out0 out1 out2 all block (holding m at) _ now split second
+  pub step-gathered : (now : List ℕ) → IsGathered out1 out2 (block ++ bytes_of (holding m at)) now
+      → IsGathered out0 out2 all (now ++ bytes_of (samples_of (changed (held m at) part made) left1 left2 upto))
+  step-gathered now second = gathered-piece out0 out1 out2 all block (bytes_of (holding m at)) _ now split second
 
   pub step-may : MayTake (changed (held m at) part made) left1 left2 upto
   step-may = rw is one.rest
@@ -38,24 +39,23 @@ module _ (out0 out1 out2 : Option (List ℕ)) (all block : List ℕ) (m : MixerV
   step-mixed = rw is one.state
 
   -- a fault came before
-  pub step-cut : (k : ℕ) × (out2 ≡ grown out1 (take k (bytes_of (block ++ holding m at)))) → (k : ℕ) × (out2 ≡ grown out0 (take k (bytes_of all)))
-  step-cut cut = gathered-cut out0 out1 out2 all block (holding m at) _ split cut
+  pub step-cut : (k : ℕ) × (out2 ≡ grown out1 (take k (block ++ bytes_of (holding m at)))) → (k : ℕ) × (out2 ≡ grown out0 (take k all))
+  step-cut cut = gathered-piece-cut out0 out1 out2 all block (bytes_of (holding m at)) _ split cut
 
 -- no record is left
 module _ (out0 out1 out2 : Option (List ℕ)) (all block : List ℕ) (m : MixerValue) (sound1 sound2 : List Record) (upto : ℕ) (none1 : sound1 ≡ [])
-    (none2 : sound2 ≡ []) (first : IsGathered out0 out1 all (block ++ samples_of m sound1 sound2 upto)) where
-  rest : samples_of m sound1 sound2 upto ≡ holding m upto ++ []
-  rest = rw (none1, none2) (still-samples m upto ∙ sym (append-nil (holding m upto)))
+    (none2 : sound2 ≡ []) (first : IsGathered out0 out1 all (block ++ bytes_of (samples_of m sound1 sound2 upto))) where
+  rest : samples_of m sound1 sound2 upto ≡ holding m upto
+  rest = rw (none1, none2) (still-samples m upto)
 
-  over : IsGathered out0 out1 all (block ++ (holding m upto ++ []))
-  over = gathered-as out0 out1 all _ _ first (ap (λ (l : List ℕ). block ++ l) rest)
+  over : IsGathered out0 out1 all (block ++ bytes_of (holding m upto))
+  over = gathered-as out0 out1 all _ _ first (ap (λ (l : List ℕ). block ++ bytes_of l) rest)
 
-  pub last-gathered : (now : List ℕ) → IsGathered out1 out2 (block ++ holding m upto) now → IsGathered out0 out2 all now
-  last-gathered now second =
-      gathered-as out0 out2 all _ _ (gathered-then out0 out1 out2 all block (holding m upto) [] now over second) (append-nil now)
+  pub last-gathered : (now : List ℕ) → IsGathered out1 out2 (block ++ bytes_of (holding m upto)) now → IsGathered out0 out2 all now
+  last-gathered now second = gathered-then out0 out1 out2 all _ now over second
 
-  pub last-cut : (k : ℕ) × (out2 ≡ grown out1 (take k (bytes_of (block ++ holding m upto)))) → (k : ℕ) × (out2 ≡ grown out0 (take k (bytes_of all)))
-  last-cut cut = gathered-cut out0 out1 out2 all block (holding m upto) [] over cut
+  pub last-cut : (k : ℕ) × (out2 ≡ grown out1 (take k (block ++ bytes_of (holding m upto)))) → (k : ℕ) × (out2 ≡ grown out0 (take k all))
+  last-cut cut = gathered-cut out0 out1 out2 all _ over cut
 
 pub last-mixed : (m : MixerValue) (sound1 sound2 : List Record) (upto : ℕ) → sound1 ≡ [] → sound2 ≡ [] → mixed m sound1 sound2 upto ≡ held m upto
 last-mixed m sound1 sound2 upto none1 none2 = rw (none1, none2) (still-mixed m upto)

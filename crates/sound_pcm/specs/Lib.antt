@@ -1,4 +1,3 @@
-pub mod Gathering
 pub mod Grouping
 pub mod Mixing
 pub mod Samples

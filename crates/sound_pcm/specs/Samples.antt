@@ -1,12 +1,12 @@
 -- Samples of the sound: the levels of both POKEYs, summed over groups of clocks. They are this project's own.
 use Rattle.std.specs.Prelude.{ℕ, ◌+◌, List, [], ◌∷◌, map, sum, flat_map, nat_le, ◌==◌, if◌then◌else◌}
+use Rattle.std.specs.Int.{w32, to_le_bytes}
 use Rattle.std.specs.List.{range_with_len}
-use Rattle.byteorder.specs.Endian.{little_bytes}
 use Rattle.board_base.specs.declared.record.Record.{Record}
 use Rattle.board_base.specs.declared.record.Record.TheVariants.{Levels}
 use Rattle.board_base.specs.Records.{clock_of}
 
--- the four levels of a POKEY after a record: those that it tells, and else those before it
+-- the four levels of a POKEY after a record: those that it states, and else those before it
 abbrev pub levels_of : List ℕ → Record → List ℕ
 levels_of before (Levels clock l1 l2 l3 l4) = l1 ∷ l2 ∷ l3 ∷ l4 ∷ []
 levels_of before _ = before
@@ -45,4 +45,4 @@ group_after per so_far count (first ∷ others) =
 
 -- the bytes of samples: four each, the lowest first
 unfoldable pub bytes_of : List ℕ → List ℕ
-bytes_of made = flat_map (little_bytes 4) made
+bytes_of made = flat_map (to_le_bytes w32) made

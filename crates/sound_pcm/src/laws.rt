@@ -5,13 +5,13 @@ ghost use Rattle.board_base.specs.declared.record.Record.{Record as RecordValue}
 ghost use Rattle.sound_pcm.specs.Mixing.{MixerValue};
 ghost use Rattle.sound_pcm.specs.WholeRun.{HasLevels, IsCut, IsTakenInParts, MakesRun, MakesSmallSamples};
 
-use crate::block::{BLOCK, BLOCK_SAMPLES};
 use crate::mixer::{MAX_LEVEL, MAX_PER};
+use outside_io::BLOCK_LEN;
 
 /// The numbers of a mixer, each by its name in the definitions: a block is 4,096 bytes, which are 1,024
 /// samples; a group has 65,535 clocks at most, and a level is at most 15.
 pub fn mixer_numbers()
-    ensures block { (BLOCK ≡ 4096) × (BLOCK_SAMPLES ≡ 1024) }
+    ensures block { (BLOCK_LEN ≡ 4096) × (BLOCK_LEN ≡ 4 * 1024) }
     ensures limits { (MAX_PER ≡ 65535) × (MAX_LEVEL ≡ 15) × (CLOCK_END ≡ 2 ^ 49) }
 {}
 

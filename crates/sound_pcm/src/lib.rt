@@ -2,7 +2,6 @@
 //! are this project's own: unsigned numbers of 32 bits, the lowest byte first.
 #![tactic(auto)]
 
-mod block;
 mod group;
 mod laws;
 mod mixer;

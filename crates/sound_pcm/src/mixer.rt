@@ -2,16 +2,15 @@ ghost use Rattle.std.specs.Prelude.{◌≡◌, ◌+◌, ◌-◌, ◌*◌, ◌≤
 ghost use Rattle.board_base.specs.Records.{MadeBetween};
 ghost use Rattle.board_base.specs.declared.board.TheConstants.{CLOCK_END};
 ghost use Rattle.outside_io.specs.Causes.{HasCause};
+ghost use Rattle.outside_io.specs.Gathering.{Gathers};
 ghost use Rattle.outside_io.specs.Sink.{Takes};
-ghost use Rattle.sound_pcm.specs.Gathering.{Gathers};
 ghost use Rattle.sound_pcm.specs.Mixing.{AreLevels, samples_of, mixed, held, changed};
 ghost use Rattle.sound_pcm.specs.Samples.{bytes_of, samples};
 
-use crate::block::Block;
 use crate::group::Group;
 use crate::sooner::take_sooner;
 use board_base::{Part, Record, Trails};
-use outside_io::{Sink, SinkFault};
+use outside_io::{BlockWriter, Sink, SinkFault};
 use std::marker::Model;
 
 /// The greatest level of a POKEY's channel.
@@ -100,7 +99,7 @@ impl Mixer {
     {
         let mut sound1 = trails.sound1.records();
         let mut sound2 = trails.sound2.records();
-        let mut block = Block::new();
+        let mut block = BlockWriter::new();
         while let Some((part, made)) = take_sooner(&mut sound1, &mut sound2) {
             self.hold(made.clock(), &mut block, out)?;
             self.change(part, made);
@@ -110,10 +109,15 @@ impl Mixer {
     }
 
     /// Adds the clocks before `upto`, in none of which the levels change.
-    fn hold<O: Sink>(&mut self, upto: u64, block: &mut Block, out: &mut O) -> Result<(), SinkFault>
+    fn hold<O: Sink>(
+        &mut self,
+        upto: u64,
+        block: &mut BlockWriter,
+        out: &mut O,
+    ) -> Result<(), SinkFault>
         requires { self.old.clock ≤ upto }
-        ensures taken { Gathers (O.taken out.old) (O.taken out.new) (block.old ++ samples self.old.per self.old.sum self.old.count
-            (replicate (upto - self.old.clock) (sum self.old.sound1 + sum self.old.sound2))) block.new result }
+        ensures taken { Gathers (O.taken out.old) (O.taken out.new) (block.old ++ bytes_of (samples self.old.per self.old.sum self.old.count
+            (replicate (upto - self.old.clock) (sum self.old.sound1 + sum self.old.sound2)))) block.new result }
         ensures cause { HasCause (O.faults out.old) (O.faults out.new) result }
         ensures next { OnOk result (self.new ≡ held self.old upto) }
     {

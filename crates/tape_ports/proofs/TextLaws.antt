@@ -38,7 +38,7 @@ clock_lets : (before clock : ℕ) → before ≤ clock → clock ≤ CLOCK_LIMIT
 unfolding clock_after
 clock_lets before clock rises low = rw (le-ltb CLOCK_LIMIT clock low, le-ltb clock before rises) refl
 
--- what an entry line tells, by whether its second word is END, and by the readings of its three words
+-- what an entry line states, by whether its second word is END, and by the readings of its three words
 abbrev entry_by : ℕ → Bool → Option ℕ → Option ℕ → Option Port → Result Line LineCause
 entry_by before ends clock value port =
     if ends then Err cause.Form
@@ -49,7 +49,7 @@ entry_by before ends clock value port =
       at ← clock_after before given
       Ok (Entry (record { clock = at; port = where_to; value = byte })))
 
--- an entry that was told has a clock that was let through, and the readings of the two other words
+-- an entry that was stated has a clock that was let through, and the readings of the two other words
 record IsTold (before : ℕ) (entry : TapeEntry) (clock value : Option ℕ) (port : Option Port) : Type 0 where
   its_clock : clock ≡ Some entry.clock
   its_value : value ≡ Some entry.value
@@ -81,7 +81,7 @@ entry_told before entry false (Some clock) (Some value) (Some port) said = let_t
           range = omega (arith, same, at_is, low);
         }
 
--- an entry line tells no END clock
+-- an entry line states no END clock
 no_end_told : (before end : ℕ) (ends : Bool) (clock value : Option ℕ) (port : Option Port) → entry_by before ends clock value port ≡ Ok (End end) → ⊥
 no_end_told before end true clock value port said = cc
 no_end_told before end false None value port said = cc
@@ -93,7 +93,7 @@ no_end_told before end false (Some clock) (Some value) (Some port) said = none (
     none (Err fault) said = cc
     none (Ok at) said = cc
 
--- what a line of two words tells, by whether its second word is END, and by the reading of the first
+-- what a line of two words states, by whether its second word is END, and by the reading of the first
 abbrev end_by : ℕ → Bool → Option ℕ → Result Line LineCause
 end_by before ends clock =
     if ends
@@ -103,7 +103,7 @@ end_by before ends clock =
       Ok (End end))
     else Err cause.Form
 
--- an END clock that was told was let through, behind the word END
+-- an END clock that was stated was let through, behind the word END
 record IsEndTold (before end : ℕ) (ends : Bool) (clock : Option ℕ) : Type 0 where
   its_word : ends ≡ true
   its_clock : clock ≡ Some end
@@ -123,7 +123,7 @@ end_told before end true (Some clock) said = let_through (clock_after before clo
         let at_is : at ≡ end = cc in
         record { its_word = refl; its_clock = ap Some (same ∙ at_is); later = omega (arith, same, at_is, later); range = omega (arith, same, at_is, low) }
 
--- a line of two words tells no entry
+-- a line of two words states no entry
 no_entry_told : (before : ℕ) (entry : TapeEntry) (ends : Bool) (clock : Option ℕ) → end_by before ends clock ≡ Ok (Entry entry) → ⊥
 no_entry_told before entry false clock said = cc
 no_entry_told before entry true None said = cc
@@ -133,7 +133,7 @@ no_entry_told before entry true (Some clock) said = none (clock_after before clo
     none (Err fault) said = cc
     none (Ok at) said = cc
 
--- a line that tells an entry is its entry line, and its clock isn't below the one before
+-- a line that states an entry is its entry line, and its clock isn't below the one before
 is_entry_line : (before : ℕ) (line : List ℕ) (entry : TapeEntry) (words : List (List ℕ)) → words_of line ≡ words → tape_line_of before words ≡ Ok (Entry entry)
     → IsEntryLine line entry × (before ≤ entry.clock)
 unfolding entry_line end_line
@@ -147,7 +147,7 @@ is_entry_line before line entry (first ∷ second ∷ third ∷ []) parted said 
     )
 is_entry_line before line entry (first ∷ second ∷ third ∷ fourth ∷ more) parted said = absurd (cc)
 
--- a line that tells an END clock is the END line
+-- a line that states an END clock is the END line
 is_end_line : (before : ℕ) (line : List ℕ) (end : ℕ) (words : List (List ℕ)) → words_of line ≡ words → tape_line_of before words ≡ Ok (End end)
     → IsEndLine line end × (before ≤ end)
 unfolding entry_line end_line
@@ -171,13 +171,13 @@ end_is_no_port word port named = false_from_ne_true (bytes_eq word (codes "END")
     let some : port_of (codes "END") ≡ Some port = ap port_of (sym is) ∙ named in
     absurd (cc))
 
--- an entry line tells its entry
+-- an entry line states its entry
 tells_entry : (before : ℕ) (line : List ℕ) (entry : TapeEntry) → IsEntryLine line entry → before ≤ entry.clock → tape_line_of before (words_of line) ≡ Ok (Entry entry)
 unfolding entry_line
 tells_entry before line entry is later =
     rw (is.words, end_is_no_port is.second entry.port is.port, is.clock, is.value, is.port, clock_lets before entry.clock later is.range) refl
 
--- the END line tells its clock
+-- the END line states its clock
 tells_end : (before : ℕ) (line : List ℕ) (end : ℕ) → IsEndLine line end → before ≤ end → tape_line_of before (words_of line) ≡ Ok (End end)
 unfolding end_line
 tells_end before line end is later = rw (is.words, is.clock, clock_lets before end later is.range) refl

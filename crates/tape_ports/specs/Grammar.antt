@@ -47,7 +47,7 @@ entry_line before clock name value =
       at ← clock_after before given
       Ok (Entry (record { clock = at; port = port; value = byte })))
 
--- what a line tells, by its words and the clock of the line before, or its first fault
+-- what a line states, by its words and the clock of the line before, or its first fault
 abbrev pub tape_line_of : ℕ → List (List ℕ) → Result Line LineCause
 tape_line_of before (clock ∷ word ∷ []) = end_line before clock word
 tape_line_of before (clock ∷ name ∷ value ∷ []) = entry_line before clock name value
@@ -68,7 +68,7 @@ abbrev pub ended : ℕ → ℕ → List (List ℕ) → Result TapeValue (ℕ × 
 ended number end [] = Ok (record { entries = []; end = end })
 ended number end (_ ∷ _) = Err (number + 1, cause.AfterEnd)
 
--- what comes of a line with this number that tells an entry, an END clock, or its fault
+-- what comes of a line with this number that states an entry, an END clock, or its fault
 abbrev pub with_line : ℕ → Result Line LineCause → (TapeEntry → Result TapeValue (ℕ × LineCause)) → (ℕ → Result TapeValue (ℕ × LineCause)) → Result TapeValue (ℕ × LineCause)
 with_line number (Ok (Entry entry)) more last = more entry
 with_line number (Ok (End end)) more last = last end

@@ -8,7 +8,7 @@ use crate::fault::LineCause;
 use board_base::CLOCK_LIMIT;
 use plain_text::{read_digits, read_value, read_word};
 
-/// What a good line tells: an entry, or the END clock.
+/// What a good line states: an entry, or the END clock.
 #[derive(Clone, Copy)]
 pub enum Line {
     /// The entry of a line of three words.
@@ -47,7 +47,7 @@ fn check_clock(before: u64, clock: u64) -> Result<u64, LineCause>
     }
 }
 
-/// What a line of two words tells.
+/// What a line of two words states.
 #[tactic(auto, unfolding(crate::specs::Grammar::end_line))]
 fn read_end(before: u64, clock: &[u8], word: &[u8]) -> Result<Line, LineCause>
     ensures line { result ≡ end_line before clock.now word.now }
@@ -60,7 +60,7 @@ fn read_end(before: u64, clock: &[u8], word: &[u8]) -> Result<Line, LineCause>
     Ok(Line::End(clock))
 }
 
-/// What a line of three words tells.
+/// What a line of three words states.
 #[tactic(auto, unfolding(crate::specs::Grammar::entry_line))]
 fn read_entry(before: u64, clock: &[u8], name: &[u8], value: &[u8]) -> Result<Line, LineCause>
     ensures line { result ≡ entry_line before clock.now name.now value.now }
@@ -77,7 +77,7 @@ fn read_entry(before: u64, clock: &[u8], name: &[u8], value: &[u8]) -> Result<Li
     Ok(Line::Entry(TapeEntry { clock, port, value }))
 }
 
-/// What a line tells after one with the clock `before`.
+/// What a line states after one with the clock `before`.
 #[tactic(auto, using(crate::proofs::Words::line_of_more))]
 pub fn parse_line(before: u64, line: &[u8]) -> Result<Line, LineCause>
     ensures line { result ≡ tape_line_of before (words_of line.now) }

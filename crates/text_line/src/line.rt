@@ -9,7 +9,7 @@ use std::marker::Model;
 /// digits and a sign, each behind a blank, and LF.
 pub const LONGEST: usize = 113;
 
-/// No line has more than 113 bytes. It tells a law, and does nothing.
+/// No line has more than 113 bytes. It states a law, and does nothing.
 pub fn longest_line()
     ensures { LONGEST ≡ 113 }
 {}

@@ -116,12 +116,12 @@ impl<V: VectorUnit, P: SoundUnit, C: CellUnit, D: DividerUnit> BoardBus<V, P, C,
     /// Begins a clock before its access: its entries are applied, and the devices tick.
     #[tactic(auto, using(crate::proofs::EventLaws::kept))]
     pub fn begin(&mut self, tape: &Tape)
-        requires fits { Fits tape.now self.old }
+        requires accepts { Fits tape.now self.old }
         requires begun { self.old.begun ≡ false }
         requires clock { self.old.peripherals.clock < CLOCK_END }
         requires room { self.old.peripherals.clock < self.old.until }
         ensures value { self.new ≡ record self.old { peripherals = done_clock (ticked tape.now.entries self.old.peripherals); begun = true; next = self.new.next; event_at = self.new.event_at; lagging = self.new.lagging; until = self.new.until; calls = self.new.calls } }
-        ensures fits { Fits tape.now self.new }
+        ensures accepts { Fits tape.now self.new }
         ensures until { self.old.until ≤ self.new.until }
         ensures calls { self.new.calls ≤ self.old.calls + ticks_price tape.now.entries self.old.peripherals }
         ensures more { self.old.calls ≤ self.new.calls }
@@ -136,11 +136,11 @@ impl<V: VectorUnit, P: SoundUnit, C: CellUnit, D: DividerUnit> BoardBus<V, P, C,
     /// Begins the clock of an access, unless it has begun.
     #[tactic(auto, using(crate::proofs::ClockLaws::clocks), unfolding(crate::specs::Bus::in_clock))]
     pub(super) fn enter(&mut self, tape: &Tape)
-        requires fits { Fits tape.now self.old }
+        requires accepts { Fits tape.now self.old }
         requires clock { self.old.peripherals.clock < CLOCK_END }
         requires room { self.old.peripherals.clock < self.old.until }
         ensures value { self.new ≡ record self.old { peripherals = done_clock (in_clock tape.now.entries self.old.begun self.old.peripherals); begun = false; next = self.new.next; event_at = self.new.event_at; lagging = self.new.lagging; until = self.new.until; calls = self.new.calls } }
-        ensures fits { Fits tape.now self.new }
+        ensures accepts { Fits tape.now self.new }
         ensures until { self.old.until ≤ self.new.until }
         ensures calls { self.new.calls ≤ self.old.calls + begin_price tape.now.entries self.old.begun self.old.peripherals }
         ensures more { self.old.calls ≤ self.new.calls }

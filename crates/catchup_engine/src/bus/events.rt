@@ -30,7 +30,7 @@ impl<V: VectorUnit, P: SoundUnit, C: CellUnit, D: DividerUnit> BoardBus<V, P, C,
 
     /// Applies the entries of the present clock.
     fn apply_due(&mut self, tape: &Tape)
-        requires fits { Fits tape.now self.old }
+        requires accepts { Fits tape.now self.old }
         ensures value { self.new ≡ record self.old { peripherals = applied (due_at self.old.peripherals.clock tape.now.entries) self.old.peripherals; next = self.new.next; lagging = self.new.lagging; until = self.new.until; calls = self.new.calls } }
         ensures next { IsTapePlace tape.now (self.old.peripherals.clock + 1) self.new.next }
         ensures until { self.old.until ≤ self.new.until }
@@ -46,12 +46,12 @@ impl<V: VectorUnit, P: SoundUnit, C: CellUnit, D: DividerUnit> BoardBus<V, P, C,
     /// Does a clock's entries and ticks, whether something comes in it or not.
     #[tactic(auto, using(crate::proofs::EventLaws::events), unfolding(lockstep_board::specs::Peripherals::ticked, lockstep_board::specs::Budget::ticks_price))]
     pub(super) fn clock_with_events(&mut self, tape: &Tape)
-        requires fits { Fits tape.now self.old }
+        requires accepts { Fits tape.now self.old }
         requires begun { self.old.begun ≡ false }
         requires clock { self.old.peripherals.clock < CLOCK_END }
         requires room { self.old.peripherals.clock < self.old.until }
         ensures value { self.new ≡ record self.old { peripherals = done_clock (ticked tape.now.entries self.old.peripherals); next = self.new.next; event_at = self.new.event_at; lagging = self.new.lagging; until = self.new.until; calls = self.new.calls } }
-        ensures fits { Fits tape.now self.new }
+        ensures accepts { Fits tape.now self.new }
         ensures until { self.old.until ≤ self.new.until }
         ensures calls { self.new.calls ≤ self.old.calls + ticks_price tape.now.entries self.old.peripherals }
         ensures more { self.old.calls ≤ self.new.calls }
@@ -66,7 +66,7 @@ impl<V: VectorUnit, P: SoundUnit, C: CellUnit, D: DividerUnit> BoardBus<V, P, C,
         requires begun { self.old.begun ≡ false }
         requires place { IsTapePlace tape.now self.old.peripherals.clock self.old.next }
         ensures value { self.new ≡ record self.old { event_at = self.new.event_at } }
-        ensures fits { Fits tape.now self.new }
+        ensures accepts { Fits tape.now self.new }
     {
         // opens the tape
         let _entries = tape.entries();
@@ -77,7 +77,7 @@ impl<V: VectorUnit, P: SoundUnit, C: CellUnit, D: DividerUnit> BoardBus<V, P, C,
     pub fn look_at(&mut self, tape: &Tape)
         requires begun { self.old.begun ≡ false }
         ensures value { self.new ≡ record self.old { next = self.new.next; event_at = self.new.event_at } }
-        ensures fits { Fits tape.now self.new }
+        ensures accepts { Fits tape.now self.new }
     {
         self.next = tape.first_from(self.clock);
         self.look_ahead(tape);

@@ -1,7 +1,7 @@
 //! What reads and writes of the address map do.
 ghost use Rattle.std.specs.Prelude.{◌≡◌, ◌+◌, ◌-◌, ◌*◌, ◌≤◌, ◌<◌, true, length, slice_index, slice_set, ◌++◌, ◌∷◌, []};
 ghost use Rattle.std.specs.Int.{from_bool};
-ghost use Rattle.cpu_core.specs.Course.{read_of, write_of};
+ghost use Rattle.cpu_core.specs.BusCycles.{read_of, write_of};
 ghost use Rattle.lockstep_board.specs.Budget.{reaches_device};
 ghost use Rattle.board_map.specs.Map.{IsWithin, row_of};
 ghost use Rattle.catchup_engine.specs.Lags.{lagging_at};

@@ -1,5 +1,5 @@
 use Rattle.std.proofs.Common.{◌+◌, ◌-◌, ap, ◌∙◌, arith}
-use Rattle.cpu_core.specs.Course.{write_of}
+use Rattle.cpu_core.specs.BusCycles.{write_of}
 use Rattle.catchup_engine.specs.Notes.{with_reached}
 use Rattle.catchup_engine.specs.Trace.{access_at}
 use Rattle.catchup_engine.proofs.HorizonLaws.{passed-keeps}
@@ -8,10 +8,10 @@ use Rattle.catchup_engine.proofs.QuietLaws.{counted-more, told-begun, told-room}
 use Rattle.catchup_engine.proofs.noted.write_noted.Goals as goal
 
 pub pass-requires-clause-clock : goal.pass-requires-clause-clock
-pass-requires-clause-clock g c = (counted-more c.args._tape.now c.args.made c.args.bus.now c.requires.fits c.requires.room).last
+pass-requires-clause-clock g c = (counted-more c.args._tape.now c.args.made c.args.bus.now c.requires.accepts c.requires.room).last
 
 pub pass-requires-clause-room : goal.pass-requires-clause-room
-pass-requires-clause-room g c = (counted-more c.args._tape.now c.args.made c.args.bus.now c.requires.fits c.requires.room).until
+pass-requires-clause-room g c = (counted-more c.args._tape.now c.args.made c.args.bus.now c.requires.accepts c.requires.room).until
 
 pub put_by-requires-clause-room : goal.put_by-requires-clause-room
 put_by-requires-clause-room g c = told-room c.args.made c.args.bus.now c.pass.new.self c.requires.room c.pass.ensures.value
@@ -29,7 +29,7 @@ overflow_sub-access g c =
 pub returns : goal.returns
 returns g c =
     let is =
-    noted-written c.args._tape.now c.args.made c.args.addr c.args.value c.args.bus.now c.pass.new.self c.put_by.new.self c.args.reached.now c.requires.fits
+    noted-written c.args._tape.now c.args.made c.args.addr c.args.value c.args.bus.now c.pass.new.self c.put_by.new.self c.args.reached.now c.requires.accepts
     c.requires.room c.pass.ensures.value
     (passed-keeps (c.args.made + 1) c.args.bus.now c.pass.new.self c.pass.ensures.value c.pass.ensures.irq c.pass.ensures.pending)
     c.put_by.ensures.does c.put_by.ensures.few in
@@ -39,6 +39,6 @@ returns g c =
         step = is.noted.step;
         reached = c.add.ensures ∙ ap (λ k. with_reached c.args.reached.now (access_at (k - 1) (write_of c.args.addr c.args.value))) c.clock.ensures.value ∙ is.noted.reached;
       };
-      fits = is.fits;
+      accepts = is.accepts;
       room = is.room;
     }

@@ -24,7 +24,7 @@ pub loop-goes_on-init : goal.loop-goes_on-init
 loop-goes_on-init g c = record {
   at =
       rw (c.new-quiet.ensures.none, c.new-quiet.ensures.bus) (horizon-starts c.args.tape.now c.args.limit (g.B.Breaks.addresses c.args.breaks.now) c.horizon_from-horizon.result c.args.cpu
-      c.args.bus.now c.requires.limit c.requires.range c.requires.between c.requires.room c.requires.fits c.requires.goes_on c.horizon_from-horizon.ensures.horizon
+      c.args.bus.now c.requires.limit c.requires.range c.requires.between c.requires.room c.requires.accepts c.requires.goes_on c.horizon_from-horizon.ensures.horizon
       c.horizon_from-horizon.ensures.until);
   same = refl;
 }
@@ -60,7 +60,7 @@ loop-goes_on-preserved-then-lasts g c =
       at =
           horizon-goes c.args.tape.now c.args.limit addresses horizon c.args.cpu c.loop-goes_on.cpu f c.args.bus.now c.loop-goes_on.quiet.bus.now t c.loop-goes_on.quiet.made n
           c.loop-goes_on.goes_on _ c.loop-goes_on-test.true c.requires.limit c.loop-goes_on.invariant.at seen.1 c.instruction-fetched.ensures.boundary
-          c.instruction-fetched.ensures.fits lines (λ _. c.lasts.ensures.wrap)
+          c.instruction-fetched.ensures.accepts lines (λ _. c.lasts.ensures.wrap)
           (and-then (nat_lt (t.peripherals.clock + n) horizon.until && (is_none f.jam && (horizon.silent || is_masked f.p))) (is_at_any addresses (over_bus f (passed n t))) c.has.result
           (sym c.lasts.ensures.value ∙ c.if-lasts.true)
           (ap (λ (k : CpuValue). is_at_any addresses (over_bus k (passed n t))) (sym (c.behind-cpu.view_is ∙ c.state.ensures.value)) ∙ sym c.has.ensures));
@@ -93,7 +93,7 @@ loop-goes_on-preserved g c =
       at =
           horizon-goes c.args.tape.now c.args.limit addresses horizon c.args.cpu c.loop-goes_on.cpu f c.args.bus.now c.loop-goes_on.quiet.bus.now t c.loop-goes_on.quiet.made n
           c.loop-goes_on.goes_on _ c.loop-goes_on-test.true c.requires.limit c.loop-goes_on.invariant.at seen.1 c.instruction-fetched.ensures.boundary
-          c.instruction-fetched.ensures.fits lines (λ _. c.lasts.ensures.wrap)
+          c.instruction-fetched.ensures.accepts lines (λ _. c.lasts.ensures.wrap)
           (and-else (nat_lt (t.peripherals.clock + n) horizon.until && (is_none f.jam && (horizon.silent || is_masked f.p))) c.lasts.result (is_at_any addresses (over_bus f (passed n t)))
           c.if-lasts.false);
       same = seen.0 ∙ c.loop-goes_on.invariant.same;

@@ -6,7 +6,7 @@ use Rattle.catchup_engine.proofs.run.run_fast.Goals as goal
 pub loop-cpu-init : goal.loop-cpu-init
 loop-cpu-init g c = record {
   on = turns-start c.args.tape.now.entries c.args.limit (g.B.Breaks.addresses c.args.breaks.now) c.args.cpu c.args.bus.now c.requires.between c.requires.boundary c.requires.range;
-  fits = c.requires.fits;
+  accepts = c.requires.accepts;
 }
 
 pub run_to_horizon-cpu-requires-clause-room : goal.run_to_horizon-cpu-requires-clause-room
@@ -32,5 +32,5 @@ loop-cpu-preserved g c = record {
   on =
       turns-join c.args.tape.now.entries c.args.limit (g.B.Breaks.addresses c.args.breaks.now) c.args.cpu c.args.bus.now c.loop-cpu.bus c.run_to_horizon-cpu.new.bus c.loop-cpu.cpu
       c.run_to_horizon-cpu.result c.loop-cpu.invariant.on c.run_to_horizon-cpu.ensures.on;
-  fits = c.run_to_horizon-cpu.ensures.fits;
+  accepts = c.run_to_horizon-cpu.ensures.accepts;
 }

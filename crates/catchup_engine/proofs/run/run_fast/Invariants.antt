@@ -6,7 +6,7 @@ use Rattle.catchup_engine.proofs.run.run_fast.Given as goal
 abbrev pub invariant-loop-cpu : goal.invariant-loop-cpu
 invariant-loop-cpu g l = record {
   on : TurnsOn l.tape.entries l.limit (g.B.Breaks.addresses l.breaks) l.fn.cpu l.fn.bus l.bus l.cpu;
-  fits : Fits l.tape l.bus;
+  accepts : Fits l.tape l.bus;
 }
 
 abbrev pub decreases-loop-cpu : goal.decreases-loop-cpu

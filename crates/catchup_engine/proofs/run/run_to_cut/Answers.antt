@@ -8,7 +8,7 @@ use Rattle.catchup_engine.proofs.run.run_to_cut.Goals as goal
 pub loop-bus-init : goal.loop-bus-init
 loop-bus-init g c = record {
   at = cut-starts c.args.tape.now.entries c.args.cut c.args.wrap c.args.cpu c.args.bus.now c.requires.between c.requires.range;
-  fits = c.requires.fits;
+  accepts = c.requires.accepts;
 }
 
 -- a turn that isn't to go past the cut
@@ -33,11 +33,11 @@ loop-bus-preserved-then-is_none g c =
       at =
           cut-turns c.args.tape.now.entries c.args.cut c.args.wrap c.min-near.result c.args.cpu c.args.bus.now c.step_slow-cpu.new.bus c.run_turns-cpu.new.bus
           c.step_slow-cpu.result c.run_turns-cpu.result (c.min-near.ensures ∙ ap (min c.args.wrap) c.saturating_sub.ensures) at c.run_turns-cpu.ensures.runs;
-      fits = c.run_turns-cpu.ensures.fits;
+      accepts = c.run_turns-cpu.ensures.accepts;
     }
 
 pub loop-bus-preserved : goal.loop-bus-preserved
-loop-bus-preserved g c = record { at = turned g c; fits = c.step_slow-cpu.ensures.fits }
+loop-bus-preserved g c = record { at = turned g c; accepts = c.step_slow-cpu.ensures.accepts }
 
 pub returns : goal.returns
 returns g c = record {

@@ -6,7 +6,7 @@ use Rattle.catchup_engine.proofs.run.run_to_cut.Given as goal
 abbrev pub invariant-loop-bus : goal.invariant-loop-bus
 invariant-loop-bus g l = record {
   at : AtCut l.tape.entries l.cut l.wrap l.fn.cpu l.fn.bus l.bus l.cpu;
-  fits : Fits l.tape l.bus;
+  accepts : Fits l.tape l.bus;
 }
 
 abbrev pub decreases-loop-bus : goal.decreases-loop-bus

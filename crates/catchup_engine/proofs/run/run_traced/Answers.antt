@@ -6,7 +6,7 @@ use Rattle.catchup_engine.proofs.run.run_traced.Goals as goal
 pub loop-enough-init : goal.loop-enough-init
 loop-enough-init g c = record {
   at = told-starts g.T.Tracer.next g.T.Tracer.has_enough c.args.tape.now.entries c.args.limit c.args.cpu c.args.bus.now c.args.tracer.now c.requires.between c.requires.range;
-  fits = c.requires.fits;
+  accepts = c.requires.accepts;
 }
 
 pub loop-enough-preserved-then-is_private : goal.loop-enough-preserved-then-is_private
@@ -17,7 +17,7 @@ loop-enough-preserved-then-is_private g c = record {
       (subst (λ f. AtTold g.T.Tracer.next g.T.Tracer.has_enough c.args.tape.now.entries c.args.limit c.args.cpu c.args.bus.now c.loop-enough.bus c.loop-enough.cpu
       c.args.tracer.now c.loop-enough.tracer f) c.loop-enough-test.true c.loop-enough.invariant.at)
       c.trace_to_horizon-told.ensures.on c.trace_to_horizon-told.ensures.told c.trace_to_horizon-told.ensures.later;
-  fits = c.trace_to_horizon-told.ensures.fits;
+  accepts = c.trace_to_horizon-told.ensures.accepts;
 }
 
 pub loop-enough-preserved : goal.loop-enough-preserved
@@ -32,5 +32,5 @@ loop-enough-preserved g c = record {
       (c.turn-enough.ensures.next c.trace_running-trace.result c.of.ensures
       ∙ ap (λ (k : CpuValue). g.T.Tracer.next c.loop-enough.tracer c.trace_running-trace.result k.pc) (c.behind-cpu-else-goes_on.view_is ∙ c.state-else-goes_on.ensures.value))
       c.turn-enough.ensures.enough;
-  fits = c.trace_running-trace.ensures.fits;
+  accepts = c.trace_running-trace.ensures.accepts;
 }

@@ -8,7 +8,7 @@ use Rattle.catchup_engine.proofs.run.run_turns.Goals as goal
 pub loop-cpu-init : goal.loop-cpu-init
 loop-cpu-init g c = record {
   on = turns-start c.args.tape.now.entries c.args.limit (g.B.Breaks.addresses c.args.breaks.now) c.args.cpu c.args.bus.now c.requires.between c.requires.boundary c.requires.range;
-  fits = c.requires.fits;
+  accepts = c.requires.accepts;
 }
 
 pub loop-cpu-preserved : goal.loop-cpu-preserved
@@ -22,11 +22,11 @@ loop-cpu-preserved g c =
           (turns-go_on c.args.tape.now.entries c.args.limit (g.B.Breaks.addresses c.args.breaks.now) c.args.cpu c.args.bus.now c.loop-cpu.bus c.step_slow-cpu.new.bus c.loop-cpu.cpu
           c.step_slow-cpu.result c.requires.limit c.loop-cpu.invariant.on open_yet c.step_slow-cpu.ensures.turned)
           c.run_fast-cpu.ensures.runs.on;
-      fits = c.run_fast-cpu.ensures.fits;
+      accepts = c.run_fast-cpu.ensures.accepts;
     }
 
 pub returns : goal.returns
 returns g c = record {
   runs = record { on = c.loop-cpu.invariant.on; ends = sym c.is_at_break.ensures ∙ c.loop-cpu-test.false };
-  fits = c.loop-cpu.invariant.fits;
+  accepts = c.loop-cpu.invariant.accepts;
 }

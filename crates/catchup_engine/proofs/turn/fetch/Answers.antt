@@ -14,5 +14,5 @@ returns-in_default g c = record {
       fetch-turn c.args.tape.now.entries c.args.cpu.now c.due-sequence.result c.args.clocks c.begin_sequence.ensures.advances.0 c.args.bus.now c.begin.new.self c.begin_sequence.new.bus c.begin_sequence.new.cpu c.requires.boundary
       (begins-by c.args.tape.now.entries c.args.bus.now c.begin.new.self c.begin.ensures.value c.begin.ensures.until c.begin.ensures.calls c.begin.ensures.more)
       c.due-sequence.ensures c.in_default.not-Reset c.requires.some c.begin_sequence.ensures.advances.1;
-  fits = c.begin_sequence.ensures.fits;
+  accepts = c.begin_sequence.ensures.accepts;
 }

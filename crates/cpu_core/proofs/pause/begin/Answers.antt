@@ -1,4 +1,4 @@
--- The first access tells whether the processor jams.
+-- The first access determines whether the processor jams.
 use Rattle.cpu_core.proofs.JamLemmas.{begins_by}
 use Rattle.cpu_core.proofs.pause.begin.Goals as goal
 

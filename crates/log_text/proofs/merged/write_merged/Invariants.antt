@@ -1,5 +1,5 @@
 use Rattle.std.proofs.Common.{◌≡◌, ◌++◌}
-use Rattle.log_text.specs.Gathering.{IsGathered}
+use Rattle.outside_io.specs.Gathering.{IsGathered}
 use Rattle.log_text.specs.LogText.{log_text, merged}
 use Rattle.log_text.proofs.merged.write_merged.Given as goal
 

@@ -1,5 +1,5 @@
 use Rattle.std.proofs.Common.{◌≡◌, ◌++◌}
-use Rattle.log_text.specs.Gathering.{IsGathered}
+use Rattle.outside_io.specs.Gathering.{IsGathered}
 use Rattle.log_text.specs.LogText.{merged}
 use Rattle.log_text.specs.RecordBytes.{records_bytes}
 use Rattle.log_text.proofs.merged.write_records.Given as goal

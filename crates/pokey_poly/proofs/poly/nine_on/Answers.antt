@@ -7,11 +7,11 @@ use Rattle.pokey_poly.proofs.poly.nine_on.Goals as goal
 pub returns : goal.returns
 returns c =
     let r : ℕ = c.args.r in
-    let single : (m : ℕ) → leaving Nine r (m + 9) ≡ (leaving Nine r (m + 4) + leaving Nine r m) % 2 = nine-sums r c.requires.fits in
+    let single : (m : ℕ) → leaving Nine r (m + 9) ≡ (leaving Nine r (m + 4) + leaving Nine r m) % 2 = nine-sums r c.requires.in_range in
     let double : (m : ℕ) → leaving Nine r (m + 18) ≡ (leaving Nine r (m + 8) + leaving Nine r m) % 2 = doubled (leaving Nine r) 9 4 single in
     let fourfold : (m : ℕ) → leaving Nine r (m + 36) ≡ (leaving Nine r (m + 16) + leaving Nine r m) % 2 = doubled (leaving Nine r) 18 8 double in
     let first : IsAhead Nine r 14 c.lengthened-ahead.result
-    = longer Nine r 9 4 9 14 c.from-ahead.result c.lengthened-ahead.result (omega arith) (omega arith) (omega arith) (omega arith) single (rw c.from-ahead.ensures (nine-start r c.requires.fits))
+    = longer Nine r 9 4 9 14 c.from-ahead.result c.lengthened-ahead.result (omega arith) (omega arith) (omega arith) (omega arith) single (rw c.from-ahead.ensures (nine-start r c.requires.in_range))
     c.lengthened-ahead.ensures.low c.lengthened-ahead.ensures.high in
     let second : IsAhead Nine r 19 c.lengthened-ahead-2.result
     = longer Nine r 9 4 14 19 c.lengthened-ahead.result c.lengthened-ahead-2.result (omega arith) (omega arith) (omega arith) (omega arith) single first

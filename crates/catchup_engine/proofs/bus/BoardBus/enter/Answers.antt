@@ -9,5 +9,5 @@ returns-then-self-2 g c =
     let event : c.self.inside.event_at ≡ c.args.self.now.event_at = ap (λ (b : BusValue). b.event_at) c.self.view_is in
     let between : c.args.self.now.begun ≡ false = sym (ap (λ (b : BusValue). b.begun) c.self.view_is) ∙ c.if-self.false in
     let before : c.args.self.now.peripherals.clock < c.args.self.now.event_at = (let h = c.if-self-2.true in omega arith) in
-    let is = entered-quiet c.args.tape.now c.args.self.now c.pass.new.self c.requires.fits before between c.pass.ensures.value in
-    record { value = is.value; fits = is.fits; until = is.until; calls = is.calls; more = is.more; begun = is.begun }
+    let is = entered-quiet c.args.tape.now c.args.self.now c.pass.new.self c.requires.accepts before between c.pass.ensures.value in
+    record { value = is.value; accepts = is.accepts; until = is.until; calls = is.calls; more = is.more; begun = is.begun }

@@ -1,5 +1,5 @@
 use Rattle.std.proofs.Common.{◌+◌, ◌-◌, length, ap, refl, arith}
-use Rattle.cpu_core.specs.Course.{read_of}
+use Rattle.cpu_core.specs.BusCycles.{read_of}
 use Rattle.catchup_engine.specs.Quiet.{passed}
 use Rattle.catchup_engine.specs.Trace.{access_at}
 use Rattle.catchup_engine.proofs.HorizonLaws.{keeps-refl}
@@ -11,9 +11,9 @@ pub returns-then-addr-ge-PROGRAM_START : goal.returns-then-addr-ge-PROGRAM_START
 returns-then-addr-ge-PROGRAM_START g c =
     let q = c.args.self.now.quiet in
     let room = c.requires.room in
-    let few = c.requires.fits.1 in
+    let few = c.requires.accepts.1 in
     let is =
-    program-reads c.args.tape.now q.made c.args.addr c.program_at.result q.bus.now c.requires.fits.0 (omega (arith, room)) c.if-addr-ge-PROGRAM_START.true
+    program-reads c.args.tape.now q.made c.args.addr c.program_at.result q.bus.now c.requires.accepts.0 (omega (arith, room)) c.if-addr-ge-PROGRAM_START.true
     c.ranges.addr.fits c.program_at.ensures in
     let left = is.room in
     let reached =
@@ -21,7 +21,7 @@ returns-then-addr-ge-PROGRAM_START g c =
     (program-plain c.args.addr c.program_at.result c.if-addr-ge-PROGRAM_START.true c.ranges.addr.fits) in
     record {
       step = (refl, refl, keeps-refl q.bus.now, record { step = is.step; reached = reached });
-      fits = (is.fits, few);
+      accepts = (is.accepts, few);
       room = omega (arith, left);
     }
 
@@ -29,16 +29,16 @@ pub returns-then-addr : goal.returns-then-addr
 returns-then-addr g c =
     let q = c.args.self.now.quiet in
     let room = c.requires.room in
-    let few = c.requires.fits.1 in
+    let few = c.requires.accepts.1 in
     let is =
-    ram-reads c.args.tape.now q.made c.args.addr c.ram_byte.result q.bus.now c.requires.fits.0 (omega (arith, room)) c.if-addr.true c.ram_byte.ensures in
+    ram-reads c.args.tape.now q.made c.args.addr c.ram_byte.result q.bus.now c.requires.accepts.0 (omega (arith, room)) c.if-addr.true c.ram_byte.ensures in
     let left = is.room in
     let reached =
     plain-reached c.args.self.now.reached.now ((passed (q.made + 1) q.bus.now).peripherals.clock - 1) (read_of c.args.addr c.ram_byte.result)
     (ram-plain c.args.addr c.ram_byte.result c.if-addr.true) in
     record {
       step = (refl, refl, keeps-refl q.bus.now, record { step = is.step; reached = reached });
-      fits = (is.fits, few);
+      accepts = (is.accepts, few);
       room = omega (arith, left);
     }
 

@@ -1,5 +1,5 @@
 use Rattle.std.proofs.Common.{◌+◌, ◌-◌, length, ap, refl, arith}
-use Rattle.cpu_core.specs.Course.{write_of}
+use Rattle.cpu_core.specs.BusCycles.{write_of}
 use Rattle.catchup_engine.specs.Quiet.{passed}
 use Rattle.catchup_engine.specs.Trace.{access_at}
 use Rattle.catchup_engine.proofs.HorizonLaws.{ram-keeps}
@@ -11,17 +11,17 @@ pub returns-then-addr : goal.returns-then-addr
 returns-then-addr g c =
     let q = c.args.self.now.quiet in
     let room = c.requires.room in
-    let few = c.requires.fits.1 in
+    let few = c.requires.accepts.1 in
     let t = c.put_ram.new.self in
     let is =
-    ram-writes c.args.tape.now q.made c.args.addr c.args.value q.bus.now t c.requires.fits.0 (omega (arith, room)) c.if-addr.true c.put_ram.ensures in
+    ram-writes c.args.tape.now q.made c.args.addr c.args.value q.bus.now t c.requires.accepts.0 (omega (arith, room)) c.if-addr.true c.put_ram.ensures in
     let left = is.room in
     let reached =
     plain-reached c.args.self.now.reached.now ((passed (q.made + 1) t).peripherals.clock - 1) (write_of c.args.addr c.args.value)
     (ram-put-plain c.args.addr c.args.value c.if-addr.true) in
     record {
       step = (refl, refl, ram-keeps q.bus.now t c.args.addr c.args.value c.put_ram.ensures, record { step = is.step; reached = reached });
-      fits = (is.fits, few);
+      accepts = (is.accepts, few);
       room = omega (arith, left);
     }
 

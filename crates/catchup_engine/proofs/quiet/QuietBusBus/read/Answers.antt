@@ -1,36 +1,36 @@
 use Rattle.std.proofs.Common.{refl, ◌*◌}
 use Rattle.std.specs.Int.{from_bool}
-use Rattle.cpu_core.specs.Course.{read_of}
+use Rattle.cpu_core.specs.BusCycles.{read_of}
 use Rattle.lockstep_board.specs.Budget.{reaches_device}
 use Rattle.catchup_engine.proofs.HorizonLaws.{keeps-refl, keeps-then, read-keeps}
 use Rattle.catchup_engine.proofs.QuietLaws.{counted-more, device-reads, program-reads, ram-reads}
 use Rattle.catchup_engine.proofs.quiet.QuietBusBus.read.Goals as goal
 
 pub tell-requires-clause-clock : goal.tell-requires-clause-clock
-tell-requires-clause-clock g c = (counted-more c.args._tape.now c.args.self.now.made c.args.self.now.bus.now c.requires.fits c.requires.room).last
+tell-requires-clause-clock g c = (counted-more c.args._tape.now c.args.self.now.made c.args.self.now.bus.now c.requires.accepts c.requires.room).last
 
 pub tell-requires-clause-room : goal.tell-requires-clause-room
-tell-requires-clause-room g c = (counted-more c.args._tape.now c.args.self.now.made c.args.self.now.bus.now c.requires.fits c.requires.room).until
+tell-requires-clause-room g c = (counted-more c.args._tape.now c.args.self.now.made c.args.self.now.bus.now c.requires.accepts c.requires.room).until
 
 pub returns-then-addr-ge-PROGRAM_START : goal.returns-then-addr-ge-PROGRAM_START
 returns-then-addr-ge-PROGRAM_START g c =
     let is =
-    program-reads c.args._tape.now c.args.self.now.made c.args.addr c.program_at.result c.args.self.now.bus.now c.requires.fits c.requires.room
+    program-reads c.args._tape.now c.args.self.now.made c.args.addr c.program_at.result c.args.self.now.bus.now c.requires.accepts c.requires.room
     c.if-addr-ge-PROGRAM_START.true c.ranges.addr.fits c.program_at.ensures in
-    record { step = (refl, keeps-refl c.args.self.now.bus.now, is.step); fits = is.fits; room = is.room }
+    record { step = (refl, keeps-refl c.args.self.now.bus.now, is.step); accepts = is.accepts; room = is.room }
 
 pub returns-then-addr : goal.returns-then-addr
 returns-then-addr g c =
     let is =
-    ram-reads c.args._tape.now c.args.self.now.made c.args.addr c.ram_byte.result c.args.self.now.bus.now c.requires.fits c.requires.room
+    ram-reads c.args._tape.now c.args.self.now.made c.args.addr c.ram_byte.result c.args.self.now.bus.now c.requires.accepts c.requires.room
     c.if-addr.true c.ram_byte.ensures in
-    record { step = (refl, keeps-refl c.args.self.now.bus.now, is.step); fits = is.fits; room = is.room }
+    record { step = (refl, keeps-refl c.args.self.now.bus.now, is.step); accepts = is.accepts; room = is.room }
 
 pub returns-else-addr : goal.returns-else-addr
 returns-else-addr g c =
     let is =
     device-reads c.args._tape.now c.args.self.now.made c.tell.new.self.made c.args.addr c.byte.result c.args.self.now.bus.now c.tell.new.self.bus.now c.byte.new.self
-    c.requires.fits c.requires.room c.tell.ensures.told c.tell.ensures.none c.byte.ensures.does c.byte.ensures.byte c.byte.ensures.current in
+    c.requires.accepts c.requires.room c.tell.ensures.told c.tell.ensures.none c.byte.ensures.does c.byte.ensures.byte c.byte.ensures.current in
     record {
       step = (
         c.tell.ensures.same_reference,
@@ -38,6 +38,6 @@ returns-else-addr g c =
             (read-keeps c.tell.new.self.bus.now c.byte.new.self (2 * from_bool (reaches_device (read_of c.args.addr c.byte.result))) c.byte.ensures.does),
         is.step,
       );
-      fits = is.fits;
+      accepts = is.accepts;
       room = is.room;
     }

@@ -1,16 +1,16 @@
 use Rattle.std.proofs.Common.{refl, ◌*◌}
 use Rattle.std.specs.Int.{from_bool}
-use Rattle.cpu_core.specs.Course.{write_of}
+use Rattle.cpu_core.specs.BusCycles.{write_of}
 use Rattle.lockstep_board.specs.Budget.{reaches_device}
 use Rattle.catchup_engine.proofs.HorizonLaws.{keeps-then, put-keeps, ram-keeps}
 use Rattle.catchup_engine.proofs.QuietLaws.{counted-more, device-writes, ram-writes, told-begun, told-room}
 use Rattle.catchup_engine.proofs.quiet.QuietBusBus.write.Goals as goal
 
 pub tell-requires-clause-clock : goal.tell-requires-clause-clock
-tell-requires-clause-clock g c = (counted-more c.args._tape.now c.args.self.now.made c.args.self.now.bus.now c.requires.fits c.requires.room).last
+tell-requires-clause-clock g c = (counted-more c.args._tape.now c.args.self.now.made c.args.self.now.bus.now c.requires.accepts c.requires.room).last
 
 pub tell-requires-clause-room : goal.tell-requires-clause-room
-tell-requires-clause-room g c = (counted-more c.args._tape.now c.args.self.now.made c.args.self.now.bus.now c.requires.fits c.requires.room).until
+tell-requires-clause-room g c = (counted-more c.args._tape.now c.args.self.now.made c.args.self.now.bus.now c.requires.accepts c.requires.room).until
 
 pub put-requires-clause-room : goal.put-requires-clause-room
 put-requires-clause-room g c = told-room c.args.self.now.made c.args.self.now.bus.now c.tell.new.self.bus.now c.requires.room c.tell.ensures.told
@@ -21,15 +21,15 @@ put-requires-clause-begun g c = told-begun c.args.self.now.made c.args.self.now.
 pub returns-then-addr : goal.returns-then-addr
 returns-then-addr g c =
     let is =
-    ram-writes c.args._tape.now c.args.self.now.made c.args.addr c.args.value c.args.self.now.bus.now c.put_ram.new.self c.requires.fits c.requires.room
+    ram-writes c.args._tape.now c.args.self.now.made c.args.addr c.args.value c.args.self.now.bus.now c.put_ram.new.self c.requires.accepts c.requires.room
     c.if-addr.true c.put_ram.ensures in
-    record { step = (refl, ram-keeps c.args.self.now.bus.now c.put_ram.new.self c.args.addr c.args.value c.put_ram.ensures, is.step); fits = is.fits; room = is.room }
+    record { step = (refl, ram-keeps c.args.self.now.bus.now c.put_ram.new.self c.args.addr c.args.value c.put_ram.ensures, is.step); accepts = is.accepts; room = is.room }
 
 pub returns-else-addr : goal.returns-else-addr
 returns-else-addr g c =
     let is =
     device-writes c.args._tape.now c.args.self.now.made c.tell.new.self.made c.args.addr c.args.value c.args.self.now.bus.now c.tell.new.self.bus.now c.put.new.self
-    c.requires.fits c.requires.room c.tell.ensures.told c.tell.ensures.none c.put.ensures.does c.put.ensures.few in
+    c.requires.accepts c.requires.room c.tell.ensures.told c.tell.ensures.none c.put.ensures.does c.put.ensures.few in
     record {
       step = (
         c.tell.ensures.same_reference,
@@ -37,6 +37,6 @@ returns-else-addr g c =
             (put-keeps c.args.addr c.args.value c.tell.new.self.bus.now c.put.new.self (2 * from_bool (reaches_device (write_of c.args.addr c.args.value))) c.put.ensures.does),
         is.step,
       );
-      fits = is.fits;
+      accepts = is.accepts;
       room = is.room;
     }

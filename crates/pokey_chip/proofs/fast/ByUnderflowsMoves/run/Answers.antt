@@ -23,7 +23,7 @@ loop-at-init c = (
       c.of-noise.ensures.noise c.of-noise.ensures.since
       c.of-tones.ensures.tone
       c.of-tones.ensures.pass
-      c.of-tones.ensures.turned
+      c.of-tones.ensures.underflowed
       (omega (arith, ap (λ (q : PokeyValue). q.irqst) c.start.view_is, c.start.invariant.irqst))
       (ap (λ (q : PokeyValue). q.last) c.start.view_is)
       c.start.invariant.levels
@@ -40,7 +40,7 @@ done c =
     c.of-tuning.result c.outputs.result c.due.result c.on-on.result c.soonest-at.result c.record_levels.new.trail c.after-voices.result c.reaching-noise.result c.after-tones.result c.record_levels.new.last
     c.of-tuning.ensures c.reaching-noise.ensures.noise c.reaching-noise.ensures.since
     c.outputs.ensures.four c.outputs.ensures.five c.outputs.ensures.long
-    c.due.ensures.bits c.after-tones.ensures.tone c.after-tones.ensures.pass c.after-tones.ensures.turned c.on-on.ensures
+    c.due.ensures.bits c.after-tones.ensures.tone c.after-tones.ensures.pass c.after-tones.ensures.underflowed c.on-on.ensures
     (c.record_levels.ensures.last ∙ ap (λ (q : PokeyValue). levels_on c.on-on.result q.audc) c.start.view_is)
     (rw (ap (λ (q : PokeyValue). q.audc) c.start.view_is) at c.record_levels.ensures.records) c.record_levels.ensures.few
     c.after-voices.ensures.first c.after-voices.ensures.second c.after-voices.ensures.third c.after-voices.ensures.fourth c.soonest-at.ensures

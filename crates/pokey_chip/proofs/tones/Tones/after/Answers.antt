@@ -18,5 +18,5 @@ returns-clause-pass c =
     c.pick.ensures.bits k (omega arith)
     ∙ ap (λ (b : Bool). if b then is_bit c.pick-tone.result k else is_bit c.args.self.pass k) (two-up c.args.due k)
 
-pub returns-clause-turned : goal.returns-clause-turned
-returns-clause-turned c = λ ch. is_bit-or c.args.self.turned c.args.due (place ch)
+pub returns-clause-underflowed : goal.returns-clause-underflowed
+returns-clause-underflowed c = λ ch. is_bit-or c.args.self.underflowed c.args.due (place ch)

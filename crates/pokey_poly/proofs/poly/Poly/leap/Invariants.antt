@@ -7,7 +7,7 @@ use Rattle.pokey_poly.proofs.poly.Poly.leap.Given as goal
 abbrev pub invariant-loop-left : goal.invariant-loop-left
 invariant-loop-left l = record {
   way : times (shifted l.self) l.left l.now ≡ times (shifted l.self) l.n l.r;
-  fits : l.now < 2 ^ width_of l.self;
+  in_range : l.now < 2 ^ width_of l.self;
 }
 
 abbrev pub decreases-loop-left : goal.decreases-loop-left

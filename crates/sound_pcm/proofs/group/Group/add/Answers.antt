@@ -1,13 +1,13 @@
 use Rattle.std.proofs.Common.{◌≡◌, ◌+◌, ◌-◌, ◌≤◌, ◌<◌, refl, ap, sym, ◌∙◌, arith, replicate}
 use Rattle.sound_pcm.specs.Samples.{group_after}
 use Rattle.sound_pcm.proofs.AddLaws.{add-step, add-cut, add-last}
-use Rattle.sound_pcm.proofs.GatherLaws.{nothing_sent, gathers-err}
+use Rattle.outside_io.proofs.GatherLaws.{none-gathered, gathers-err}
 use Rattle.sound_pcm.proofs.GroupLaws.{steady-whole-group, steady-short-group}
 use Rattle.sound_pcm.proofs.group.Group.add.Goals as goal
 
 pub loop-left-init : goal.loop-left-init
 loop-left-init g c = record {
-  gathered = nothing_sent _ _ _ refl;
+  gathered = none-gathered _ _ _ refl;
   group = c.requires.group;
   per = refl;
   parts = refl;
@@ -22,7 +22,7 @@ returns-in_err-push-clause-taken g c =
     let some : 1 ≤ missing = omega (arith, so_far.group.unfinished) in
     let inside : missing ≤ c.loop-left.left = omega (arith, c.from.ensures, c.loop-left-test.true) in
     gathers-err _ _ _ _ _ c.from_residual.ensures.0
-    (add-cut _ _ _ _ _ c.args.self.now.per _ _ missing _ _ full some inside so_far.gathered c.in_err-push.ensures.taken)
+    (add-cut _ _ _ _ _ c.args.self.now.per _ _ missing _ _ full some inside so_far.gathered (rw c.to_le_bytes.ensures at c.in_err-push.ensures.taken))
 
 pub loop-left-preserved : goal.loop-left-preserved
 loop-left-preserved g c =
@@ -33,7 +33,7 @@ loop-left-preserved g c =
     let inside : missing ≤ c.loop-left.left = omega (arith, c.from.ensures, c.loop-left-test.true) in
     let next : c.loop-left.left - c.from-left.result ≡ c.loop-left.left - missing = ap (λ n. c.loop-left.left - n) c.from-left.ensures in
     record {
-      gathered = add-step _ _ _ _ _ c.args.self.now.per _ _ missing _ _ full some inside so_far.gathered _ _ next c.in_ok-push.ensures.taken;
+      gathered = add-step _ _ _ _ _ c.args.self.now.per _ _ missing _ _ full some inside so_far.gathered _ _ next (rw c.to_le_bytes.ensures at c.in_ok-push.ensures.taken);
       group = record { longest = so_far.group.longest; unfinished = omega (arith, so_far.group.unfinished); sum = omega arith };
       per = so_far.per;
       parts = so_far.parts ∙ steady-whole-group c.args.self.now.per c.loop-left.self.sum c.loop-left.self.count missing c.loop-left.left c.args.weight full some inside

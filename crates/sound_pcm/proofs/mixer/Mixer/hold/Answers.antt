@@ -1,4 +1,4 @@
-use Rattle.sound_pcm.proofs.GatherLaws.{gathers-err}
+use Rattle.outside_io.proofs.GatherLaws.{gathers-err}
 use Rattle.sound_pcm.proofs.mixer.Mixer.hold.Goals as goal
 
 pub returns-in_err-add-clause-taken : goal.returns-in_err-add-clause-taken

@@ -1,6 +1,6 @@
 use Rattle.std.proofs.Common.{◌≡◌, refl, ap, sym, ◌∙◌}
 use Rattle.sound_pcm.specs.Mixing.{held, changed}
-use Rattle.sound_pcm.proofs.GatherLaws.{nothing_sent, gathered-end, takes-err}
+use Rattle.outside_io.proofs.GatherLaws.{none-gathered, gathered-end, takes-cut}
 use Rattle.sound_pcm.proofs.TakeLaws.{step-gathered, step-may, step-mixed, step-cut, last-gathered, last-cut, last-mixed, on-ok}
 use Rattle.sound_pcm.proofs.mixer.Mixer.take.Goals as goal
 
@@ -13,7 +13,7 @@ loop-part-init g c =
         made1 = c.requires.made1;
         made2 = c.requires.made2;
       };
-      gathered = nothing_sent _ _ _ refl;
+      gathered = none-gathered _ _ _ refl;
       state = refl;
       faults = refl;
     }
@@ -21,7 +21,7 @@ loop-part-init g c =
 pub returns-in_err-hold-clause-taken : goal.returns-in_err-hold-clause-taken
 returns-in_err-hold-clause-taken g c =
     let so_far = c.loop-part.invariant in
-    takes-err _ _ _ _ c.from_residual.ensures.0
+    takes-cut _ _ _ _ c.from_residual.ensures.0
     (step-cut _ _ _ _ _ c.loop-part.self _ _ _ _ c.in-Some.part c.in-Some.made c.args.upto c.clock.result c.clock.ensures so_far.may c.in-Some.ensures
     so_far.gathered c.in_err-hold.ensures.taken)
 
@@ -43,7 +43,7 @@ loop-part-preserved g c =
 
 pub returns-in_err-hold-2-clause-taken : goal.returns-in_err-hold-2-clause-taken
 returns-in_err-hold-2-clause-taken g c =
-    takes-err _ _ _ _ c.from_residual-in_err-hold-2.ensures.0
+    takes-cut _ _ _ _ c.from_residual-in_err-hold-2.ensures.0
     (last-cut _ _ _ _ _ c.loop-part.self _ _ c.args.upto c.in_default.ensures.0 c.in_default.ensures.1 c.loop-part.invariant.gathered
     c.in_err-hold-2.ensures.taken)
 

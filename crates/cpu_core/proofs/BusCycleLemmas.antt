@@ -1,12 +1,12 @@
--- What is left of a course after some of its bytes.
+-- The bus cycles that are left after some of their bytes.
 use Rattle.std.proofs.Common.{◌≡◌, ℕ, List, [], ◌∷◌, ◌++◌, refl, sym, ap, subst, ◌∙◌, append_assoc}
 use Rattle.std.proofs.lemmas.List.{append-nil}
 use Rattle.board_base.specs.Cpu.{CpuValue}
 use Rattle.board_base.specs.declared.cpu.Sequence.{Sequence}
 use Rattle.cpu_core.specs.declared.replay.Next.TheVariants.{End}
 use Rattle.cpu_core.specs.Registers.{RegistersValue}
-use Rattle.cpu_core.specs.Course.{Access, read_of, write_of, Course, finish, read, write, Performs}
-use Rattle.cpu_core.specs.Sequences.{course_of, after, head_of, next_of, IsAccess, Moves, Runs}
+use Rattle.cpu_core.specs.BusCycles.{Access, read_of, write_of, BusCycles, finish, read, write, Performs}
+use Rattle.cpu_core.specs.Sequences.{cycles_of, after, head_of, next_of, IsAccess, Moves, Runs}
 
 -- nothing comes after the end
 pub after-finish : (e : CpuValue) (bytes : List ℕ) → after (finish e) bytes ≡ finish e
@@ -14,7 +14,7 @@ after-finish e [] = refl
 after-finish e (b ∷ bytes) = refl
 
 -- what is left after some bytes and then others
-pub after-append : (c : Course) (xs ys : List ℕ) → after c (xs ++ ys) ≡ after (after c xs) ys
+pub after-append : (c : BusCycles) (xs ys : List ℕ) → after c (xs ++ ys) ≡ after (after c xs) ys
 after-append c [] ys = refl
 after-append (finish e) (x ∷ xs) ys = sym (after-finish e ys)
 after-append (read a k) (x ∷ xs) ys = after-append (k x) xs ys
@@ -27,11 +27,11 @@ pub record Rest {S : Type 0} (step : Access → S → S → Type 0) (r : Registe
   pub ends : next_of r q (bytes ++ more) ≡ End e
 
 -- one byte more is one access less to do
-one_more : (r : RegistersValue) (q : Sequence) (bytes : List ℕ) (c d : Course) (v : ℕ) → after (course_of r q) bytes ≡ c → after c (v ∷ []) ≡ d → after (course_of r q) (bytes ++ v ∷ []) ≡ d
+one_more : (r : RegistersValue) (q : Sequence) (bytes : List ℕ) (c d : BusCycles) (v : ℕ) → after (cycles_of r q) bytes ≡ c → after c (v ∷ []) ≡ d → after (cycles_of r q) (bytes ++ v ∷ []) ≡ d
 one_more r q bytes c d v h k =
-    after-append (course_of r q) bytes (v ∷ []) ∙ ap (λ x. after x (v ∷ [])) h ∙ k
+    after-append (cycles_of r q) bytes (v ∷ []) ∙ ap (λ x. after x (v ∷ [])) h ∙ k
 
-next_is : (r : RegistersValue) (q : Sequence) (bytes : List ℕ) (c : Course) → after (course_of r q) bytes ≡ c → next_of r q bytes ≡ head_of c
+next_is : (r : RegistersValue) (q : Sequence) (bytes : List ℕ) (c : BusCycles) → after (cycles_of r q) bytes ≡ c → next_of r q bytes ≡ head_of c
 unfolding next_of
 next_is r q bytes c h = ap head_of h
 
@@ -45,8 +45,8 @@ longer step r q bytes v x s m t e a st rest =
     }
 
 -- what is performed after these bytes is the rest of the sequence
-pub rest_of : {S : Type 0} (step : Access → S → S → Type 0) (r : RegistersValue) (q : Sequence) (bytes : List ℕ) (c : Course) (s t : S) (e : CpuValue)
-    → after (course_of r q) bytes ≡ c → Performs step c s t e → Rest step r q bytes s t e
+pub rest_of : {S : Type 0} (step : Access → S → S → Type 0) (r : RegistersValue) (q : Sequence) (bytes : List ℕ) (c : BusCycles) (s t : S) (e : CpuValue)
+    → after (cycles_of r q) bytes ≡ c → Performs step c s t e → Rest step r q bytes s t e
 rest_of step r q bytes (finish d) s t e h p =
     record {
       more = [];
@@ -64,9 +64,9 @@ rest_of step r q bytes (write a v c) s t e h p =
     p.1
     (rest_of step r q (bytes ++ v ∷ []) c p.0 t e (one_more r q bytes (write a v c) c v h refl) p.2)
 
--- what performs the course of a sequence runs the sequence
+-- what performs the bus cycles of a sequence runs the sequence
 pub runs_of : {S : Type 0} (step : Access → S → S → Type 0) (r : RegistersValue) (q : Sequence) (s t : S) (e : CpuValue)
-    → Performs step (course_of r q) s t e → Runs step r q s t e
+    → Performs step (cycles_of r q) s t e → Runs step r q s t e
 runs_of step r q s t e p =
-    let rest = rest_of step r q [] (course_of r q) s t e refl p in
+    let rest = rest_of step r q [] (cycles_of r q) s t e refl p in
     record { bytes = rest.more; moves = rest.moves; ends = rest.ends }

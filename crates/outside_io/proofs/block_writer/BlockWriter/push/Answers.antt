@@ -1,5 +1,5 @@
-use Rattle.log_text.proofs.GatherLaws.{gathers-cut}
-use Rattle.log_text.proofs.block.Block.push.Goals as goal
+use Rattle.outside_io.proofs.GatherLaws.{gathers-cut}
+use Rattle.outside_io.proofs.block_writer.BlockWriter.push.Goals as goal
 
 pub returns-in_err-flush-clause-taken : goal.returns-in_err-flush-clause-taken
 returns-in_err-flush-clause-taken g c = gathers-cut _ _ _ _ _ _ c.from_residual.ensures.0 c.in_err-flush.ensures.taken
