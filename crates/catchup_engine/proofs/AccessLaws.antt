@@ -9,12 +9,12 @@ use Rattle.catchup_engine.specs.Bus.{BusValue, BusStep, Stays, at_clock, done_cl
 use Rattle.lockstep_board.proofs.Clocks.{put_in-clock, ticked-clock, ticked-written}
 
 -- the clock in which an access comes is the one that counts as done, or the next
-in_clock-clock : (entries : List TapeEntry) (begun : Bool) (w : Peripherals) → (in_clock entries begun w).clock ≤ w.clock
+in_clock-clock : (entries : List TapeEntry) (clock_open : Bool) (w : Peripherals) → (in_clock entries clock_open w).clock ≤ w.clock
 unfolding in_clock
 in_clock-clock entries true w = omega arith
 in_clock-clock entries false w = let e = ticked-clock entries w in omega arith
 
-in_clock-written : (entries : List TapeEntry) (begun : Bool) (w : Peripherals) → (in_clock entries begun w).written ≡ w.written
+in_clock-written : (entries : List TapeEntry) (clock_open : Bool) (w : Peripherals) → (in_clock entries clock_open w).written ≡ w.written
 unfolding in_clock
 in_clock-written entries true w = refl
 in_clock-written entries false w = ticked-written entries w
@@ -24,13 +24,13 @@ pub record HasEntered (entries : List TapeEntry) (s m : BusValue) : Type 0 where
   pub clock : m.peripherals.clock ≤ s.peripherals.clock + 1
   pub written : m.peripherals.written ≡ s.peripherals.written
 
-pub has-entered : (entries : List TapeEntry) (s m : BusValue) → m.peripherals ≡ done_clock (in_clock entries s.begun s.peripherals) → HasEntered entries s m
+pub has-entered : (entries : List TapeEntry) (s m : BusValue) → m.peripherals ≡ done_clock (in_clock entries s.clock_open s.peripherals) → HasEntered entries s m
 has-entered entries s m peripherals = record {
   clock =
-      let e : m.peripherals.clock ≡ (in_clock entries s.begun s.peripherals).clock + 1 = ap (λ (w : Peripherals). w.clock) peripherals in
-      let f = in_clock-clock entries s.begun s.peripherals in
+      let e : m.peripherals.clock ≡ (in_clock entries s.clock_open s.peripherals).clock + 1 = ap (λ (w : Peripherals). w.clock) peripherals in
+      let f = in_clock-clock entries s.clock_open s.peripherals in
       omega arith;
-  written = ap (λ (w : Peripherals). w.written) peripherals ∙ in_clock-written entries s.begun s.peripherals;
+  written = ap (λ (w : Peripherals). w.written) peripherals ∙ in_clock-written entries s.clock_open s.peripherals;
 }
 
 -- room for one access more than is left after it
@@ -62,13 +62,13 @@ put-entered : (a v : ℕ) (m w : Peripherals) → m ≡ done_clock w → at_cloc
 put-entered a v m w e = ap (λ (k : Peripherals). at_clock k.clock (byte_put a v (at_clock (k.clock - 1) k))) e ∙ put-done a v w
 
 -- a write is a step of the bus
-pub write-step : (entries : List TapeEntry) (a v : ℕ) (s m t : BusValue) → m.peripherals ≡ done_clock (in_clock entries s.begun s.peripherals)
+pub write-step : (entries : List TapeEntry) (a v : ℕ) (s m t : BusValue) → m.peripherals ≡ done_clock (in_clock entries s.clock_open s.peripherals)
     → t.peripherals ≡ at_clock m.peripherals.clock (byte_put a v (at_clock (m.peripherals.clock - 1) m.peripherals)) → Stays entries (write_of a v) s t
     → BusStep entries (write_of a v) s t
-write-step entries a v s m t enter put stays = (put ∙ put-entered a v m.peripherals (in_clock entries s.begun s.peripherals) enter, stays)
+write-step entries a v s m t enter put stays = (put ∙ put-entered a v m.peripherals (in_clock entries s.clock_open s.peripherals) enter, stays)
 
 -- and leaves room for one access less
-pub write-room : (entries : List TapeEntry) (a v : ℕ) (s m t : BusValue) → m.peripherals ≡ done_clock (in_clock entries s.begun s.peripherals)
+pub write-room : (entries : List TapeEntry) (a v : ℕ) (s m t : BusValue) → m.peripherals ≡ done_clock (in_clock entries s.clock_open s.peripherals)
     → t.peripherals ≡ at_clock m.peripherals.clock (byte_put a v (at_clock (m.peripherals.clock - 1) m.peripherals)) → length t.peripherals.written ≤ length m.peripherals.written + 1
     → t.rooms ≡ s.rooms → s.until ≤ t.until → room_of s ≤ room_of t + 1
 write-room entries a v s m t enter put few rooms until =
@@ -79,7 +79,7 @@ write-room entries a v s m t enter put few rooms until =
     room-after s t (omega arith) (omega arith) rooms until
 
 -- so does a read
-pub read-room : (entries : List TapeEntry) (s m t : BusValue) → m.peripherals ≡ done_clock (in_clock entries s.begun s.peripherals) → t.peripherals ≡ m.peripherals
+pub read-room : (entries : List TapeEntry) (s m t : BusValue) → m.peripherals ≡ done_clock (in_clock entries s.clock_open s.peripherals) → t.peripherals ≡ m.peripherals
     → t.rooms ≡ s.rooms → s.until ≤ t.until → room_of s ≤ room_of t + 1
 read-room entries s m t enter same rooms until =
     let entered = has-entered entries s m enter in

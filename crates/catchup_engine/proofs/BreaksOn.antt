@@ -33,7 +33,7 @@ turn-ends entries c s u f at turned =
     boundary-ends entries (s.peripherals.clock + 1) c s u f at (over-at f.jam f.mid (s.peripherals.clock + 1) u.peripherals.clock at.boundary (omega arith))
 
 -- a turn over the bus is one of the board
-turn-run : (entries : List TapeEntry) (c : CpuValue) (s u : BusValue) (f : CpuValue) → s.begun ≡ false → c.jam ≡ None → s.peripherals.clock < 2 ^ 48
+turn-run : (entries : List TapeEntry) (c : CpuValue) (s u : BusValue) (f : CpuValue) → s.clock_open ≡ false → c.jam ≡ None → s.peripherals.clock < 2 ^ 48
     → IfSome c.mid (λ _. IsMiddle c) → IsInRange c s → TurnedBus entries 7 c s u f → BoundaryRun entries (s.peripherals.clock + 1) c s u f
 turn-run entries c s u f between running early place range turned = by_mid (is_some c.mid) refl
   where
@@ -71,7 +71,7 @@ jammed-at c None jammed e place = refl
 jammed-at c (Some m) jammed e place = let running = place.0 in let none : is_some c.jam ≡ false = rw running refl in cc
 
 -- a jammed board takes its turn at once
-pub break-jammed : (entries : List TapeEntry) (limit : ℕ) (addresses : List ℕ) (c : CpuValue) (s : BusValue) → s.begun ≡ false → is_some c.jam ≡ true
+pub break-jammed : (entries : List TapeEntry) (limit : ℕ) (addresses : List ℕ) (c : CpuValue) (s : BusValue) → s.clock_open ≡ false → is_some c.jam ≡ true
     → IfSome c.mid (λ _. IsMiddle c) → IsInRange c s → AtTurn entries limit addresses c s s c
 break-jammed entries limit addresses c s between jammed place range = record {
   run = starts entries never c s between;
@@ -82,7 +82,7 @@ break-jammed entries limit addresses c s between jammed place range = record {
 }
 
 -- the first turn of another
-pub break-begins : (entries : List TapeEntry) (limit : ℕ) (addresses : List ℕ) (c : CpuValue) (s u : BusValue) (f : CpuValue) → s.begun ≡ false
+pub break-begins : (entries : List TapeEntry) (limit : ℕ) (addresses : List ℕ) (c : CpuValue) (s u : BusValue) (f : CpuValue) → s.clock_open ≡ false
     → is_some c.jam ≡ false → s.peripherals.clock < 2 ^ 48 → IfSome c.mid (λ _. IsMiddle c) → IsInRange c s → TurnedBus entries 7 c s u f
     → AtTurn entries limit addresses c s u f
 break-begins entries limit addresses c s u f between running early place range turned =
@@ -99,7 +99,7 @@ break-begins entries limit addresses c s u f between running early place range t
     }
 
 -- no turn is made yet
-pub turns-start : (entries : List TapeEntry) (limit : ℕ) (addresses : List ℕ) (c : CpuValue) (s : BusValue) → s.begun ≡ false → c.mid ≡ None
+pub turns-start : (entries : List TapeEntry) (limit : ℕ) (addresses : List ℕ) (c : CpuValue) (s : BusValue) → s.clock_open ≡ false → c.mid ≡ None
     → IsInRange c s → TurnsOn entries limit addresses c s s c
 turns-start entries limit addresses c s between boundary range = record {
   run = starts entries (is_over limit) c s between;

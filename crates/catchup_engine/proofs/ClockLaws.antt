@@ -1,4 +1,4 @@
--- The bus's clock, and the clocks in which nothing comes.
+-- The bus's clock, and the clocks in which no event is due.
 use Rattle.std.proofs.Common.{◌≡◌, ◌+◌, ◌-◌, ◌≤◌, refl, arith}
 use Rattle.lockstep_board.specs.Peripherals.{Peripherals}
 use Rattle.catchup_engine.specs.Bus.{at_clock}

@@ -15,7 +15,7 @@ pub ticked-is : (entries : List TapeEntry) (w v : Peripherals) → v ≡ applied
 unfolding ticked
 ticked-is entries w v e = ap devices_ticked e
 
--- entries leave the divider, and so its wrap
+-- entries don't change the divider, nor its wrap
 pub wraps-applied : (entries : List TapeEntry) (w : Peripherals) → wraps (applied entries w) ≡ wraps w
 wraps-applied entries w = rw (applied-divider entries w) refl
 
@@ -32,11 +32,11 @@ ticks-clock b a t clock here ticks =
 
 -- the place of the next clock, after the entries and the ticks
 pub place-after : (tape : TapeValue) (s a t : BusValue) → a.peripherals ≡ applied (due_at s.peripherals.clock tape.entries) s.peripherals
-    → t.peripherals ≡ done_clock (devices_ticked a.peripherals) → t.next ≡ a.next → IsTapePlace tape (s.peripherals.clock + 1) a.next → IsTapePlace tape t.peripherals.clock t.next
-place-after tape s a t applies ticks next place =
+    → t.peripherals ≡ done_clock (devices_ticked a.peripherals) → t.tape_pos ≡ a.tape_pos → IsTapePlace tape (s.peripherals.clock + 1) a.tape_pos → IsTapePlace tape t.peripherals.clock t.tape_pos
+place-after tape s a t applies ticks tape_pos place =
     let here : a.peripherals.clock ≡ s.peripherals.clock = ap (λ (w : Peripherals). w.clock) applies ∙ applied-clock (due_at s.peripherals.clock tape.entries) s.peripherals in
     let clock : t.peripherals.clock ≡ s.peripherals.clock + 1 = ticks-clock s a t s.peripherals.clock here ticks in
-    rw (clock, next) place
+    rw (clock, tape_pos) place
 
--- what the ticks of a clock leave
+-- what the ticks of a clock don't change
 pub ruleset kept = (ticked-clock, ticked-written)

@@ -1,4 +1,4 @@
--- Boundaries at which nothing but the clock has to be looked at.
+-- Boundaries at which only the clock has to be looked at.
 use Rattle.std.proofs.Common.{◌≡◌, ℕ, ◌+◌, ◌-◌, ◌≤◌, ◌<◌, Bool, true, false, not, ◌&&◌, ◌||◌, nat_le, nat_lt, min, is_none, is_some, List, [], ◌∷◌, ◌++◌, slice_set, Option, Some, None, refl, sym, ap, ◌∙◌, arith, if◌then◌else◌}
 use Rattle.std.proofs.lemmas.Bool.{and_parts}
 use Rattle.std.proofs.lemmas.Bool.Decides.{nat_tests}
@@ -19,7 +19,7 @@ use Rattle.catchup_engine.specs.declared.horizon.Horizon.{Horizon}
 use Rattle.catchup_engine.specs.declared.bus.TheConstants.{MAX_SEQUENCE_CLOCKS}
 use Rattle.lockstep_board.specs.Breaks.{is_at_any}
 use Rattle.catchup_engine.specs.Bus.{BusValue, Does, at_clock}
-use Rattle.catchup_engine.specs.Horizon.{HoldsAhead, IsHorizon, KeepsLines, LeavesLines}
+use Rattle.catchup_engine.specs.Horizon.{NothingDue, IsHorizon, KeepsLines, LeavesLines}
 use Rattle.lockstep_board.specs.Lockstep.{is_reset, sequence_due}
 use Rattle.catchup_engine.specs.Quiet.{later, passed}
 use Rattle.lockstep_board.specs.Run.{is_over}
@@ -35,13 +35,13 @@ both-not true false e = cc
 both-not true true e = cc
 
 -- the boundaries from one on whose fetch reads an opcode
-pub horizon-since : (limit until : ℕ) (silent : Bool) (s : BusValue) → until ≡ min limit (s.event_at - 6) → LeavesLines s.peripherals → (devices_ticked s.peripherals).divider.pending ≡ Nothing → silent ≡ (not s.peripherals.wired && not s.peripherals.divider.irq)
-    → IsHorizon limit (record { until = until; silent = silent }) s
-horizon-since limit until silent s is leaves pending lets_go = λ early. record {
+pub horizon-since : (limit until : ℕ) (irq_idle : Bool) (s : BusValue) → until ≡ min limit (s.event_at - 6) → LeavesLines s.peripherals → (devices_ticked s.peripherals).divider.pending ≡ Nothing → irq_idle ≡ (not s.peripherals.wired && not s.peripherals.divider.irq)
+    → IsHorizon limit (record { until = until; irq_idle = irq_idle }) s
+horizon-since limit until irq_idle s is leaves pending lets_go = λ early. record {
   before = omega arith;
-  quiet = omega arith;
+  no_event = omega arith;
   pending = sym leaves.pending ∙ pending;
-  silent = λ e. both-not s.peripherals.wired s.peripherals.divider.irq (sym lets_go ∙ e);
+  irq_idle = λ e. both-not s.peripherals.wired s.peripherals.divider.irq (sym lets_go ∙ e);
 }
 
 pub ruleset horizon = horizon-since
@@ -124,16 +124,16 @@ pub runs-keep : {S : Type 0} {T : Access → S → S → Type 0} (bus : S → Bu
     → (r : RegistersValue) (q : Sequence) (s t : S) (e : CpuValue) → Runs T r q s t e → KeepsLines (bus s) (bus t)
 runs-keep bus keeps r q s t e runs = moves-keep bus keeps r q [] runs.bytes s t runs.moves
 
--- what keeps the lines keeps what the horizon says
-pub are-kept : (limit : ℕ) (horizon : Horizon) (s t : BusValue) → KeepsLines s t → HoldsAhead limit horizon s → HoldsAhead limit horizon t
+-- what keeps the lines keeps the horizon
+pub are-kept : (limit : ℕ) (horizon : Horizon) (s t : BusValue) → KeepsLines s t → NothingDue limit horizon s → NothingDue limit horizon t
 are-kept limit horizon s t keeps are =
     let event = keeps.event in
-    let quiet = are.quiet in
+    let no_event = are.no_event in
     record {
       before = are.before;
-      quiet = omega arith;
+      no_event = omega arith;
       pending = keeps.pending ∙ are.pending;
-      silent = λ e. (keeps.wired ∙ (are.silent e).0, keeps.irq (are.silent e).1);
+      irq_idle = λ e. (keeps.wired ∙ (are.irq_idle e).0, keeps.irq (are.irq_idle e).1);
     }
 
 -- clocks before the divider's wrap keep them
@@ -151,16 +151,16 @@ passed-leaves n s h wrap = record {
   pending = pending-after n s.peripherals.divider (omega arith) ∙ sym (pending-quiet n s.peripherals.divider (omega arith));
 }
 
--- no line is pulled, or it is masked
+-- no interrupt is asserted, or it is masked
 opcode-due : (pending : Pending) (line masked : Bool) → pending ≡ Nothing → line && not masked ≡ false
     → is_opcode (if is_reset pending then Reset else (if line && not masked then Interrupt else Opcode)) ≡ true
 opcode-due Nothing line masked e f = rw f refl
 opcode-due Power line masked e f = cc
 opcode-due Watchdog line masked e f = cc
 
-masked-off : (line silent masked : Bool) → (silent ≡ true → line ≡ false) → silent || masked ≡ true → line && not masked ≡ false
-masked-off false silent masked let_go e = refl
-masked-off true silent true let_go e = refl
+masked-off : (line irq_idle masked : Bool) → (irq_idle ≡ true → line ≡ false) → irq_idle || masked ≡ true → line && not masked ≡ false
+masked-off false irq_idle masked let_go e = refl
+masked-off true irq_idle true let_go e = refl
 masked-off true true false let_go e = let f = let_go refl in cc
 masked-off true false false let_go e = cc
 
@@ -193,15 +193,15 @@ quiet-yet : (clock event : ℕ) → clock + MAX_SEQUENCE_CLOCKS ≤ event → na
 quiet-yet clock event h = grind (arith, nat_tests)
 
 pub horizon-goes_on : (limit : ℕ) (addresses : List ℕ) (horizon : Horizon) (c : CpuValue) (s : BusValue) → c.mid ≡ None → s.peripherals.clock < horizon.until
-    → HoldsAhead limit horizon s → LeavesLines s.peripherals → is_none c.jam ≡ true → horizon.silent || is_masked c.p ≡ true
+    → NothingDue limit horizon s → LeavesLines s.peripherals → is_none c.jam ≡ true → horizon.irq_idle || is_masked c.p ≡ true
     → is_at_any addresses (over_bus c s) ≡ false → GoesOn limit addresses c s
 unfolding reads_opcode
 horizon-goes_on limit addresses horizon c s boundary early are leaves running quiet_line elsewhere =
     let before = are.before in
-    let quiet = are.quiet in
+    let no_event = are.no_event in
     let lets_go : line_of (devices_ticked s.peripherals) && not (is_masked c.p) ≡ false =
-    masked-off (line_of (devices_ticked s.peripherals)) horizon.silent (is_masked c.p)
-    (λ e. unwired s.peripherals (are.silent e).0 leaves (are.silent e).1) quiet_line in
+    masked-off (line_of (devices_ticked s.peripherals)) horizon.irq_idle (is_masked c.p)
+    (λ e. unwired s.peripherals (are.irq_idle e).0 leaves (are.irq_idle e).1) quiet_line in
     record {
       open_yet =
           both-false (is_over limit (over_bus c s)) (is_at_any addresses (over_bus c s))
@@ -212,12 +212,12 @@ horizon-goes_on limit addresses horizon c s boundary early are leaves running qu
           (opcode-due (devices_ticked s.peripherals).divider.pending (line_of (devices_ticked s.peripherals)) (is_masked c.p) (leaves.pending ∙ are.pending) lets_go);
     }
 
--- that the clock and the flags tell so
-pub lasts-tells : (clock until : ℕ) (running silent masked : Bool) → (nat_lt clock until && (running && (silent || masked))) ≡ true
-    → (clock < until) × (running ≡ true) × (silent || masked ≡ true)
-lasts-tells clock until running silent masked e =
-    let both = and_parts (nat_lt clock until) (running && (silent || masked)) e in
-    let more = and_parts running (silent || masked) both.1 in
+-- the parts of what is tested at a boundary
+pub is-before-parts : (clock until : ℕ) (running irq_idle masked : Bool) → (nat_lt clock until && (running && (irq_idle || masked))) ≡ true
+    → (clock < until) × (running ≡ true) × (irq_idle || masked ≡ true)
+is-before-parts clock until running irq_idle masked e =
+    let both = and_parts (nat_lt clock until) (running && (irq_idle || masked)) e in
+    let more = and_parts running (irq_idle || masked) both.1 in
     (grind (arith, nat_tests), more.0, more.1)
 
 -- a fetch that reads an opcode finds no reset

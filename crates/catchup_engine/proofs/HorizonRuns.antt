@@ -1,4 +1,4 @@
--- A run up to the horizon, of whose clocks the bus has yet to be told.
+-- A run up to the horizon, whose clocks the bus hasn't got yet.
 use Rattle.std.proofs.Common.{◌≡◌, ℕ, ◌+◌, ◌-◌, ◌≤◌, ◌<◌, Bool, true, false, not, ◌&&◌, ◌||◌, is_none, min, nat_lt, List, None, refl, ap, arith}
 use Rattle.std.proofs.lemmas.Bool.{and_parts, or_parts}
 use Rattle.board_base.specs.declared.board.TheConstants.{CLOCK_LIMIT}
@@ -13,25 +13,26 @@ use Rattle.lockstep_board.specs.Breaks.{is_at_any}
 use Rattle.lockstep_board.specs.Run.{is_over}
 use Rattle.catchup_engine.specs.declared.bus.TheConstants.{MAX_SEQUENCE_CLOCKS}
 use Rattle.catchup_engine.specs.declared.horizon.Horizon.{Horizon}
-use Rattle.catchup_engine.specs.Bus.{BusStep, BusValue, Fits, room_of}
-use Rattle.catchup_engine.specs.Horizon.{HoldsAhead, IsHorizon, KeepsLines}
+use Rattle.catchup_engine.specs.Bus.{BusStep, BusValue, Accepts, room_of}
+use Rattle.catchup_engine.specs.Horizon.{NothingDue, IsHorizon, KeepsLines}
 use Rattle.catchup_engine.specs.Quiet.{IsCounted, later, passed, quiet_room}
 use Rattle.catchup_engine.specs.Runs.{GoesOn, HasRoomTo, IsInRange, TurnsOn, over_bus}
 use Rattle.catchup_engine.specs.Turn.{TurnedBus, reads_opcode}
 use Rattle.catchup_engine.proofs.BreaksOn.{turns-go_on, turns-start}
-use Rattle.catchup_engine.proofs.HorizonLaws.{are-kept, horizon-goes_on, lasts-tells, passed-leaves, passed-lines}
+use Rattle.catchup_engine.proofs.HorizonLaws.{are-kept, horizon-goes_on, is-before-parts, passed-leaves, passed-lines}
 use Rattle.catchup_engine.proofs.OpcodeLaws.{reads-opcode}
 use Rattle.catchup_engine.proofs.QuietLaws.{counted-start, passed-zero}
 use Rattle.catchup_engine.proofs.RunsOn.{open-before}
 use Rattle.catchup_engine.proofs.Turns.{opcode-turn}
 
--- from c and s such a run led to e and t, with so many clocks that t has yet to be told of; where it is to go on, it goes on
-pub record AtHorizon (tape : TapeValue) (limit : ℕ) (addresses : List ℕ) (horizon : Horizon) (c : CpuValue) (s : BusValue) (made : ℕ) (t : BusValue) (e : CpuValue) (more : Bool) : Type 0 where
-  pub on : TurnsOn tape.entries limit addresses c s (passed made t) e
-  pub counted : IsCounted tape made t
-  pub are : HoldsAhead limit horizon t
-  pub goes : more ≡ true → GoesOn limit addresses e (passed made t)
-  pub later : more ≡ false → s.peripherals.clock < (passed made t).peripherals.clock
+-- from c and s such a run led to e and t, with so many clocks that t hasn't got yet; where it is to
+-- go on, it goes on
+pub record AtHorizon (tape : TapeValue) (limit : ℕ) (addresses : List ℕ) (horizon : Horizon) (c : CpuValue) (s : BusValue) (elapsed : ℕ) (t : BusValue) (e : CpuValue) (more : Bool) : Type 0 where
+  pub on : TurnsOn tape.entries limit addresses c s (passed elapsed t) e
+  pub counted : IsCounted tape elapsed t
+  pub are : NothingDue limit horizon t
+  pub goes : more ≡ true → GoesOn limit addresses e (passed elapsed t)
+  pub later : more ≡ false → s.peripherals.clock < (passed elapsed t).peripherals.clock
 
 module _ (tape : TapeValue) (limit : ℕ) (addresses : List ℕ) where
   -- what is known where it goes on
@@ -39,14 +40,14 @@ module _ (tape : TapeValue) (limit : ℕ) (addresses : List ℕ) where
     pub boundary : c.mid ≡ None
     pub running : c.jam ≡ None
     pub clock : s.peripherals.clock < limit
-    pub quiet : s.peripherals.clock + MAX_SEQUENCE_CLOCKS ≤ s.event_at
+    pub no_event : s.peripherals.clock + MAX_SEQUENCE_CLOCKS ≤ s.event_at
 
   pub goes-before : (c : CpuValue) (s : BusValue) → GoesOn limit addresses c s → Before c s
   goes-before c s goes =
       let reads = reads-opcode c s goes.reads in
       let both = or_parts (is_over limit (over_bus c s)) (is_at_any addresses (over_bus c s)) goes.open_yet in
       let before = open-before limit (over_bus c s) reads.reads.boundary both.0 in
-      record { boundary = reads.reads.boundary; running = before.running; clock = before.clock; quiet = reads.quiet }
+      record { boundary = reads.reads.boundary; running = before.running; clock = before.clock; no_event = reads.no_event }
 
   pub room-before : (c e : CpuValue) (s t : BusValue) → limit ≤ CLOCK_LIMIT → HasRoomTo limit s → TurnsOn tape.entries limit addresses c s t e
       → t.peripherals.clock < limit → MAX_SEQUENCE_CLOCKS ≤ room_of t
@@ -57,85 +58,85 @@ module _ (tape : TapeValue) (limit : ℕ) (addresses : List ℕ) where
       let rooms : t.rooms.board ≡ s.rooms.board = ap (λ r. r.board) on.run.goes.rooms in
       omega arith
 
-  pub horizon-starts : (horizon : Horizon) (c : CpuValue) (s : BusValue) → limit ≤ CLOCK_LIMIT → IsInRange c s → s.begun ≡ false → HasRoomTo limit s → Fits tape s
+  pub horizon-starts : (horizon : Horizon) (c : CpuValue) (s : BusValue) → limit ≤ CLOCK_LIMIT → IsInRange c s → s.clock_open ≡ false → HasRoomTo limit s → Accepts tape s
       → GoesOn limit addresses c s → IsHorizon limit horizon s → horizon.until ≡ min limit (s.event_at - 6) → AtHorizon tape limit addresses horizon c s 0 s c true
   horizon-starts horizon c s last range between room accepts goes known until =
       let before = goes-before c s goes in
       let early = before.clock in
-      let quiet = before.quiet in
+      let no_event = before.no_event in
       let on = turns-start tape.entries limit addresses c s between before.boundary range in
       record {
         on = rw (passed-zero s) on;
-        counted = counted-start tape 0 s refl accepts between quiet (room-before c c s s last room on early);
+        counted = counted-start tape 0 s refl accepts between no_event (room-before c c s s last room on early);
         are = known (omega arith);
         goes = λ _. rw (passed-zero s) goes;
         later = λ no. cc;
       }
 
-  pub horizon-room : (horizon : Horizon) (c e : CpuValue) (s t : BusValue) (made : ℕ) (more : Bool) → more ≡ true → limit ≤ CLOCK_LIMIT → HasRoomTo limit s
-      → AtHorizon tape limit addresses horizon c s made t e more → MAX_SEQUENCE_CLOCKS ≤ quiet_room made t
+  pub horizon-room : (horizon : Horizon) (c e : CpuValue) (s t : BusValue) (elapsed : ℕ) (more : Bool) → more ≡ true → limit ≤ CLOCK_LIMIT → HasRoomTo limit s
+      → AtHorizon tape limit addresses horizon c s elapsed t e more → MAX_SEQUENCE_CLOCKS ≤ quiet_room elapsed t
   unfolding passed later
-  horizon-room horizon c e s t made more on_yet last room at =
-      let before = goes-before e (passed made t) (at.goes on_yet) in
+  horizon-room horizon c e s t elapsed more on_yet last room at =
+      let before = goes-before e (passed elapsed t) (at.goes on_yet) in
       let early = before.clock in
-      let quiet = before.quiet in
-      let most = room-before c e s (passed made t) last room at.on early in
+      let no_event = before.no_event in
+      let most = room-before c e s (passed elapsed t) last room at.on early in
       omega arith
 
   -- an instruction is a turn
-  pub horizon-turn : (horizon : Horizon) (c e f : CpuValue) (s t u : BusValue) (made n : ℕ) (more : Bool) → more ≡ true → AtHorizon tape limit addresses horizon c s made t e more
-      → Runs (BusStep tape.entries) (registers_of e) Opcode (passed made t) (passed n u) f → f.mid ≡ None
-      → TurnedBus tape.entries 7 e (passed made t) (passed n u) f
-  horizon-turn horizon c e f s t u made n more on_yet at runs boundary =
+  pub horizon-turn : (horizon : Horizon) (c e f : CpuValue) (s t u : BusValue) (elapsed n : ℕ) (more : Bool) → more ≡ true → AtHorizon tape limit addresses horizon c s elapsed t e more
+      → Runs (BusStep tape.entries) (registers_of e) Opcode (passed elapsed t) (passed n u) f → f.mid ≡ None
+      → TurnedBus tape.entries 7 e (passed elapsed t) (passed n u) f
+  horizon-turn horizon c e f s t u elapsed n more on_yet at runs boundary =
       let goes = at.goes on_yet in
-      opcode-turn tape e (passed made t) (passed n u) f (reads-opcode e (passed made t) goes.reads).reads at.on.run.goes.between at.counted.accepts runs boundary
+      opcode-turn tape e (passed elapsed t) (passed n u) f (reads-opcode e (passed elapsed t) goes.reads).reads at.on.run.goes.between at.counted.accepts runs boundary
 
-  -- it goes on where the clocks and the flags tell so
-  tells-on : (horizon : Horizon) (f : CpuValue) (u : BusValue) (n : ℕ) (more : Bool) → f.mid ≡ None → IsCounted tape n u → HoldsAhead limit horizon u
+  -- it goes on where the clock and the flags are so
+  tells-on : (horizon : Horizon) (f : CpuValue) (u : BusValue) (n : ℕ) (more : Bool) → f.mid ≡ None → IsCounted tape n u → NothingDue limit horizon u
       → (more ≡ true → u.peripherals.divider.phase + (u.event_at - u.peripherals.clock) < DIVIDER_PERIOD)
-      → (more ≡ true → ((nat_lt (u.peripherals.clock + n) horizon.until && (is_none f.jam && (horizon.silent || is_masked f.p))) && not (is_at_any addresses (over_bus f (passed n u)))) ≡ true)
+      → (more ≡ true → ((nat_lt (u.peripherals.clock + n) horizon.until && (is_none f.jam && (horizon.irq_idle || is_masked f.p))) && not (is_at_any addresses (over_bus f (passed n u)))) ≡ true)
       → more ≡ true → GoesOn limit addresses f (passed n u)
   unfolding passed later
   tells-on horizon f u n more boundary counted are wrap is on_yet =
-      let lasts = nat_lt (u.peripherals.clock + n) horizon.until && (is_none f.jam && (horizon.silent || is_masked f.p)) in
-      let both = and_parts lasts (not (is_at_any addresses (over_bus f (passed n u)))) (is on_yet) in
-      let tells = lasts-tells (u.peripherals.clock + n) horizon.until (is_none f.jam) horizon.silent (is_masked f.p) both.0 in
-      let early = tells.0 in
-      let quiet = are.quiet in
-      let lines = passed-lines n u counted.quiet (wrap on_yet) in
+      let here = nat_lt (u.peripherals.clock + n) horizon.until && (is_none f.jam && (horizon.irq_idle || is_masked f.p)) in
+      let both = and_parts here (not (is_at_any addresses (over_bus f (passed n u)))) (is on_yet) in
+      let parts = is-before-parts (u.peripherals.clock + n) horizon.until (is_none f.jam) horizon.irq_idle (is_masked f.p) both.0 in
+      let early = parts.0 in
+      let no_event = are.no_event in
+      let lines = passed-lines n u counted.no_event (wrap on_yet) in
       horizon-goes_on limit addresses horizon f (passed n u) boundary early (are-kept limit horizon u (passed n u) lines are)
-      (passed-leaves n u (omega arith) (wrap on_yet)) tells.1 tells.2 (not-true (is_at_any addresses (over_bus f (passed n u))) both.1)
+      (passed-leaves n u (omega arith) (wrap on_yet)) parts.1 parts.2 (not-true (is_at_any addresses (over_bus f (passed n u))) both.1)
     where
       not-true : (b : Bool) → not b ≡ true → b ≡ false
       not-true false e = refl
       not-true true e = cc
 
-  pub horizon-goes : (horizon : Horizon) (c e f : CpuValue) (s t u : BusValue) (made n : ℕ) (more then : Bool) → more ≡ true → limit ≤ CLOCK_LIMIT → AtHorizon tape limit addresses horizon c s made t e more
-      → Runs (BusStep tape.entries) (registers_of e) Opcode (passed made t) (passed n u) f → f.mid ≡ None → IsCounted tape n u → KeepsLines t u
+  pub horizon-goes : (horizon : Horizon) (c e f : CpuValue) (s t u : BusValue) (elapsed n : ℕ) (more then : Bool) → more ≡ true → limit ≤ CLOCK_LIMIT → AtHorizon tape limit addresses horizon c s elapsed t e more
+      → Runs (BusStep tape.entries) (registers_of e) Opcode (passed elapsed t) (passed n u) f → f.mid ≡ None → IsCounted tape n u → KeepsLines t u
       → (then ≡ true → u.peripherals.divider.phase + (u.event_at - u.peripherals.clock) < DIVIDER_PERIOD)
-      → (then ≡ true → ((nat_lt (u.peripherals.clock + n) horizon.until && (is_none f.jam && (horizon.silent || is_masked f.p))) && not (is_at_any addresses (over_bus f (passed n u)))) ≡ true)
+      → (then ≡ true → ((nat_lt (u.peripherals.clock + n) horizon.until && (is_none f.jam && (horizon.irq_idle || is_masked f.p))) && not (is_at_any addresses (over_bus f (passed n u)))) ≡ true)
       → AtHorizon tape limit addresses horizon c s n u f then
-  horizon-goes horizon c e f s t u made n more then on_yet last at runs boundary counted lines wrap is =
+  horizon-goes horizon c e f s t u elapsed n more then on_yet last at runs boundary counted lines wrap is =
       let goes = at.goes on_yet in
-      let turned = horizon-turn horizon c e f s t u made n more on_yet at runs boundary in
+      let turned = horizon-turn horizon c e f s t u elapsed n more on_yet at runs boundary in
       let are = are-kept limit horizon t u lines at.are in
       let so_far = at.on.run.clock in
       let clock = turned.turned.clock in
       record {
-        on = turns-go_on tape.entries limit addresses c s (passed made t) (passed n u) e f last at.on goes.open_yet turned;
+        on = turns-go_on tape.entries limit addresses c s (passed elapsed t) (passed n u) e f last at.on goes.open_yet turned;
         counted = counted;
         are = are;
         goes = tells-on horizon f u n then boundary counted are wrap is;
         later = λ _. omega arith;
       }
 
-  pub horizon-smaller : (horizon : Horizon) (c e f : CpuValue) (s t u : BusValue) (made n : ℕ) (more : Bool) → more ≡ true → AtHorizon tape limit addresses horizon c s made t e more
-      → Runs (BusStep tape.entries) (registers_of e) Opcode (passed made t) (passed n u) f → f.mid ≡ None
-      → limit - (passed n u).peripherals.clock < limit - (passed made t).peripherals.clock
-  horizon-smaller horizon c e f s t u made n more on_yet at runs boundary =
-      let before = goes-before e (passed made t) (at.goes on_yet) in
+  pub horizon-smaller : (horizon : Horizon) (c e f : CpuValue) (s t u : BusValue) (elapsed n : ℕ) (more : Bool) → more ≡ true → AtHorizon tape limit addresses horizon c s elapsed t e more
+      → Runs (BusStep tape.entries) (registers_of e) Opcode (passed elapsed t) (passed n u) f → f.mid ≡ None
+      → limit - (passed n u).peripherals.clock < limit - (passed elapsed t).peripherals.clock
+  horizon-smaller horizon c e f s t u elapsed n more on_yet at runs boundary =
+      let before = goes-before e (passed elapsed t) (at.goes on_yet) in
       let early = before.clock in
-      let turned = horizon-turn horizon c e f s t u made n more on_yet at runs boundary in
+      let turned = horizon-turn horizon c e f s t u elapsed n more on_yet at runs boundary in
       let clock = turned.turned.clock in
       omega arith
 
@@ -159,13 +160,13 @@ module _ (tape : TapeValue) (limit : ℕ) (addresses : List ℕ) where
       let rooms : t.rooms.board ≡ s.rooms.board = ap (λ r. r.board) on.run.goes.rooms in
       omega arith
 
--- the boundary lasts, so that the breaks tell whether it goes on
-pub and-then : (lasts at has : Bool) → lasts ≡ true → at ≡ has → not has ≡ true → (lasts && not at) ≡ true
-and-then lasts at has e f on_yet = rw (e, f) on_yet
+-- the boundary is before the horizon, so that it goes on unless it is at a break
+pub and-then : (here at has : Bool) → here ≡ true → at ≡ has → not has ≡ true → (here && not at) ≡ true
+and-then here at has e f on_yet = rw (e, f) on_yet
 
--- it doesn't
-pub and-else : (lasts told at : Bool) → told ≡ false → told ≡ true → (lasts && not at) ≡ true
-and-else lasts told at f on_yet = absurd (never told f on_yet)
+-- it isn't
+pub and-else : (here result at : Bool) → result ≡ false → result ≡ true → (here && not at) ≡ true
+and-else here result at f on_yet = absurd (never result f on_yet)
   where
     never : (b : Bool) → b ≡ false → b ≡ true → ⊥
     never true e g = cc

@@ -1,4 +1,4 @@
--- A run up to the horizon of which somebody is told turn by turn.
+-- A run up to the horizon that is passed to a tracer turn by turn.
 use Rattle.std.proofs.Common.{◌≡◌, ℕ, ◌+◌, ◌-◌, ◌≤◌, ◌<◌, Bool, true, false, not, ◌&&◌, ◌||◌, is_none, nat_lt, min, length, List, [], None, refl, sym, ap, ◌∙◌, subst, arith}
 use Rattle.std.proofs.lemmas.Bool.{or_parts}
 use Rattle.board_base.specs.declared.board.TheConstants.{CLOCK_LIMIT}
@@ -16,7 +16,7 @@ use Rattle.lockstep_board.specs.Run.{is_over}
 use Rattle.lockstep_board.specs.Peripherals.{Peripherals, byte_read, devices_ticked, ticked}
 use Rattle.catchup_engine.specs.declared.trace.Access.{Access}
 use Rattle.catchup_engine.specs.declared.horizon.Horizon.{Horizon}
-use Rattle.catchup_engine.specs.Bus.{BusStep, BusValue, Fits, is_private}
+use Rattle.catchup_engine.specs.Bus.{BusStep, BusValue, Accepts, is_private}
 use Rattle.catchup_engine.specs.Horizon.{IsHorizon, KeepsLines}
 use Rattle.catchup_engine.specs.Notes.{NotedStep, NotedValue, note_of, noting}
 use Rattle.catchup_engine.specs.Quiet.{IsCounted, later, passed}
@@ -32,23 +32,24 @@ use Rattle.catchup_engine.proofs.Seen.{runs-seen}
 use Rattle.catchup_engine.proofs.TapeLaws.{ticked-quiet}
 use Rattle.catchup_engine.proofs.TracedRuns.{turns-more, turns-none}
 
--- the ticks of a clock in which nothing comes of itself, and those before it, leave the RAM and the program ROM
-pub kept-memories : (tape : TapeValue) (made : ℕ) (t : BusValue) → Fits tape (passed made t) → (passed made t).peripherals.clock < (passed made t).event_at
-    → ((ticked tape.entries (passed made t).peripherals).ram ≡ t.peripherals.ram) × ((ticked tape.entries (passed made t).peripherals).program ≡ t.peripherals.program)
+-- the ticks of a clock in which no event is due, and those before it, don't change the RAM and the
+-- program ROM
+pub kept-memories : (tape : TapeValue) (elapsed : ℕ) (t : BusValue) → Accepts tape (passed elapsed t) → (passed elapsed t).peripherals.clock < (passed elapsed t).event_at
+    → ((ticked tape.entries (passed elapsed t).peripherals).ram ≡ t.peripherals.ram) × ((ticked tape.entries (passed elapsed t).peripherals).program ≡ t.peripherals.program)
 unfolding passed later devices_ticked
-kept-memories tape made t accepts quiet =
-    let same = ticked-quiet tape (passed made t) accepts quiet in (ap (λ (w : Peripherals). w.ram) same, ap (λ (w : Peripherals). w.program) same)
+kept-memories tape elapsed t accepts no_event =
+    let same = ticked-quiet tape (passed elapsed t) accepts no_event in (ap (λ (w : Peripherals). w.ram) same, ap (λ (w : Peripherals). w.program) same)
 
 module _ {T : Type 0} (next : T → TraceValue → ℕ → T) (enough : T → Bool) (tape : TapeValue) (limit : ℕ) where
-  -- From c, s and w such a run led to e, t and v, with so many clocks that t has yet to be told of. The flags say whether he has
-  -- enough, and whether it goes on.
-  pub record AtNoted (horizon : Horizon) (c : CpuValue) (s : BusValue) (made : ℕ) (t : BusValue) (e : CpuValue) (w v : T) (full more : Bool) : Type 0 where
-    pub at : AtHorizon tape limit [] horizon c s made t e more
-    pub turns : ToldTurns next enough tape.entries limit (over_bus c s) (over_bus e (passed made t)) w v full
+  -- From c, s and w such a run led to e, t and v, with so many clocks that t hasn't got yet. The
+  -- flags say whether the tracer has enough, and whether the run goes on.
+  pub record AtNoted (horizon : Horizon) (c : CpuValue) (s : BusValue) (elapsed : ℕ) (t : BusValue) (e : CpuValue) (w v : T) (full more : Bool) : Type 0 where
+    pub at : AtHorizon tape limit [] horizon c s elapsed t e more
+    pub turns : ToldTurns next enough tape.entries limit (over_bus c s) (over_bus e (passed elapsed t)) w v full
     pub open_yet : more ≡ true → full ≡ false
     pub opcode : more ≡ true → is_private e.pc ≡ true
 
-  pub noted-starts : (horizon : Horizon) (c : CpuValue) (s : BusValue) (w : T) → limit ≤ CLOCK_LIMIT → IsInRange c s → s.begun ≡ false → HasRoomTo limit s → Fits tape s
+  pub noted-starts : (horizon : Horizon) (c : CpuValue) (s : BusValue) (w : T) → limit ≤ CLOCK_LIMIT → IsInRange c s → s.clock_open ≡ false → HasRoomTo limit s → Accepts tape s
       → GoesOn limit [] c s → is_private c.pc ≡ true → IsHorizon limit horizon s → horizon.until ≡ min limit (s.event_at - 6) → AtNoted horizon c s 0 s c w w false true
   noted-starts horizon c s w last range between room accepts goes private known until = record {
     at = horizon-starts tape limit [] horizon c s last range between room accepts goes known until;
@@ -68,42 +69,42 @@ module _ {T : Type 0} (next : T → TraceValue → ℕ → T) (enough : T → Bo
     pub few : to - from ≤ 7
     pub reached : length l ≤ to - from
 
-  pub noted-short : (horizon : Horizon) (c e f : CpuValue) (s t u : BusValue) (made n : ℕ) (l : List Access) (w v : T) (full more : Bool) → more ≡ true
-      → AtNoted horizon c s made t e w v full more
-      → Runs (NotedStep tape.entries) (registers_of e) Opcode (noting (passed made t) []) (noting (passed n u) l) f → f.mid ≡ None
-      → IsShort (t.peripherals.clock + made) (u.peripherals.clock + n) l
+  pub noted-short : (horizon : Horizon) (c e f : CpuValue) (s t u : BusValue) (elapsed n : ℕ) (l : List Access) (w v : T) (full more : Bool) → more ≡ true
+      → AtNoted horizon c s elapsed t e w v full more
+      → Runs (NotedStep tape.entries) (registers_of e) Opcode (noting (passed elapsed t) []) (noting (passed n u) l) f → f.mid ≡ None
+      → IsShort (t.peripherals.clock + elapsed) (u.peripherals.clock + n) l
   unfolding passed later
-  noted-short horizon c e f s t u made n l w v full more on_yet at runs boundary =
+  noted-short horizon c e f s t u elapsed n l w v full more on_yet at runs boundary =
       let goes = at.at.goes on_yet in
-      let reads = (reads-opcode e (passed made t) goes.reads).reads in
-      let turn = noted-turn tape e (passed made t) (noting (passed n u) l) f reads at.at.on.run.goes.between at.at.counted.accepts runs boundary in
+      let reads = (reads-opcode e (passed elapsed t) goes.reads).reads in
+      let turn = noted-turn tape e (passed elapsed t) (noting (passed n u) l) f reads at.at.on.run.goes.between at.at.counted.accepts runs boundary in
       let clock = turn.turned.turned.clock in
       record { later = omega (arith, clock); few = turn.few.0; reached = turn.few.1 }
 
-  -- an instruction is a turn, of which he is told
-  pub noted-goes : (horizon : Horizon) (c e f : CpuValue) (s t u : BusValue) (made n code clocks : ℕ) (l : List Access) (w v new : T) (full more then has : Bool) → more ≡ true → limit ≤ CLOCK_LIMIT
-      → AtNoted horizon c s made t e w v full more
-      → Runs (NotedStep tape.entries) (registers_of e) Opcode (noting (passed made t) []) (noting (passed n u) l) f → f.mid ≡ None → IsCounted tape n u → KeepsLines t u
-      → ((k : Peripherals) → k.ram ≡ t.peripherals.ram → k.program ≡ t.peripherals.program → code ≡ byte_read e.pc k) → clocks ≡ u.peripherals.clock + n - (t.peripherals.clock + made)
+  -- an instruction is a turn, which the tracer gets
+  pub noted-goes : (horizon : Horizon) (c e f : CpuValue) (s t u : BusValue) (elapsed n code clocks : ℕ) (l : List Access) (w v new : T) (full more then has : Bool) → more ≡ true → limit ≤ CLOCK_LIMIT
+      → AtNoted horizon c s elapsed t e w v full more
+      → Runs (NotedStep tape.entries) (registers_of e) Opcode (noting (passed elapsed t) []) (noting (passed n u) l) f → f.mid ≡ None → IsCounted tape n u → KeepsLines t u
+      → ((k : Peripherals) → k.ram ≡ t.peripherals.ram → k.program ≡ t.peripherals.program → code ≡ byte_read e.pc k) → clocks ≡ u.peripherals.clock + n - (t.peripherals.clock + elapsed)
       → (then ≡ true → u.peripherals.divider.phase + (u.event_at - u.peripherals.clock) < DIVIDER_PERIOD)
       → ((trace : TraceValue) → opcode_note code clocks l ≡ note_of trace → new ≡ next v trace f.pc) → has ≡ enough new
-      → then ≡ (not has && ((nat_lt (u.peripherals.clock + n) horizon.until && (is_none f.jam && (horizon.silent || is_masked f.p))) && is_private f.pc))
+      → then ≡ (not has && ((nat_lt (u.peripherals.clock + n) horizon.until && (is_none f.jam && (horizon.irq_idle || is_masked f.p))) && is_private f.pc))
       → AtNoted horizon c s n u f w new has then
   unfolding passed later
-  noted-goes horizon c e f s t u made n code clocks l w v new full more then has on_yet last at runs boundary counted lines byte time wrap told asked goes_on =
+  noted-goes horizon c e f s t u elapsed n code clocks l w v new full more then has on_yet last at runs boundary counted lines byte time wrap told asked goes_on =
       let goes = at.at.goes on_yet in
-      let reads = (reads-opcode e (passed made t) goes.reads).reads in
-      let turn = noted-turn tape e (passed made t) (noting (passed n u) l) f reads at.at.on.run.goes.between at.at.counted.accepts runs boundary in
-      let calm_then = nat_lt (u.peripherals.clock + n) horizon.until && (is_none f.jam && (horizon.silent || is_masked f.p)) in
-      let memories = kept-memories tape made t at.at.counted.accepts reads.quiet in
-      let note = ap (λ k. opcode_note code k l) time ∙ turn.note code (byte (ticked tape.entries (passed made t).peripherals) memories.0 memories.1) in
+      let reads = (reads-opcode e (passed elapsed t) goes.reads).reads in
+      let turn = noted-turn tape e (passed elapsed t) (noting (passed n u) l) f reads at.at.on.run.goes.between at.at.counted.accepts runs boundary in
+      let calm_then = nat_lt (u.peripherals.clock + n) horizon.until && (is_none f.jam && (horizon.irq_idle || is_masked f.p)) in
+      let memories = kept-memories tape elapsed t at.at.counted.accepts reads.no_event in
+      let note = ap (λ k. opcode_note code k l) time ∙ turn.note code (byte (ticked tape.entries (passed elapsed t).peripherals) memories.0 memories.1) in
       record {
-        at = horizon-goes tape limit [] horizon c e f s t u made n more then on_yet last at.at (bus-runs e f (passed made t) (noting (passed n u) l) runs) boundary counted lines wrap
+        at = horizon-goes tape limit [] horizon c e f s t u elapsed n more then on_yet last at.at (bus-runs e f (passed elapsed t) (noting (passed n u) l) runs) boundary counted lines wrap
             (λ on. and-none _ (parts has calm_then (is_private f.pc) (sym goes_on ∙ on)).1);
         turns =
-            (turns-more next enough tape.entries limit (over_bus c s) (passed made t) (passed n u) e f w v new turn.trace has last
-            (subst (λ flag. ToldTurns next enough tape.entries limit (over_bus c s) (over_bus e (passed made t)) w v flag) (at.open_yet on_yet) at.turns)
-            (or_parts (is_over limit (over_bus e (passed made t))) (is_at_any [] (over_bus e (passed made t))) goes.open_yet).0 at.at.on.range turn.turned turn.is (told turn.trace note) asked).0;
+            (turns-more next enough tape.entries limit (over_bus c s) (passed elapsed t) (passed n u) e f w v new turn.trace has last
+            (subst (λ flag. ToldTurns next enough tape.entries limit (over_bus c s) (over_bus e (passed elapsed t)) w v flag) (at.open_yet on_yet) at.turns)
+            (or_parts (is_over limit (over_bus e (passed elapsed t))) (is_at_any [] (over_bus e (passed elapsed t))) goes.open_yet).0 at.at.on.range turn.turned turn.is (told turn.trace note) asked).0;
         open_yet = λ on. (parts has calm_then (is_private f.pc) (sym goes_on ∙ on)).0;
         opcode = λ on. (parts has calm_then (is_private f.pc) (sym goes_on ∙ on)).2;
       }
@@ -119,12 +120,12 @@ module _ {T : Type 0} (next : T → TraceValue → ℕ → T) (enough : T → Bo
       parts true b d is = cc
 
   -- and the run has less to go
-  pub noted-smaller : (horizon : Horizon) (c e f : CpuValue) (s t u : BusValue) (made n : ℕ) (l : List Access) (w v : T) (full more : Bool) → more ≡ true
-      → AtNoted horizon c s made t e w v full more
-      → Runs (NotedStep tape.entries) (registers_of e) Opcode (noting (passed made t) []) (noting (passed n u) l) f → f.mid ≡ None
-      → limit - (passed n u).peripherals.clock < limit - (passed made t).peripherals.clock
-  noted-smaller horizon c e f s t u made n l w v full more on_yet at runs boundary =
-      horizon-smaller tape limit [] horizon c e f s t u made n more on_yet at.at (bus-runs e f (passed made t) (noting (passed n u) l) runs) boundary
+  pub noted-smaller : (horizon : Horizon) (c e f : CpuValue) (s t u : BusValue) (elapsed n : ℕ) (l : List Access) (w v : T) (full more : Bool) → more ≡ true
+      → AtNoted horizon c s elapsed t e w v full more
+      → Runs (NotedStep tape.entries) (registers_of e) Opcode (noting (passed elapsed t) []) (noting (passed n u) l) f → f.mid ≡ None
+      → limit - (passed n u).peripherals.clock < limit - (passed elapsed t).peripherals.clock
+  noted-smaller horizon c e f s t u elapsed n l w v full more on_yet at runs boundary =
+      horizon-smaller tape limit [] horizon c e f s t u elapsed n more on_yet at.at (bus-runs e f (passed elapsed t) (noting (passed n u) l) runs) boundary
 
 -- an instruction over a bus that notes it, from one of which nothing is noted
 pub record IsNotedBy {S : Type 0} (entries : List TapeEntry) (seen : S → NotedValue) (bus : S → BusValue) (name name_then : S → ℕ) (e f : CpuValue) (m : ℕ) (b : BusValue) (s t : S) : Type 0 where

@@ -1,4 +1,4 @@
--- One access of a quiet bus that notes it.
+-- One access of a `NotedBus`.
 use Rattle.std.proofs.Common.{◌≡◌, ℕ, ◌+◌, ◌-◌, ◌*◌, ◌≤◌, ◌<◌, Bool, true, false, List, [], ◌∷◌, ◌++◌, length, length-append, refl, sym, ap, arith, if◌then◌else◌}
 use Rattle.std.specs.Int.{from_bool}
 use Rattle.board_map.specs.Map.{row_of}
@@ -39,7 +39,8 @@ made-at clock (write_of a v) = refl
 pub plain-reached : (l : List Access) (clock : ℕ) (x : cycles.Access) → reaches_device x ≡ false → l ≡ with_reached l (access_at clock x)
 plain-reached l clock x plain = rw (made-at clock x, plain) refl
 
--- An access of a device over a bus that was told of the clocks before it and of its own, m: it is noted with its clock.
+-- An access of a device over a bus that got the clocks before it and its own, m: it is noted with
+-- its clock.
 pub record IsNotedAccess (tape : TapeValue) (n : ℕ) (x : cycles.Access) (s t : BusValue) (l : List Access) : Type 0 where
   pub lines : KeepsLines s t
   pub noted : NotedStep tape.entries x (noting (passed n s) l) (noting (passed 0 t) (with_reached l (access_at (t.peripherals.clock - 1) x)))

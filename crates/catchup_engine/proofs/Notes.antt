@@ -17,7 +17,7 @@ use Rattle.lockstep_board.specs.Budget.{reaches_device}
 use Rattle.lockstep_board.specs.Lockstep.{access_in, due_access, made_by, sequence_due}
 use Rattle.lockstep_board.specs.Peripherals.{byte_read, ticked}
 use Rattle.catchup_engine.specs.declared.trace.Access.{Access}
-use Rattle.catchup_engine.specs.Bus.{BusStep, BusValue, Fits}
+use Rattle.catchup_engine.specs.Bus.{BusStep, BusValue, Accepts}
 use Rattle.catchup_engine.specs.Notes.{NoteValue, NotedStep, NotedValue, note_of, noting, reaching, with_reached}
 use Rattle.catchup_engine.specs.Runs.{over_bus}
 use Rattle.catchup_engine.specs.Trace.{TraceValue, TracedStep, access_at, byte_of, first_byte, first_value, made_of, no_access, sequence_at, seven_of, trace_of, traced}
@@ -75,12 +75,13 @@ lift entries r q bytes (v ∷ more) s t before (x, m, is, did, rest) at few =
       noted = others.noted;
     }
 
--- the note of an instruction, of which these are the opcode, the clocks and the accesses that reach a device
+-- the note of an instruction, of which these are the opcode, the clocks and the accesses that reach
+-- a device
 abbrev pub opcode_note : ℕ → ℕ → List Access → NoteValue
 opcode_note code clocks reached = record { sequence = Opcode; opcode = code; clocks = clocks; reached = reached }
 
--- An instruction over a bus that notes it is a turn, and its note is that of the board's trace: its opcode is the byte that stands at pc
--- in the clock of its first access.
+-- An instruction over a bus that notes it is a turn, and its note is that of the board's trace: its
+-- opcode is the byte at pc in the clock of its first access.
 pub record IsNotedTurn (entries : List TapeEntry) (c : CpuValue) (s : BusValue) (t : NotedValue) (e : CpuValue) : Type 0 where
   pub turned : TurnedBus entries 7 c s t.bus e
   pub trace : TraceValue
@@ -100,7 +101,7 @@ count-of : (entries : List TapeEntry) (n : ℕ) (c : CpuValue) (s : BusValue) (t
 unfolding trace_of
 count-of entries n c s trace is = ap (λ (k : TraceValue). k.count) is
 
-pub noted-turn : (tape : TapeValue) (c : CpuValue) (s : BusValue) (t : NotedValue) (e : CpuValue) → ReadsOpcode c s → s.begun ≡ false → Fits tape s
+pub noted-turn : (tape : TapeValue) (c : CpuValue) (s : BusValue) (t : NotedValue) (e : CpuValue) → ReadsOpcode c s → s.clock_open ≡ false → Accepts tape s
     → Runs (NotedStep tape.entries) (registers_of c) Opcode (noting s []) t e → e.mid ≡ None → IsNotedTurn tape.entries c s t e
 noted-turn tape c s t e reads between accepts runs boundary =
     let entries = tape.entries in
@@ -110,7 +111,7 @@ noted-turn tape c s t e reads between accepts runs boundary =
     let moves = (moves-seen (BusStep entries) (λ (k : NotedValue). k.bus) (λ k. 0) (λ x a b h. (refl, h.step)) r Opcode [] runs.bytes start t runs.moves).1 in
     let few = moves-length entries r Opcode [] runs.bytes s t.bus moves (omega arith) in
     let lifted = lift entries r Opcode [] runs.bytes start t [] runs.moves refl few in
-    let due : Opcode ≡ sequence_due c (ticked entries s.peripherals) = sym (ap (sequence_due c) (ticked-quiet tape s accepts reads.quiet) ∙ reads.due) in
+    let due : Opcode ≡ sequence_due c (ticked entries s.peripherals) = sym (ap (sequence_due c) (ticked-quiet tape s accepts reads.no_event) ∙ reads.due) in
     let full = traced t.bus (of_accesses lifted.made) in
     let told = opcode-told entries c s full e reads.boundary between due (record { bytes = runs.bytes; moves = lifted.moves; ends = runs.ends }) in
     let o = first_value (seven_of lifted.made) in

@@ -28,22 +28,22 @@ none-is : (mid : Option MidValue) → is_none mid ≡ true → mid ≡ None
 none-is None e = refl
 none-is (Some m) e = cc
 
--- what it says of the next fetch
+-- what it states of the next fetch
 pub record Reads (c : CpuValue) (s : BusValue) : Type 0 where
   pub reads : ReadsOpcode c s
-  pub quiet : s.peripherals.clock + MAX_SEQUENCE_CLOCKS ≤ s.event_at
+  pub no_event : s.peripherals.clock + MAX_SEQUENCE_CLOCKS ≤ s.event_at
 
 pub reads-opcode : (c : CpuValue) (s : BusValue) → reads_opcode c s ≡ true → Reads c s
 unfolding reads_opcode
 reads-opcode c s e =
     let both = and_parts (is_none c.mid) (nat_le (s.peripherals.clock + MAX_SEQUENCE_CLOCKS) s.event_at && is_opcode (sequence_due c (devices_ticked s.peripherals))) e in
     let more = and_parts (nat_le (s.peripherals.clock + MAX_SEQUENCE_CLOCKS) s.event_at) (is_opcode (sequence_due c (devices_ticked s.peripherals))) both.1 in
-    let quiet : s.peripherals.clock + MAX_SEQUENCE_CLOCKS ≤ s.event_at = leb-true (s.peripherals.clock + MAX_SEQUENCE_CLOCKS) s.event_at more.0 in
+    let no_event : s.peripherals.clock + MAX_SEQUENCE_CLOCKS ≤ s.event_at = leb-true (s.peripherals.clock + MAX_SEQUENCE_CLOCKS) s.event_at more.0 in
     record {
       reads = record {
         boundary = none-is c.mid both.0;
-        quiet = omega arith;
+        no_event = omega arith;
         due = opcode-is (sequence_due c (devices_ticked s.peripherals)) more.1;
       };
-      quiet = quiet;
+      no_event = no_event;
     }

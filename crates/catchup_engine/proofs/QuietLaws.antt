@@ -1,4 +1,4 @@
--- Clocks in which nothing comes of itself.
+-- Clocks in which no event is due.
 use Rattle.std.proofs.Common.{◌≡◌, ℕ, ◌+◌, ◌-◌, ◌*◌, ◌≤◌, ◌<◌, false, List, ◌++◌, length, refl, sym, ap, ◌∙◌, append_assoc, append-nil, add-zero, arith, slice_index, slice_set, ◌==◌, zero, suc, if◌then◌else◌}
 use Rattle.std.proofs.lemmas.Bool.Decides.{nat_tests}
 use Rattle.std.specs.Int.{from_bool}
@@ -22,7 +22,7 @@ use Rattle.catchup_engine.specs.declared.bus.TheConstants.{PROGRAM_START, MAX_SE
 use Rattle.lockstep_board.specs.Budget.{reaches_device}
 use Rattle.catchup_engine.specs.Lags.{DeviceLags, all_lag, lagging_at}
 use Rattle.catchup_devices.specs.Lags.{lags}
-use Rattle.catchup_engine.specs.Bus.{BusStep, BusValue, Does, Fits, Stays, at_clock, begin_price, done_clock, in_clock, room_of}
+use Rattle.catchup_engine.specs.Bus.{BusStep, BusValue, Does, Accepts, Stays, at_clock, begin_price, done_clock, in_clock, room_of}
 use Rattle.catchup_engine.specs.Quiet.{IsCounted, later, passed, quiet_room}
 use Rattle.lockstep_board.specs.Peripherals.{Peripherals, byte_put, byte_read, devices_ticked}
 use Rattle.catchup_engine.proofs.AccessLaws.{write-step}
@@ -79,7 +79,7 @@ lagging-later a b c d e clock (suc n) ha hb hc hd he =
 
 pub ruleset later_devices = (ticks-later, made-later, times-later, append_assoc, lagging-later)
 
--- no clock leaves the peripherals
+-- no clock doesn't change the peripherals
 later-zero : (w : Peripherals) → later 0 w ≡ w
 unfolding later ticks made
 later-zero w = rw (add-zero, append-nil, append-nil, append-nil) refl
@@ -114,34 +114,34 @@ passed-clock : (n : ℕ) (s : BusValue) → (passed n s).peripherals.clock ≡ s
 unfolding passed later
 passed-clock n s = refl
 
--- in a clock in which nothing comes, an access finds the devices after their ticks
+-- in a clock in which no event is due, an access finds the devices after their ticks
 pub in-quiet : (tape : TapeValue) (n : ℕ) (s : BusValue) → IsCounted tape n s → s.peripherals.clock + n < s.event_at
-    → in_clock tape.entries (passed n s).begun (passed n s).peripherals ≡ devices_ticked (later n s.peripherals)
+    → in_clock tape.entries (passed n s).clock_open (passed n s).peripherals ≡ devices_ticked (later n s.peripherals)
 unfolding passed in_clock
 in-quiet tape n s c h = rw c.between (ticked-quiet tape (passed n s) c.accepts (rw (passed-clock n s) h))
 
 -- and the clock is done after it
 pub quiet-entered : (tape : TapeValue) (n : ℕ) (s : BusValue) → IsCounted tape n s → s.peripherals.clock + n < s.event_at
-    → (passed (n + 1) s).peripherals ≡ done_clock (in_clock tape.entries (passed n s).begun (passed n s).peripherals)
+    → (passed (n + 1) s).peripherals ≡ done_clock (in_clock tape.entries (passed n s).clock_open (passed n s).peripherals)
 unfolding passed
 quiet-entered tape n s c h = later-more n s.peripherals ∙ ap done_clock (sym (in-quiet tape n s c h))
 
--- with one more clock the bus is as it has to be
+-- one more clock is counted
 pub counted-more : (tape : TapeValue) (n : ℕ) (s : BusValue) → IsCounted tape n s → 1 ≤ quiet_room n s → IsCounted tape (n + 1) s
 unfolding passed later
 counted-more tape n s c room = record {
   accepts = fits-quiet tape (passed n s) (passed (n + 1) s) c.accepts (omega arith) (omega arith) refl refl;
   between = c.between;
-  quiet = omega arith;
+  no_event = omega arith;
   last = omega arith;
   until = omega arith;
 }
 
-stays-quiet : (entries : List TapeEntry) (x : Access) (n : ℕ) (s : BusValue) (t : BusValue) → s.begun ≡ false → t.begun ≡ s.begun → t.rooms ≡ s.rooms
+stays-quiet : (entries : List TapeEntry) (x : Access) (n : ℕ) (s : BusValue) (t : BusValue) → s.clock_open ≡ false → t.clock_open ≡ s.clock_open → t.rooms ≡ s.rooms
     → t.until ≡ s.until → t.calls ≡ s.calls → Stays entries x (passed n s) (passed (n + 1) t)
 unfolding passed
-stays-quiet entries x n s t between begun rooms until calls = record {
-  begun = begun ∙ between;
+stays-quiet entries x n s t between clock_open rooms until calls = record {
+  clock_open = clock_open ∙ between;
   rooms = rooms;
   until = omega arith;
   calls = omega arith;
@@ -190,18 +190,18 @@ ram-written tape n a v s t c h near is = (
       ∙ ap (λ (w : Peripherals). let r : Peripherals = record w { ram = slice_set s.peripherals.ram a v } in r) (later-more n s.peripherals)
       ∙ put-ram n a v s.peripherals near
       ∙ ap (λ (w : Peripherals). done_clock (byte_put a v w)) (sym (in-quiet tape n s c h)),
-  stays-quiet tape.entries (write_of a v) n s t c.between (ap (λ (b : BusValue). b.begun) is) (ap (λ (b : BusValue). b.rooms) is)
+  stays-quiet tape.entries (write_of a v) n s t c.between (ap (λ (b : BusValue). b.clock_open) is) (ap (λ (b : BusValue). b.rooms) is)
       (ap (λ (b : BusValue). b.until) is) (ap (λ (b : BusValue). b.calls) is),
 )
 
--- after the RAM was written the bus is as it has to be
+-- and so are these after the RAM was written
 counted-ram : (tape : TapeValue) (n a v : ℕ) (s t : BusValue) → IsCounted tape n s → t ≡ record s { peripherals = record s.peripherals { ram = slice_set s.peripherals.ram a v } }
     → IsCounted tape n t
 unfolding passed later
 counted-ram tape n a v s t c is = rw is (record {
-  accepts = record { valid = c.accepts.valid; place = c.accepts.place; quiet = c.accepts.quiet };
+  accepts = record { valid = c.accepts.valid; place = c.accepts.place; no_event = c.accepts.no_event };
   between = c.between;
-  quiet = c.quiet;
+  no_event = c.no_event;
   last = c.last;
   until = c.until;
 })
@@ -224,7 +224,7 @@ pub ram-reads : (tape : TapeValue) (n a v : ℕ) (s : BusValue) → IsCounted ta
     → v ≡ slice_index s.peripherals.ram a → IsStep tape (read_of a v) n s (n + 1) s
 ram-reads tape n a v s c room near is =
     let more = counted-more tape n s c room in
-    let quiet = more.quiet in
+    let no_event = more.no_event in
     record {
       step = ram-read tape n a v s c (omega arith) near is;
       accepts = more;
@@ -235,7 +235,7 @@ pub program-reads : (tape : TapeValue) (n a v : ℕ) (s : BusValue) → IsCounte
     → v ≡ slice_index s.peripherals.program (a - PROGRAM_START) → IsStep tape (read_of a v) n s (n + 1) s
 program-reads tape n a v s c room near last is =
     let more = counted-more tape n s c room in
-    let quiet = more.quiet in
+    let no_event = more.no_event in
     record {
       step = program-read tape n a v s c (omega arith) near last is;
       accepts = more;
@@ -246,7 +246,7 @@ pub ram-writes : (tape : TapeValue) (n a v : ℕ) (s t : BusValue) → IsCounted
     → t ≡ record s { peripherals = record s.peripherals { ram = slice_set s.peripherals.ram a v } } → IsStep tape (write_of a v) n s (n + 1) t
 ram-writes tape n a v s t c room near is =
     let more = counted-more tape n s c room in
-    let quiet = more.quiet in
+    let no_event = more.no_event in
     record {
       step = ram-written tape n a v s t c (omega arith) near is;
       accepts = counted-ram tape (n + 1) a v s t more is;
@@ -254,12 +254,12 @@ ram-writes tape n a v s t c room near is =
           (ap (λ (b : BusValue). b.until) is) (ap (λ (b : BusValue). b.event_at) is);
     }
 
--- an access of a device, of which the bus was told before
+-- an access of a device, whose clock the bus got before
 record Reaches (n : ℕ) (x : Access) (s m t : BusValue) : Type 0 where
-  told : m ≡ passed (n + 1) s
+  flushed : m ≡ passed (n + 1) s
   rooms : t.rooms ≡ m.rooms
-  begun : t.begun ≡ m.begun
-  next : t.next ≡ m.next
+  clock_open : t.clock_open ≡ m.clock_open
+  tape_pos : t.tape_pos ≡ m.tape_pos
   event : t.event_at ≡ m.event_at
   clock : t.peripherals.clock ≡ m.peripherals.clock
   until : m.until ≤ t.until
@@ -268,11 +268,11 @@ record Reaches (n : ℕ) (x : Access) (s m t : BusValue) : Type 0 where
 
 reaches : (n : ℕ) (x : Access) (s m t : BusValue) (w : Peripherals) → m ≡ passed (n + 1) s → Does m t w (2 * from_bool (reaches_device x))
     → w.clock ≡ m.peripherals.clock → Reaches n x s m t
-reaches n x s m t w told does clock = record {
-  told = told;
+reaches n x s m t w flushed does clock = record {
+  flushed = flushed;
   rooms = ap (λ (b : BusValue). b.rooms) does.value;
-  begun = ap (λ (b : BusValue). b.begun) does.value;
-  next = ap (λ (b : BusValue). b.next) does.value;
+  clock_open = ap (λ (b : BusValue). b.clock_open) does.value;
+  tape_pos = ap (λ (b : BusValue). b.tape_pos) does.value;
   event = ap (λ (b : BusValue). b.event_at) does.value;
   clock = ap (λ (b : BusValue). b.peripherals.clock) does.value ∙ clock;
   until = does.until;
@@ -280,63 +280,63 @@ reaches n x s m t w told does clock = record {
   more = does.more;
 }
 
-stays-told : (entries : List TapeEntry) (n : ℕ) (x : Access) (s m t : BusValue) → s.begun ≡ false → Reaches n x s m t → Stays entries x (passed n s) t
+stays-flushed : (entries : List TapeEntry) (n : ℕ) (x : Access) (s m t : BusValue) → s.clock_open ≡ false → Reaches n x s m t → Stays entries x (passed n s) t
 unfolding passed
-stays-told entries n x s m t between r =
-    let calls : m.calls ≡ s.calls = ap (λ (b : BusValue). b.calls) r.told in
-    let until : m.until ≡ s.until = ap (λ (b : BusValue). b.until) r.told in
+stays-flushed entries n x s m t between r =
+    let calls : m.calls ≡ s.calls = ap (λ (b : BusValue). b.calls) r.flushed in
+    let until : m.until ≡ s.until = ap (λ (b : BusValue). b.until) r.flushed in
     let first = r.until in
     let cost = r.calls in
     let rise = r.more in
     record {
-      begun = r.begun ∙ ap (λ (b : BusValue). b.begun) r.told ∙ between;
-      rooms = r.rooms ∙ ap (λ (b : BusValue). b.rooms) r.told;
+      clock_open = r.clock_open ∙ ap (λ (b : BusValue). b.clock_open) r.flushed ∙ between;
+      rooms = r.rooms ∙ ap (λ (b : BusValue). b.rooms) r.flushed;
       until = omega arith;
       calls = omega arith;
       more = omega arith;
     }
 
-told-entered : (tape : TapeValue) (n : ℕ) (s m : BusValue) → IsCounted tape n s → s.peripherals.clock + n < s.event_at → m ≡ passed (n + 1) s
-    → m.peripherals ≡ done_clock (in_clock tape.entries (passed n s).begun (passed n s).peripherals)
-told-entered tape n s m c h told = ap (λ (b : BusValue). b.peripherals) told ∙ quiet-entered tape n s c h
+flushed-entered : (tape : TapeValue) (n : ℕ) (s m : BusValue) → IsCounted tape n s → s.peripherals.clock + n < s.event_at → m ≡ passed (n + 1) s
+    → m.peripherals ≡ done_clock (in_clock tape.entries (passed n s).clock_open (passed n s).peripherals)
+flushed-entered tape n s m c h flushed = ap (λ (b : BusValue). b.peripherals) flushed ∙ quiet-entered tape n s c h
 
-counted-told : (tape : TapeValue) (n : ℕ) (x : Access) (s m t : BusValue) → IsCounted tape n s → 1 ≤ quiet_room n s → Reaches n x s m t
+counted-flushed : (tape : TapeValue) (n : ℕ) (x : Access) (s m t : BusValue) → IsCounted tape n s → 1 ≤ quiet_room n s → Reaches n x s m t
     → IsCounted tape 0 t
 unfolding passed later
-counted-told tape n x s m t c room r =
+counted-flushed tape n x s m t c room r =
     let more = counted-more tape n s c room in
-    let told_clock : m.peripherals.clock ≡ s.peripherals.clock + (n + 1) = ap (λ (b : BusValue). b.peripherals.clock) r.told in
-    let told_event : m.event_at ≡ s.event_at = ap (λ (b : BusValue). b.event_at) r.told in
-    let told_until : m.until ≡ s.until = ap (λ (b : BusValue). b.until) r.told in
-    let told_next : m.next ≡ s.next = ap (λ (b : BusValue). b.next) r.told in
-    let clock : t.peripherals.clock ≡ s.peripherals.clock + (n + 1) = r.clock ∙ told_clock in
-    let next : t.next ≡ s.next = r.next ∙ told_next in
-    let event : t.event_at ≡ s.event_at = r.event ∙ told_event in
+    let flushed_clock : m.peripherals.clock ≡ s.peripherals.clock + (n + 1) = ap (λ (b : BusValue). b.peripherals.clock) r.flushed in
+    let flushed_event : m.event_at ≡ s.event_at = ap (λ (b : BusValue). b.event_at) r.flushed in
+    let flushed_until : m.until ≡ s.until = ap (λ (b : BusValue). b.until) r.flushed in
+    let flushed_tape_pos : m.tape_pos ≡ s.tape_pos = ap (λ (b : BusValue). b.tape_pos) r.flushed in
+    let clock : t.peripherals.clock ≡ s.peripherals.clock + (n + 1) = r.clock ∙ flushed_clock in
+    let tape_pos : t.tape_pos ≡ s.tape_pos = r.tape_pos ∙ flushed_tape_pos in
+    let event : t.event_at ≡ s.event_at = r.event ∙ flushed_event in
     let until = r.until in
-    let more_quiet = more.quiet in
+    let more_no_event = more.no_event in
     let more_last = more.last in
     let more_until = more.until in
     record {
       accepts = rw (passed-zero t) (record {
         valid = c.accepts.valid;
-        place = rw (clock, next) more.accepts.place;
-        quiet = rw (event, next) c.accepts.quiet;
+        place = rw (clock, tape_pos) more.accepts.place;
+        no_event = rw (event, tape_pos) c.accepts.no_event;
       });
-      between = r.begun ∙ ap (λ (b : BusValue). b.begun) r.told ∙ c.between;
-      quiet = omega arith;
+      between = r.clock_open ∙ ap (λ (b : BusValue). b.clock_open) r.flushed ∙ c.between;
+      no_event = omega arith;
       last = omega arith;
       until = omega arith;
     }
 
-room-told : (n : ℕ) (x : Access) (s m t : BusValue) → Reaches n x s m t → length t.peripherals.written ≤ length m.peripherals.written + 1
+room-flushed : (n : ℕ) (x : Access) (s m t : BusValue) → Reaches n x s m t → length t.peripherals.written ≤ length m.peripherals.written + 1
     → quiet_room n s ≤ quiet_room 0 t + 1
 unfolding passed later
-room-told n x s m t r few =
-    let told_clock : m.peripherals.clock ≡ s.peripherals.clock + (n + 1) = ap (λ (b : BusValue). b.peripherals.clock) r.told in
-    let told_event : m.event_at ≡ s.event_at = ap (λ (b : BusValue). b.event_at) r.told in
-    let told_until : m.until ≡ s.until = ap (λ (b : BusValue). b.until) r.told in
-    let told_rooms : m.rooms.board ≡ s.rooms.board = ap (λ (b : BusValue). b.rooms.board) r.told in
-    let told_written : length m.peripherals.written ≡ length s.peripherals.written = ap (λ (b : BusValue). length b.peripherals.written) r.told in
+room-flushed n x s m t r few =
+    let flushed_clock : m.peripherals.clock ≡ s.peripherals.clock + (n + 1) = ap (λ (b : BusValue). b.peripherals.clock) r.flushed in
+    let flushed_event : m.event_at ≡ s.event_at = ap (λ (b : BusValue). b.event_at) r.flushed in
+    let flushed_until : m.until ≡ s.until = ap (λ (b : BusValue). b.until) r.flushed in
+    let flushed_rooms : m.rooms.board ≡ s.rooms.board = ap (λ (b : BusValue). b.rooms.board) r.flushed in
+    let flushed_written : length m.peripherals.written ≡ length s.peripherals.written = ap (λ (b : BusValue). length b.peripherals.written) r.flushed in
     let rooms : t.rooms.board ≡ m.rooms.board = ap (λ r. r.board) r.rooms in
     let clock = r.clock in
     let event = r.event in
@@ -344,52 +344,52 @@ room-told n x s m t r few =
     omega arith
 
 -- there is room for it
-pub told-room : (n : ℕ) (s m : BusValue) → 1 ≤ quiet_room n s → m ≡ passed (n + 1) s → length m.peripherals.written < m.rooms.board
+pub flushed-room : (n : ℕ) (s m : BusValue) → 1 ≤ quiet_room n s → m ≡ passed (n + 1) s → length m.peripherals.written < m.rooms.board
 unfolding passed later
-told-room n s m room told =
-    let rooms : m.rooms.board ≡ s.rooms.board = ap (λ (b : BusValue). b.rooms.board) told in
-    let written : length m.peripherals.written ≡ length s.peripherals.written = ap (λ (b : BusValue). length b.peripherals.written) told in
+flushed-room n s m room flushed =
+    let rooms : m.rooms.board ≡ s.rooms.board = ap (λ (b : BusValue). b.rooms.board) flushed in
+    let written : length m.peripherals.written ≡ length s.peripherals.written = ap (λ (b : BusValue). length b.peripherals.written) flushed in
     omega arith
 
-pub told-begun : (n : ℕ) (s m : BusValue) → m ≡ passed (n + 1) s → 1 ≤ m.peripherals.clock
+pub flushed-clock : (n : ℕ) (s m : BusValue) → m ≡ passed (n + 1) s → 1 ≤ m.peripherals.clock
 unfolding passed later
-told-begun n s m told = let clock : m.peripherals.clock ≡ s.peripherals.clock + (n + 1) = ap (λ (b : BusValue). b.peripherals.clock) told in omega arith
+flushed-clock n s m flushed = let clock : m.peripherals.clock ≡ s.peripherals.clock + (n + 1) = ap (λ (b : BusValue). b.peripherals.clock) flushed in omega arith
 
 pub device-reads : (tape : TapeValue) (n k a v : ℕ) (s m t : BusValue) → IsCounted tape n s → 1 ≤ quiet_room n s → m ≡ passed (n + 1) s → k ≡ 0
     → Does m t m.peripherals (2 * from_bool (reaches_device (read_of a v))) → v ≡ byte_read a (at_clock (m.peripherals.clock - 1) m.peripherals)
     → lagging_at (row_of a).reads t.lagging ≡ 0 → IsStep tape (read_of a v) n s k t
-device-reads tape n k a v s m t c room told none does is current =
+device-reads tape n k a v s m t c room flushed none does is current =
     let more = counted-more tape n s c room in
-    let quiet = more.quiet in
-    let r = reaches n (read_of a v) s m t m.peripherals told does refl in
-    let entered = told-entered tape n s m c (omega arith) told in
+    let no_event = more.no_event in
+    let r = reaches n (read_of a v) s m t m.peripherals flushed does refl in
+    let entered = flushed-entered tape n s m c (omega arith) flushed in
     let same : t.peripherals ≡ m.peripherals = ap (λ (b : BusValue). b.peripherals) does.value in
-    let w = in_clock tape.entries (passed n s).begun (passed n s).peripherals in
+    let w = in_clock tape.entries (passed n s).clock_open (passed n s).peripherals in
     let few : length t.peripherals.written ≡ length m.peripherals.written = ap (λ (w : Peripherals). length w.written) same in
     rw none (record {
       step = (
         is ∙ ap (λ (k : Peripherals). byte_read a (at_clock (k.clock - 1) k)) entered ∙ ap (byte_read a) (clock-back w),
         ap (λ (b : BusValue). b.peripherals) (passed-zero t) ∙ same ∙ entered,
-        rw (passed-zero t) (stays-told tape.entries n (read_of a v) s m t c.between r),
+        rw (passed-zero t) (stays-flushed tape.entries n (read_of a v) s m t c.between r),
         rw (passed-zero t) current,
       );
-      accepts = counted-told tape n (read_of a v) s m t c room r;
-      room = room-told n (read_of a v) s m t r (omega arith);
+      accepts = counted-flushed tape n (read_of a v) s m t c room r;
+      room = room-flushed n (read_of a v) s m t r (omega arith);
     })
 
 pub device-writes : (tape : TapeValue) (n k a v : ℕ) (s m t : BusValue) → IsCounted tape n s → 1 ≤ quiet_room n s → m ≡ passed (n + 1) s → k ≡ 0
     → Does m t (at_clock m.peripherals.clock (byte_put a v (at_clock (m.peripherals.clock - 1) m.peripherals))) (2 * from_bool (reaches_device (write_of a v)))
     → length t.peripherals.written ≤ length m.peripherals.written + 1 → IsStep tape (write_of a v) n s k t
-device-writes tape n k a v s m t c room told none does few =
+device-writes tape n k a v s m t c room flushed none does few =
     let more = counted-more tape n s c room in
-    let quiet = more.quiet in
-    let r = reaches n (write_of a v) s m t (at_clock m.peripherals.clock (byte_put a v (at_clock (m.peripherals.clock - 1) m.peripherals))) told does refl in
+    let no_event = more.no_event in
+    let r = reaches n (write_of a v) s m t (at_clock m.peripherals.clock (byte_put a v (at_clock (m.peripherals.clock - 1) m.peripherals))) flushed does refl in
     rw none (record {
       step =
-          rw (passed-zero t) (write-step tape.entries a v (passed n s) m t (told-entered tape n s m c (omega arith) told)
-          (ap (λ (b : BusValue). b.peripherals) does.value) (stays-told tape.entries n (write_of a v) s m t c.between r));
-      accepts = counted-told tape n (write_of a v) s m t c room r;
-      room = room-told n (write_of a v) s m t r few;
+          rw (passed-zero t) (write-step tape.entries a v (passed n s) m t (flushed-entered tape n s m c (omega arith) flushed)
+          (ap (λ (b : BusValue). b.peripherals) does.value) (stays-flushed tape.entries n (write_of a v) s m t c.between r));
+      accepts = counted-flushed tape n (write_of a v) s m t c room r;
+      room = room-flushed n (write_of a v) s m t r few;
     })
 
 -- one such clock has its devices' ticks
@@ -397,52 +397,52 @@ pub passed-one : (s : BusValue) → (passed 1 s).peripherals ≡ done_clock (dev
 unfolding passed
 passed-one s = later-more 0 s.peripherals ∙ ap (λ (w : Peripherals). done_clock (devices_ticked w)) (later-zero s.peripherals)
 
-entered-peripherals : (tape : TapeValue) (s : BusValue) → Fits tape s → s.peripherals.clock < s.event_at → s.begun ≡ false
-    → (passed 1 s).peripherals ≡ done_clock (in_clock tape.entries s.begun s.peripherals)
+entered-peripherals : (tape : TapeValue) (s : BusValue) → Accepts tape s → s.peripherals.clock < s.event_at → s.clock_open ≡ false
+    → (passed 1 s).peripherals ≡ done_clock (in_clock tape.entries s.clock_open s.peripherals)
 unfolding in_clock passed
 entered-peripherals tape s f h between = rw between (passed-one s ∙ ap done_clock (sym (ticked-quiet tape s f h)))
 
-entered-value : (tape : TapeValue) (s : BusValue) → Fits tape s → s.peripherals.clock < s.event_at → s.begun ≡ false
-    → passed 1 s ≡ record s { peripherals = done_clock (in_clock tape.entries s.begun s.peripherals); begun = false; lagging = (passed 1 s).lagging }
+entered-value : (tape : TapeValue) (s : BusValue) → Accepts tape s → s.peripherals.clock < s.event_at → s.clock_open ≡ false
+    → passed 1 s ≡ record s { peripherals = done_clock (in_clock tape.entries s.clock_open s.peripherals); clock_open = false; lagging = (passed 1 s).lagging }
 unfolding passed
 entered-value tape s f h between =
     ap (λ (w : Peripherals). let r : BusValue = record s { peripherals = w; lagging = (passed 1 s).lagging } in r) (entered-peripherals tape s f h between)
-    ∙ ap (λ b. let r : BusValue = record s { peripherals = done_clock (in_clock tape.entries s.begun s.peripherals); begun = b; lagging = (passed 1 s).lagging } in r) between
+    ∙ ap (λ b. let r : BusValue = record s { peripherals = done_clock (in_clock tape.entries s.clock_open s.peripherals); clock_open = b; lagging = (passed 1 s).lagging } in r) between
 
--- the clock of an access in which nothing comes, on a bus that doesn't count
+-- the clock of an access in which no event is due, on a bus that doesn't count
 pub record IsEntered (tape : TapeValue) (s t : BusValue) : Type 0 where
-  pub value : t ≡ record s { peripherals = done_clock (in_clock tape.entries s.begun s.peripherals); begun = false; next = t.next; event_at = t.event_at; lagging = t.lagging; until = t.until; calls = t.calls }
-  pub accepts : Fits tape t
+  pub value : t ≡ record s { peripherals = done_clock (in_clock tape.entries s.clock_open s.peripherals); clock_open = false; tape_pos = t.tape_pos; event_at = t.event_at; lagging = t.lagging; until = t.until; calls = t.calls }
+  pub accepts : Accepts tape t
   pub until : s.until ≤ t.until
-  pub calls : t.calls ≤ s.calls + begin_price tape.entries s.begun s.peripherals
+  pub calls : t.calls ≤ s.calls + begin_price tape.entries s.clock_open s.peripherals
   pub more : s.calls ≤ t.calls
-  pub begun : 1 ≤ t.peripherals.clock
+  pub clock_done : 1 ≤ t.peripherals.clock
 
-pub entered-quiet : (tape : TapeValue) (s t : BusValue) → Fits tape s → s.peripherals.clock < s.event_at → s.begun ≡ false → t ≡ passed 1 s → IsEntered tape s t
+pub entered-quiet : (tape : TapeValue) (s t : BusValue) → Accepts tape s → s.peripherals.clock < s.event_at → s.clock_open ≡ false → t ≡ passed 1 s → IsEntered tape s t
 unfolding passed later
-entered-quiet tape s t f h between told =
-    let clock : t.peripherals.clock ≡ s.peripherals.clock + 1 = ap (λ (b : BusValue). b.peripherals.clock) told in
-    let until : t.until ≡ s.until = ap (λ (b : BusValue). b.until) told in
-    let calls : t.calls ≡ s.calls = ap (λ (b : BusValue). b.calls) told in
+entered-quiet tape s t f h between flushed =
+    let clock : t.peripherals.clock ≡ s.peripherals.clock + 1 = ap (λ (b : BusValue). b.peripherals.clock) flushed in
+    let until : t.until ≡ s.until = ap (λ (b : BusValue). b.until) flushed in
+    let calls : t.calls ≡ s.calls = ap (λ (b : BusValue). b.calls) flushed in
     record {
-      value = rw told (entered-value tape s f h between);
-      accepts = fits-quiet tape s t f h clock (ap (λ (b : BusValue). b.next) told) (ap (λ (b : BusValue). b.event_at) told);
+      value = rw flushed (entered-value tape s f h between);
+      accepts = fits-quiet tape s t f h clock (ap (λ (b : BusValue). b.tape_pos) flushed) (ap (λ (b : BusValue). b.event_at) flushed);
       until = omega arith;
       calls = omega arith;
       more = omega arith;
-      begun = omega arith;
+      clock_done = omega arith;
     }
 
 -- before the first of them
-pub counted-start : (tape : TapeValue) (n : ℕ) (s : BusValue) → n ≡ 0 → Fits tape s → s.begun ≡ false → s.peripherals.clock + MAX_SEQUENCE_CLOCKS ≤ s.event_at → MAX_SEQUENCE_CLOCKS ≤ room_of s
+pub counted-start : (tape : TapeValue) (n : ℕ) (s : BusValue) → n ≡ 0 → Accepts tape s → s.clock_open ≡ false → s.peripherals.clock + MAX_SEQUENCE_CLOCKS ≤ s.event_at → MAX_SEQUENCE_CLOCKS ≤ room_of s
     → IsCounted tape n s
-counted-start tape n s none accepts between quiet room =
-    rw none (record { accepts = rw (passed-zero s) accepts; between = between; quiet = omega arith; last = omega arith; until = omega arith })
+counted-start tape n s none accepts between no_event room =
+    rw none (record { accepts = rw (passed-zero s) accepts; between = between; no_event = omega arith; last = omega arith; until = omega arith })
 
--- the accesses of a whole sequence, of whose clocks the bus has yet to be told
-pub quiet-runs : {S : Type 0} {T : Access → S → S → Type 0} (entries : List TapeEntry) (bus : S → BusValue) (made : S → ℕ) (name : S → ℕ)
-    → ((x : Access) (a b : S) → T x a b → (name b ≡ name a) × BusStep entries x (passed (made a) (bus a)) (passed (made b) (bus b)))
+-- the accesses of a whole sequence, whose clocks the bus hasn't got yet
+pub quiet-runs : {S : Type 0} {T : Access → S → S → Type 0} (entries : List TapeEntry) (bus : S → BusValue) (elapsed : S → ℕ) (name : S → ℕ)
+    → ((x : Access) (a b : S) → T x a b → (name b ≡ name a) × BusStep entries x (passed (elapsed a) (bus a)) (passed (elapsed b) (bus b)))
     → (r : RegistersValue) (q : Sequence) (s t : S) (e : CpuValue) → Runs T r q s t e
-    → (name t ≡ name s) × Runs (BusStep entries) r q (passed (made s) (bus s)) (passed (made t) (bus t)) e
-quiet-runs {S} entries bus made name lift r q s t e runs =
-    runs-seen (BusStep entries) (λ (k : S). passed (made k) (bus k)) name lift r q s t e runs
+    → (name t ≡ name s) × Runs (BusStep entries) r q (passed (elapsed s) (bus s)) (passed (elapsed t) (bus t)) e
+quiet-runs {S} entries bus elapsed name lift r q s t e runs =
+    runs-seen (BusStep entries) (λ (k : S). passed (elapsed k) (bus k)) name lift r q s t e runs

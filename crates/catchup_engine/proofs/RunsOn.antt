@@ -21,7 +21,7 @@ unfolding counted
 no-budget entries b = refl
 
 -- no step is made yet
-abbrev pub starts : (entries : List TapeEntry) (asked : Board → Bool) (c : CpuValue) (s : BusValue) → s.begun ≡ false → RunsOn entries asked c s s c
+abbrev pub starts : (entries : List TapeEntry) (asked : Board → Bool) (c : CpuValue) (s : BusValue) → s.clock_open ≡ false → RunsOn entries asked c s s c
 starts entries asked c s between = record {
   count = 0;
   reached = refl;
@@ -106,7 +106,7 @@ pub record AtBoundary (entries : List TapeEntry) (limit : ℕ) (c : CpuValue) (s
   pub boundary : e.mid ≡ None
   pub range : IsInRange e t
 
-pub boundary-starts : (entries : List TapeEntry) (limit : ℕ) (c : CpuValue) (s : BusValue) → s.begun ≡ false → c.mid ≡ None → IsInRange c s
+pub boundary-starts : (entries : List TapeEntry) (limit : ℕ) (c : CpuValue) (s : BusValue) → s.clock_open ≡ false → c.mid ≡ None → IsInRange c s
     → AtBoundary entries limit c s s c
 boundary-starts entries limit c s between boundary range = record {
   run = starts entries (is_over limit) c s between;
@@ -127,7 +127,7 @@ pub none-is : (mid : Option MidValue) → is_some mid ≡ false → mid ≡ None
 none-is None h = refl
 none-is (Some m) h = cc
 
--- seven clocks end each sequence
+-- a sequence has no more than seven clocks
 turn-ends : (entries : List TapeEntry) (e f : CpuValue) (t u : BusValue) → TurnedBus entries 7 e t u f → f.mid ≡ None
 turn-ends entries e f t u turned = none-of f.mid (λ some.
     let stops = turned.stops some in
@@ -159,7 +159,7 @@ open-before limit b boundary open_yet = before b.cpu.jam b.cpu.mid refl boundary
     before None (Some m) f e h = cc
 
 -- a run from inside a sequence has ended it first
-pub boundary-resumes : (entries : List TapeEntry) (limit : ℕ) (c : CpuValue) (s u : BusValue) (f : CpuValue) → s.begun ≡ false → IsSome c.mid
+pub boundary-resumes : (entries : List TapeEntry) (limit : ℕ) (c : CpuValue) (s u : BusValue) (f : CpuValue) → s.clock_open ≡ false → IsSome c.mid
     → IfSome c.mid (λ _. IsMiddle c) → IsInRange c s → TurnedBus entries 7 c s u f → AtBoundary entries limit c s u f
 boundary-resumes entries limit c s u f between inside place range turned =
     let running = running-inside c inside place in
@@ -253,7 +253,7 @@ pub record AtCut (entries : List TapeEntry) (cut wrap : ℕ) (c : CpuValue) (s t
   pub range : IsInRange e t
   pub inside : IsSome e.mid → (t.peripherals.clock ≡ s.peripherals.clock) ⊎ (cut ≤ t.peripherals.clock)
 
-pub cut-starts : (entries : List TapeEntry) (cut wrap : ℕ) (c : CpuValue) (s : BusValue) → s.begun ≡ false → IsInRange c s → AtCut entries cut wrap c s s c
+pub cut-starts : (entries : List TapeEntry) (cut wrap : ℕ) (c : CpuValue) (s : BusValue) → s.clock_open ≡ false → IsInRange c s → AtCut entries cut wrap c s s c
 cut-starts entries cut wrap c s between range = record {
   run = starts entries (is_cut cut wrap) c s between;
   few = omega arith;
@@ -316,7 +316,8 @@ cut-ends entries cut wrap c s t e at over =
       later = omega arith;
     }
 
--- steps that lead to a boundary by turns from before a limit are none from a board at which a run to a later cut is over
+-- steps that lead to a boundary by turns from before a limit are none from a board at which a run
+-- to a later cut is over
 over-cut : (entries : List TapeEntry) (cut wrap limit n : ℕ) (b last : Board) → limit ≤ wrap → StepsTo entries (is_over limit) n b last
     → b.peripherals.clock + n ≤ cut → StepsTo entries (is_cut cut wrap) n b last
 over-cut entries cut wrap limit zero b last sooner r within = r

@@ -1,4 +1,4 @@
--- Where no device lags, each stands at the board's clock.
+-- Where no device lags, each is at the board's clock.
 use Rattle.std.proofs.Common.{◌≡◌, ℕ, ◌≤◌, List, [], ◌∷◌, ◌++◌, length, refl, arith}
 use Rattle.std.proofs.lemmas.Bool.Decides.{nat_tests}
 use Rattle.board_base.specs.declared.record.Record.{Record}

@@ -29,18 +29,18 @@ stays-of entries (write_of a v) s t b = b.1
 -- what the bus did is what the board does
 accessed_by-is : (entries : List TapeEntry) (next : Next) (r : RegistersValue) (q : Sequence) (bytes : List ℕ) (v : ℕ) (x : Access) (s t : BusValue)
     → IsAccess next v x → BusStep entries x s t
-    → clocked (accessed_by next r q bytes (in_clock entries s.begun s.peripherals)) ≡ board_after r q (bytes ++ v ∷ []) t.peripherals
+    → clocked (accessed_by next r q bytes (in_clock entries s.clock_open s.peripherals)) ≡ board_after r q (bytes ++ v ∷ []) t.peripherals
 accessed_by-is entries (Read a) r q bytes v x s t is b = let d = subst (λ y. BusStep entries y s t) is b in rw (d.0, d.1) refl
 accessed_by-is entries (Write a w) r q bytes v x s t is b = let d = subst (λ y. BusStep entries y s t) is.1 b in rw (d.0, is.0) refl
 accessed_by-is entries (End e) r q bytes v x s t is b = absurd is
 
 pub accessed-is : (entries : List TapeEntry) (r : RegistersValue) (q : Sequence) (bytes : List ℕ) (v : ℕ) (x : Access) (s t : BusValue)
     → IsAccess (next_of r q bytes) v x → BusStep entries x s t
-    → clocked (accessed r q bytes (in_clock entries s.begun s.peripherals)) ≡ board_after r q (bytes ++ v ∷ []) t.peripherals
+    → clocked (accessed r q bytes (in_clock entries s.clock_open s.peripherals)) ≡ board_after r q (bytes ++ v ∷ []) t.peripherals
 unfolding accessed
 accessed-is entries r q bytes v x s t is b = accessed_by-is entries (next_of r q bytes) r q bytes v x s t is b
 
--- the bus's access is as dear as the board's
+-- the bus's access costs what the board's does
 pub same-access : (next : Next) (v : ℕ) (x : Access) (w : Peripherals) → IsAccess next v x → from_bool (reaches_device x) ≡ device_access (made_by next w)
 unfolding reaches_device
 same-access (Read a) v x w is = rw is refl
@@ -68,13 +68,13 @@ step-paused entries r q bytes w = rw (given_paused bytes) refl
 inside-paused : (r : RegistersValue) (q : Sequence) (bytes : List ℕ) (w : Peripherals) → IsInside (record { cpu = paused r q bytes; peripherals = w })
 inside-paused r q bytes w = record { running = refl; middle = search rules }
 
-pub in_clock-between : (entries : List TapeEntry) (s : BusValue) → s.begun ≡ false → in_clock entries s.begun s.peripherals ≡ ticked entries s.peripherals
+pub in_clock-between : (entries : List TapeEntry) (s : BusValue) → s.clock_open ≡ false → in_clock entries s.clock_open s.peripherals ≡ ticked entries s.peripherals
 unfolding in_clock
 in_clock-between entries s between = rw between refl
 
 -- where an access is due, a step makes it
 pub step-access : (entries : List TapeEntry) (r : RegistersValue) (q : Sequence) (bytes : List ℕ) (v : ℕ) (x : Access) (s t : BusValue)
-    → IsAccess (next_of r q bytes) v x → BusStep entries x s t → s.begun ≡ false
+    → IsAccess (next_of r q bytes) v x → BusStep entries x s t → s.clock_open ≡ false
     → step entries (board_after r q bytes s.peripherals) ≡ board_after r q (bytes ++ v ∷ []) t.peripherals
 step-access entries r q bytes v x s t is b between =
     ap (λ (c : CpuValue). step entries (record { cpu = c; peripherals = s.peripherals })) (paused-is (next_of r q bytes) r q bytes v x is)
@@ -97,11 +97,11 @@ price-paused entries r q bytes v x w is =
     sym (same-access (next_of r q bytes) v x (ticked entries w) is) in
     rw (given_paused bytes) (omega arith)
 
-begin-level : (entries : List TapeEntry) (s : BusValue) → s.begun ≡ false → begin_price entries s.begun s.peripherals ≡ ticks_price entries s.peripherals
+begin-level : (entries : List TapeEntry) (s : BusValue) → s.clock_open ≡ false → begin_price entries s.clock_open s.peripherals ≡ ticks_price entries s.peripherals
 begin-level entries s between = rw between refl
 
 paid-access : (entries : List TapeEntry) (r : RegistersValue) (q : Sequence) (bytes : List ℕ) (v : ℕ) (x : Access) (s t : BusValue)
-    → IsAccess (next_of r q bytes) v x → BusStep entries x s t → s.begun ≡ false
+    → IsAccess (next_of r q bytes) v x → BusStep entries x s t → s.clock_open ≡ false
     → t.calls ≤ s.calls + price entries (board_after r q bytes s.peripherals)
 paid-access entries r q bytes v x s t is b between =
     let stays = stays-of entries x s t b in
@@ -119,7 +119,7 @@ pub record Went (entries : List TapeEntry) (n : ℕ) (b last : Board) (s t : Bus
   pub more : s.calls ≤ t.calls
   pub rooms : t.rooms ≡ s.rooms
   pub until : s.until ≤ t.until
-  pub between : t.begun ≡ false
+  pub between : t.clock_open ≡ false
 
 budget-more : (entries : List TapeEntry) (n : ℕ) (b : Board) → budget entries (suc n) b ≡ price entries b + budget entries n (step entries b)
 unfolding counted
@@ -127,7 +127,7 @@ budget-more entries n b = refl
 
 -- the accesses left of a sequence are as many steps, none from a boundary
 pub moves-went : (entries : List TapeEntry) (r : RegistersValue) (q : Sequence) (bytes more : List ℕ) (s t : BusValue)
-    → Moves (BusStep entries) r q bytes more s t → s.begun ≡ false
+    → Moves (BusStep entries) r q bytes more s t → s.clock_open ≡ false
     → Went entries (length more) (board_after r q bytes s.peripherals) (board_after r q (bytes ++ more) t.peripherals) s t
 moves-went entries r q bytes [] s t m between = record {
   through = rw (append-nil bytes, m) refl;
@@ -135,12 +135,12 @@ moves-went entries r q bytes [] s t m between = record {
   more = (let e = ap (λ (b : BusValue). b.calls) m in omega arith);
   rooms = ap (λ (b : BusValue). b.rooms) m;
   until = (let e = ap (λ (b : BusValue). b.until) m in omega arith);
-  between = ap (λ (b : BusValue). b.begun) m ∙ between;
+  between = ap (λ (b : BusValue). b.clock_open) m ∙ between;
 }
 moves-went entries r q bytes (v ∷ more) s t (x, m, is, b, rest) between =
     let stays = stays-of entries x s m b in
     let e : (bytes ++ v ∷ []) ++ more ≡ bytes ++ v ∷ more = append_assoc bytes (v ∷ []) more in
-    let later = moves-went entries r q (bytes ++ v ∷ []) more m t rest stays.begun in
+    let later = moves-went entries r q (bytes ++ v ∷ []) more m t rest stays.clock_open in
     let here = step-access entries r q bytes v x s m is b between in
     let first = paid-access entries r q bytes v x s m is b between in
     let then_paid : t.calls ≤ m.calls + budget entries (length more) (step entries (board_after r q bytes s.peripherals)) = rw here later.paid in

@@ -16,9 +16,10 @@ use Rattle.tape_ports.specs.Ports.{IsPort}
 use Rattle.tape_ports.specs.Tape.{TapeValue, IsTape, count_before}
 use Rattle.catchup_engine.specs.Events.{next_event_of}
 use Rattle.lockstep_board.specs.Peripherals.{Peripherals, applied, devices_ticked, port_set, ticked}
-use Rattle.catchup_engine.specs.Bus.{BusValue, ComesNext, Does, Fits, IsTapePlace}
+use Rattle.catchup_engine.specs.Bus.{BusValue, ComesNext, Does, Accepts, IsTapePlace}
 
--- where the entries before a place are before a clock and the others aren't, that place is their number
+-- where the entries before a place are before a clock and the others aren't, that place is their
+-- number
 count-at : (t n : ℕ) (es : List TapeEntry) → n ≤ length es → All (λ e. e.clock < t) (take n es) → All (λ e. t ≤ e.clock) (drop n es)
     → count_before t es ≡ n
 count-at t n es within before from =
@@ -33,33 +34,33 @@ count-at t n es within before from =
     )
 
 -- the entries due at the bus's clock stand between the place of this clock and that of the next
-pub due-between : (tape : TapeValue) (clock next after : ℕ) → IsTape tape → IsTapePlace tape clock next → IsTapePlace tape (clock + 1) after
-    → due_at clock tape.entries ≡ slice_range tape.entries next after
-due-between tape clock next after valid here then =
+pub due-between : (tape : TapeValue) (clock tape_pos after : ℕ) → IsTape tape → IsTapePlace tape clock tape_pos → IsTapePlace tape (clock + 1) after
+    → due_at clock tape.entries ≡ slice_range tape.entries tape_pos after
+due-between tape clock tape_pos after valid here then =
     due_at-rising clock tape.entries valid.rising
     ∙ ap (λ n. slice_range tape.entries n (count_before (clock + 1) tape.entries))
-    (count-at clock next tape.entries here.within here.before here.from)
-    ∙ ap (λ n. slice_range tape.entries next n) (count-at (clock + 1) after tape.entries then.within then.before then.from)
+    (count-at clock tape_pos tape.entries here.within here.before here.from)
+    ∙ ap (λ n. slice_range tape.entries tape_pos n) (count-at (clock + 1) after tape.entries then.within then.before then.from)
 
 slice_none : (n : ℕ) (es : List TapeEntry) → slice_range es n n ≡ []
 slice_none n es = let e : n - n ≡ 0 = omega arith in rw e refl
 
 -- before the next event the place stays
-pub place-stays : (tape : TapeValue) (s : BusValue) → Fits tape s → s.peripherals.clock < s.event_at → IsTapePlace tape (s.peripherals.clock + 1) s.next
+pub place-stays : (tape : TapeValue) (s : BusValue) → Accepts tape s → s.peripherals.clock < s.event_at → IsTapePlace tape (s.peripherals.clock + 1) s.tape_pos
 place-stays tape s f h = record {
   within = f.place.within;
   before = λ k d inside. (let a = f.place.before k d inside in omega arith);
-  from = λ k d inside. (let a = f.quiet k d inside in omega arith);
+  from = λ k d inside. (let a = f.no_event k d inside in omega arith);
 }
 
 -- and no entry is due
-pub none-due : (tape : TapeValue) (s : BusValue) → Fits tape s → s.peripherals.clock < s.event_at → due_at s.peripherals.clock tape.entries ≡ []
+pub none-due : (tape : TapeValue) (s : BusValue) → Accepts tape s → s.peripherals.clock < s.event_at → due_at s.peripherals.clock tape.entries ≡ []
 none-due tape s f h =
-    due-between tape s.peripherals.clock s.next s.next f.valid f.place (place-stays tape s f h) ∙ slice_none s.next tape.entries
+    due-between tape s.peripherals.clock s.tape_pos s.tape_pos f.valid f.place (place-stays tape s f h) ∙ slice_none s.tape_pos tape.entries
 
 -- the place of the next clock isn't before that of this one
-pub place-rises : (tape : TapeValue) (clock next after : ℕ) → IsTapePlace tape clock next → IsTapePlace tape (clock + 1) after → next ≤ after
-place-rises tape clock next after here then = by_order next after tape.entries here.before then.from here.within
+pub place-rises : (tape : TapeValue) (clock tape_pos after : ℕ) → IsTapePlace tape clock tape_pos → IsTapePlace tape (clock + 1) after → tape_pos ≤ after
+place-rises tape clock tape_pos after here then = by_order tape_pos after tape.entries here.before then.from here.within
   where
     by_order : (n m : ℕ) (es : List TapeEntry) → All (λ (e : TapeEntry). e.clock < clock) (take n es)
         → All (λ (e : TapeEntry). clock + 1 ≤ e.clock) (drop m es) → n ≤ length es → n ≤ m
@@ -102,17 +103,17 @@ applied-more (suc k) [] d w h = absurd (omega arith)
 applied-more (suc k) (e ∷ es) d w h = applied-more k es d (port_set e.port e.value w) (omega arith)
 
 -- what is due at a clock, in one
-pub record Due (tape : TapeValue) (clock next after : ℕ) : Type 0 where
-  pub order : next ≤ after
-  pub due : slice_range tape.entries next after ≡ due_at clock tape.entries
-  pub ports : All (λ (e : TapeEntry). IsPort e.port) (slice_range tape.entries next after)
+pub record Due (tape : TapeValue) (clock tape_pos after : ℕ) : Type 0 where
+  pub order : tape_pos ≤ after
+  pub due : slice_range tape.entries tape_pos after ≡ due_at clock tape.entries
+  pub ports : All (λ (e : TapeEntry). IsPort e.port) (slice_range tape.entries tape_pos after)
 
-pub due-entries : (tape : TapeValue) (clock next after : ℕ) → IsTape tape → IsTapePlace tape clock next → IsTapePlace tape (clock + 1) after
-    → Due tape clock next after
-due-entries tape clock next after valid here then = record {
-  order = place-rises tape clock next after here then;
-  due = sym (due-between tape clock next after valid here then);
-  ports = ports-between tape next after valid;
+pub due-entries : (tape : TapeValue) (clock tape_pos after : ℕ) → IsTape tape → IsTapePlace tape clock tape_pos → IsTapePlace tape (clock + 1) after
+    → Due tape clock tape_pos after
+due-entries tape clock tape_pos after valid here then = record {
+  order = place-rises tape clock tape_pos after here then;
+  due = sym (due-between tape clock tape_pos after valid here then);
+  ports = ports-between tape tape_pos after valid;
 }
 
 pub ruleset due_entries = due-entries
@@ -159,33 +160,33 @@ all-applied es k start now h g has =
     (ap (λ n. take n es) e ∙ take-length es)
 
 -- no entry after a place has an earlier clock
-pub rises-from : (tape : TapeValue) → IsTape tape → (next k : ℕ) (d e : TapeEntry) → k < length (drop next tape.entries)
-    → (get_or tape.entries next e).clock ≤ (get_or (drop next tape.entries) k d).clock
-rises-from tape valid next k d e inside =
-    let within : next + k < length tape.entries = omega (arith, length-drop next tape.entries) in
-    let up : (get_or tape.entries next e).clock ≤ (get_or tape.entries (next + k) e).clock = valid.rising next (next + k) e (omega arith) within in
-    let same : get_or (drop next tape.entries) k d ≡ get_or tape.entries (next + k) e =
-    get_or-drop next tape.entries k d ∙ get_or_default tape.entries (next + k) d e within in
+pub rises-from : (tape : TapeValue) → IsTape tape → (tape_pos k : ℕ) (d e : TapeEntry) → k < length (drop tape_pos tape.entries)
+    → (get_or tape.entries tape_pos e).clock ≤ (get_or (drop tape_pos tape.entries) k d).clock
+rises-from tape valid tape_pos k d e inside =
+    let within : tape_pos + k < length tape.entries = omega (arith, length-drop tape_pos tape.entries) in
+    let up : (get_or tape.entries tape_pos e).clock ≤ (get_or tape.entries (tape_pos + k) e).clock = valid.rising tape_pos (tape_pos + k) e (omega arith) within in
+    let same : get_or (drop tape_pos tape.entries) k d ≡ get_or tape.entries (tape_pos + k) e =
+    get_or-drop tape_pos tape.entries k d ∙ get_or_default tape.entries (tape_pos + k) d e within in
     rw (ap (λ (t : TapeEntry). t.clock) same) up
 
 -- the same for the entry as it was read
-pub rises-read : (tape : TapeValue) → IsTape tape → (next k : ℕ) (d e : TapeEntry) (es : List TapeEntry) → k < length (drop next tape.entries)
-    → es ≡ tape.entries → (get_or es next e).clock ≤ (get_or (drop next tape.entries) k d).clock
-rises-read tape valid next k d e es inside same =
-    rw (ap (λ (xs : List TapeEntry). (get_or xs next e).clock) same) (rises-from tape valid next k d e inside)
+pub rises-read : (tape : TapeValue) → IsTape tape → (tape_pos k : ℕ) (d e : TapeEntry) (es : List TapeEntry) → k < length (drop tape_pos tape.entries)
+    → es ≡ tape.entries → (get_or es tape_pos e).clock ≤ (get_or (drop tape_pos tape.entries) k d).clock
+rises-read tape valid tape_pos k d e es inside same =
+    rw (ap (λ (xs : List TapeEntry). (get_or xs tape_pos e).clock) same) (rises-from tape valid tape_pos k d e inside)
 
--- a clock in which nothing comes has its devices' ticks alone
-pub ticked-quiet : (tape : TapeValue) (s : BusValue) → Fits tape s → s.peripherals.clock < s.event_at → ticked tape.entries s.peripherals ≡ devices_ticked s.peripherals
+-- a clock in which no event is due has its devices' ticks alone
+pub ticked-quiet : (tape : TapeValue) (s : BusValue) → Accepts tape s → s.peripherals.clock < s.event_at → ticked tape.entries s.peripherals ≡ devices_ticked s.peripherals
 unfolding ticked applied
 ticked-quiet tape s f h = ap (λ (es : List TapeEntry). devices_ticked (applied es s.peripherals)) (none-due tape s f h)
 
--- the bus after such a clock fits too
-pub fits-quiet : (tape : TapeValue) (s t : BusValue) → Fits tape s → s.peripherals.clock < s.event_at → t.peripherals.clock ≡ s.peripherals.clock + 1 → t.next ≡ s.next
-    → t.event_at ≡ s.event_at → Fits tape t
-fits-quiet tape s t f h clock next event = record {
+-- the bus accepts its tape after such a clock too
+pub fits-quiet : (tape : TapeValue) (s t : BusValue) → Accepts tape s → s.peripherals.clock < s.event_at → t.peripherals.clock ≡ s.peripherals.clock + 1 → t.tape_pos ≡ s.tape_pos
+    → t.event_at ≡ s.event_at → Accepts tape t
+fits-quiet tape s t f h clock tape_pos event = record {
   valid = f.valid;
-  place = rw (clock, next) (place-stays tape s f h);
-  quiet = rw (event, next) f.quiet;
+  place = rw (clock, tape_pos) (place-stays tape s f h);
+  no_event = rw (event, tape_pos) f.no_event;
 }
 
 -- the sooner of a wrap and the next entry isn't later than the wrap
@@ -195,10 +196,10 @@ sooner-wrap wrap None = omega arith
 sooner-wrap wrap (Some e) = omega arith
 
 -- nor than any entry
-pub sooner-entries : (tape : TapeValue) (next wrap at : ℕ) (entry : Option ℕ) → at ≡ next_event_of wrap entry → ComesNext tape next entry
-    → All (λ (e : TapeEntry). at ≤ e.clock) (drop next tape.entries)
+pub sooner-entries : (tape : TapeValue) (tape_pos wrap at : ℕ) (entry : Option ℕ) → at ≡ next_event_of wrap entry → ComesNext tape tape_pos entry
+    → All (λ (e : TapeEntry). at ≤ e.clock) (drop tape_pos tape.entries)
 unfolding next_event_of
-sooner-entries tape next wrap at None is none = λ k d inside. absurd (let e = ap (λ (es : List TapeEntry). length es) none in omega arith)
-sooner-entries tape next wrap at (Some first) is later = λ k d inside. let h = later k d inside in omega arith
+sooner-entries tape tape_pos wrap at None is none = λ k d inside. absurd (let e = ap (λ (es : List TapeEntry). length es) none in omega arith)
+sooner-entries tape tape_pos wrap at (Some first) is later = λ k d inside. let h = later k d inside in omega arith
 
 pub ruleset comes = (sooner-wrap, sooner-entries)

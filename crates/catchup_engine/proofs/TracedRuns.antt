@@ -1,4 +1,4 @@
--- A run of which somebody is told turn by turn.
+-- A run that is passed to a tracer turn by turn.
 use Rattle.std.proofs.Common.{◌≡◌, ℕ, ◌+◌, ◌-◌, ◌^◌, ◌≤◌, ◌<◌, is_some, Bool, true, false, List, [], Option, Some, None, IfSome, refl, sym, ap, ◌∙◌, subst, arith, suc, zero, zero-add, inl, inr, ◌⊎◌, if◌then◌else◌}
 use Rattle.std.proofs.lemmas.Bool.{cases_lt}
 use Rattle.board_base.specs.Cpu.{CpuValue, MidValue}
@@ -22,7 +22,7 @@ abbrev pub clocks_left : ℕ → CpuValue → BusValue → ℕ
 clocks_left limit c s = (limit - s.peripherals.clock) + (if is_some c.mid then 1 else 0)
 
 module _ {T : Type 0} (next : T → TraceValue → ℕ → T) where
-  -- he is told of one turn more
+  -- the tracer gets one turn more
   told-next : (entries : List TapeEntry) (n : ℕ) (w : T) (b : Board)
       → told next entries (suc n) w b ≡ told_once next entries (told next entries n w b) (turned entries n b)
   unfolding told turned
@@ -94,7 +94,7 @@ module _ {T : Type 0} (next : T → TraceValue → ℕ → T) where
       by_count zero is = let same = ap (λ (k : Board). k.peripherals.clock) is in absurd (omega (arith, same, more))
       by_count (suc m) is = omega arith
 
-  -- he is told of some turns, and then of others
+  -- it gets some turns, and then others
   told-add : (entries : List TapeEntry) (n m : ℕ) (w : T) (b : Board)
       → told next entries (n + m) w b ≡ told next entries m (told next entries n w b) (turned entries n b)
   unfolding told turned
@@ -141,7 +141,8 @@ module _ {T : Type 0} (next : T → TraceValue → ℕ → T) where
           at-start : 1 ≤ at.count → enough (told next entries 0 v c) ≡ false
           at-start some = sym (at.later some)
 
-  -- From c, s and w some turns have led to e, t and v, and the flag says whether he has enough.
+  -- From c, s and w some turns have led to e, t and v, and the flag says whether the tracer has
+  -- enough.
   pub record AtTold (enough : T → Bool) (entries : List TapeEntry) (limit : ℕ) (c : CpuValue) (s t : BusValue) (e : CpuValue) (w v : T) (flag : Bool) : Type 0 where
     pub run : RunsOn entries (is_over limit) c s t e
     pub turns : ToldTurns next enough entries limit (over_bus c s) (over_bus e t) w v flag
@@ -150,7 +151,7 @@ module _ {T : Type 0} (next : T → TraceValue → ℕ → T) where
     pub near : (t.peripherals.clock ≤ s.peripherals.clock + 7) ⊎ (t.peripherals.clock ≤ limit + 6)
     pub range : IsInRange e t
 
-  pub told-starts : (enough : T → Bool) (entries : List TapeEntry) (limit : ℕ) (c : CpuValue) (s : BusValue) (w : T) → s.begun ≡ false → IsInRange c s
+  pub told-starts : (enough : T → Bool) (entries : List TapeEntry) (limit : ℕ) (c : CpuValue) (s : BusValue) (w : T) → s.clock_open ≡ false → IsInRange c s
       → AtTold enough entries limit c s s c w w false
   told-starts enough entries limit c s w between range = let none = turns-none enough entries limit (over_bus c s) w in record {
     run = starts entries (is_over limit) c s between;

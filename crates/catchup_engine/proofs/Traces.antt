@@ -27,18 +27,18 @@ use Rattle.lockstep_board.proofs.Runs.{steps_until-is, through-reached}
 use Rattle.catchup_engine.proofs.RunsOn.{boundary-ends, boundary-starts, open-before, turn-runs}
 use Rattle.catchup_engine.proofs.Seen.{advances-seen, moves-seen, runs-seen}
 use Rattle.catchup_engine.proofs.Steps.{board_after, in_clock-between, moves-length, moves-went, paused-is, stays-of, step-access}
-use Rattle.catchup_engine.proofs.Turns.{Begins, First, HasEffects, ResetBegun, clock-some, due-clock, effects-by, fetch-first, given-some, in_clock-begun, next-first, opcode-first, reset-begun, reset-first, reset-turn, resets-more, resume-first, resume-turn, standing-paused, turned-clock}
+use Rattle.catchup_engine.proofs.Turns.{Begins, First, HasEffects, ResetBegun, clock-some, due-clock, effects-by, fetch-first, given-some, in_clock-open, next-first, opcode-first, reset-begun, reset-first, reset-turn, resets-more, resume-first, resume-turn, standing-paused, turned-clock}
 
 -- the access that was made is the one that the board makes
 made_by-is : (entries : List TapeEntry) (next : Next) (v : ℕ) (x : cycles.Access) (s t : BusValue) → IsAccess next v x → BusStep entries x s t
-    → made_by next (in_clock entries s.begun s.peripherals) ≡ Some x
+    → made_by next (in_clock entries s.clock_open s.peripherals) ≡ Some x
 made_by-is entries (Read a) v x s t is did =
     let d = subst (λ y. BusStep entries y s t) is did in
     ap (λ b. Some (read_of a b)) (sym d.0) ∙ ap (λ (y : cycles.Access). Some y) (sym is)
 made_by-is entries (Write a w) v x s t is did = ap (λ b. Some (write_of a b)) (sym is.0) ∙ ap (λ (y : cycles.Access). Some y) (sym is.1)
 made_by-is entries (End e) v x s t is did = absurd is
 
-access-resumed : (entries : List TapeEntry) (c : CpuValue) (m : MidValue) (v : ℕ) (x : cycles.Access) (s t : BusValue) → c.mid ≡ Some m → s.begun ≡ false
+access-resumed : (entries : List TapeEntry) (c : CpuValue) (m : MidValue) (v : ℕ) (x : cycles.Access) (s t : BusValue) → c.mid ≡ Some m → s.clock_open ≡ false
     → IsAccess (next_of (registers_of c) m.sequence (given_by m)) v x → BusStep entries x s t → access_in entries (over_bus c s) ≡ Some x
 unfolding access_in
 access-resumed entries c m v x s t inside between is did =
@@ -55,7 +55,7 @@ access-fetched entries c q v x s b t boundary begins due is did =
     let due_then : q ≡ sequence_due c w = due ∙ ap (sequence_due c) begins.peripherals ∙ due-clock c w in
     ap (λ (mid : Option MidValue). due_access mid c w) boundary
     ∙ ap (λ (p : Sequence). made_by (next_of (start_of p c) p []) w) (sym due_then)
-    ∙ ap (made_by (next_of (start_of q c) q [])) (sym (in_clock-begun entries s b begins))
+    ∙ ap (made_by (next_of (start_of q c) q [])) (sym (in_clock-open entries s b begins))
     ∙ made_by-is entries (next_of (start_of q c) q []) v x b t is did
 
 -- one access more
@@ -69,7 +69,7 @@ seven-push (x0 ∷ (x1 ∷ (x2 ∷ (x3 ∷ (x4 ∷ []))))) a few = refl
 seven-push (x0 ∷ (x1 ∷ (x2 ∷ (x3 ∷ (x4 ∷ (x5 ∷ [])))))) a few = refl
 seven-push (x0 ∷ (x1 ∷ (x2 ∷ (x3 ∷ (x4 ∷ (x5 ∷ (x6 ∷ more))))))) a few = absurd (omega arith)
 
--- a trace of these accesses, whose sequence isn't told yet
+-- a trace of these accesses, whose sequence isn't known yet
 abbrev pub of_accesses : List Access → TraceValue
 of_accesses made = record { sequence = Opcode; opcode = 0; count = length made; accesses = seven_of made }
 
@@ -96,14 +96,14 @@ unfolding access_in
 access-paused entries r q bytes w = rw (given_paused bytes) refl
 
 access-inside : (entries : List TapeEntry) (r : RegistersValue) (q : Sequence) (bytes : List ℕ) (v : ℕ) (x : cycles.Access) (s t : BusValue)
-    → IsAccess (next_of r q bytes) v x → BusStep entries x s t → s.begun ≡ false → access_in entries (board_after r q bytes s.peripherals) ≡ Some x
+    → IsAccess (next_of r q bytes) v x → BusStep entries x s t → s.clock_open ≡ false → access_in entries (board_after r q bytes s.peripherals) ≡ Some x
 access-inside entries r q bytes v x s t is did between =
     ap (λ (c : CpuValue). access_in entries (record { cpu = c; peripherals = s.peripherals })) (paused-is (next_of r q bytes) r q bytes v x is)
     ∙ access-paused entries r q bytes s.peripherals
     ∙ ap (made_by (next_of r q bytes)) (sym (in_clock-between entries s between))
     ∙ made_by-is entries (next_of r q bytes) v x s t is did
 
--- the trace tells n clocks of a board, behind the accesses that were there
+-- the trace has n clocks of a board, after the accesses that were there
 pub record IsTold (entries : List TapeEntry) (n : ℕ) (b : Board) (before : List Access) (trace : TraceValue) : Type 0 where
   pub trace_is : trace ≡ of_accesses (before ++ accesses_of entries n b)
   pub full : length (accesses_of entries n b) ≡ n
@@ -124,9 +124,9 @@ told-more entries n b next a before trace steps one rest =
       full = ap (λ (l : List Access). length l) whole ∙ (let e : suc (length (accesses_of entries n next)) ≡ suc n = omega arith in e);
     }
 
--- what is left of a sequence is told clock by clock
+-- what is left of a sequence is traced clock by clock
 moves-told : (entries : List TapeEntry) (r : RegistersValue) (q : Sequence) (bytes more : List ℕ) (s t : TracedValue)
-    → Moves (TracedStep entries) r q bytes more s t → s.bus.begun ≡ false → (before : List Access) → s.trace ≡ of_accesses before
+    → Moves (TracedStep entries) r q bytes more s t → s.bus.clock_open ≡ false → (before : List Access) → s.trace ≡ of_accesses before
     → length before + length more ≤ 7 → IsTold entries (length more) (board_after r q bytes s.bus.peripherals) before t.trace
 unfolding accesses_of
 moves-told entries r q bytes [] s t same between before is few = record {
@@ -149,9 +149,9 @@ moves-told entries r q bytes (v ∷ more) s t (x, m, is, did, rest) between befo
     ∙ ap (λ n. pushed (of_accesses before) (access_at n x)) now
     ∙ pushed-is before a (omega arith) in
     told-more entries (length more) b (board_after r q (bytes ++ v ∷ []) m.bus.peripherals) a before t.trace next one
-    (moves-told entries r q (bytes ++ v ∷ []) more m t rest (stays-of entries x s.bus m.bus did.0).begun (before ++ a ∷ []) told (omega arith))
+    (moves-told entries r q (bytes ++ v ∷ []) more m t rest (stays-of entries x s.bus m.bus did.0).clock_open (before ++ a ∷ []) told (omega arith))
 
--- a turn that is traced: so many clocks of it are told
+-- a turn that is traced: so many clocks of it are in the trace
 pub record IsTraced (entries : List TapeEntry) (b : Board) (t : TracedValue) : Type 0 where
   pub count : ℕ
   pub clock : t.bus.peripherals.clock ≡ b.peripherals.clock + count
@@ -218,8 +218,8 @@ whole-told entries c q s b t e boundary begins due other runs = by_bytes runs.by
         (access-fetched entries c q v x s b m.bus boundary begins due is did.0)
         (did.1 ∙ pushed-is [] (access_at (m.bus.peripherals.clock - 1) x) (omega arith)) rest (omega arith)
 
--- an instruction in whose first clock nothing comes of itself
-access-opcode : (entries : List TapeEntry) (c : CpuValue) (v : ℕ) (x : cycles.Access) (s t : BusValue) → c.mid ≡ None → s.begun ≡ false
+-- an instruction in whose first clock no event is due
+access-opcode : (entries : List TapeEntry) (c : CpuValue) (v : ℕ) (x : cycles.Access) (s t : BusValue) → c.mid ≡ None → s.clock_open ≡ false
     → Opcode ≡ sequence_due c (ticked entries s.peripherals) → IsAccess (next_of (start_of Opcode c) Opcode []) v x → BusStep entries x s t
     → access_in entries (over_bus c s) ≡ Some x
 unfolding access_in
@@ -230,7 +230,7 @@ access-opcode entries c v x s t boundary between due is did =
     ∙ ap (made_by (next_of (start_of Opcode c) Opcode [])) (sym (in_clock-between entries s between))
     ∙ made_by-is entries (next_of (start_of Opcode c) Opcode []) v x s t is did
 
-pub opcode-told : (entries : List TapeEntry) (c : CpuValue) (s : BusValue) (t : TracedValue) (e : CpuValue) → c.mid ≡ None → s.begun ≡ false
+pub opcode-told : (entries : List TapeEntry) (c : CpuValue) (s : BusValue) (t : TracedValue) (e : CpuValue) → c.mid ≡ None → s.clock_open ≡ false
     → Opcode ≡ sequence_due c (ticked entries s.peripherals) → Runs (TracedStep entries) (registers_of c) Opcode (traced s no_trace) t e
     → IsTraced entries (over_bus c s) t
 opcode-told entries c s t e boundary between due runs = by_bytes runs.bytes runs.moves runs.ends
@@ -248,7 +248,7 @@ opcode-told entries c s t e boundary between due runs = by_bytes runs.bytes runs
 
 -- what is left of a sequence
 pub rest-told : (entries : List TapeEntry) (c : CpuValue) (m : MidValue) (made : ℕ) (s : BusValue) (t : TracedValue) (e : CpuValue) → c.mid ≡ Some m
-    → IfSome c.mid (λ _. IsMiddle c) → length m.bytes ≡ 6 → s.begun ≡ false
+    → IfSome c.mid (λ _. IsMiddle c) → length m.bytes ≡ 6 → s.clock_open ≡ false
     → Advances (TracedStep entries) (registers_of c) m.sequence (given_by m) 7 made (traced s no_trace) t e → IsTraced entries (over_bus c s) t
 rest-told entries c m made s t e inside middle six between a = by_more a.more a.moves a.count a.full
   where
@@ -273,14 +273,14 @@ rest-told entries c m made s t e inside middle six between a = by_more a.more a.
         (access-resumed entries c m v x s k.bus inside between is did.0)
         (did.1 ∙ pushed-is [] (access_at (k.bus.peripherals.clock - 1) x) (omega arith)) rest (omega arith)
 
--- what is left of a sequence is a turn, and it is told
+-- what is left of a sequence is a turn, and it is traced
 pub record IsRest (entries : List TapeEntry) (c : CpuValue) (m : MidValue) (s : BusValue) (t : TracedValue) (e : CpuValue) : Type 0 where
   pub turned : TurnedBus entries 7 c s t.bus e
   pub traced : IsTraced entries (over_bus c s) t
   pub inside : c.mid ≡ Some m
 
 pub middle-told : (entries : List TapeEntry) (c : CpuValue) (m : MidValue) (s : BusValue) (t : TracedValue) (e : CpuValue) → c.mid ≡ Some m
-    → IfSome c.mid (λ _. IsMiddle c) → length m.bytes ≡ 6 → s.begun ≡ false
+    → IfSome c.mid (λ _. IsMiddle c) → length m.bytes ≡ 6 → s.clock_open ≡ false
     → IfSome c.mid (λ p. (made : ℕ) × Advances (TracedStep entries) (registers_of c) p.sequence (given_by p) 7 made (traced s no_trace) t e)
     → IsRest entries c m s t e
 middle-told entries c m s t e inside middle six between advances =
@@ -304,12 +304,12 @@ pub middle-byte : (entries : List TapeEntry) (c : CpuValue) (m : MidValue) (s : 
     → slice_index m.bytes 0 ≡ first_byte (over_bus c s).cpu.mid (access_in entries (over_bus c s))
 middle-byte entries c m s inside = sym (ap (λ (mid : Option MidValue). first_byte mid (access_in entries (over_bus c s))) inside)
 
--- a reset over a bus is one, and it is told
+-- a reset over a bus is one, and it is traced
 pub record IsReset (entries : List TapeEntry) (c : CpuValue) (s : BusValue) (t : TracedValue) (e : CpuValue) : Type 0 where
   pub turned : TurnedBus entries 7 c s t.bus e
   pub traced : IsTraced entries (over_bus c s) t
 
--- the rest of a reset that stands behind its read
+-- the rest of a reset after its read
 reset-rest : (entries : List TapeEntry) (c k : CpuValue) (v : ℕ) (s t : TracedValue) (e : CpuValue) → k ≡ paused (start_of Reset c) Reset (v ∷ [])
     → IfSome k.mid (λ m. (made : ℕ) × Advances (TracedStep entries) (registers_of k) m.sequence (given_by m) 6 made s t e)
     → (made : ℕ) × Advances (TracedStep entries) (start_of Reset c) Reset (v ∷ []) 6 made s t e
@@ -324,8 +324,8 @@ reset-of : (entries : List TapeEntry) (c : CpuValue) (s b : BusValue) (m t : Tra
     → IsReset entries c s t e
 reset-of entries c s b m t k e v x boundary begins due is did stands taken effects rest =
     let r = start_of Reset c in
-    let between = (stays-of entries x b m.bus did.0).begun in
-    let begun : ResetBegun entries c b m.bus k = record {
+    let between = (stays-of entries x b m.bus did.0).clock_open in
+    let started : ResetBegun entries c b m.bus k = record {
       value = v;
       moves = (x, m.bus, is, did.0, refl);
       stands = stands;
@@ -340,7 +340,7 @@ reset-of entries c s b m t k e v x boundary begins due is did stands taken effec
     record {
       turned =
           reset-turn entries c 7 s b t.bus e boundary begins due (omega arith)
-          (resets-more entries c 7 a.0 b m.bus taken t.bus k e begun effects
+          (resets-more entries c 7 a.0 b m.bus taken t.bus k e started effects
           (subst (λ (j : CpuValue). IfSome j.mid (λ p. Advances (BusStep entries) (registers_of j) p.sequence (given_by p) 6 a.0 taken t.bus e)) (sym stands)
           (bus-advances entries r Reset (v ∷ []) 6 a.0 (traced taken m.trace) t e a.1)));
       traced =
@@ -391,15 +391,15 @@ reset-one entries c k b m (made, a) = by_more a.more a.moves a.count
     by_more (v ∷ (u ∷ more)) moves count = let few = a.few in absurd (omega arith)
 
 -- and leaves room for all others
-pub first-room : (entries : List TapeEntry) (c k : CpuValue) (b : BusValue) (trace : TraceValue) (m : TracedValue) → b.begun ≡ true
+pub first-room : (entries : List TapeEntry) (c k : CpuValue) (b : BusValue) (trace : TraceValue) (m : TracedValue) → b.clock_open ≡ true
     → ((made : ℕ) × Advances (TracedStep entries) (start_of Reset c) Reset [] 1 made (traced b trace) m k) → room_of b ≤ room_of m.bus + 1
 unfolding next_of in_clock
-first-room entries c k b trace m begun (made, a) = by_more a.more a.moves a.count
+first-room entries c k b trace m clock_open (made, a) = by_more a.more a.moves a.count
   where
     read-room : (v : ℕ) (x : cycles.Access) (t : BusValue) → IsAccess (next_of (start_of Reset c) Reset []) v x → BusStep entries x b t → room_of b ≤ room_of t + 1
     read-room v x t is did =
         let d = subst (λ y. BusStep entries y b t) is did in
-        let peripherals = d.1 ∙ ap (λ f. done_clock (if f then at_clock (b.peripherals.clock - 1) b.peripherals else ticked entries b.peripherals)) begun in
+        let peripherals = d.1 ∙ ap (λ f. done_clock (if f then at_clock (b.peripherals.clock - 1) b.peripherals else ticked entries b.peripherals)) clock_open in
         let written = ap (λ (w : Peripherals). length w.written) peripherals in
         let clock = ap (λ (w : Peripherals). w.clock) peripherals in
         let rooms = ap (λ (r : Rooms). r.board) (stays-of entries x b t did).rooms in
@@ -569,7 +569,7 @@ none-jammed c off = of c.jam off
     of (Some o) off = cc
 
 -- a board that is jammed does nothing
-pub jammed-run : (entries : List TapeEntry) (c : CpuValue) (s : BusValue) → s.begun ≡ false → is_some c.jam ≡ true
+pub jammed-run : (entries : List TapeEntry) (c : CpuValue) (s : BusValue) → s.clock_open ≡ false → is_some c.jam ≡ true
     → IfSome c.mid (λ _. IsMiddle c) → IsInRange c s → BoundaryRun entries (s.peripherals.clock + 1) c s s c
 jammed-run entries c s between jammed middle range =
     let limit = s.peripherals.clock + 1 in

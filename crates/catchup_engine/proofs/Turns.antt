@@ -17,7 +17,7 @@ use Rattle.tape_ports.specs.declared.entry.TapeEntry.{TapeEntry}
 use Rattle.lockstep_board.specs.Peripherals.{Peripherals, line_of, reset_begun, ticked}
 use Rattle.lockstep_board.specs.Lockstep.{Board, accessed, access_in, begun, clocked, due_access, at_fetch, made_by, sequence_due, step}
 use Rattle.lockstep_board.specs.Budget.{begins_reset, budget, counted, device_access, price, reaches_device, reset_count, ticks_price}
-use Rattle.catchup_engine.specs.Bus.{BusValue, BusStep, Does, Fits, at_clock, done_clock, in_clock}
+use Rattle.catchup_engine.specs.Bus.{BusValue, BusStep, Does, Accepts, at_clock, done_clock, in_clock}
 use Rattle.tape_ports.specs.Tape.{TapeValue}
 use Rattle.catchup_engine.proofs.TapeLaws.{ticked-quiet}
 use Rattle.catchup_engine.specs.Turn.{Goes, ReadsOpcode, Resets, Turned, TurnedBus}
@@ -194,33 +194,33 @@ line-clock clock w = refl
 pub due-clock : (c : CpuValue) (w : Peripherals) → sequence_due c (done_clock w) ≡ sequence_due c w
 due-clock c w = rw (line-clock (w.clock + 1) w) refl
 
--- the bus after its clock has begun
+-- the bus after its clock is open
 pub record Begins (entries : List TapeEntry) (s b : BusValue) : Type 0 where
   pub peripherals : b.peripherals ≡ done_clock (ticked entries s.peripherals)
-  pub begun : b.begun ≡ true
+  pub clock_open : b.clock_open ≡ true
   pub rooms : b.rooms ≡ s.rooms
   pub until : s.until ≤ b.until
   pub calls : b.calls ≤ s.calls + ticks_price entries s.peripherals
   pub more : s.calls ≤ b.calls
 
 pub begins-by : (entries : List TapeEntry) (s b : BusValue)
-    → b ≡ record s { peripherals = done_clock (ticked entries s.peripherals); begun = true; next = b.next; event_at = b.event_at; lagging = b.lagging; until = b.until; calls = b.calls }
+    → b ≡ record s { peripherals = done_clock (ticked entries s.peripherals); clock_open = true; tape_pos = b.tape_pos; event_at = b.event_at; lagging = b.lagging; until = b.until; calls = b.calls }
     → s.until ≤ b.until → b.calls ≤ s.calls + ticks_price entries s.peripherals → s.calls ≤ b.calls → Begins entries s b
 begins-by entries s b value later paid more = record {
   peripherals = ap (λ (k : BusValue). k.peripherals) value;
-  begun = ap (λ (k : BusValue). k.begun) value;
+  clock_open = ap (λ (k : BusValue). k.clock_open) value;
   rooms = ap (λ (k : BusValue). k.rooms) value;
   until = later;
   calls = paid;
   more = more;
 }
 
-pub in_clock-begun : (entries : List TapeEntry) (s b : BusValue) → Begins entries s b → in_clock entries b.begun b.peripherals ≡ ticked entries s.peripherals
+pub in_clock-open : (entries : List TapeEntry) (s b : BusValue) → Begins entries s b → in_clock entries b.clock_open b.peripherals ≡ ticked entries s.peripherals
 unfolding in_clock
-in_clock-begun entries s b h =
+in_clock-open entries s b h =
     let w = ticked entries s.peripherals in
     let e : w.clock + 1 - 1 ≡ w.clock = omega arith in
-    rw (h.begun, h.peripherals) (ap (λ n. at_clock n w) e)
+    rw (h.clock_open, h.peripherals) (ap (λ n. at_clock n w) e)
 
 begun-other : (q : Sequence) (b : Board) → q ≢ Reset → begun q b ≡ b
 begun-other Opcode b other = refl
@@ -239,10 +239,10 @@ pub fetch-first : (entries : List TapeEntry) (c : CpuValue) (q : Sequence) (s b 
 fetch-first entries c q s b m v x boundary begins due other is did =
     let w = ticked entries s.peripherals in
     let due_then : q ≡ sequence_due c w = due ∙ ap (sequence_due c) begins.peripherals ∙ due-clock c w in
-    let clock = in_clock-begun entries s b begins in
+    let clock = in_clock-open entries s b begins in
     let stays = stays-of entries x b m did in
     let cost = stays.calls in
-    let none : (if b.begun then 0 else ticks_price entries b.peripherals) ≡ 0 = rw begins.begun refl in
+    let none : (if b.clock_open then 0 else ticks_price entries b.peripherals) ≡ 0 = rw begins.clock_open refl in
     let whole = price-fetch entries c s.peripherals q v x boundary due_then is in
     let no_reset = reset_count-other q other in
     let until_first = begins.until in
@@ -258,7 +258,7 @@ fetch-first entries c q s b m v x boundary begins due other is did =
           ∙ ap (λ (k : Peripherals). clocked (accessed (start_of q c) q [] k)) (sym clock)
           ∙ accessed-is entries (start_of q c) q [] v x b m is did;
       paid = omega arith;
-      goes = record { more = omega arith; rooms = stays.rooms ∙ begins.rooms; until = omega arith; between = stays.begun };
+      goes = record { more = omega arith; rooms = stays.rooms ∙ begins.rooms; until = omega arith; between = stays.clock_open };
     }
 
 -- where a resume begins
@@ -281,12 +281,12 @@ price-resume entries c m w v x inside is =
 
 -- the first clock of what is left of a sequence
 pub resume-first : (entries : List TapeEntry) (c : CpuValue) (m : MidValue) (s t : BusValue) (v : ℕ) (x : Access) → c.mid ≡ Some m
-    → s.begun ≡ false → IsAccess (next_of (registers_of c) m.sequence (given_by m)) v x → BusStep entries x s t
+    → s.clock_open ≡ false → IsAccess (next_of (registers_of c) m.sequence (given_by m)) v x → BusStep entries x s t
     → First entries (record { cpu = c; peripherals = s.peripherals }) (registers_of c) m.sequence (given_by m ++ v ∷ []) s t
 resume-first entries c m s t v x inside between is did =
     let stays = stays-of entries x s t did in
     let cost = stays.calls in
-    let here : (if s.begun then 0 else ticks_price entries s.peripherals) ≡ ticks_price entries s.peripherals = rw between refl in
+    let here : (if s.clock_open then 0 else ticks_price entries s.peripherals) ≡ ticks_price entries s.peripherals = rw between refl in
     let whole = price-resume entries c m s.peripherals v x inside is in
     record {
       step =
@@ -294,10 +294,10 @@ resume-first entries c m s t v x inside between is did =
           ∙ ap (λ (w : Peripherals). clocked (accessed (registers_of c) m.sequence (given_by m) w)) (sym (in_clock-between entries s between))
           ∙ accessed-is entries (registers_of c) m.sequence (given_by m) v x s t is did;
       paid = omega arith;
-      goes = record { more = stays.more; rooms = stays.rooms; until = stays.until; between = stays.begun };
+      goes = record { more = stays.more; rooms = stays.rooms; until = stays.until; between = stays.clock_open };
     }
 
--- a reset begins with a read, which leaves the peripherals
+-- a reset begins with a read, which doesn't change the peripherals
 reset-read : (r : RegistersValue) (w : Peripherals) → (accessed r Reset [] w).peripherals ≡ w
 unfolding accessed next_of
 reset-read r w = refl
@@ -315,7 +315,7 @@ reset-first entries c s b m n v x boundary begins due is did effects few goes =
     let w = ticked entries s.peripherals in
     let r = start_of Reset c in
     let due_then : Reset ≡ sequence_due c w = due ∙ ap (sequence_due c) begins.peripherals ∙ due-clock c w in
-    let clock = in_clock-begun entries s b begins in
+    let clock = in_clock-open entries s b begins in
     let first : clocked (accessed r Reset [] w) ≡ board_after r Reset (v ∷ []) m.peripherals =
     ap (λ (k : Peripherals). clocked (accessed r Reset [] k)) (sym clock) ∙ accessed-is entries r Reset [] v x b m is did in
     let cpu : (accessed r Reset [] w).cpu ≡ standing r Reset (v ∷ []) = ap (λ (k : Board). k.cpu) first in
@@ -328,7 +328,7 @@ reset-first entries c s b m n v x boundary begins due is did effects few goes =
     ∙ ap (λ t. at_clock (w.clock + 1) (reset_begun (at_clock t w))) back in
     let stays = stays-of entries x b m did in
     let cost = stays.calls in
-    let none : (if b.begun then 0 else ticks_price entries b.peripherals) ≡ 0 = rw begins.begun refl in
+    let none : (if b.clock_open then 0 else ticks_price entries b.peripherals) ≡ 0 = rw begins.clock_open refl in
     let whole = price-fetch entries c s.peripherals Reset v x boundary due_then is in
     let until_first = begins.until in
     let until_then = stays.until in
@@ -386,7 +386,7 @@ given-some m some short six = length-take-le m.count m.bytes (omega arith)
 
 -- what is left of a sequence is a turn
 pub resume-turn : (entries : List TapeEntry) (c : CpuValue) (m : MidValue) (clocks made : ℕ) (s t : BusValue) (e : CpuValue) → c.mid ≡ Some m
-    → IfSome c.mid (λ _. IsMiddle c) → length m.bytes ≡ 6 → s.begun ≡ false → 1 ≤ clocks
+    → IfSome c.mid (λ _. IsMiddle c) → length m.bytes ≡ 6 → s.clock_open ≡ false → 1 ≤ clocks
     → IfSome c.mid (λ m. Advances (BusStep entries) (registers_of c) m.sequence (given_by m) clocks made s t e) → TurnedBus entries clocks c s t e
 resume-turn entries c m clocks made s t e inside middle six between some advances =
     let place : IsPlace (registers_of c) m = (rw inside at middle).1 in
@@ -425,7 +425,7 @@ pub record ResetBegun (entries : List TapeEntry) (c : CpuValue) (s m : BusValue)
   pub moves : Moves (BusStep entries) (start_of Reset c) Reset [] (value ∷ []) s m
   pub stands : k ≡ paused (start_of Reset c) Reset (value ∷ [])
   pub clock : 1 ≤ m.peripherals.clock
-  pub between : m.begun ≡ false
+  pub between : m.clock_open ≡ false
 
 pub clock-some : (entries : List TapeEntry) (x : Access) (s t : BusValue) → BusStep entries x s t → 1 ≤ t.peripherals.clock
 clock-some entries (read_of a v) s t b = let e = ap (λ (w : Peripherals). w.clock) b.1 in omega arith
@@ -450,7 +450,7 @@ reset-begun entries c s m k (made, a) = by_more a.more a.moves a.count a.full a.
       moves = (x, n, is, did, same);
       stands = stands ∙ standing-paused (start_of Reset c) v;
       clock = (let e = ap (λ (b : BusValue). b.peripherals.clock) same in let h = clock-some entries x s n did in omega arith);
-      between = ap (λ (b : BusValue). b.begun) same ∙ (stays-of entries x s n did).begun;
+      between = ap (λ (b : BusValue). b.clock_open) same ∙ (stays-of entries x s n did).clock_open;
     }
     by_more (v ∷ (u ∷ more)) moves count full stands = let few = a.few in absurd (omega arith)
 
@@ -461,7 +461,7 @@ pub record HasEffects (m n : BusValue) : Type 0 where
   pub more : m.calls ≤ n.calls
   pub rooms : n.rooms ≡ m.rooms
   pub until : m.until ≤ n.until
-  pub between : n.begun ≡ m.begun
+  pub between : n.clock_open ≡ m.clock_open
 
 pub effects-by : (m n : BusValue) → Does m n (at_clock m.peripherals.clock (reset_begun (at_clock (m.peripherals.clock - 1) m.peripherals))) 4 → HasEffects m n
 effects-by m n does = record {
@@ -470,7 +470,7 @@ effects-by m n does = record {
   more = does.more;
   rooms = ap (λ (b : BusValue). b.rooms) does.value;
   until = does.until;
-  between = ap (λ (b : BusValue). b.begun) does.value;
+  between = ap (λ (b : BusValue). b.clock_open) does.value;
 }
 
 paused-due : (r : RegistersValue) (v : ℕ) → IsEnd (next_of r Reset (v ∷ [])) → ⊥
@@ -530,15 +530,15 @@ resets-more entries c clocks made s m n t k e b h advances = record {
   rest = subst (λ (j : CpuValue). IfSome j.mid (λ p. Advances (BusStep entries) (registers_of j) p.sequence (given_by p) (clocks - 1) made n t e)) b.stands advances;
 }
 
--- an instruction in whose first clock nothing comes of itself
-pub opcode-first : (entries : List TapeEntry) (c : CpuValue) (s m : BusValue) (v : ℕ) (x : Access) → c.mid ≡ None → s.begun ≡ false
+-- an instruction in whose first clock no event is due
+pub opcode-first : (entries : List TapeEntry) (c : CpuValue) (s m : BusValue) (v : ℕ) (x : Access) → c.mid ≡ None → s.clock_open ≡ false
     → Opcode ≡ sequence_due c (ticked entries s.peripherals) → IsAccess (next_of (start_of Opcode c) Opcode []) v x → BusStep entries x s m
     → First entries (record { cpu = c; peripherals = s.peripherals }) (start_of Opcode c) Opcode (v ∷ []) s m
 opcode-first entries c s m v x boundary between due is did =
     let w = ticked entries s.peripherals in
     let stays = stays-of entries x s m did in
     let cost = stays.calls in
-    let here : (if s.begun then 0 else ticks_price entries s.peripherals) ≡ ticks_price entries s.peripherals = rw between refl in
+    let here : (if s.clock_open then 0 else ticks_price entries s.peripherals) ≡ ticks_price entries s.peripherals = rw between refl in
     let whole = price-fetch entries c s.peripherals Opcode v x boundary due is in
     record {
       step =
@@ -547,17 +547,17 @@ opcode-first entries c s m v x boundary between due is did =
           ∙ ap (λ (k : Peripherals). clocked (accessed (start_of Opcode c) Opcode [] k)) (sym (in_clock-between entries s between))
           ∙ accessed-is entries (start_of Opcode c) Opcode [] v x s m is did;
       paid = omega arith;
-      goes = record { more = stays.more; rooms = stays.rooms; until = stays.until; between = stays.begun };
+      goes = record { more = stays.more; rooms = stays.rooms; until = stays.until; between = stays.clock_open };
     }
 
 -- is a turn
 pub opcode-turn : (tape : TapeValue) (c : CpuValue) (s t : BusValue) (e : CpuValue) → ReadsOpcode c s
-    → s.begun ≡ false → Fits tape s → Runs (BusStep tape.entries) (registers_of c) Opcode s t e → e.mid ≡ None
+    → s.clock_open ≡ false → Accepts tape s → Runs (BusStep tape.entries) (registers_of c) Opcode s t e → e.mid ≡ None
     → TurnedBus tape.entries 7 c s t e
 opcode-turn tape c s t e reads between accepts runs boundary =
     let entries = tape.entries in
     let due : Opcode ≡ sequence_due c (ticked entries s.peripherals) =
-    sym (ap (sequence_due c) (ticked-quiet tape s accepts reads.quiet) ∙ reads.due) in
+    sym (ap (sequence_due c) (ticked-quiet tape s accepts reads.no_event) ∙ reads.due) in
     let a = runs-advance entries (registers_of c) Opcode s t e runs boundary in
     let p = part entries (registers_of c) Opcode [] 7 a.0 s t e (omega arith) (next-first (registers_of c) Opcode) a.1 in
     let first = opcode-first entries c s p.then_s p.value p.access reads.boundary between due p.is p.did in

@@ -12,13 +12,14 @@ use Rattle.catchup_engine.specs.declared.bus.TheConstants.{PROGRAM_START}
 use Rattle.catchup_engine.specs.EngineValue.{Rooms}
 use Rattle.catchup_engine.specs.Lags.{DeviceLags, lagging_at}
 
--- The peripherals, and whether the ticks of the next access's clock are in them already: such a clock counts as done. Then the
--- entries of the tape that are past, the clock before which no event is due, which devices lag, the clock up to
--- which the trails of the generator and the POKEYs have room, the rooms of all four, and the device calls.
+-- The peripherals, and whether a clock is open: the ticks of the next access's clock are in them
+-- already, and it counts as done. Then the entries of the tape that are past, the clock before
+-- which no event is due, which devices lag, the clock up to which the trails of the generator and
+-- the POKEYs have room, the rooms of all four, and the device calls.
 pub record BusValue : Type 0 where
   pub peripherals : Peripherals
-  pub begun : Bool
-  pub next : ℕ
+  pub clock_open : Bool
+  pub tape_pos : ℕ
   pub event_at : ℕ
   pub lagging : DeviceLags
   pub until : ℕ
@@ -35,7 +36,7 @@ at_clock clock w = record w { clock = clock }
 
 -- the peripherals in the clock of the next access, after its ticks
 unfoldable pub in_clock : List TapeEntry → Bool → Peripherals → Peripherals
-in_clock entries begun w = if begun then at_clock (w.clock - 1) w else ticked entries w
+in_clock entries clock_open w = if clock_open then at_clock (w.clock - 1) w else ticked entries w
 
 -- the peripherals when that clock is done
 abbrev pub done_clock : Peripherals → Peripherals
@@ -43,10 +44,10 @@ done_clock w = at_clock (w.clock + 1) w
 
 -- the calls that a clock's ticks may cost, unless they are done
 abbrev pub begin_price : List TapeEntry → Bool → Peripherals → ℕ
-begin_price entries begun w = if begun then 0 else ticks_price entries w
+begin_price entries clock_open w = if clock_open then 0 else ticks_price entries w
 
--- Something was done to the peripherals, for which a device may have been synced: the peripherals are these, so many
--- device calls were made at most, and all else stays.
+-- Something was done to the peripherals, for which a device may have been synced: the peripherals
+-- are these, so many device calls were made at most, and all else stays.
 pub record Does (old new : BusValue) (peripherals : Peripherals) (most : ℕ) : Type 0 where
   pub value : new ≡ record old { peripherals = peripherals; lagging = new.lagging; until = new.until; calls = new.calls }
   pub until : old.until ≤ new.until
@@ -55,38 +56,41 @@ pub record Does (old new : BusValue) (peripherals : Peripherals) (most : ℕ) : 
 
 -- what an access leaves: the room of the trails stays, and the calls are within their price
 pub record Stays (entries : List TapeEntry) (x : Access) (s t : BusValue) : Type 0 where
-  pub begun : t.begun ≡ false
+  pub clock_open : t.clock_open ≡ false
   pub rooms : t.rooms ≡ s.rooms
   pub until : s.until ≤ t.until
-  pub calls : t.calls ≤ s.calls + (2 * from_bool (reaches_device x) + begin_price entries s.begun s.peripherals)
+  pub calls : t.calls ≤ s.calls + (2 * from_bool (reaches_device x) + begin_price entries s.clock_open s.peripherals)
   pub more : s.calls ≤ t.calls
 
--- one access: the byte read is that of the peripherals in this clock, and the devices that give it stand at the present; or the
--- byte written is put into them
+-- one access: the byte read is that of the peripherals in this clock, and the devices whose state
+-- it is don't lag; or the byte written is put into them
 abbrev pub BusStep : List TapeEntry → Access → BusValue → BusValue → Type 0
 BusStep entries (read_of address value) s t =
-    (value ≡ byte_read address (in_clock entries s.begun s.peripherals))
-    × (t.peripherals ≡ done_clock (in_clock entries s.begun s.peripherals)) × Stays entries (read_of address value) s t
+    (value ≡ byte_read address (in_clock entries s.clock_open s.peripherals))
+    × (t.peripherals ≡ done_clock (in_clock entries s.clock_open s.peripherals)) × Stays entries (read_of address value) s t
     × (lagging_at (row_of address).reads t.lagging ≡ 0)
 BusStep entries (write_of address value) s t =
-    (t.peripherals ≡ done_clock (byte_put address value (in_clock entries s.begun s.peripherals))) × Stays entries (write_of address value) s t
+    (t.peripherals ≡ done_clock (byte_put address value (in_clock entries s.clock_open s.peripherals))) × Stays entries (write_of address value) s t
 
--- the place of a clock among the entries of a tape: those before it are of earlier clocks, and the others aren't
-pub record IsTapePlace (tape : TapeValue) (clock next : ℕ) : Type 0 where
-  pub within : next ≤ length tape.entries
-  pub before : All (λ entry. entry.clock < clock) (take next tape.entries)
-  pub from : All (λ entry. clock ≤ entry.clock) (drop next tape.entries)
+-- the place of a clock among the entries of a tape: those before it are of earlier clocks, and the
+-- others aren't
+pub record IsTapePlace (tape : TapeValue) (clock tape_pos : ℕ) : Type 0 where
+  pub within : tape_pos ≤ length tape.entries
+  pub before : All (λ entry. entry.clock < clock) (take tape_pos tape.entries)
+  pub from : All (λ entry. clock ≤ entry.clock) (drop tape_pos tape.entries)
 
--- the clock of the entry at a place: no later one has an earlier clock, and without one there is none
+-- the clock of the entry at a place: no later one has an earlier clock, and without one there is
+-- none
 abbrev pub ComesNext : TapeValue → ℕ → Option ℕ → Type 0
-ComesNext tape next None = drop next tape.entries ≡ []
-ComesNext tape next (Some at) = All (λ entry. at ≤ entry.clock) (drop next tape.entries)
+ComesNext tape tape_pos None = drop tape_pos tape.entries ≡ []
+ComesNext tape tape_pos (Some at) = All (λ entry. at ≤ entry.clock) (drop tape_pos tape.entries)
 
--- a tape fits where the entries past are those of the clocks done, and no later one comes before the next event
-pub record Fits (tape : TapeValue) (s : BusValue) : Type 0 where
+-- the bus accepts a tape where the entries past are those of the clocks done, and no later one
+-- comes before the next event
+pub record Accepts (tape : TapeValue) (s : BusValue) : Type 0 where
   pub valid : IsTape tape
-  pub place : IsTapePlace tape s.peripherals.clock s.next
-  pub quiet : All (λ entry. s.event_at ≤ entry.clock) (drop s.next tape.entries)
+  pub place : IsTapePlace tape s.peripherals.clock s.tape_pos
+  pub no_event : All (λ entry. s.event_at ≤ entry.clock) (drop s.tape_pos tape.entries)
 
 -- each access takes a clock, and one record of each part at most
 abbrev pub room_of : BusValue → ℕ

@@ -17,8 +17,9 @@ pub record HasRoom (rooms : Rooms) : Type 0 where
   pub sound2 : TRAIL_ROOM ≤ rooms.sound2
   pub board : TRAIL_ROOM ≤ rooms.board
 
--- the lockstep board that it represents, how many of its devices lag behind it, the rooms of the trails, the device calls
--- and the clocks that it did since it was made; the last two stand still at the greatest number of 64 bits
+-- the lockstep board that it represents, how many of its devices lag behind it, the rooms of the
+-- trails, the device calls and the clocks that it did since it was made; the last two stay at the
+-- greatest number of 64 bits
 pub record EngineValue : Type 0 where
   pub board : Board
   pub lagging : ℕ

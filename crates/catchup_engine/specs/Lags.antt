@@ -16,7 +16,7 @@ pub record DeviceLags : Type 0 where
 abbrev pub lagging_of : DeviceLags → ℕ
 lagging_of l = l.vector + l.sound1 + l.sound2 + l.cells + l.divider
 
--- each device stands at the present
+-- no device lags
 abbrev pub none_lags : DeviceLags
 none_lags = record { vector = 0; sound1 = 0; sound2 = 0; cells = 0; divider = 0 }
 
@@ -38,7 +38,7 @@ lagging_among devices l =
 abbrev pub lag_left : Bool → ℕ → ℕ
 lag_left reached lag = if reached then 0 else lag
 
--- these devices at the present, and the others as they were
+-- these devices synced, and the others as they were
 abbrev pub with_brought : DeviceSet → DeviceLags → DeviceLags
 with_brought devices l = record {
   vector = lag_left devices.vector l.vector;
@@ -48,6 +48,6 @@ with_brought devices l = record {
   divider = lag_left devices.divider l.divider;
 }
 
--- how many of the devices lag that give the byte of a read
+-- how many of the devices lag whose state a read returns
 abbrev pub lagging_at : Reads → DeviceLags → ℕ
 lagging_at reads l = lagging_among (devices_read reads) l

@@ -1,4 +1,5 @@
--- What a turn did, as a tracer gets it: of its accesses those alone that reach a device. This project's own.
+-- What a turn did, as a tracer gets it: of its accesses those alone that reach a device. This
+-- project's own.
 use Rattle.std.specs.Prelude.{◌≡◌, ℕ, ◌-◌, ◌≤◌, List, [], ◌∷◌, ◌++◌, length, take, if◌then◌else◌}
 use Rattle.std.specs.List.{filter}
 use Rattle.board_base.specs.declared.cpu.Sequence.{Sequence}

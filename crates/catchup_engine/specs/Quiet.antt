@@ -7,7 +7,7 @@ use Rattle.earom_cells.specs.Tick.{earom_tick}
 use Rattle.irq_watchdog.specs.Tick.{divider_tick}
 use Rattle.pokey_chip.specs.Tick.{levels_made, pokey_tick}
 use Rattle.tape_ports.specs.Tape.{TapeValue}
-use Rattle.catchup_engine.specs.Bus.{BusValue, Fits, room_of}
+use Rattle.catchup_engine.specs.Bus.{BusValue, Accepts, room_of}
 use Rattle.catchup_engine.specs.Lags.{all_lag}
 use Rattle.lockstep_board.specs.Peripherals.{Peripherals}
 
@@ -29,14 +29,15 @@ later n w = record w {
 unfoldable pub passed : ℕ → BusValue → BusValue
 passed n s = record s { peripherals = later n s.peripherals; lagging = if n == 0 then s.lagging else all_lag }
 
--- a bus that has yet to be told of n clocks: with them its tape fits, nothing comes in them, and there is room for them
+-- n clocks are counted that the bus hasn't got yet: with them it accepts its tape, no event is due
+-- in them, and there is room for them
 pub record IsCounted (tape : TapeValue) (n : ℕ) (s : BusValue) : Type 0 where
-  pub accepts : Fits tape (passed n s)
-  pub between : s.begun ≡ false
-  pub quiet : s.peripherals.clock + n ≤ s.event_at
+  pub accepts : Accepts tape (passed n s)
+  pub between : s.clock_open ≡ false
+  pub no_event : s.peripherals.clock + n ≤ s.event_at
   pub last : s.peripherals.clock + n ≤ CLOCK_END
   pub until : s.peripherals.clock + n ≤ s.until
 
--- the accesses for which it has room before something comes
+-- the accesses for which it has room before the next event
 abbrev pub quiet_room : ℕ → BusValue → ℕ
 quiet_room n s = min (room_of (passed n s)) (s.event_at - (s.peripherals.clock + n))

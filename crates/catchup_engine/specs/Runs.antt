@@ -22,7 +22,8 @@ pub record IsInRange (c : CpuValue) (s : BusValue) : Type 0 where
   pub clock : s.peripherals.clock ≤ CLOCK_LIMIT + 16
   pub middle : IsSome c.mid → s.peripherals.clock ≤ CLOCK_LIMIT
 
--- from the processor c and the bus s some steps have led to e and t, none of them from a board that is as asked
+-- from the processor c and the bus s some steps have led to e and t, none of them from a board that
+-- is as asked
 pub record RunsOn (entries : List TapeEntry) (asked : Board → Bool) (c : CpuValue) (s t : BusValue) (e : CpuValue) : Type 0 where
   pub count : ℕ
   pub reached : StepsTo entries asked count (over_bus c s) (over_bus e t)
@@ -40,8 +41,8 @@ pub record IsNear (limit : ℕ) (s t : BusValue) : Type 0 where
   pub before : s.peripherals.clock < limit
   pub within : t.peripherals.clock ≤ limit + 6
 
--- From c and s whole turns led to e and t, none of them from a board at which a run to this limit is over. A run to a break that
--- had come to c goes on to e.
+-- From c and s whole turns led to e and t, none of them from a board at which a run to this limit
+-- is over. A run to a break that had come to c goes on to e.
 pub record TurnsOn (entries : List TapeEntry) (limit : ℕ) (addresses : List ℕ) (c : CpuValue) (s t : BusValue) (e : CpuValue) : Type 0 where
   pub run : RunsOn entries (is_over limit) c s t e
   pub near : (t.peripherals.clock ≡ s.peripherals.clock) ⊎ IsNear limit s t
@@ -49,14 +50,14 @@ pub record TurnsOn (entries : List TapeEntry) (limit : ℕ) (addresses : List �
   pub boundary : e.mid ≡ None
   pub range : IsInRange e t
 
--- and have come as far as they can: such a run is over, or stands at one of these addresses, or the next fetch reads no opcode,
--- or something comes in the clocks of its sequence
+-- and have come as far as they can: such a run is over, or stands at one of these addresses, or the
+-- next fetch reads no opcode, or an event is due in the clocks of its sequence
 pub record QuietRun (entries : List TapeEntry) (limit : ℕ) (addresses : List ℕ) (c : CpuValue) (s t : BusValue) (e : CpuValue) : Type 0 where
   pub on : TurnsOn entries limit addresses c s t e
   pub ends : (is_over limit (over_bus e t) || is_at_any addresses (over_bus e t)) || not (reads_opcode e t) ≡ true
 
--- neither is such a run over nor has it come to one of these addresses, and the next fetch reads an opcode in whose clocks no event
--- is due
+-- neither is such a run over nor has it come to one of these addresses, and the next fetch reads an
+-- opcode in whose clocks no event is due
 pub record GoesOn (limit : ℕ) (addresses : List ℕ) (c : CpuValue) (s : BusValue) : Type 0 where
   pub open_yet : is_over limit (over_bus c s) || is_at_any addresses (over_bus c s) ≡ false
   pub reads : reads_opcode c s ≡ true

@@ -15,7 +15,8 @@ use Rattle.lockstep_board.specs.Lockstep.{Board, access_in, sequence_due, step}
 use Rattle.lockstep_board.specs.Run.{boundary_steps, is_jammed}
 use Rattle.lockstep_board.specs.Peripherals.{Peripherals, reset_begun, ticked}
 
--- the sequence, its opcode, the number of its accesses, and seven accesses of which the first are those made
+-- the sequence, its opcode, the number of its accesses, and seven accesses of which the first are
+-- those made
 pub record TraceValue : Type 0 where
   pub sequence : Sequence
   pub opcode : ℕ
@@ -90,7 +91,8 @@ trace_of entries n b =
 abbrev pub no_trace : TraceValue
 no_trace = record { sequence = Opcode; opcode = 0; count = 0; accesses = seven_of [] }
 
--- the trace of what is left of the sequence under way, or else of the next one; a board that is jammed does nothing
+-- the trace of what is left of the sequence under way, or else of the next one; a board that is
+-- jammed does nothing
 unfoldable pub step_trace : List TapeEntry → Board → TraceValue
 step_trace entries b =
     if is_jammed b then no_trace else trace_of entries (boundary_steps entries (b.peripherals.clock + 1) b) b
@@ -117,8 +119,8 @@ abbrev pub TracedStep : List TapeEntry → cycles.Access → TracedValue → Tra
 TracedStep entries x s t =
     BusStep entries x s.bus t.bus × (t.trace ≡ pushed s.trace (access_at (t.bus.peripherals.clock - 1) x))
 
--- a whole reset over a bus whose clock has begun, with its trace: its read, then its effects in that clock, and then the rest
--- of its accesses
+-- a whole reset over a bus whose clock is open, with its trace: its read, then its effects in that
+-- clock, and then the rest of its accesses
 pub record TracedReset (entries : List TapeEntry) (c : CpuValue) (s : BusValue) (t : TracedValue) (e : CpuValue) : Type 0 where
   pub read : TracedValue
   pub inside : CpuValue

@@ -7,7 +7,7 @@ use Rattle.lockstep_board.specs.Run.{is_over}
 use Rattle.catchup_engine.specs.Trace.{TraceValue, step_trace}
 
 module _ {T : Type 0} (next : T → TraceValue → ℕ → T) where
-  -- a tracer that gets a board's next turn: its trace, and the program counter behind it
+  -- a tracer that gets a board's next turn: its trace, and the program counter after it
   abbrev pub told_once : List TapeEntry → T → Board → T
   told_once entries w b = next w (step_trace entries b) (turn entries b).cpu.pc
 
@@ -16,8 +16,9 @@ module _ {T : Type 0} (next : T → TraceValue → ℕ → T) where
   told entries zero w b = w
   told entries (suc n) w b = told entries n (told_once entries w b) (turn entries b)
 
-  -- From b some turns lead to c, and a tracer that was w and gets each of them is v then; the flag says whether it has enough.
-  -- After none of them but the last a run to this limit is over, or has it enough.
+  -- From b some turns lead to c, and a tracer that was w and gets each of them is v then; the flag
+  -- says whether it has enough. After none of them but the last a run to this limit is over, or has
+  -- it enough.
   pub record ToldTurns (enough : T → Bool) (entries : List TapeEntry) (limit : ℕ) (b c : Board) (w v : T) (flag : Bool) : Type 0 where
     pub count : ℕ
     pub board : c ≡ turned entries count b
@@ -27,8 +28,9 @@ module _ {T : Type 0} (next : T → TraceValue → ℕ → T) where
     pub first : count ≡ 0 → flag ≡ false
     pub later : 1 ≤ count → flag ≡ enough v
 
-  -- From b some turns lead to c, and a tracer that was w and gets each of them is v then. After none of them but the last a run
-  -- to this limit is over, or has it enough; after the last it is so.
+  -- From b some turns lead to c, and a tracer that was w and gets each of them is v then. After
+  -- none of them but the last a run to this limit is over, or has it enough; after the last it is
+  -- so.
   pub record TracedRun (enough : T → Bool) (entries : List TapeEntry) (limit : ℕ) (b c : Board) (w v : T) : Type 0 where
     pub count : ℕ
     pub board : c ≡ turned entries count b

@@ -1,4 +1,5 @@
--- A turn of the lockstep board: some steps, the first from anywhere and the others from inside a sequence.
+-- A turn of the lockstep board: some steps, the first from anywhere and the others from inside a
+-- sequence.
 use Rattle.std.specs.Prelude.{◌≡◌, ℕ, ◌+◌, ◌-◌, ◌<◌, ◌≤◌, List, [], ◌∷◌, length, Bool, true, false, ◌&&◌, nat_le, None, IsSome, is_none, suc}
 use Rattle.board_base.specs.declared.cpu.Sequence.{Sequence}
 use Rattle.board_base.specs.declared.cpu.Sequence.TheVariants.{Opcode, Interrupt, Reset}
@@ -13,8 +14,9 @@ use Rattle.lockstep_board.specs.Budget.{budget}
 use Rattle.lockstep_board.specs.Steps.{Through}
 use Rattle.catchup_engine.specs.Bus.{BusStep, BusValue, at_clock}
 
--- One step, and then as many through the inside of the sequence; with the bytes that came before they are no more than a whole sequence has.
--- Each makes one record on the board's trail at most, and the device calls are within their budget.
+-- One step, and then as many through the inside of the sequence; with the bytes that came before
+-- they are no more than a whole sequence has. Each makes one record on the board's trail at most,
+-- and the device calls are within their budget.
 pub record Turned (entries : List TapeEntry) (before : ℕ) (b last : Board) (calls calls_then : ℕ) : Type 0 where
   pub count : ℕ
   pub through : Through entries count (step entries b) last
@@ -28,9 +30,10 @@ pub record Goes (s t : BusValue) : Type 0 where
   pub more : s.calls ≤ t.calls
   pub rooms : t.rooms ≡ s.rooms
   pub until : s.until ≤ t.until
-  pub between : t.begun ≡ false
+  pub between : t.clock_open ≡ false
 
--- a turn of the processor c over the bus s, in so many clocks at most; it stops inside a sequence only where these are done
+-- a turn of the processor c over the bus s, in so many clocks at most; it stops inside a sequence
+-- only where these are done
 pub record TurnedBus (entries : List TapeEntry) (clocks : ℕ) (c : CpuValue) (s t : BusValue) (e : CpuValue) : Type 0 where
   pub before : ℕ
   pub turned : Turned entries before (record { cpu = c; peripherals = s.peripherals }) (record { cpu = e; peripherals = t.peripherals }) s.calls t.calls
@@ -40,11 +43,11 @@ pub record TurnedBus (entries : List TapeEntry) (clocks : ℕ) (c : CpuValue) (s
   pub stops : IsSome e.mid → t.peripherals.clock ≡ s.peripherals.clock + clocks
   pub short : IsSome e.mid → before + t.peripherals.clock ≤ s.peripherals.clock + 6
 
--- the next fetch reads an opcode: nothing comes in its clock of itself, and after its ticks neither a reset nor an interrupt
--- is due
+-- the next fetch reads an opcode: no event is due in its clock, and after its ticks neither a reset
+-- nor an interrupt is
 pub record ReadsOpcode (c : CpuValue) (s : BusValue) : Type 0 where
   pub boundary : c.mid ≡ None
-  pub quiet : s.peripherals.clock < s.event_at
+  pub no_event : s.peripherals.clock < s.event_at
   pub due : sequence_due c (devices_ticked s.peripherals) ≡ Opcode
 
 -- a fetch begins an instruction
@@ -53,14 +56,14 @@ is_opcode Opcode = true
 is_opcode Interrupt = false
 is_opcode Reset = false
 
--- the next fetch of a processor that isn't inside a sequence reads an opcode, and no event is due in the clocks of a
--- whole sequence
+-- the next fetch of a processor that isn't inside a sequence reads an opcode, and no event is due
+-- in the clocks of a whole sequence
 unfoldable pub reads_opcode : CpuValue → BusValue → Bool
 reads_opcode c s =
     is_none c.mid && (nat_le (s.peripherals.clock + MAX_SEQUENCE_CLOCKS) s.event_at && is_opcode (sequence_due c (devices_ticked s.peripherals)))
 
--- A reset over a bus whose clock has begun: its read, then its effects in that clock, and then the rest of its accesses, in
--- so many clocks at most.
+-- A reset over a bus whose clock is open: its read, then its effects in that clock, and then the
+-- rest of its accesses, in so many clocks at most.
 pub record Resets (entries : List TapeEntry) (c : CpuValue) (clocks : ℕ) (s t : BusValue) (e : CpuValue) : Type 0 where
   pub value : ℕ
   pub read : BusValue

@@ -29,7 +29,7 @@ impl Breaks for Nowhere {
     }
 }
 
-/// These addresses, with a mark for the lowest byte of each, since most boundaries stand at no mark.
+/// These addresses, with a mark for the lowest byte of each, since most boundaries are at no mark.
 #[derive(Drop)]
 pub(crate) struct BreakList<'a> {
     addresses: &'a [u16],

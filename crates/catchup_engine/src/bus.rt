@@ -36,15 +36,15 @@ pub(crate) fn is_private(addr: u16) -> bool
     addr < RAM_LEN as u16 || addr >= PROGRAM_START
 }
 
-/// The clocks that end each sequence: none has more.
+/// The most clocks of a sequence.
 pub(crate) const MAX_SEQUENCE_CLOCKS: u8 = 7;
 
 /// All of the board but its processor: the devices, each moved up to a clock of its own, and what
 /// they share.
 ///
-/// A device is synced where it is reached, and the divider where its line is read and
-/// at its wraps: its latch, its watchdog and its reset are the same before its ticks and after them.
-/// So in most clocks nothing moves but the number of clocks.
+/// A device is synced where it is reached, and the divider where its line is read and at its wraps:
+/// its latch, its watchdog and its reset are the same before its ticks and after them. So in most
+/// clocks nothing moves but the number of clocks.
 #[derive(Drop)]
 pub(crate) struct BoardBus<V: VectorUnit, P: SoundUnit, C: CellUnit, D: DividerUnit> {
     vector: VectorCatchUp<V>,
@@ -60,9 +60,9 @@ pub(crate) struct BoardBus<V: VectorUnit, P: SoundUnit, C: CellUnit, D: DividerU
     in3: u8,
     in4: u8,
     clock: u64,
-    begun: bool,
+    clock_open: bool,
     wrap_at: u64,
-    next: usize,
+    tape_pos: usize,
     event_at: u64,
     written: Trail,
 }
@@ -105,8 +105,8 @@ impl<V: VectorUnit, P: SoundUnit, C: CellUnit, D: DividerUnit> Model for BoardBu
         levels2 = a.sound2.trail.records ++ levels_made a.sound2.done (a.clock - a.sound2.done) (P.device a.sound2.unit);
         written = a.written.records;
       };
-      begun = a.begun;
-      next = a.next;
+      clock_open = a.clock_open;
+      tape_pos = a.tape_pos;
       event_at = a.event_at;
       lagging = record { vector = lags a.vector.done a.clock; sound1 = lags a.sound1.done a.clock; sound2 = lags a.sound2.done a.clock; cells = lags a.cells.done a.clock; divider = lags a.divider.done a.clock };
       until = min (a.vector.done + a.vector.trail.spare) (min (a.sound1.done + a.sound1.trail.spare) (a.sound2.done + a.sound2.trail.spare));
@@ -117,7 +117,7 @@ impl<V: VectorUnit, P: SoundUnit, C: CellUnit, D: DividerUnit> Model for BoardBu
     ghost invariant = { λ a. (a.clock ≤ CLOCK_END) × (a.in0 < 64)
         × (a.vector.done ≤ a.clock) × (a.sound1.done ≤ a.clock) × (a.sound2.done ≤ a.clock) × (a.cells.done ≤ a.clock) × (a.divider.done ≤ a.clock)
         × ((D.device a.divider.unit).phase + (a.wrap_at - a.divider.done) ≡ DIVIDER_PERIOD) × (a.clock < a.wrap_at) × (a.event_at < a.wrap_at)
-        × (a.begun ≡ true → (1 ≤ a.clock) × (a.event_at ≡ 0))
+        × (a.clock_open ≡ true → (1 ≤ a.clock) × (a.event_at ≡ 0))
         × (a.sound1.wired ≡ true → AsksAt a.sound1.done a.sound1.request_at (P.device a.sound1.unit))
         × (a.sound2.wired ≡ true → AsksAt a.sound2.done a.sound2.request_at (P.device a.sound2.unit)) × (a.sound2.wired ≡ a.sound1.wired)
         × (length a.ram.items ≡ RAM_LEN) × (length a.program.items ≡ PROGRAM_ROM_LEN)
@@ -130,13 +130,13 @@ impl<V: VectorUnit, P: SoundUnit, C: CellUnit, D: DividerUnit> Model for BoardBu
 
 impl<V: VectorUnit, P: SoundUnit, C: CellUnit, D: DividerUnit> Bus for BoardBus<V, P, C, D> {
     ghost use Rattle.std.specs.Prelude.{◌≡◌};
-    ghost use Rattle.catchup_engine.specs.Bus.{BusStep, Fits, room_of};
+    ghost use Rattle.catchup_engine.specs.Bus.{BusStep, Accepts, room_of};
 
     type Feed = Tape;
 
     ghost step = { λ tape x s t. BusStep tape.entries x s t };
 
-    ghost accepts = { λ tape s. Fits tape s };
+    ghost accepts = { λ tape s. Accepts tape s };
 
     ghost room = { room_of };
 

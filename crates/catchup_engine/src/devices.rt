@@ -16,8 +16,8 @@ pub struct Devices<V: VectorUnit, P: SoundUnit, C: CellUnit, D: DividerUnit> {
 }
 
 impl Devices<FastVg, FastPokey, Earom, Divider> {
-    /// Those that move in large steps where there are two kinds, none of them called yet. They take no
-    /// memory.
+    /// Those that move in large steps where there are two kinds, none of them called yet. They
+    /// allocate nothing.
     pub fn fast() -> Devices<FastVg, FastPokey, Earom, Divider>
         ensures { result.vector.calls + result.sound1.calls + result.sound2.calls + result.cells.calls + result.divider.calls ≡ 0 }
     {

@@ -1,4 +1,4 @@
-ghost use Rattle.std.specs.Prelude.{◌≡◌, ◌+◌, ◌-◌, ◌≤◌, ◌<◌, ◌==◌, ◌||◌, true, false, None, IfSome, IfOk, min};
+ghost use Rattle.std.specs.Prelude.{◌≡◌, ◌+◌, ◌-◌, ◌≤◌, ◌<◌, ◌==◌, ◌||◌, true, false, None, IfSome, IfOk, All, min};
 ghost use Rattle.cpu_core.specs.Places.{IsMiddle};
 ghost use Rattle.cpu_table.specs.Opcodes.{row_of};
 ghost use Rattle.lockstep_board.specs.Breaks.{is_at_any, BreakRun};
@@ -30,8 +30,8 @@ use tape_ports::Tape;
 
 /// The engine: a processor and five devices that lag behind it, which represent one lockstep board.
 ///
-/// A device is synced where something can see it. What the engine represents is the
-/// board advanced one clock at a time.
+/// A device is synced where something can see it. What the engine represents is the board advanced
+/// one clock at a time.
 #[derive(Drop)]
 pub struct Engine<V: VectorUnit, P: SoundUnit, C: CellUnit, D: DividerUnit> {
     cpu: Cpu,
@@ -55,13 +55,13 @@ impl<V: VectorUnit, P: SoundUnit, C: CellUnit, D: DividerUnit> Model for Engine<
       done = e.done;
     } };
 
-    ghost invariant = { λ e. (e.bus.begun ≡ false) × IsInRange e.cpu e.bus };
+    ghost invariant = { λ e. (e.bus.clock_open ≡ false) × IsInRange e.cpu e.bus };
 }
 
 impl<V: VectorUnit, P: SoundUnit, C: CellUnit, D: DividerUnit> Engine<V, P, C, D> {
-    /// An engine over an image, at a board, with no records; each trail has room for 6,160. It takes
-    /// all its memory here: the trails, the RAM and a copy of the image. `wired` says whether the
-    /// timer requests of the POKEYs reach the interrupt line. Five device calls.
+    /// An engine over an image, at a board, with no records; each trail has room for 6,160. It
+    /// allocates all its memory: the trails, the RAM and a copy of the image. `wired` says whether
+    /// the timer requests of the POKEYs reach the interrupt line. Five device calls.
     pub fn new(
         alloc: Global,
         image: &Image,
@@ -202,8 +202,8 @@ impl<V: VectorUnit, P: SoundUnit, C: CellUnit, D: DividerUnit> Engine<V, P, C, D
         self.count_clocks(before);
     }
 
-    /// Does what is left of the sequence under way, or else one instruction or sequence. A board that
-    /// is jammed takes no clock.
+    /// Does what is left of the sequence under way, or else one instruction or sequence. A board
+    /// that is jammed takes no clock.
     pub fn step(&mut self, tape: &Tape) -> Stop
         requires clock { self.old.board.peripherals.clock < CLOCK_LIMIT }
         requires settled { self.old.lagging ≡ 0 }
@@ -222,8 +222,8 @@ impl<V: VectorUnit, P: SoundUnit, C: CellUnit, D: DividerUnit> Engine<V, P, C, D
         self.cause(limit)
     }
 
-    /// Does what `step` does, and returns its accesses, dropped reads included. A board that is jammed
-    /// makes none.
+    /// Does what `step` does, and returns its accesses, dropped reads included. A board that is
+    /// jammed makes none.
     pub fn trace_step(&mut self, tape: &Tape, trace: &mut Trace) -> Stop
         requires clock { self.old.board.cpu.mid ≡ None → self.old.board.peripherals.clock < CLOCK_LIMIT }
         requires settled { self.old.lagging ≡ 0 }
@@ -249,8 +249,8 @@ impl<V: VectorUnit, P: SoundUnit, C: CellUnit, D: DividerUnit> Engine<V, P, C, D
     }
 
     /// Runs turn by turn to the limit, to the first boundary after the divider's next wrap, or to
-    /// where a tracer has enough, whichever comes first, and passes each turn to the tracer. A board
-    /// that is jammed makes none.
+    /// where a tracer has enough, whichever comes first, and passes each turn to the tracer. A
+    /// board that is jammed makes none.
     #[tactic(auto, using(crate::proofs::Windows::windows))]
     pub fn run_traced<T: Tracer>(&mut self, tape: &Tape, limit: u64, tracer: &mut T) -> Stop
         requires limit { limit ≤ CLOCK_LIMIT }
@@ -302,8 +302,8 @@ impl<V: VectorUnit, P: SoundUnit, C: CellUnit, D: DividerUnit> Engine<V, P, C, D
         self.cause(cut)
     }
 
-    /// Brings each device to the present. One that stands there already isn't called, so that there
-    /// are as many device calls as devices that lag, or fewer.
+    /// Moves each device to the present clock. One that doesn't lag isn't called, so that there are
+    /// as many device calls as devices that lag, or fewer.
     pub fn settle(&mut self)
         ensures value { self.new ≡ record self.old { lagging = 0; calls = self.new.calls } }
         ensures calls { self.new.calls ≤ self.old.calls + self.old.lagging }
@@ -313,7 +313,7 @@ impl<V: VectorUnit, P: SoundUnit, C: CellUnit, D: DividerUnit> Engine<V, P, C, D
         self.bus.settle();
     }
 
-    /// Whether each device stands at the present.
+    /// Whether no device lags.
     pub fn is_settled(&self) -> bool
         ensures { result ≡ (self.now.lagging == 0) }
     {
@@ -352,6 +352,25 @@ impl<V: VectorUnit, P: SoundUnit, C: CellUnit, D: DividerUnit> Engine<V, P, C, D
         self.bus.is_halted()
     }
 
+    /// The cells of the EAROM.
+    pub fn earom_cells(&self) -> [u8; 64]
+        requires settled { self.now.lagging ≡ 0 }
+        ensures { result ≡ self.now.board.peripherals.earom.cells }
+    {
+        self.bus.earom_cells()
+    }
+
+    /// The levels of the four channels of POKEY 1, and those of POKEY 2, each 0 to 15.
+    pub fn sound_levels(&self) -> ([u8; 4], [u8; 4])
+        requires settled { self.now.lagging ≡ 0 }
+        ensures sound1 { result.0 ≡ self.now.board.peripherals.sound1.last }
+        ensures sound2 { result.1 ≡ self.now.board.peripherals.sound2.last }
+        ensures range1 { All (λ level. level < 16) result.0 }
+        ensures range2 { All (λ level. level < 16) result.1 }
+    {
+        self.bus.sound_levels()
+    }
+
     /// The byte at an address of the RAM, the vector RAM or a ROM; none elsewhere.
     pub fn byte_at(&self, addr: u16) -> Option<u8>
         ensures { result ≡ memory_byte addr self.now.board.peripherals }
@@ -360,7 +379,7 @@ impl<V: VectorUnit, P: SoundUnit, C: CellUnit, D: DividerUnit> Engine<V, P, C, D
     }
 
     /// The records of each part since the last clearing, in order; those of a device that lags end
-    /// where it stands.
+    /// at its own clock.
     pub fn trails(&self) -> Trails<'_>
         ensures vector { self.now.lagging ≡ 0 → result.vector.now.records ≡ self.now.board.peripherals.strokes }
         ensures sound1 { self.now.lagging ≡ 0 → result.sound1.now.records ≡ self.now.board.peripherals.levels1 }
@@ -371,7 +390,7 @@ impl<V: VectorUnit, P: SoundUnit, C: CellUnit, D: DividerUnit> Engine<V, P, C, D
         self.bus.trails()
     }
 
-    /// Forgets the records, and leaves the board; the trails have their first room again.
+    /// Removes the records, and leaves the board; the trails have their first room again.
     pub fn clear_trails(&mut self)
         requires settled { self.old.lagging ≡ 0 }
         ensures { self.new ≡ record self.old { board = cleared self.old.board } }
@@ -393,10 +412,11 @@ impl<V: VectorUnit, P: SoundUnit, C: CellUnit, D: DividerUnit> Engine<V, P, C, D
         self.done
     }
 
-    /// Tells that the board stands where a run can bring it. It does nothing.
+    /// States the range of what a run can come to.
     pub fn lemma_range(&self)
         requires settled { self.now.lagging ≡ 0 }
         ensures placed { IsPlaced self.now.board }
+        ensures clock { self.now.board.peripherals.clock ≤ CLOCK_LIMIT + 16 }
         ensures phase { self.now.board.peripherals.divider.phase < DIVIDER_PERIOD }
     {
         if let Some(mid) = self.cpu.state().mid {

@@ -1,4 +1,4 @@
-//! Boundaries at which nothing but the clock has to be looked at.
+//! Boundaries at which only the clock has to be looked at.
 ghost use Rattle.std.specs.Prelude.{◌≡◌, ◌-◌, ◌<◌, min};
 ghost use Rattle.board_base.specs.declared.divider.Pending.TheVariants.{Nothing};
 ghost use Rattle.catchup_engine.specs.Horizon.{IsHorizon};
@@ -14,26 +14,26 @@ use pokey_chip::SoundUnit;
 /// clocks of a sequence that begins there, and no reset is pending.
 #[derive(Clone, Copy)]
 pub(crate) struct Horizon {
-    /// The clock before which a boundary is one of them.
+    /// A boundary before this clock is one of them.
     pub until: u64,
-    /// Whether the interrupt line is deasserted in them all.
-    pub silent: bool,
+    /// Whether the interrupt line is deasserted at them all.
+    pub irq_idle: bool,
 }
 
-/// The boundaries from one on whose fetch reads an opcode. It is asked for once between two events.
+/// The boundaries from one on whose fetch reads an opcode. It is called once between two events.
 #[inline(never)]
 #[tactic(auto, using(crate::proofs::HorizonLaws::horizon))]
 pub(crate) fn horizon_from<V: VectorUnit, P: SoundUnit, C: CellUnit, D: DividerUnit>(
     bus: &BoardBus<V, P, C, D>,
     limit: u64,
 ) -> Horizon
-    requires quiet { bus.now.peripherals.clock < bus.now.event_at }
+    requires no_event { bus.now.peripherals.clock < bus.now.event_at }
     requires pending { (devices_ticked bus.now.peripherals).divider.pending ≡ Nothing }
     ensures horizon { IsHorizon limit result bus.now }
     ensures until { result.until ≡ min limit (bus.now.event_at - 6) }
 {
     Horizon {
         until: limit.min(bus.quiet_until()),
-        silent: bus.irq_idle(),
+        irq_idle: bus.irq_idle(),
     }
 }

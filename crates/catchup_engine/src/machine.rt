@@ -1,5 +1,5 @@
-//! A machine: what the crates above an engine ask of it, in words of the engine's value.
-ghost use Rattle.std.specs.Prelude.{◌≡◌, ◌+◌, ◌-◌, ◌≤◌, ◌<◌, ◌||◌, true, None, IfSome};
+//! A machine: what the crates above an engine call, in terms of the engine's value.
+ghost use Rattle.std.specs.Prelude.{◌≡◌, ◌+◌, ◌-◌, ◌≤◌, ◌<◌, ◌||◌, true, None, IfSome, All};
 ghost use Rattle.board_base.specs.declared.divider.TheConstants.{DIVIDER_PERIOD};
 ghost use Rattle.cpu_core.specs.Places.{IsMiddle};
 ghost use Rattle.cpu_table.specs.Opcodes.{row_of};
@@ -72,8 +72,8 @@ pub trait Machine {
         ensures done { (value self.new).done ≡ counted_on (value self.old).done ((value self.new).board.peripherals.clock - (value self.old).board.peripherals.clock) }
         ensures rooms { (value self.new).rooms ≡ (value self.old).rooms };
 
-    /// Does what is left of the sequence under way, or else one instruction or sequence. A board that
-    /// is jammed takes no clock.
+    /// Does what is left of the sequence under way, or else one instruction or sequence. A board
+    /// that is jammed takes no clock.
     fn step(&mut self, tape: &Tape) -> Stop
         requires clock { (value self.old).board.peripherals.clock < CLOCK_LIMIT }
         requires settled { (value self.old).lagging ≡ 0 }
@@ -88,8 +88,8 @@ pub trait Machine {
         ensures rooms { (value self.new).rooms ≡ (value self.old).rooms };
 
     /// Runs turn by turn to the limit, to the first boundary after the divider's next wrap, or to
-    /// where a tracer has enough, whichever comes first, and passes each turn to the tracer. A board
-    /// that is jammed makes none.
+    /// where a tracer has enough, whichever comes first, and passes each turn to the tracer. A
+    /// board that is jammed makes none.
     fn run_traced<T: Tracer>(&mut self, tape: &Tape, limit: u64, tracer: &mut T) -> Stop
         requires limit { limit ≤ CLOCK_LIMIT }
         requires settled { (value self.old).lagging ≡ 0 }
@@ -119,8 +119,8 @@ pub trait Machine {
         ensures done { (value self.new).done ≡ counted_on (value self.old).done ((value self.new).board.peripherals.clock - (value self.old).board.peripherals.clock) }
         ensures rooms { (value self.new).rooms ≡ (value self.old).rooms };
 
-    /// Brings each device to the present. One that stands there already isn't called, so that there
-    /// are as many device calls as devices that lag, or fewer.
+    /// Moves each device to the present clock. One that doesn't lag isn't called, so that there are
+    /// as many device calls as devices that lag, or fewer.
     fn settle(&mut self)
         ensures value { value self.new ≡ record (value self.old) { lagging = 0; calls = (value self.new).calls } }
         ensures calls { (value self.new).calls ≤ (value self.old).calls + (value self.old).lagging }
@@ -147,12 +147,25 @@ pub trait Machine {
         requires settled { (value self.now).lagging ≡ 0 }
         ensures { result ≡ (value self.now).board.peripherals.vg.halted };
 
+    /// The cells of the EAROM.
+    fn earom_cells(&self) -> [u8; 64]
+        requires settled { (value self.now).lagging ≡ 0 }
+        ensures { result ≡ (value self.now).board.peripherals.earom.cells };
+
+    /// The levels of the four channels of POKEY 1, and those of POKEY 2, each 0 to 15.
+    fn sound_levels(&self) -> ([u8; 4], [u8; 4])
+        requires settled { (value self.now).lagging ≡ 0 }
+        ensures sound1 { result.0 ≡ (value self.now).board.peripherals.sound1.last }
+        ensures sound2 { result.1 ≡ (value self.now).board.peripherals.sound2.last }
+        ensures range1 { All (λ level. level < 16) result.0 }
+        ensures range2 { All (λ level. level < 16) result.1 };
+
     /// The byte at an address of the RAM, the vector RAM or a ROM; none elsewhere.
     fn byte_at(&self, addr: u16) -> Option<u8>
         ensures { result ≡ memory_byte addr (value self.now).board.peripherals };
 
     /// The records of each part since the last clearing, in order; those of a device that lags end
-    /// where it stands.
+    /// at its own clock.
     fn trails(&self) -> Trails<'_>
         ensures vector { (value self.now).lagging ≡ 0 → result.vector.now.records ≡ (value self.now).board.peripherals.strokes }
         ensures sound1 { (value self.now).lagging ≡ 0 → result.sound1.now.records ≡ (value self.now).board.peripherals.levels1 }
@@ -160,7 +173,7 @@ pub trait Machine {
         ensures board { result.board.now.records ≡ (value self.now).board.peripherals.written }
         ensures rooms { (value self.now).rooms ≡ record { vector = result.vector.now.room; sound1 = result.sound1.now.room; sound2 = result.sound2.now.room; board = result.board.now.room } };
 
-    /// Forgets the records, and leaves the board; the trails have their first room again.
+    /// Removes the records, and leaves the board; the trails have their first room again.
     fn clear_trails(&mut self)
         requires settled { (value self.old).lagging ≡ 0 }
         ensures { value self.new ≡ record (value self.old) { board = cleared (value self.old).board } };
@@ -169,10 +182,11 @@ pub trait Machine {
     fn calls(&self) -> u64
         ensures { result ≡ (value self.now).calls };
 
-    /// Tells that its board stands where a run can bring it. It does nothing.
+    /// States the range of what a run can come to.
     fn lemma_range(&self)
         requires settled { (value self.now).lagging ≡ 0 }
         ensures placed { IsPlaced (value self.now).board }
+        ensures clock { (value self.now).board.peripherals.clock ≤ CLOCK_LIMIT + 16 }
         ensures phase { (value self.now).board.peripherals.divider.phase < DIVIDER_PERIOD };
 }
 
@@ -232,6 +246,16 @@ impl<V: VectorUnit, P: SoundUnit, C: CellUnit, D: DividerUnit> Machine for Engin
     #[inline(always)]
     fn is_halted(&self) -> bool {
         self.is_halted()
+    }
+
+    #[inline(always)]
+    fn earom_cells(&self) -> [u8; 64] {
+        self.earom_cells()
+    }
+
+    #[inline(always)]
+    fn sound_levels(&self) -> ([u8; 4], [u8; 4]) {
+        self.sound_levels()
     }
 
     #[inline(always)]

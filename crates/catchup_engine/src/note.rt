@@ -69,7 +69,7 @@ impl Reached {
         reached
     }
 
-    /// Forgets them.
+    /// Removes them.
     #[inline(always)]
     pub(crate) fn clear(&mut self)
         ensures { self.new ≡ [] }
@@ -99,8 +99,8 @@ impl Reached {
     }
 }
 
-/// What a turn did, for one who counts: its sequence, its opcode, its clocks, and those of its
-/// accesses that reach a device, in their order.
+/// What a turn did: its sequence, its opcode, its clocks, and those of its accesses that reach a
+/// device, in their order.
 ///
 /// `opcode` is 0 for an interrupt and for a reset. There are at most 7 clocks.
 #[derive(Drop)]

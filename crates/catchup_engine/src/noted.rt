@@ -4,7 +4,7 @@ ghost use Rattle.board_base.specs.declared.divider.TheConstants.{DIVIDER_PERIOD}
 ghost use Rattle.cpu_alu.specs.Flags.{is_masked};
 ghost use Rattle.cpu_core.specs.BusCycles.{read_of, write_of};
 ghost use Rattle.lockstep_board.specs.Peripherals.{Peripherals, byte_read};
-ghost use Rattle.catchup_engine.specs.Bus.{Fits, is_private};
+ghost use Rattle.catchup_engine.specs.Bus.{Accepts, is_private};
 ghost use Rattle.catchup_engine.specs.Horizon.{KeepsLines};
 ghost use Rattle.catchup_engine.specs.Notes.{NotedStep, noting};
 ghost use Rattle.catchup_engine.specs.Quiet.{passed, IsCounted, quiet_room};
@@ -27,34 +27,34 @@ use lockstep_board::{devices_read, devices_written};
 use pokey_chip::SoundUnit;
 use tape_ports::Tape;
 
-/// The quiet bus, which notes the accesses that reach a device.
+/// A `QuietBus` that notes the accesses that reach a device.
 struct NotedBus<'a, V: VectorUnit, P: SoundUnit, C: CellUnit, D: DividerUnit, T: Tracer> {
     quiet: QuietBus<'a, V, P, C, D, T>,
     reached: &'a mut Reached,
 }
 
-/// Moves the board on by the clocks counted and one more, reads a byte in that one, and notes the access
-/// where it reaches a device.
+/// Moves the board on by the clocks counted and one more, reads a byte in that one, and notes the
+/// access where it reaches a device.
 ///
-/// LLVM never puts it into the processor: with it the processor would be too long to stand in the loop.
+/// LLVM never puts it into the processor: with it the processor would be too long for the loop.
 #[inline(never)]
 #[tactic(auto, unfolding(lockstep_board::specs::Budget::reaches_device))]
 fn read_noted<V: VectorUnit, P: SoundUnit, C: CellUnit, D: DividerUnit>(
     bus: &mut BoardBus<V, P, C, D>,
-    made: u64,
+    elapsed: u64,
     reached: &mut Reached,
     _tape: &Tape,
     addr: u16,
 ) -> u8
-    requires accepts { IsCounted _tape.now made bus.old }
-    requires room { 1 ≤ quiet_room made bus.old }
+    requires accepts { IsCounted _tape.now elapsed bus.old }
+    requires room { 1 ≤ quiet_room elapsed bus.old }
     requires few { length reached.old < 7 }
     ensures lines { KeepsLines bus.old bus.new }
-    ensures noted { NotedStep _tape.now.entries (read_of addr result) (noting (passed made bus.old) reached.old) (noting (passed 0 bus.new) reached.new) }
+    ensures noted { NotedStep _tape.now.entries (read_of addr result) (noting (passed elapsed bus.old) reached.old) (noting (passed 0 bus.new) reached.new) }
     ensures accepts { IsCounted _tape.now 0 bus.new }
-    ensures room { quiet_room made bus.old ≤ quiet_room 0 bus.new + 1 }
+    ensures room { quiet_room elapsed bus.old ≤ quiet_room 0 bus.new + 1 }
 {
-    bus.pass(made + 1);
+    bus.pass(elapsed + 1);
     let row = row(addr);
     let value = bus.byte_by(addr, row);
     let access = Access {
@@ -75,21 +75,21 @@ fn read_noted<V: VectorUnit, P: SoundUnit, C: CellUnit, D: DividerUnit>(
 #[tactic(auto, unfolding(lockstep_board::specs::Budget::reaches_device))]
 fn write_noted<V: VectorUnit, P: SoundUnit, C: CellUnit, D: DividerUnit>(
     bus: &mut BoardBus<V, P, C, D>,
-    made: u64,
+    elapsed: u64,
     reached: &mut Reached,
     _tape: &Tape,
     addr: u16,
     value: u8,
 )
-    requires accepts { IsCounted _tape.now made bus.old }
-    requires room { 1 ≤ quiet_room made bus.old }
+    requires accepts { IsCounted _tape.now elapsed bus.old }
+    requires room { 1 ≤ quiet_room elapsed bus.old }
     requires few { length reached.old < 7 }
     ensures lines { KeepsLines bus.old bus.new }
-    ensures noted { NotedStep _tape.now.entries (write_of addr value) (noting (passed made bus.old) reached.old) (noting (passed 0 bus.new) reached.new) }
+    ensures noted { NotedStep _tape.now.entries (write_of addr value) (noting (passed elapsed bus.old) reached.old) (noting (passed 0 bus.new) reached.new) }
     ensures accepts { IsCounted _tape.now 0 bus.new }
-    ensures room { quiet_room made bus.old ≤ quiet_room 0 bus.new + 1 }
+    ensures room { quiet_room elapsed bus.old ≤ quiet_room 0 bus.new + 1 }
 {
-    bus.pass(made + 1);
+    bus.pass(elapsed + 1);
     let row = row(addr);
     bus.put_by(addr, row, value);
     let access = Access {
@@ -119,8 +119,8 @@ impl<'a, V: VectorUnit, P: SoundUnit, C: CellUnit, D: DividerUnit, T: Tracer> No
         self.reached.clear();
     }
 
-    /// The byte at an address of the RAM or of the program ROM. A read gives it as long as these two
-    /// stay, whatever the devices do.
+    /// The byte at an address of the RAM or of the program ROM. A read returns it as long as these
+    /// two don't change, whatever the devices do.
     #[inline(always)]
     fn byte_at(&self, addr: u16) -> u8
         requires { is_private addr ≡ true }
@@ -129,15 +129,15 @@ impl<'a, V: VectorUnit, P: SoundUnit, C: CellUnit, D: DividerUnit, T: Tracer> No
         self.quiet.bus.private_byte(addr)
     }
 
-    /// Whether a tracer has not enough, and the fetch at this boundary surely reads an opcode, from the
-    /// RAM or the program ROM.
+    /// Whether a tracer has not enough, and the fetch at this boundary surely reads an opcode, from
+    /// the RAM or the program ROM.
     #[inline(always)]
     fn goes_on(&self, enough: bool, horizon: &Horizon, cpu: &Cpu) -> bool
-        requires quiet { self.now.quiet.bus.now.peripherals.clock + self.now.quiet.made ≤ self.now.quiet.bus.now.event_at }
-        ensures value { result ≡ (not enough && ((nat_lt (self.now.quiet.bus.now.peripherals.clock + self.now.quiet.made) horizon.now.until && (is_none cpu.now.jam && (horizon.now.silent || is_masked cpu.now.p))) && is_private cpu.now.pc)) }
+        requires no_event { self.now.quiet.bus.now.peripherals.clock + self.now.quiet.elapsed ≤ self.now.quiet.bus.now.event_at }
+        ensures value { result ≡ (not enough && ((nat_lt (self.now.quiet.bus.now.peripherals.clock + self.now.quiet.elapsed) horizon.now.until && (is_none cpu.now.jam && (horizon.now.irq_idle || is_masked cpu.now.p))) && is_private cpu.now.pc)) }
         ensures wrap { result ≡ true → self.now.quiet.bus.now.peripherals.divider.phase + (self.now.quiet.bus.now.event_at - self.now.quiet.bus.now.peripherals.clock) < DIVIDER_PERIOD }
     {
-        !enough && self.quiet.lasts(horizon, cpu) && is_private(cpu.state().pc)
+        !enough && self.quiet.is_before(horizon, cpu) && is_private(cpu.state().pc)
     }
 }
 
@@ -150,69 +150,69 @@ impl<'a, V: VectorUnit, P: SoundUnit, C: CellUnit, D: DividerUnit, T: Tracer> Bu
 
     type Feed = Tape;
 
-    ghost step = { λ tape x s t. (t.quiet.bus.ghost_name ≡ s.quiet.bus.ghost_name) × (t.reached.ghost_name ≡ s.reached.ghost_name) × KeepsLines s.quiet.bus.now t.quiet.bus.now × NotedStep tape.entries x (noting (passed s.quiet.made s.quiet.bus.now) s.reached.now) (noting (passed t.quiet.made t.quiet.bus.now) t.reached.now) };
+    ghost step = { λ tape x s t. (t.quiet.bus.ghost_name ≡ s.quiet.bus.ghost_name) × (t.reached.ghost_name ≡ s.reached.ghost_name) × KeepsLines s.quiet.bus.now t.quiet.bus.now × NotedStep tape.entries x (noting (passed s.quiet.elapsed s.quiet.bus.now) s.reached.now) (noting (passed t.quiet.elapsed t.quiet.bus.now) t.reached.now) };
 
-    ghost accepts = { λ tape s. IsCounted tape s.quiet.made s.quiet.bus.now × (length s.reached.now ≤ 7) };
+    ghost accepts = { λ tape s. IsCounted tape s.quiet.elapsed s.quiet.bus.now × (length s.reached.now ≤ 7) };
 
-    ghost room = { λ s. min (quiet_room s.quiet.made s.quiet.bus.now) (7 - length s.reached.now) };
+    ghost room = { λ s. min (quiet_room s.quiet.elapsed s.quiet.bus.now) (7 - length s.reached.now) };
 
     #[inline(always)]
     fn read(&mut self, tape: &Tape, addr: u16) -> u8 {
         if addr >= PROGRAM_START {
-            self.quiet.made += 1;
+            self.quiet.elapsed += 1;
             let bus = &mut *self.quiet.bus;
             bus.program_at(addr)
         } else if addr < RAM_LEN as u16 {
-            self.quiet.made += 1;
+            self.quiet.elapsed += 1;
             let bus = &mut *self.quiet.bus;
             bus.ram_byte(addr)
         } else {
-            let made = self.quiet.made;
-            self.quiet.made = 0;
-            read_noted(self.quiet.bus, made, self.reached, tape, addr)
+            let elapsed = self.quiet.elapsed;
+            self.quiet.elapsed = 0;
+            read_noted(self.quiet.bus, elapsed, self.reached, tape, addr)
         }
     }
 
     #[inline(always)]
     fn write(&mut self, tape: &Tape, addr: u16, value: u8) {
         if addr < RAM_LEN as u16 {
-            self.quiet.made += 1;
+            self.quiet.elapsed += 1;
             self.quiet.bus.put_ram(addr, value);
         } else {
-            let made = self.quiet.made;
-            self.quiet.made = 0;
-            write_noted(self.quiet.bus, made, self.reached, tape, addr, value);
+            let elapsed = self.quiet.elapsed;
+            self.quiet.elapsed = 0;
+            write_noted(self.quiet.bus, elapsed, self.reached, tape, addr, value);
         }
     }
 }
 
-/// Where some turns led to, and whether the tracer has enough of them.
+/// The processor after some turns, and whether the tracer has enough of them.
 #[derive(Drop)]
-pub(crate) struct Told {
+pub(crate) struct TracedTurns {
     pub cpu: Cpu,
     pub enough: bool,
 }
 
-/// Does the instruction at a boundary, and those at the boundaries after it before the horizon whose opcodes stand in
-/// the RAM or the program ROM, up to one after which a tracer has enough.
+/// Does the instruction at a boundary, and those at the boundaries after it before the horizon
+/// whose opcodes are in the RAM or the program ROM, up to one after which a tracer has enough.
 pub(crate) fn trace_to_horizon<V: VectorUnit, P: SoundUnit, C: CellUnit, D: DividerUnit, T: Tracer>(
     mut cpu: Cpu,
     bus: &mut BoardBus<V, P, C, D>,
     tape: &Tape,
     limit: u64,
     tracer: &mut T,
-) -> Told
+) -> TracedTurns
     requires limit { limit ≤ CLOCK_LIMIT }
     requires range { IsInRange cpu bus.old }
-    requires between { bus.old.begun ≡ false }
+    requires between { bus.old.clock_open ≡ false }
     requires room { HasRoomTo limit bus.old }
-    requires accepts { Fits tape.now bus.old }
+    requires accepts { Accepts tape.now bus.old }
     requires goes_on { GoesOn limit [] cpu bus.old }
     requires opcode { is_private cpu.pc ≡ true }
     ensures on { TurnsOn tape.now.entries limit [] cpu bus.old bus.new result.cpu }
-    ensures told { ToldTurns T.next T.has_enough tape.now.entries limit (over_bus cpu bus.old) (over_bus result.cpu bus.new) tracer.old tracer.new result.enough }
+    ensures turns { ToldTurns T.next T.has_enough tape.now.entries limit (over_bus cpu bus.old) (over_bus result.cpu bus.new) tracer.old tracer.new result.enough }
     ensures later { bus.old.peripherals.clock < bus.new.peripherals.clock }
-    ensures accepts { Fits tape.now bus.new }
+    ensures accepts { Accepts tape.now bus.new }
 {
     let horizon = horizon_from(bus, limit);
     let mut reached = Reached::new();
@@ -237,14 +237,14 @@ pub(crate) fn trace_to_horizon<V: VectorUnit, P: SoundUnit, C: CellUnit, D: Divi
         enough = tracer.turn(&note, cpu.state().pc);
         goes_on = noted.goes_on(enough, &horizon, &cpu);
     }
-    noted.quiet.tell();
+    noted.quiet.flush();
     let NotedBus { quiet, reached: _ } = noted;
     let QuietBus {
         bus: back,
-        made: _,
+        elapsed: _,
         user: _,
     } = quiet;
     // opens the model
     let _same = &*back;
-    Told { cpu, enough }
+    TracedTurns { cpu, enough }
 }

@@ -2,7 +2,7 @@
 ghost use Rattle.std.specs.Prelude.{◌≡◌, ◌+◌, ◌-◌, ◌≤◌, ◌<◌, ◌&&◌, ◌||◌, false, is_none, nat_lt};
 ghost use Rattle.board_base.specs.declared.divider.TheConstants.{DIVIDER_PERIOD};
 ghost use Rattle.cpu_alu.specs.Flags.{is_masked};
-ghost use Rattle.catchup_engine.specs.Bus.{Fits};
+ghost use Rattle.catchup_engine.specs.Bus.{Accepts};
 ghost use Rattle.catchup_engine.specs.Horizon.{KeepsLines};
 ghost use Rattle.catchup_engine.specs.Quiet.{passed};
 ghost use Rattle.catchup_engine.specs.Runs.{GoesOn, HasRoomTo, IsInRange, TurnsOn};
@@ -21,13 +21,13 @@ use std::marker::PhantomData;
 use tape_ports::Tape;
 
 /// The bus in clocks in which no entry of the tape is due and the divider doesn't wrap. They are
-/// counted here, and the board hears of them where a device is reached, and at the end.
+/// counted here, and the board gets them where a device is reached, and at the end.
 ///
-/// It is a type of its own for each user, which is a kind of breaks or a tracer. So each loop has the
-/// only call of the processor on its bus, and LLVM puts the processor into the loop.
+/// It is a type of its own for each user, which is a kind of breaks or a tracer. So each loop has
+/// the only call of the processor on its bus, and LLVM puts the processor into the loop.
 pub(crate) struct QuietBus<'a, V: VectorUnit, P: SoundUnit, C: CellUnit, D: DividerUnit, U> {
     pub(crate) bus: &'a mut BoardBus<V, P, C, D>,
-    pub(crate) made: u64,
+    pub(crate) elapsed: u64,
     pub(crate) user: PhantomData<U>,
 }
 
@@ -37,95 +37,96 @@ impl<'a, V: VectorUnit, P: SoundUnit, C: CellUnit, D: DividerUnit, U> QuietBus<'
     pub(crate) fn new(bus: &'a mut BoardBus<V, P, C, D>) -> QuietBus<'a, V, P, C, D, U>
         ensures same_reference { result.bus.ghost_name ≡ bus.entry.ghost_name }
         ensures bus { result.bus.now ≡ bus.old }
-        ensures none { result.made ≡ 0 }
+        ensures none { result.elapsed ≡ 0 }
     {
         QuietBus {
             bus,
-            made: 0,
+            elapsed: 0,
             user: PhantomData,
         }
     }
 
-    /// Tells the board of the clocks counted.
+    /// Moves the board on by the clocks counted.
     #[inline(always)]
-    pub(crate) fn tell(&mut self)
-        requires quiet { self.old.bus.now.peripherals.clock + self.old.made ≤ self.old.bus.now.event_at }
-        requires clock { self.old.bus.now.peripherals.clock + self.old.made ≤ CLOCK_END }
-        requires room { self.old.bus.now.peripherals.clock + self.old.made ≤ self.old.bus.now.until }
-        requires begun { self.old.bus.now.begun ≡ false }
+    pub(crate) fn flush(&mut self)
+        requires no_event { self.old.bus.now.peripherals.clock + self.old.elapsed ≤ self.old.bus.now.event_at }
+        requires clock { self.old.bus.now.peripherals.clock + self.old.elapsed ≤ CLOCK_END }
+        requires room { self.old.bus.now.peripherals.clock + self.old.elapsed ≤ self.old.bus.now.until }
+        requires between { self.old.bus.now.clock_open ≡ false }
         ensures same_reference { self.new.bus.ghost_name ≡ self.old.bus.ghost_name }
-        ensures told { self.new.bus.now ≡ passed self.old.made self.old.bus.now }
+        ensures flushed { self.new.bus.now ≡ passed self.old.elapsed self.old.bus.now }
         ensures lines { KeepsLines self.old.bus.now self.new.bus.now }
-        ensures none { self.new.made ≡ 0 }
+        ensures none { self.new.elapsed ≡ 0 }
     {
-        self.bus.pass(self.made);
-        self.made = 0;
+        self.bus.pass(self.elapsed);
+        self.elapsed = 0;
     }
 
     /// The clock, with those counted.
     #[inline(always)]
     pub(crate) fn clock(&self) -> u64
-        requires quiet { self.now.bus.now.peripherals.clock + self.now.made ≤ self.now.bus.now.event_at }
-        ensures { result ≡ self.now.bus.now.peripherals.clock + self.now.made }
+        requires no_event { self.now.bus.now.peripherals.clock + self.now.elapsed ≤ self.now.bus.now.event_at }
+        ensures { result ≡ self.now.bus.now.peripherals.clock + self.now.elapsed }
     {
-        self.bus.clock_after(self.made)
+        self.bus.clock_after(self.elapsed)
     }
 
-    /// Whether the fetch at this boundary surely reads an opcode.
+    /// Whether this boundary is before the horizon, so that its fetch reads an opcode.
     #[inline(always)]
-    pub(crate) fn lasts(&self, horizon: &Horizon, cpu: &Cpu) -> bool
-        requires quiet { self.now.bus.now.peripherals.clock + self.now.made ≤ self.now.bus.now.event_at }
-        ensures value { result ≡ (nat_lt (self.now.bus.now.peripherals.clock + self.now.made) horizon.now.until && (is_none cpu.now.jam && (horizon.now.silent || is_masked cpu.now.p))) }
+    pub(crate) fn is_before(&self, horizon: &Horizon, cpu: &Cpu) -> bool
+        requires no_event { self.now.bus.now.peripherals.clock + self.now.elapsed ≤ self.now.bus.now.event_at }
+        ensures value { result ≡ (nat_lt (self.now.bus.now.peripherals.clock + self.now.elapsed) horizon.now.until && (is_none cpu.now.jam && (horizon.now.irq_idle || is_masked cpu.now.p))) }
         ensures wrap { self.now.bus.now.peripherals.divider.phase + (self.now.bus.now.event_at - self.now.bus.now.peripherals.clock) < DIVIDER_PERIOD }
     {
-        self.bus.clock_after(self.made) < horizon.until
+        self.bus.clock_after(self.elapsed) < horizon.until
             && cpu.state().jam.is_none()
-            && (horizon.silent || Flags::from_byte(cpu.state().p).interrupt)
+            && (horizon.irq_idle || Flags::from_byte(cpu.state().p).interrupt)
     }
 }
 
 impl<'a, V: VectorUnit, P: SoundUnit, C: CellUnit, D: DividerUnit, U> Bus
     for QuietBus<'a, V, P, C, D, U> {
     ghost use Rattle.std.specs.Prelude.{◌≡◌, ◌-◌, false};
-    ghost use Rattle.catchup_engine.specs.Bus.{BusStep, Fits, room_of};
+    ghost use Rattle.catchup_engine.specs.Bus.{BusStep, Accepts, room_of};
     ghost use Rattle.catchup_engine.specs.Horizon.{KeepsLines};
     ghost use Rattle.catchup_engine.specs.Quiet.{passed, IsCounted, quiet_room};
 
     type Feed = Tape;
 
-    ghost step = { λ tape x s t. (t.bus.ghost_name ≡ s.bus.ghost_name) × KeepsLines s.bus.now t.bus.now × BusStep tape.entries x (passed s.made s.bus.now) (passed t.made t.bus.now) };
+    ghost step = { λ tape x s t. (t.bus.ghost_name ≡ s.bus.ghost_name) × KeepsLines s.bus.now t.bus.now × BusStep tape.entries x (passed s.elapsed s.bus.now) (passed t.elapsed t.bus.now) };
 
-    ghost accepts = { λ tape s. IsCounted tape s.made s.bus.now };
+    ghost accepts = { λ tape s. IsCounted tape s.elapsed s.bus.now };
 
-    ghost room = { λ s. quiet_room s.made s.bus.now };
+    ghost room = { λ s. quiet_room s.elapsed s.bus.now };
 
     #[inline(always)]
     fn read(&mut self, _tape: &Tape, addr: u16) -> u8 {
-        self.made += 1;
+        self.elapsed += 1;
         if addr >= PROGRAM_START {
             self.bus.program_at(addr)
         } else if addr < RAM_LEN as u16 {
             self.bus.ram_byte(addr)
         } else {
-            self.tell();
+            self.flush();
             self.bus.byte(addr)
         }
     }
 
     #[inline(always)]
     fn write(&mut self, _tape: &Tape, addr: u16, value: u8) {
-        self.made += 1;
+        self.elapsed += 1;
         if addr < RAM_LEN as u16 {
             self.bus.put_ram(addr, value);
         } else {
-            self.tell();
+            self.flush();
             self.bus.put(addr, value);
         }
     }
 }
 
-/// Does the instruction at a boundary, and those at the boundaries after it before the horizon, up to the first of
-/// these addresses. The board hears of their clocks where a device is reached, and at the end.
+/// Does the instruction at a boundary, and those at the boundaries after it before the horizon, up
+/// to the first of these addresses. The board gets their clocks where a device is reached, and at
+/// the end.
 #[inline(always)]
 pub(crate) fn run_to_horizon<V: VectorUnit, P: SoundUnit, C: CellUnit, D: DividerUnit, B: Breaks>(
     mut cpu: Cpu,
@@ -136,25 +137,25 @@ pub(crate) fn run_to_horizon<V: VectorUnit, P: SoundUnit, C: CellUnit, D: Divide
 ) -> Cpu
     requires limit { limit ≤ CLOCK_LIMIT }
     requires range { IsInRange cpu bus.old }
-    requires between { bus.old.begun ≡ false }
+    requires between { bus.old.clock_open ≡ false }
     requires room { HasRoomTo limit bus.old }
-    requires accepts { Fits tape.now bus.old }
+    requires accepts { Accepts tape.now bus.old }
     requires goes_on { GoesOn limit (B.addresses breaks.now) cpu bus.old }
     ensures on { TurnsOn tape.now.entries limit (B.addresses breaks.now) cpu bus.old bus.new result }
     ensures later { bus.old.peripherals.clock < bus.new.peripherals.clock }
-    ensures accepts { Fits tape.now bus.new }
+    ensures accepts { Accepts tape.now bus.new }
 {
     let horizon = horizon_from(bus, limit);
     let mut quiet = QuietBus::<V, P, C, D, B>::new(bus);
     let mut goes_on = true;
     while goes_on {
         let _fetched = cpu.instruction(&mut quiet, tape);
-        goes_on = quiet.lasts(&horizon, &cpu) && !breaks.has(cpu.state().pc);
+        goes_on = quiet.is_before(&horizon, &cpu) && !breaks.has(cpu.state().pc);
     }
-    quiet.tell();
+    quiet.flush();
     let QuietBus {
         bus: back,
-        made: _,
+        elapsed: _,
         user: _,
     } = quiet;
     // opens the model

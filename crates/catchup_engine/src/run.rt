@@ -2,7 +2,7 @@
 ghost use Rattle.std.specs.Prelude.{◌≡◌, ◌+◌, ◌≤◌, ◌<◌, ◌⊎◌, ◌&&◌, ◌||◌, not, [], false, None, IfSome};
 ghost use Rattle.cpu_core.specs.Places.{IsMiddle};
 ghost use Rattle.lockstep_board.specs.Breaks.{is_at_any};
-ghost use Rattle.catchup_engine.specs.Bus.{Fits};
+ghost use Rattle.catchup_engine.specs.Bus.{Accepts};
 ghost use Rattle.lockstep_board.specs.Run.{is_over, is_cut};
 ghost use Rattle.catchup_engine.specs.Turn.{reads_opcode};
 ghost use Rattle.catchup_engine.specs.Runs.{over_bus, BoundaryRun, BreakRunBus, CutRun, HasRoomTo, IsInRange, QuietRun, TracedBusRun, TurnsRun};
@@ -62,8 +62,8 @@ fn is_at_break<V: VectorUnit, P: SoundUnit, C: CellUnit, D: DividerUnit, B: Brea
     is_done(cpu, bus, limit) || breaks.has(cpu.state().pc)
 }
 
-/// Whether no run ends here, and the next fetch reads an opcode in whose clocks nothing comes of
-/// itself. It is asked for once between two events.
+/// Whether no run ends here, and the next fetch reads an opcode in whose clocks no event is due. It
+/// is called once between two events.
 #[inline(never)]
 fn goes_on<V: VectorUnit, P: SoundUnit, C: CellUnit, D: DividerUnit, B: Breaks>(
     cpu: &Cpu,
@@ -77,11 +77,11 @@ fn goes_on<V: VectorUnit, P: SoundUnit, C: CellUnit, D: DividerUnit, B: Breaks>(
     !is_at_break(cpu, bus, limit, breaks) && reads_opcode(cpu, bus)
 }
 
-/// Does instructions in whose clocks no event is due, up to the limit or to the first of
-/// these addresses.
+/// Does instructions in whose clocks no event is due, up to the limit or to the first of these
+/// addresses.
 ///
-/// Every run makes most of its clocks here. As nothing that this loop calls takes the processor, LLVM
-/// keeps its registers out of memory.
+/// Every run makes most of its clocks here. As nothing that this loop calls takes the processor,
+/// LLVM keeps its registers out of memory.
 #[inline(always)]
 fn run_fast<V: VectorUnit, P: SoundUnit, C: CellUnit, D: DividerUnit, B: Breaks>(
     mut cpu: Cpu,
@@ -93,11 +93,11 @@ fn run_fast<V: VectorUnit, P: SoundUnit, C: CellUnit, D: DividerUnit, B: Breaks>
     requires limit { limit ≤ CLOCK_LIMIT }
     requires boundary { cpu.mid ≡ None }
     requires range { IsInRange cpu bus.old }
-    requires between { bus.old.begun ≡ false }
+    requires between { bus.old.clock_open ≡ false }
     requires room { HasRoomTo limit bus.old }
-    requires accepts { Fits tape.now bus.old }
+    requires accepts { Accepts tape.now bus.old }
     ensures runs { QuietRun tape.now.entries limit (B.addresses breaks.now) cpu bus.old bus.new result }
-    ensures accepts { Fits tape.now bus.new }
+    ensures accepts { Accepts tape.now bus.new }
 {
     while goes_on(&cpu, bus, limit, breaks) {
         cpu = run_to_horizon(cpu, bus, tape, limit, breaks);
@@ -120,11 +120,11 @@ fn run_turns<V: VectorUnit, P: SoundUnit, C: CellUnit, D: DividerUnit, B: Breaks
     requires limit { limit ≤ CLOCK_LIMIT }
     requires boundary { cpu.mid ≡ None }
     requires range { IsInRange cpu bus.old }
-    requires between { bus.old.begun ≡ false }
+    requires between { bus.old.clock_open ≡ false }
     requires room { HasRoomTo limit bus.old }
-    requires accepts { Fits tape.now bus.old }
+    requires accepts { Accepts tape.now bus.old }
     ensures runs { TurnsRun tape.now.entries limit (B.addresses breaks.now) cpu bus.old bus.new result }
-    ensures accepts { Fits tape.now bus.new }
+    ensures accepts { Accepts tape.now bus.new }
 {
     // opens its range
     let _clock = bus.clock();
@@ -147,9 +147,9 @@ fn run_turns_to_break<V: VectorUnit, P: SoundUnit, C: CellUnit, D: DividerUnit>(
     requires limit { limit ≤ CLOCK_LIMIT }
     requires boundary { cpu.mid ≡ None }
     requires range { IsInRange cpu bus.old }
-    requires between { bus.old.begun ≡ false }
+    requires between { bus.old.clock_open ≡ false }
     requires room { HasRoomTo limit bus.old }
-    requires accepts { Fits tape.now bus.old }
+    requires accepts { Accepts tape.now bus.old }
     ensures runs { TurnsRun tape.now.entries limit addresses.now cpu bus.old bus.new result }
 {
     if addresses.is_empty() {
@@ -170,10 +170,10 @@ pub(crate) fn run_until<V: VectorUnit, P: SoundUnit, C: CellUnit, D: DividerUnit
     requires limit { limit ≤ CLOCK_LIMIT }
     requires window { limit ≤ bus.old.peripherals.clock + DIVIDER_PERIOD }
     requires range { IsInRange cpu bus.old }
-    requires between { bus.old.begun ≡ false }
+    requires between { bus.old.clock_open ≡ false }
     requires until { bus.old.peripherals.clock + TRAIL_ROOM ≤ bus.old.until }
     requires written { bus.old.peripherals.written ≡ [] }
-    requires accepts { Fits tape.now bus.old }
+    requires accepts { Accepts tape.now bus.old }
     ensures runs { BoundaryRun tape.now.entries limit cpu bus.old bus.new result }
 {
     // opens its range
@@ -197,10 +197,10 @@ pub(crate) fn run_to_break<V: VectorUnit, P: SoundUnit, C: CellUnit, D: DividerU
     requires before { bus.old.peripherals.clock < limit }
     requires window { limit ≤ bus.old.peripherals.clock + DIVIDER_PERIOD }
     requires range { IsInRange cpu bus.old }
-    requires between { bus.old.begun ≡ false }
+    requires between { bus.old.clock_open ≡ false }
     requires until { bus.old.peripherals.clock + TRAIL_ROOM ≤ bus.old.until }
     requires written { bus.old.peripherals.written ≡ [] }
-    requires accepts { Fits tape.now bus.old }
+    requires accepts { Accepts tape.now bus.old }
     ensures runs { BreakRunBus tape.now.entries limit addresses.now cpu bus.old bus.new result }
 {
     // opens its range
@@ -224,10 +224,10 @@ pub(crate) fn run_traced<V: VectorUnit, P: SoundUnit, C: CellUnit, D: DividerUni
     requires window { limit ≤ bus.old.peripherals.clock + DIVIDER_PERIOD }
     requires range { IsInRange cpu bus.old }
     requires place { IfSome cpu.mid (λ _. IsMiddle cpu) }
-    requires between { bus.old.begun ≡ false }
+    requires between { bus.old.clock_open ≡ false }
     requires until { bus.old.peripherals.clock + TRAIL_ROOM ≤ bus.old.until }
     requires written { bus.old.peripherals.written ≡ [] }
-    requires accepts { Fits tape.now bus.old }
+    requires accepts { Accepts tape.now bus.old }
     ensures runs { TracedBusRun T.next T.has_enough tape.now.entries limit cpu bus.old bus.new result tracer.old tracer.new }
 {
     // opens its range
@@ -235,9 +235,9 @@ pub(crate) fn run_traced<V: VectorUnit, P: SoundUnit, C: CellUnit, D: DividerUni
     let mut enough = false;
     while !enough && !is_done(&cpu, bus, limit) {
         if goes_on(&cpu, bus, limit, &Nowhere) && is_private(cpu.state().pc) {
-            let told = trace_to_horizon(cpu, bus, tape, limit, tracer);
-            cpu = told.cpu;
-            enough = told.enough;
+            let turns = trace_to_horizon(cpu, bus, tape, limit, tracer);
+            cpu = turns.cpu;
+            enough = turns.enough;
         } else {
             let trace = trace_running(&mut cpu, bus, tape);
             let reached = Reached::of(&trace);
@@ -274,10 +274,10 @@ pub(crate) fn run_to_cut<V: VectorUnit, P: SoundUnit, C: CellUnit, D: DividerUni
     requires cut { cut ≤ CLOCK_LIMIT }
     requires window { wrap ≤ bus.old.peripherals.clock + DIVIDER_PERIOD }
     requires range { IsInRange cpu bus.old }
-    requires between { bus.old.begun ≡ false }
+    requires between { bus.old.clock_open ≡ false }
     requires until { bus.old.peripherals.clock + TRAIL_ROOM ≤ bus.old.until }
     requires written { bus.old.peripherals.written ≡ [] }
-    requires accepts { Fits tape.now bus.old }
+    requires accepts { Accepts tape.now bus.old }
     ensures runs { CutRun tape.now.entries cut wrap cpu bus.old bus.new result }
 {
     // A turn that begins before this clock ends at the cut at the latest.

@@ -3,7 +3,7 @@ ghost use Rattle.std.specs.Prelude.{◌≡◌, ◌≢◌, ◌+◌, ◌-◌, ◌<
 ghost use Rattle.cpu_core.specs.Places.{given_by, Advances};
 ghost use Rattle.cpu_core.specs.Registers.{registers_of};
 ghost use Rattle.cpu_core.specs.Sequences.{start_of, Runs};
-ghost use Rattle.catchup_engine.specs.Bus.{Fits, room_of};
+ghost use Rattle.catchup_engine.specs.Bus.{Accepts, room_of};
 ghost use Rattle.catchup_engine.specs.Runs.{over_bus, BoundaryRun, IsInRange};
 ghost use Rattle.catchup_engine.specs.Trace.{TracedReset, TracedStep, no_trace, step_trace, trace_of, traced};
 ghost use Rattle.catchup_engine.specs.Turn.{TurnedBus};
@@ -46,9 +46,9 @@ impl Access {
 
 /// What one sequence did, or what was left of it.
 ///
-/// `opcode` is 0 for an interrupt, for a reset, and for a board that is jammed, which makes no access.
-/// The first `count` of `accesses`, at most 7, are those made, dropped reads included; those after
-/// them are zeros.
+/// `opcode` is 0 for an interrupt, for a reset, and for a board that is jammed, which makes no
+/// access. The first `count` of `accesses`, at most 7, are those made, dropped reads included;
+/// those after them are zeros.
 #[derive(Clone, Copy, Debug, PartialEq, Eq)]
 pub struct Trace {
     pub sequence: Sequence,
@@ -137,14 +137,14 @@ impl<'a, V: VectorUnit, P: SoundUnit, C: CellUnit, D: DividerUnit> TracedBus<'a,
     fn perform(&mut self, cpu: &mut Cpu, sequence: Sequence, tape: &Tape)
         requires running { cpu.old.jam ≡ None }
         requires boundary { cpu.old.mid ≡ None }
-        requires accepts { Fits tape.now self.old.bus.now }
+        requires accepts { Accepts tape.now self.old.bus.now }
         requires room { MAX_SEQUENCE_CLOCKS ≤ room_of self.old.bus.now }
         requires first { self.old.trace.count ≡ 0 }
         requires no_reset { sequence ≢ Sequence.Reset }
         ensures same_reference { self.new.bus.ghost_name ≡ self.old.bus.ghost_name }
         ensures runs { Runs (TracedStep tape.now.entries) (start_of sequence cpu.old) sequence (traced self.old.bus.now self.old.trace) (traced self.new.bus.now self.new.trace) cpu.new }
         ensures boundary { cpu.new.mid ≡ None }
-        ensures accepts { Fits tape.now self.new.bus.now }
+        ensures accepts { Accepts tape.now self.new.bus.now }
     {
         perform(cpu, sequence, self, tape);
     }
@@ -153,13 +153,13 @@ impl<'a, V: VectorUnit, P: SoundUnit, C: CellUnit, D: DividerUnit> TracedBus<'a,
     fn begin(&mut self, cpu: &mut Cpu, tape: &Tape)
         requires running { cpu.old.jam ≡ None }
         requires boundary { cpu.old.mid ≡ None }
-        requires begun { self.old.bus.now.begun ≡ true }
-        requires accepts { Fits tape.now self.old.bus.now }
+        requires clock_open { self.old.bus.now.clock_open ≡ true }
+        requires accepts { Accepts tape.now self.old.bus.now }
         requires room { 1 ≤ room_of self.old.bus.now }
         requires first { self.old.trace.count ≡ 0 }
         ensures same_reference { self.new.bus.ghost_name ≡ self.old.bus.ghost_name }
         ensures advances { (made : ℕ) × Advances (TracedStep tape.now.entries) (start_of Sequence.Reset cpu.old) Sequence.Reset [] 1 made (traced self.old.bus.now self.old.trace) (traced self.new.bus.now self.new.trace) cpu.new }
-        ensures accepts { Fits tape.now self.new.bus.now }
+        ensures accepts { Accepts tape.now self.new.bus.now }
         ensures room { room_of self.old.bus.now ≤ room_of self.new.bus.now + 1 }
     {
         let _fetched = cpu.begin(Sequence::Reset, self, tape, 1);
@@ -168,13 +168,13 @@ impl<'a, V: VectorUnit, P: SoundUnit, C: CellUnit, D: DividerUnit> TracedBus<'a,
     /// Does what is left of the sequence under way, in so many clocks at most.
     fn resume(&mut self, cpu: &mut Cpu, tape: &Tape, clocks: u8)
         requires middle { IsSome cpu.old.mid }
-        requires accepts { Fits tape.now self.old.bus.now }
+        requires accepts { Accepts tape.now self.old.bus.now }
         requires some { 1 ≤ clocks }
         requires few { self.old.trace.count + clocks ≤ 7 }
         requires room { clocks ≤ room_of self.old.bus.now }
         ensures same_reference { self.new.bus.ghost_name ≡ self.old.bus.ghost_name }
         ensures advances { IfSome cpu.old.mid (λ m. (made : ℕ) × Advances (TracedStep tape.now.entries) (registers_of cpu.old) m.sequence (given_by m) clocks made (traced self.old.bus.now self.old.trace) (traced self.new.bus.now self.new.trace) cpu.new) }
-        ensures accepts { Fits tape.now self.new.bus.now }
+        ensures accepts { Accepts tape.now self.new.bus.now }
     {
         // the place in the sequence, for the proof
         let _place = cpu.state();
@@ -185,14 +185,14 @@ impl<'a, V: VectorUnit, P: SoundUnit, C: CellUnit, D: DividerUnit> TracedBus<'a,
 impl<'a, V: VectorUnit, P: SoundUnit, C: CellUnit, D: DividerUnit> Bus
     for TracedBus<'a, V, P, C, D> {
     ghost use Rattle.std.specs.Prelude.{◌≡◌, ◌-◌, min};
-    ghost use Rattle.catchup_engine.specs.Bus.{Fits, room_of};
+    ghost use Rattle.catchup_engine.specs.Bus.{Accepts, room_of};
     ghost use Rattle.catchup_engine.specs.Trace.{TracedStep, traced};
 
     type Feed = Tape;
 
     ghost step = { λ tape x s t. (t.bus.ghost_name ≡ s.bus.ghost_name) × TracedStep tape.entries x (traced s.bus.now s.trace) (traced t.bus.now t.trace) };
 
-    ghost accepts = { λ tape s. Fits tape s.bus.now };
+    ghost accepts = { λ tape s. Accepts tape s.bus.now };
 
     ghost room = { λ s. min (room_of s.bus.now) (7 - s.trace.count) };
 
@@ -227,16 +227,16 @@ fn trace_whole<V: VectorUnit, P: SoundUnit, C: CellUnit, D: DividerUnit>(
 ) -> Trace
     requires running { cpu.old.jam ≡ None }
     requires boundary { cpu.old.mid ≡ None }
-    requires accepts { Fits tape.now bus.old }
+    requires accepts { Accepts tape.now bus.old }
     requires room { MAX_SEQUENCE_CLOCKS ≤ room_of bus.old }
     requires no_reset { sequence ≢ Sequence.Reset }
     ensures runs { Runs (TracedStep tape.now.entries) (start_of sequence cpu.old) sequence (traced bus.old no_trace) (traced bus.new result) cpu.new }
     ensures boundary { cpu.new.mid ≡ None }
-    ensures accepts { Fits tape.now bus.new }
+    ensures accepts { Accepts tape.now bus.new }
 {
-    let mut told = TracedBus::new(bus, Trace::new());
-    told.perform(cpu, sequence, tape);
-    let TracedBus { bus: back, trace } = told;
+    let mut traced = TracedBus::new(bus, Trace::new());
+    traced.perform(cpu, sequence, tape);
+    let TracedBus { bus: back, trace } = traced;
     // opens the model
     let _same = &*back;
     trace
@@ -250,23 +250,23 @@ fn trace_first<V: VectorUnit, P: SoundUnit, C: CellUnit, D: DividerUnit>(
 ) -> Trace
     requires running { cpu.old.jam ≡ None }
     requires boundary { cpu.old.mid ≡ None }
-    requires begun { bus.old.begun ≡ true }
-    requires accepts { Fits tape.now bus.old }
+    requires clock_open { bus.old.clock_open ≡ true }
+    requires accepts { Accepts tape.now bus.old }
     requires room { 1 ≤ room_of bus.old }
     ensures advances { (made : ℕ) × Advances (TracedStep tape.now.entries) (start_of Sequence.Reset cpu.old) Sequence.Reset [] 1 made (traced bus.old no_trace) (traced bus.new result) cpu.new }
-    ensures accepts { Fits tape.now bus.new }
+    ensures accepts { Accepts tape.now bus.new }
     ensures room { room_of bus.old ≤ room_of bus.new + 1 }
 {
-    let mut told = TracedBus::new(bus, Trace::new());
-    told.begin(cpu, tape);
-    let TracedBus { bus: back, trace } = told;
+    let mut traced = TracedBus::new(bus, Trace::new());
+    traced.begin(cpu, tape);
+    let TracedBus { bus: back, trace } = traced;
     // opens the model
     let _same = &*back;
     trace
 }
 
 /// Does what is left of the sequence under way, in so many clocks at most, and returns its accesses
-/// behind those of a trace.
+/// after those of a trace.
 fn trace_rest<V: VectorUnit, P: SoundUnit, C: CellUnit, D: DividerUnit>(
     cpu: &mut Cpu,
     bus: &mut BoardBus<V, P, C, D>,
@@ -275,22 +275,23 @@ fn trace_rest<V: VectorUnit, P: SoundUnit, C: CellUnit, D: DividerUnit>(
     clocks: u8,
 ) -> Trace
     requires middle { IsSome cpu.old.mid }
-    requires accepts { Fits tape.now bus.old }
+    requires accepts { Accepts tape.now bus.old }
     requires some { 1 ≤ clocks }
     requires few { trace.count + clocks ≤ 7 }
     requires room { clocks ≤ room_of bus.old }
     ensures advances { IfSome cpu.old.mid (λ m. (made : ℕ) × Advances (TracedStep tape.now.entries) (registers_of cpu.old) m.sequence (given_by m) clocks made (traced bus.old trace) (traced bus.new result) cpu.new) }
-    ensures accepts { Fits tape.now bus.new }
+    ensures accepts { Accepts tape.now bus.new }
 {
-    let mut told = TracedBus::new(bus, trace);
-    told.resume(cpu, tape, clocks);
-    let TracedBus { bus: back, trace } = told;
+    let mut traced = TracedBus::new(bus, trace);
+    traced.resume(cpu, tape, clocks);
+    let TracedBus { bus: back, trace } = traced;
     // opens the model
     let _same = &*back;
     trace
 }
 
-/// Does a whole reset, and returns its accesses. Its effects come in its first clock, after the access.
+/// Does a whole reset, and returns its accesses. Its effects come in its first clock, after the
+/// access.
 fn trace_reset<V: VectorUnit, P: SoundUnit, C: CellUnit, D: DividerUnit>(
     cpu: &mut Cpu,
     bus: &mut BoardBus<V, P, C, D>,
@@ -298,11 +299,11 @@ fn trace_reset<V: VectorUnit, P: SoundUnit, C: CellUnit, D: DividerUnit>(
 ) -> Trace
     requires running { cpu.old.jam ≡ None }
     requires boundary { cpu.old.mid ≡ None }
-    requires begun { bus.old.begun ≡ true }
-    requires accepts { Fits tape.now bus.old }
+    requires clock_open { bus.old.clock_open ≡ true }
+    requires accepts { Accepts tape.now bus.old }
     requires room { 8 ≤ room_of bus.old }
     ensures resets { TracedReset tape.now.entries cpu.old bus.old (traced bus.new result) cpu.new }
-    ensures accepts { Fits tape.now bus.new }
+    ensures accepts { Accepts tape.now bus.new }
 {
     let trace = trace_first(cpu, bus, tape);
     bus.begin_reset();
@@ -317,12 +318,12 @@ fn trace_fetch<V: VectorUnit, P: SoundUnit, C: CellUnit, D: DividerUnit>(
 ) -> Trace
     requires running { cpu.old.jam ≡ None }
     requires boundary { cpu.old.mid ≡ None }
-    requires between { bus.old.begun ≡ false }
-    requires accepts { Fits tape.now bus.old }
+    requires between { bus.old.clock_open ≡ false }
+    requires accepts { Accepts tape.now bus.old }
     requires room { 9 ≤ room_of bus.old }
     ensures turned { TurnedBus tape.now.entries MAX_SEQUENCE_CLOCKS cpu.old bus.old bus.new cpu.new }
     ensures trace { result ≡ trace_of tape.now.entries (bus.new.peripherals.clock - bus.old.peripherals.clock) (over_bus cpu.old bus.old) }
-    ensures accepts { Fits tape.now bus.new }
+    ensures accepts { Accepts tape.now bus.new }
 {
     bus.begin(tape);
     let sequence = due(cpu, bus);
@@ -346,12 +347,12 @@ fn trace_middle<V: VectorUnit, P: SoundUnit, C: CellUnit, D: DividerUnit>(
     tape: &Tape,
 ) -> Trace
     requires middle { IsSome cpu.old.mid }
-    requires between { bus.old.begun ≡ false }
-    requires accepts { Fits tape.now bus.old }
+    requires between { bus.old.clock_open ≡ false }
+    requires accepts { Accepts tape.now bus.old }
     requires room { MAX_SEQUENCE_CLOCKS ≤ room_of bus.old }
     ensures turned { TurnedBus tape.now.entries MAX_SEQUENCE_CLOCKS cpu.old bus.old bus.new cpu.new }
     ensures trace { result ≡ trace_of tape.now.entries (bus.new.peripherals.clock - bus.old.peripherals.clock) (over_bus cpu.old bus.old) }
-    ensures accepts { Fits tape.now bus.new }
+    ensures accepts { Accepts tape.now bus.new }
 {
     let Some(mid) = cpu.state().mid else {
         unreachable!()
@@ -362,20 +363,20 @@ fn trace_middle<V: VectorUnit, P: SoundUnit, C: CellUnit, D: DividerUnit>(
     trace.named(mid.sequence, mid.bytes[0])
 }
 
-/// Does what is left of the sequence under way, or else one instruction or sequence, and returns its
-/// accesses.
+/// Does what is left of the sequence under way, or else one instruction or sequence, and returns
+/// its accesses.
 pub(crate) fn trace_running<V: VectorUnit, P: SoundUnit, C: CellUnit, D: DividerUnit>(
     cpu: &mut Cpu,
     bus: &mut BoardBus<V, P, C, D>,
     tape: &Tape,
 ) -> Trace
     requires running { cpu.old.jam ≡ None }
-    requires between { bus.old.begun ≡ false }
-    requires accepts { Fits tape.now bus.old }
+    requires between { bus.old.clock_open ≡ false }
+    requires accepts { Accepts tape.now bus.old }
     requires room { 9 ≤ room_of bus.old }
     ensures turned { TurnedBus tape.now.entries MAX_SEQUENCE_CLOCKS cpu.old bus.old bus.new cpu.new }
     ensures trace { result ≡ trace_of tape.now.entries (bus.new.peripherals.clock - bus.old.peripherals.clock) (over_bus cpu.old bus.old) }
-    ensures accepts { Fits tape.now bus.new }
+    ensures accepts { Accepts tape.now bus.new }
 {
     if cpu.state().mid.is_some() {
         trace_middle(cpu, bus, tape)
@@ -390,8 +391,8 @@ pub(crate) fn trace_sequence<V: VectorUnit, P: SoundUnit, C: CellUnit, D: Divide
     bus: &mut BoardBus<V, P, C, D>,
     tape: &Tape,
 ) -> Trace
-    requires between { bus.old.begun ≡ false }
-    requires accepts { Fits tape.now bus.old }
+    requires between { bus.old.clock_open ≡ false }
+    requires accepts { Accepts tape.now bus.old }
     requires range { IsInRange cpu.old bus.old }
     requires early { cpu.old.mid ≡ None → bus.old.peripherals.clock < CLOCK_LIMIT }
     requires room { 9 ≤ room_of bus.old }

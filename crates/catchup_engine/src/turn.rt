@@ -2,7 +2,7 @@
 ghost use Rattle.std.specs.Prelude.{◌≡◌, ◌≢◌, ◌+◌, ◌<◌, ◌≤◌, ℕ, [], false, None, IsSome};
 ghost use Rattle.cpu_core.specs.Places.{Advances};
 ghost use Rattle.cpu_core.specs.Sequences.{start_of, Runs};
-ghost use Rattle.catchup_engine.specs.Bus.{BusStep, Fits, room_of};
+ghost use Rattle.catchup_engine.specs.Bus.{BusStep, Accepts, room_of};
 ghost use Rattle.lockstep_board.specs.Lockstep.{sequence_due};
 ghost use Rattle.catchup_engine.specs.Turn.{Resets, TurnedBus, reads_opcode};
 
@@ -62,13 +62,13 @@ fn begin_sequence<V: VectorUnit, P: SoundUnit, C: CellUnit, D: DividerUnit>(
 )
     requires running { cpu.old.jam ≡ None }
     requires boundary { cpu.old.mid ≡ None }
-    requires accepts { Fits tape.now bus.old }
+    requires accepts { Accepts tape.now bus.old }
     requires some { 1 ≤ clocks }
     requires few { clocks ≤ MAX_SEQUENCE_CLOCKS }
     requires room { clocks ≤ room_of bus.old }
     requires no_reset { sequence ≢ Sequence.Reset }
     ensures advances { (made : ℕ) × Advances (BusStep tape.now.entries) (start_of sequence cpu.old) sequence [] clocks made bus.old bus.new cpu.new }
-    ensures accepts { Fits tape.now bus.new }
+    ensures accepts { Accepts tape.now bus.new }
 {
     if clocks == MAX_SEQUENCE_CLOCKS {
         perform(cpu, sequence, bus, tape);
@@ -87,12 +87,12 @@ fn take_reset<V: VectorUnit, P: SoundUnit, C: CellUnit, D: DividerUnit>(
 )
     requires running { cpu.old.jam ≡ None }
     requires boundary { cpu.old.mid ≡ None }
-    requires accepts { Fits tape.now bus.old }
+    requires accepts { Accepts tape.now bus.old }
     requires some { 1 ≤ clocks }
     requires few { clocks ≤ MAX_SEQUENCE_CLOCKS }
     requires room { clocks + 1 ≤ room_of bus.old }
     ensures resets { Resets tape.now.entries cpu.old clocks bus.old bus.new cpu.new }
-    ensures accepts { Fits tape.now bus.new }
+    ensures accepts { Accepts tape.now bus.new }
 {
     let _fetched = cpu.begin(Sequence::Reset, bus, tape, 1);
     bus.begin_reset();
@@ -111,13 +111,13 @@ fn fetch<V: VectorUnit, P: SoundUnit, C: CellUnit, D: DividerUnit>(
 )
     requires running { cpu.old.jam ≡ None }
     requires boundary { cpu.old.mid ≡ None }
-    requires between { bus.old.begun ≡ false }
-    requires accepts { Fits tape.now bus.old }
+    requires between { bus.old.clock_open ≡ false }
+    requires accepts { Accepts tape.now bus.old }
     requires some { 1 ≤ clocks }
     requires few { clocks ≤ MAX_SEQUENCE_CLOCKS }
     requires room { clocks + 2 ≤ room_of bus.old }
     ensures turned { TurnedBus tape.now.entries clocks cpu.old bus.old bus.new cpu.new }
-    ensures accepts { Fits tape.now bus.new }
+    ensures accepts { Accepts tape.now bus.new }
 {
     bus.begin(tape);
     let sequence = due(cpu, bus);
@@ -135,13 +135,13 @@ fn resume<V: VectorUnit, P: SoundUnit, C: CellUnit, D: DividerUnit>(
     clocks: u8,
 )
     requires middle { IsSome cpu.old.mid }
-    requires between { bus.old.begun ≡ false }
-    requires accepts { Fits tape.now bus.old }
+    requires between { bus.old.clock_open ≡ false }
+    requires accepts { Accepts tape.now bus.old }
     requires some { 1 ≤ clocks }
     requires few { clocks ≤ MAX_SEQUENCE_CLOCKS }
     requires room { clocks ≤ room_of bus.old }
     ensures turned { TurnedBus tape.now.entries clocks cpu.old bus.old bus.new cpu.new }
-    ensures accepts { Fits tape.now bus.new }
+    ensures accepts { Accepts tape.now bus.new }
 {
     if let Some(mid) = cpu.state().mid {
         // opens the model
@@ -159,13 +159,13 @@ pub(crate) fn step_slow<V: VectorUnit, P: SoundUnit, C: CellUnit, D: DividerUnit
     clocks: u8,
 ) -> Cpu
     requires running { cpu.jam ≡ None }
-    requires between { bus.old.begun ≡ false }
-    requires accepts { Fits tape.now bus.old }
+    requires between { bus.old.clock_open ≡ false }
+    requires accepts { Accepts tape.now bus.old }
     requires some { 1 ≤ clocks }
     requires few { clocks ≤ MAX_SEQUENCE_CLOCKS }
     requires room { clocks + 2 ≤ room_of bus.old }
     ensures turned { TurnedBus tape.now.entries clocks cpu bus.old bus.new result }
-    ensures accepts { Fits tape.now bus.new }
+    ensures accepts { Accepts tape.now bus.new }
 {
     if cpu.state().mid.is_some() {
         resume(&mut cpu, bus, tape, clocks);

@@ -6,7 +6,7 @@ ghost use Rattle.catchup_devices.specs.Lags.{lags};
 ghost use Rattle.lockstep_board.specs.Budget.{ticks_price, wraps};
 ghost use Rattle.catchup_engine.specs.Horizon.{LeavesLines};
 ghost use Rattle.catchup_engine.specs.Quiet.{passed};
-ghost use Rattle.catchup_engine.specs.Bus.{Does, Fits, begin_price, done_clock, in_clock};
+ghost use Rattle.catchup_engine.specs.Bus.{Does, Accepts, begin_price, done_clock, in_clock};
 ghost use Rattle.lockstep_board.specs.Peripherals.{devices_ticked, ticked};
 
 use crate::bus::{BoardBus, MAX_SEQUENCE_CLOCKS, TRAIL_ROOM};
@@ -18,7 +18,7 @@ use irq_watchdog::DividerUnit;
 use pokey_chip::SoundUnit;
 use tape_ports::Tape;
 
-/// Moves a divider up to a clock, by one call and by none where it stands there.
+/// Moves a divider to a clock: one call where it lags, and none where it doesn't.
 #[tactic(auto, using(board_base::proofs::TickLaws::level))]
 pub(super) fn catch_up_divider<D: DividerUnit>(divider: &mut CatchUp<D>, clock: u64)
     requires before { divider.old.done ≤ clock }
@@ -47,7 +47,7 @@ impl<V: VectorUnit, P: SoundUnit, C: CellUnit, D: DividerUnit> BoardBus<V, P, C,
     #[inline(always)]
     #[tactic(auto, using(crate::proofs::DividerLaws::lines))]
     pub fn clock_after(&self, clocks: u64) -> u64
-        requires quiet { self.now.peripherals.clock + clocks ≤ self.now.event_at }
+        requires no_event { self.now.peripherals.clock + clocks ≤ self.now.event_at }
         ensures value { result ≡ self.now.peripherals.clock + clocks }
         ensures wrap { self.now.peripherals.divider.phase + (self.now.event_at - self.now.peripherals.clock) < DIVIDER_PERIOD }
     {
@@ -86,7 +86,7 @@ impl<V: VectorUnit, P: SoundUnit, C: CellUnit, D: DividerUnit> BoardBus<V, P, C,
     /// The ticks of a clock, which counts as done then. Only a wrap moves a device.
     #[tactic(auto, using(board_base::proofs::TickLaws::next_clock, pokey_chip::proofs::RecordLemmas::lagging, crate::proofs::DividerLaws::lines), unfolding(lockstep_board::specs::Peripherals::devices_ticked))]
     pub(super) fn tick(&mut self)
-        requires begun { self.old.begun ≡ false }
+        requires between { self.old.clock_open ≡ false }
         requires clock { self.old.peripherals.clock < CLOCK_END }
         requires room { self.old.peripherals.clock < self.old.until }
         ensures does { Does self.old self.new (done_clock (devices_ticked self.old.peripherals)) (5 * wraps self.old.peripherals) }
@@ -98,14 +98,14 @@ impl<V: VectorUnit, P: SoundUnit, C: CellUnit, D: DividerUnit> BoardBus<V, P, C,
         }
     }
 
-    /// The ticks of so many clocks in which nothing comes: no device moves.
+    /// The ticks of so many clocks in which no event is due: no device moves.
     #[inline(always)]
     #[tactic(auto, using(crate::proofs::QuietLaws::later_devices, crate::proofs::DividerLaws::lines), unfolding(crate::specs::Quiet::later, crate::specs::Quiet::passed))]
     pub fn pass(&mut self, clocks: u64)
-        requires quiet { self.old.peripherals.clock + clocks ≤ self.old.event_at }
+        requires no_event { self.old.peripherals.clock + clocks ≤ self.old.event_at }
         requires clock { self.old.peripherals.clock + clocks ≤ CLOCK_END }
         requires room { self.old.peripherals.clock + clocks ≤ self.old.until }
-        requires begun { self.old.begun ≡ false }
+        requires between { self.old.clock_open ≡ false }
         ensures value { self.new ≡ passed clocks self.old }
         ensures irq { self.new.peripherals.divider.irq ≡ self.old.peripherals.divider.irq }
         ensures pending { self.new.peripherals.divider.pending ≡ self.old.peripherals.divider.pending }
@@ -116,12 +116,12 @@ impl<V: VectorUnit, P: SoundUnit, C: CellUnit, D: DividerUnit> BoardBus<V, P, C,
     /// Begins a clock before its access: its entries are applied, and the devices tick.
     #[tactic(auto, using(crate::proofs::EventLaws::kept))]
     pub fn begin(&mut self, tape: &Tape)
-        requires accepts { Fits tape.now self.old }
-        requires begun { self.old.begun ≡ false }
+        requires accepts { Accepts tape.now self.old }
+        requires between { self.old.clock_open ≡ false }
         requires clock { self.old.peripherals.clock < CLOCK_END }
         requires room { self.old.peripherals.clock < self.old.until }
-        ensures value { self.new ≡ record self.old { peripherals = done_clock (ticked tape.now.entries self.old.peripherals); begun = true; next = self.new.next; event_at = self.new.event_at; lagging = self.new.lagging; until = self.new.until; calls = self.new.calls } }
-        ensures accepts { Fits tape.now self.new }
+        ensures value { self.new ≡ record self.old { peripherals = done_clock (ticked tape.now.entries self.old.peripherals); clock_open = true; tape_pos = self.new.tape_pos; event_at = self.new.event_at; lagging = self.new.lagging; until = self.new.until; calls = self.new.calls } }
+        ensures accepts { Accepts tape.now self.new }
         ensures until { self.old.until ≤ self.new.until }
         ensures calls { self.new.calls ≤ self.old.calls + ticks_price tape.now.entries self.old.peripherals }
         ensures more { self.old.calls ≤ self.new.calls }
@@ -129,25 +129,25 @@ impl<V: VectorUnit, P: SoundUnit, C: CellUnit, D: DividerUnit> BoardBus<V, P, C,
         ensures written { self.new.peripherals.written ≡ self.old.peripherals.written }
     {
         self.clock_with_events(tape);
-        self.begun = true;
+        self.clock_open = true;
         self.event_at = 0;
     }
 
-    /// Begins the clock of an access, unless it has begun.
+    /// Begins the clock of an access, unless it is open.
     #[tactic(auto, using(crate::proofs::ClockLaws::clocks), unfolding(crate::specs::Bus::in_clock))]
     pub(super) fn enter(&mut self, tape: &Tape)
-        requires accepts { Fits tape.now self.old }
+        requires accepts { Accepts tape.now self.old }
         requires clock { self.old.peripherals.clock < CLOCK_END }
         requires room { self.old.peripherals.clock < self.old.until }
-        ensures value { self.new ≡ record self.old { peripherals = done_clock (in_clock tape.now.entries self.old.begun self.old.peripherals); begun = false; next = self.new.next; event_at = self.new.event_at; lagging = self.new.lagging; until = self.new.until; calls = self.new.calls } }
-        ensures accepts { Fits tape.now self.new }
+        ensures value { self.new ≡ record self.old { peripherals = done_clock (in_clock tape.now.entries self.old.clock_open self.old.peripherals); clock_open = false; tape_pos = self.new.tape_pos; event_at = self.new.event_at; lagging = self.new.lagging; until = self.new.until; calls = self.new.calls } }
+        ensures accepts { Accepts tape.now self.new }
         ensures until { self.old.until ≤ self.new.until }
-        ensures calls { self.new.calls ≤ self.old.calls + begin_price tape.now.entries self.old.begun self.old.peripherals }
+        ensures calls { self.new.calls ≤ self.old.calls + begin_price tape.now.entries self.old.clock_open self.old.peripherals }
         ensures more { self.old.calls ≤ self.new.calls }
-        ensures begun { 1 ≤ self.new.peripherals.clock }
+        ensures clock_done { 1 ≤ self.new.peripherals.clock }
     {
-        if self.begun {
-            self.begun = false;
+        if self.clock_open {
+            self.clock_open = false;
             self.look_ahead(tape);
         } else if self.clock < self.event_at {
             self.pass(1);

@@ -75,7 +75,7 @@ fn new_bytes(alloc: Global, image: &Image, state: &BoardState) -> Result<BoardBy
 }
 
 impl<V: VectorUnit, P: SoundUnit, C: CellUnit, D: DividerUnit> BoardBus<V, P, C, D> {
-    /// The peripherals of a board over an image. All the memory that the board ever needs is taken here.
+    /// The peripherals of a board over an image. It allocates all the memory that the board needs.
     pub fn new(
         alloc: Global,
         image: &Image,
@@ -84,7 +84,7 @@ impl<V: VectorUnit, P: SoundUnit, C: CellUnit, D: DividerUnit> BoardBus<V, P, C,
         wired: bool,
     ) -> Result<BoardBus<V, P, C, D>, OutOfMemory>
         ensures peripherals { IfOk result (λ bus. bus.peripherals ≡ peripherals_of image.now wired state.now) }
-        ensures between { IfOk result (λ bus. bus.begun ≡ false) }
+        ensures between { IfOk result (λ bus. bus.clock_open ≡ false) }
         ensures settled { IfOk result (λ bus. bus.lagging ≡ none_lags) }
         ensures calls { IfOk result (λ bus. bus.calls ≡ min (V.calls devices.vector + P.calls devices.sound1 + P.calls devices.sound2
             + C.calls devices.cells + D.calls devices.divider + 5) (2 ^ 64 - 1)) }
@@ -110,7 +110,7 @@ impl<V: VectorUnit, P: SoundUnit, C: CellUnit, D: DividerUnit> BoardBus<V, P, C,
         requires ram { bytes.ram.items ≡ state.now.ram }
         requires program { length bytes.program.items ≡ PROGRAM_ROM_LEN }
         ensures peripherals { result.peripherals ≡ peripherals_over wired state.now bytes.memory bytes.program.items }
-        ensures between { result.begun ≡ false }
+        ensures between { result.clock_open ≡ false }
         ensures settled { result.lagging ≡ none_lags }
         ensures calls { result.calls ≡ min (V.calls devices.vector + P.calls devices.sound1 + P.calls devices.sound2
             + C.calls devices.cells + D.calls devices.divider + 5) (2 ^ 64 - 1) }
@@ -146,9 +146,9 @@ impl<V: VectorUnit, P: SoundUnit, C: CellUnit, D: DividerUnit> BoardBus<V, P, C,
             in3: state.in3,
             in4: state.in4,
             clock,
-            begun: false,
+            clock_open: false,
             wrap_at,
-            next: 0,
+            tape_pos: 0,
             event_at: 0,
             written: trails.written,
         }
@@ -158,7 +158,7 @@ impl<V: VectorUnit, P: SoundUnit, C: CellUnit, D: DividerUnit> BoardBus<V, P, C,
     #[tactic(auto, using(board_base::proofs::TickLaws::level, crate::proofs::SettledLaws::settled, crate::proofs::SettledLaws::synced, crate::proofs::MemoryLaws::loads))]
     pub fn load(&mut self, state: &BoardState)
         requires settled { lagging_of self.old.lagging ≡ 0 }
-        requires between { self.old.begun ≡ false }
+        requires between { self.old.clock_open ≡ false }
         requires strokes { self.old.peripherals.strokes ≡ [] }
         requires levels1 { self.old.peripherals.levels1 ≡ [] }
         requires levels2 { self.old.peripherals.levels2 ≡ [] }

@@ -5,7 +5,7 @@ ghost use Rattle.tape_ports.specs.Ports.{IsPort};
 ghost use Rattle.tape_ports.specs.Tape.{IsTape};
 ghost use Rattle.lockstep_board.specs.Budget.{ticks_price};
 ghost use Rattle.catchup_engine.specs.Events.{deadlines_of, next_event_of};
-ghost use Rattle.catchup_engine.specs.Bus.{ComesNext, Does, Fits, IsTapePlace, done_clock};
+ghost use Rattle.catchup_engine.specs.Bus.{ComesNext, Does, Accepts, IsTapePlace, done_clock};
 ghost use Rattle.lockstep_board.specs.Peripherals.{applied, ticked};
 
 use crate::bus::BoardBus;
@@ -30,28 +30,28 @@ impl<V: VectorUnit, P: SoundUnit, C: CellUnit, D: DividerUnit> BoardBus<V, P, C,
 
     /// Applies the entries of the present clock.
     fn apply_due(&mut self, tape: &Tape)
-        requires accepts { Fits tape.now self.old }
-        ensures value { self.new ≡ record self.old { peripherals = applied (due_at self.old.peripherals.clock tape.now.entries) self.old.peripherals; next = self.new.next; lagging = self.new.lagging; until = self.new.until; calls = self.new.calls } }
-        ensures next { IsTapePlace tape.now (self.old.peripherals.clock + 1) self.new.next }
+        requires accepts { Accepts tape.now self.old }
+        ensures value { self.new ≡ record self.old { peripherals = applied (due_at self.old.peripherals.clock tape.now.entries) self.old.peripherals; tape_pos = self.new.tape_pos; lagging = self.new.lagging; until = self.new.until; calls = self.new.calls } }
+        ensures tape_pos { IsTapePlace tape.now (self.old.peripherals.clock + 1) self.new.tape_pos }
         ensures until { self.old.until ≤ self.new.until }
         ensures calls { self.new.calls ≤ self.old.calls + 5 * length (due_at self.old.peripherals.clock tape.now.entries) }
         ensures more { self.old.calls ≤ self.new.calls }
     {
         let after = tape.first_from(self.clock + 1);
-        let due = due_entries(tape, self.next, after, self.clock);
+        let due = due_entries(tape, self.tape_pos, after, self.clock);
         self.apply(due);
-        self.next = after;
+        self.tape_pos = after;
     }
 
-    /// Does a clock's entries and ticks, whether something comes in it or not.
+    /// Does a clock's entries and ticks, whether an event is due in it or not.
     #[tactic(auto, using(crate::proofs::EventLaws::events), unfolding(lockstep_board::specs::Peripherals::ticked, lockstep_board::specs::Budget::ticks_price))]
     pub(super) fn clock_with_events(&mut self, tape: &Tape)
-        requires accepts { Fits tape.now self.old }
-        requires begun { self.old.begun ≡ false }
+        requires accepts { Accepts tape.now self.old }
+        requires between { self.old.clock_open ≡ false }
         requires clock { self.old.peripherals.clock < CLOCK_END }
         requires room { self.old.peripherals.clock < self.old.until }
-        ensures value { self.new ≡ record self.old { peripherals = done_clock (ticked tape.now.entries self.old.peripherals); next = self.new.next; event_at = self.new.event_at; lagging = self.new.lagging; until = self.new.until; calls = self.new.calls } }
-        ensures accepts { Fits tape.now self.new }
+        ensures value { self.new ≡ record self.old { peripherals = done_clock (ticked tape.now.entries self.old.peripherals); tape_pos = self.new.tape_pos; event_at = self.new.event_at; lagging = self.new.lagging; until = self.new.until; calls = self.new.calls } }
+        ensures accepts { Accepts tape.now self.new }
         ensures until { self.old.until ≤ self.new.until }
         ensures calls { self.new.calls ≤ self.old.calls + ticks_price tape.now.entries self.old.peripherals }
         ensures more { self.old.calls ≤ self.new.calls }
@@ -61,39 +61,39 @@ impl<V: VectorUnit, P: SoundUnit, C: CellUnit, D: DividerUnit> BoardBus<V, P, C,
         self.look_ahead(tape);
     }
 
-    /// Looks for the next event, where the entries past are those of the clocks done.
+    /// Looks for the next event, where the entries before `tape_pos` are those of the clocks done.
     pub(super) fn look_ahead(&mut self, tape: &Tape)
-        requires begun { self.old.begun ≡ false }
-        requires place { IsTapePlace tape.now self.old.peripherals.clock self.old.next }
+        requires between { self.old.clock_open ≡ false }
+        requires place { IsTapePlace tape.now self.old.peripherals.clock self.old.tape_pos }
         ensures value { self.new ≡ record self.old { event_at = self.new.event_at } }
-        ensures accepts { Fits tape.now self.new }
+        ensures accepts { Accepts tape.now self.new }
     {
         // opens the tape
         let _entries = tape.entries();
-        self.event_at = next_event(tape, self.next, self.wrap_at);
+        self.event_at = next_event(tape, self.tape_pos, self.wrap_at);
     }
 
-    /// Takes note of a tape before a run: which entries are past, and when something comes next.
+    /// Looks at a tape before a run: which entries are past, and when the next event is due.
     pub fn look_at(&mut self, tape: &Tape)
-        requires begun { self.old.begun ≡ false }
-        ensures value { self.new ≡ record self.old { next = self.new.next; event_at = self.new.event_at } }
-        ensures accepts { Fits tape.now self.new }
+        requires between { self.old.clock_open ≡ false }
+        ensures value { self.new ≡ record self.old { tape_pos = self.new.tape_pos; event_at = self.new.event_at } }
+        ensures accepts { Accepts tape.now self.new }
     {
-        self.next = tape.first_from(self.clock);
+        self.tape_pos = tape.first_from(self.clock);
         self.look_ahead(tape);
     }
 }
 
 /// The entries due at a clock: those from its place up to the place of the next clock.
 #[tactic(auto, using(crate::proofs::TapeLaws::due_entries))]
-fn due_entries(tape: &Tape, next: usize, after: usize, clock: u64) -> &[TapeEntry]
-    requires next { IsTapePlace tape.now clock next }
+fn due_entries(tape: &Tape, tape_pos: usize, after: usize, clock: u64) -> &[TapeEntry]
+    requires tape_pos { IsTapePlace tape.now clock tape_pos }
     requires after { IsTapePlace tape.now (clock + 1) after }
     ensures due { result.now ≡ due_at clock tape.now.entries }
     ensures ports { All (λ entry. IsPort entry.port) result.now }
 {
     let entries = tape.entries();
-    &entries[next..after]
+    &entries[tape_pos..after]
 }
 
 /// The names of the deadlines: the divider's next wrap, and the tape's next entry.
@@ -125,12 +125,12 @@ fn least_event(wrap: u64, entry: Option<u64>) -> u64
 }
 
 /// The clock of the entry at a place, where there is one.
-fn entry_at(tape: &Tape, next: usize) -> Option<u64>
-    ensures { IsTape tape.now → ComesNext tape.now next result }
+fn entry_at(tape: &Tape, tape_pos: usize) -> Option<u64>
+    ensures { IsTape tape.now → ComesNext tape.now tape_pos result }
 {
     let entries = tape.entries();
-    if next < entries.len() {
-        Some(entries[next].clock)
+    if tape_pos < entries.len() {
+        Some(entries[tape_pos].clock)
     } else {
         None
     }
@@ -139,10 +139,10 @@ fn entry_at(tape: &Tape, next: usize) -> Option<u64>
 /// The clock before which no entry is due and the divider doesn't wrap, from an entry's place and
 /// the clock at which the wrap is done.
 #[tactic(auto, using(crate::proofs::TapeLaws::comes))]
-fn next_event(tape: &Tape, next: usize, wrap_at: u64) -> u64
+fn next_event(tape: &Tape, tape_pos: usize, wrap_at: u64) -> u64
     requires { 0 < wrap_at }
     ensures wrap { result < wrap_at }
-    ensures entries { IsTape tape.now → All (λ entry. result ≤ entry.clock) (drop next tape.now.entries) }
+    ensures entries { IsTape tape.now → All (λ entry. result ≤ entry.clock) (drop tape_pos tape.now.entries) }
 {
-    least_event(wrap_at - 1, entry_at(tape, next))
+    least_event(wrap_at - 1, entry_at(tape, tape_pos))
 }

@@ -22,11 +22,11 @@ impl<V: VectorUnit, P: SoundUnit, C: CellUnit, D: DividerUnit> BoardBus<V, P, C,
             || self.sound2.asserts_irq(self.clock)
     }
 
-    /// The interrupt line after the next clock's ticks, where nothing comes in it.
+    /// The interrupt line after the next clock's ticks, where no event is due in it.
     #[inline(always)]
     #[tactic(auto, using(crate::proofs::DividerLaws::next_lines), unfolding(lockstep_board::specs::Peripherals::line_of, lockstep_board::specs::Peripherals::devices_ticked))]
     pub fn next_line(&self) -> bool
-        requires quiet { self.now.peripherals.clock < self.now.event_at }
+        requires no_event { self.now.peripherals.clock < self.now.event_at }
         requires clock { self.now.peripherals.clock < CLOCK_END }
         ensures { result ≡ line_of (devices_ticked self.now.peripherals) }
     {
@@ -52,11 +52,11 @@ impl<V: VectorUnit, P: SoundUnit, C: CellUnit, D: DividerUnit> BoardBus<V, P, C,
         self.divider.unit.pending()
     }
 
-    /// The reset that is pending after the next clock's ticks, where nothing comes in it.
+    /// The reset that is pending after the next clock's ticks, where no event is due in it.
     #[inline(always)]
     #[tactic(auto, using(crate::proofs::DividerLaws::next_lines), unfolding(lockstep_board::specs::Peripherals::devices_ticked))]
     pub fn next_pending(&self) -> Pending
-        requires quiet { self.now.peripherals.clock < self.now.event_at }
+        requires no_event { self.now.peripherals.clock < self.now.event_at }
         ensures { result ≡ (devices_ticked self.now.peripherals).divider.pending }
     {
         self.divider.unit.pending()
@@ -67,7 +67,7 @@ impl<V: VectorUnit, P: SoundUnit, C: CellUnit, D: DividerUnit> BoardBus<V, P, C,
     #[tactic(auto, using(board_base::proofs::TickLaws::level, crate::proofs::DividerLaws::lines), unfolding(lockstep_board::specs::Peripherals::reset_begun))]
     pub fn begin_reset(&mut self)
         requires room { length self.old.peripherals.written < self.old.rooms.board }
-        requires begun { 1 ≤ self.old.peripherals.clock }
+        requires clock_done { 1 ≤ self.old.peripherals.clock }
         ensures does { Does self.old self.new (at_clock self.old.peripherals.clock (reset_begun (at_clock (self.old.peripherals.clock - 1) self.old.peripherals))) 4 }
         ensures few { length self.new.peripherals.written ≤ length self.old.peripherals.written + 1 }
         ensures clock { self.new.peripherals.clock ≡ self.old.peripherals.clock }
@@ -80,7 +80,7 @@ impl<V: VectorUnit, P: SoundUnit, C: CellUnit, D: DividerUnit> BoardBus<V, P, C,
         }
     }
 
-    /// Tells the divider that its pending reset is being taken, and which it is.
+    /// Takes the divider's pending reset, and returns which it is.
     #[tactic(auto, using(crate::proofs::DividerLaws::latches))]
     fn take_reset(&mut self) -> Pending
         ensures pending { result ≡ self.old.peripherals.divider.pending }
@@ -94,7 +94,7 @@ impl<V: VectorUnit, P: SoundUnit, C: CellUnit, D: DividerUnit> BoardBus<V, P, C,
     /// Clears the output latch, and records the watchdog's reset.
     fn record_reset(&mut self)
         requires room { length self.old.peripherals.written < self.old.rooms.board }
-        requires begun { 1 ≤ self.old.peripherals.clock }
+        requires clock_done { 1 ≤ self.old.peripherals.clock }
         ensures { self.new ≡ record self.old {
           peripherals = record self.old.peripherals {
             out = 0;

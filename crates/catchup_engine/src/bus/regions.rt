@@ -46,7 +46,7 @@ impl<V: VectorUnit, P: SoundUnit, C: CellUnit, D: DividerUnit> BoardBus<V, P, C,
     #[inline(never)]
     fn latch(&mut self, value: u8)
         requires room { length self.old.peripherals.written < self.old.rooms.board }
-        requires begun { 1 ≤ self.old.peripherals.clock }
+        requires clock_done { 1 ≤ self.old.peripherals.clock }
         ensures { self.new ≡ record self.old {
           peripherals = record self.old.peripherals {
             out = value;
@@ -86,8 +86,8 @@ impl<V: VectorUnit, P: SoundUnit, C: CellUnit, D: DividerUnit> BoardBus<V, P, C,
         self.program[usize::from(addr) - usize::from(PROGRAM_START)]
     }
 
-    /// The byte at an address of the RAM or of the program ROM. A read gives it as long as these two
-    /// stay, whatever the devices do.
+    /// The byte at an address of the RAM or of the program ROM. A read returns it as long as these
+    /// two don't change, whatever the devices do.
     #[inline(always)]
     pub fn private_byte(&self, addr: u16) -> u8
         requires { is_private addr ≡ true }
@@ -109,7 +109,7 @@ impl<V: VectorUnit, P: SoundUnit, C: CellUnit, D: DividerUnit> BoardBus<V, P, C,
         self.ram[k as usize] = value;
     }
 
-    /// The byte that a read of an address gives, in the clock that counts as done.
+    /// The byte that a read of an address returns, in the clock that counts as done.
     #[inline(never)]
     pub fn byte(&mut self, addr: u16) -> u8
         ensures byte { result ≡ byte_read addr (at_clock (self.old.peripherals.clock - 1) self.old.peripherals) }
@@ -119,7 +119,7 @@ impl<V: VectorUnit, P: SoundUnit, C: CellUnit, D: DividerUnit> BoardBus<V, P, C,
         self.byte_by(addr, row(addr))
     }
 
-    /// The byte that a read of an address gives, by the address's row of the map.
+    /// The byte that a read of an address returns, by the address's row of the map.
     #[inline(always)]
     #[tactic(auto, using(board_base::proofs::TickLaws::level, crate::proofs::SettledLaws::settled, crate::proofs::SettledLaws::synced), unfolding(lockstep_board::specs::Peripherals::byte_read, lockstep_board::specs::Budget::reaches_device))]
     pub fn byte_by(&mut self, addr: u16, row: Row) -> u8
@@ -149,7 +149,7 @@ impl<V: VectorUnit, P: SoundUnit, C: CellUnit, D: DividerUnit> BoardBus<V, P, C,
     #[inline(never)]
     pub fn put(&mut self, addr: u16, value: u8)
         requires room { length self.old.peripherals.written < self.old.rooms.board }
-        requires begun { 1 ≤ self.old.peripherals.clock }
+        requires clock_done { 1 ≤ self.old.peripherals.clock }
         ensures does { Does self.old self.new (at_clock self.old.peripherals.clock (byte_put addr value (at_clock (self.old.peripherals.clock - 1) self.old.peripherals))) (2 * from_bool (reaches_device (write_of addr value))) }
         ensures few { length self.new.peripherals.written ≤ length self.old.peripherals.written + 1 }
     {
@@ -163,7 +163,7 @@ impl<V: VectorUnit, P: SoundUnit, C: CellUnit, D: DividerUnit> BoardBus<V, P, C,
         requires row { row ≡ row_of addr }
         requires inside { IsWithin row }
         requires room { length self.old.peripherals.written < self.old.rooms.board }
-        requires begun { 1 ≤ self.old.peripherals.clock }
+        requires clock_done { 1 ≤ self.old.peripherals.clock }
         ensures does { Does self.old self.new (at_clock self.old.peripherals.clock (byte_put addr value (at_clock (self.old.peripherals.clock - 1) self.old.peripherals))) (2 * from_bool (reaches_device (write_of addr value))) }
         ensures few { length self.new.peripherals.written ≤ length self.old.peripherals.written + 1 }
     {

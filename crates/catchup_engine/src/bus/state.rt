@@ -1,19 +1,27 @@
-//! The board at rest: its devices synced, its state, and its records.
-ghost use Rattle.std.specs.Prelude.{◌≡◌, ◌+◌, ◌≤◌, ◌<◌, ◌==◌, IsSome, []};
+//! The board with its devices synced: its state, and its records.
+ghost use Rattle.std.specs.Prelude.{◌≡◌, ◌+◌, ◌≤◌, ◌<◌, ◌==◌, All, IsSome, []};
 ghost use Rattle.catchup_engine.specs.Lags.{all_lag, lagging_among, lagging_of, none_lags, with_brought};
 ghost use Rattle.lockstep_board.specs.Peripherals.{board_of};
 
 use crate::bus::clocking::catch_up_divider;
 use crate::bus::{BoardBus, TRAIL_ROOM};
 use avg_device::VectorUnit;
-use board_base::{BoardState, CLOCK_LIMIT, CpuState, DIVIDER_PERIOD, Trails};
+use board_base::{BoardState, CLOCK_LIMIT, CpuState, DIVIDER_PERIOD, PokeyState, Trails};
 use earom_cells::CellUnit;
 use irq_watchdog::DividerUnit;
 use lockstep_board::{ALL_DEVICES, DeviceSet};
 use pokey_chip::SoundUnit;
 
+/// The levels of the four channels of a POKEY.
+fn levels_of(sound: &PokeyState) -> [u8; 4]
+    ensures last { result ≡ sound.now.last }
+    ensures range { All (λ level. level < 16) result }
+{
+    sound.last
+}
+
 impl<V: VectorUnit, P: SoundUnit, C: CellUnit, D: DividerUnit> BoardBus<V, P, C, D> {
-    /// Brings the generator to the present, by one call where it lags and by none where it stands there.
+    /// Moves the generator to the present clock: one call where it lags, and none where it doesn't.
     #[tactic(auto, using(board_base::proofs::TickLaws::level, crate::proofs::SettledLaws::synced))]
     pub(super) fn sync_vector(&mut self)
         ensures value { self.new ≡ record self.old { lagging = record self.old.lagging { vector = 0 }; until = self.new.until; calls = self.new.calls } }
@@ -25,7 +33,7 @@ impl<V: VectorUnit, P: SoundUnit, C: CellUnit, D: DividerUnit> BoardBus<V, P, C,
         self.vector.catch_up(&self.memory, self.clock);
     }
 
-    /// Brings POKEY 1 to the present, by one call where it lags and by none where it stands there.
+    /// Moves POKEY 1 to the present clock: one call where it lags, and none where it doesn't.
     #[tactic(auto, using(board_base::proofs::TickLaws::level, crate::proofs::SettledLaws::synced))]
     pub(super) fn sync_sound1(&mut self)
         ensures value { self.new ≡ record self.old { lagging = record self.old.lagging { sound1 = 0 }; until = self.new.until; calls = self.new.calls } }
@@ -37,7 +45,7 @@ impl<V: VectorUnit, P: SoundUnit, C: CellUnit, D: DividerUnit> BoardBus<V, P, C,
         self.sound1.catch_up(self.clock);
     }
 
-    /// Brings POKEY 2 to the present, by one call where it lags and by none where it stands there.
+    /// Moves POKEY 2 to the present clock: one call where it lags, and none where it doesn't.
     #[tactic(auto, using(board_base::proofs::TickLaws::level, crate::proofs::SettledLaws::synced))]
     pub(super) fn sync_sound2(&mut self)
         ensures value { self.new ≡ record self.old { lagging = record self.old.lagging { sound2 = 0 }; until = self.new.until; calls = self.new.calls } }
@@ -49,7 +57,7 @@ impl<V: VectorUnit, P: SoundUnit, C: CellUnit, D: DividerUnit> BoardBus<V, P, C,
         self.sound2.catch_up(self.clock);
     }
 
-    /// Brings the EAROM to the present, by one call where it lags and by none where it stands there.
+    /// Moves the EAROM to the present clock: one call where it lags, and none where it doesn't.
     #[tactic(auto, using(board_base::proofs::TickLaws::level, crate::proofs::SettledLaws::synced))]
     pub(super) fn sync_cells(&mut self)
         ensures value { self.new ≡ record self.old { lagging = record self.old.lagging { cells = 0 }; until = self.new.until; calls = self.new.calls } }
@@ -62,7 +70,7 @@ impl<V: VectorUnit, P: SoundUnit, C: CellUnit, D: DividerUnit> BoardBus<V, P, C,
             .catch_up(self.clock, |cells, clocks| cells.advance(clocks));
     }
 
-    /// Brings the divider to the present, by one call where it lags and by none where it stands there.
+    /// Moves the divider to the present clock: one call where it lags, and none where it doesn't.
     #[tactic(auto, using(board_base::proofs::TickLaws::level, crate::proofs::DividerLaws::lines, crate::proofs::SettledLaws::synced))]
     pub(super) fn sync_divider(&mut self)
         ensures value { self.new ≡ record self.old { lagging = record self.old.lagging { divider = 0 }; until = self.new.until; calls = self.new.calls } }
@@ -74,7 +82,7 @@ impl<V: VectorUnit, P: SoundUnit, C: CellUnit, D: DividerUnit> BoardBus<V, P, C,
         catch_up_divider(&mut self.divider, self.clock);
     }
 
-    /// Brings these devices to the present. One that stands there already isn't called.
+    /// Moves these devices to the present clock. One that doesn't lag isn't called.
     #[inline(always)]
     pub(super) fn sync(&mut self, devices: DeviceSet)
         ensures value { self.new ≡ record self.old { lagging = with_brought devices self.old.lagging; until = self.new.until; calls = self.new.calls } }
@@ -100,7 +108,7 @@ impl<V: VectorUnit, P: SoundUnit, C: CellUnit, D: DividerUnit> BoardBus<V, P, C,
         }
     }
 
-    /// Brings each device to the present. One that stands there already isn't called.
+    /// Moves each device to the present clock. One that doesn't lag isn't called.
     pub fn settle(&mut self)
         ensures value { self.new ≡ record self.old { lagging = none_lags; until = self.new.until; calls = self.new.calls } }
         ensures until { self.old.until ≤ self.new.until }
@@ -120,7 +128,7 @@ impl<V: VectorUnit, P: SoundUnit, C: CellUnit, D: DividerUnit> BoardBus<V, P, C,
         self.vector.unit.halted()
     }
 
-    /// Whether each device stands at the present.
+    /// Whether no device lags.
     pub fn is_settled(&self) -> bool
         ensures { result ≡ (lagging_of self.now.lagging == 0) }
     {
@@ -167,6 +175,30 @@ impl<V: VectorUnit, P: SoundUnit, C: CellUnit, D: DividerUnit> BoardBus<V, P, C,
         into.vram.copy_from_slice(self.memory.ram());
     }
 
+    /// The cells of the EAROM.
+    #[tactic(auto, using(board_base::proofs::TickLaws::level, crate::proofs::SettledLaws::settled))]
+    pub fn earom_cells(&self) -> [u8; 64]
+        requires settled { lagging_of self.now.lagging ≡ 0 }
+        ensures { result ≡ self.now.peripherals.earom.cells }
+    {
+        self.cells.unit.state().cells
+    }
+
+    /// The levels of the four channels of POKEY 1, and those of POKEY 2.
+    #[tactic(auto, using(board_base::proofs::TickLaws::level, crate::proofs::SettledLaws::settled))]
+    pub fn sound_levels(&self) -> ([u8; 4], [u8; 4])
+        requires settled { lagging_of self.now.lagging ≡ 0 }
+        ensures sound1 { result.0 ≡ self.now.peripherals.sound1.last }
+        ensures sound2 { result.1 ≡ self.now.peripherals.sound2.last }
+        ensures range1 { All (λ level. level < 16) result.0 }
+        ensures range2 { All (λ level. level < 16) result.1 }
+    {
+        (
+            levels_of(&self.sound1.unit.state()),
+            levels_of(&self.sound2.unit.state()),
+        )
+    }
+
     /// The records of each part since the last clearing.
     #[tactic(auto, using(board_base::proofs::TickLaws::level, crate::proofs::SettledLaws::settled))]
     pub fn trails(&self) -> Trails<'_>
@@ -196,7 +228,7 @@ impl<V: VectorUnit, P: SoundUnit, C: CellUnit, D: DividerUnit> BoardBus<V, P, C,
         self.written.clear();
     }
 
-    /// Each trail of a device has room for the clocks of a window where it is empty. It does nothing.
+    /// States that each trail of a device has room for the clocks of a window where it is empty.
     #[tactic(auto, using(crate::proofs::SettledLaws::settled))]
     pub fn lemma_room(&self)
         requires settled { lagging_of self.now.lagging ≡ 0 }
@@ -208,7 +240,8 @@ impl<V: VectorUnit, P: SoundUnit, C: CellUnit, D: DividerUnit> BoardBus<V, P, C,
         // opens the model
         let _clock = self.clock;
     }
-    /// Tells that the divider stands before its wrap. It does nothing.
+
+    /// States that the divider is before its wrap.
     #[tactic(auto, using(board_base::proofs::TickLaws::level, crate::proofs::SettledLaws::settled))]
     pub fn lemma_phase(&self)
         requires settled { lagging_of self.now.lagging ≡ 0 }

@@ -10,8 +10,8 @@ use Rattle.catchup_engine.proofs.Notes.{opcode_note}
 use Rattle.catchup_engine.proofs.OpcodeLaws.{reads-opcode}
 use Rattle.catchup_engine.proofs.noted.trace_to_horizon.Goals as goal
 
-pub horizon_from-horizon-requires-clause-quiet : goal.horizon_from-horizon-requires-clause-quiet
-horizon_from-horizon-requires-clause-quiet g c = (reads-opcode c.args.cpu c.args.bus.now c.requires.goes_on.reads).reads.quiet
+pub horizon_from-horizon-requires-clause-no_event : goal.horizon_from-horizon-requires-clause-no_event
+horizon_from-horizon-requires-clause-no_event g c = (reads-opcode c.args.cpu c.args.bus.now c.requires.goes_on.reads).reads.no_event
 
 pub horizon_from-horizon-requires-clause-pending : goal.horizon_from-horizon-requires-clause-pending
 horizon_from-horizon-requires-clause-pending g c =
@@ -30,74 +30,74 @@ loop-goes_on-init g c = record {
 pub instruction-fetched-requires-clause-room : goal.instruction-fetched-requires-clause-room
 instruction-fetched-requires-clause-room g c =
     let room = horizon-room c.args.tape.now c.args.limit [] c.horizon_from-horizon.result c.args.cpu c.loop-goes_on.cpu c.args.bus.now c.loop-goes_on.noted.quiet.bus.now
-    c.loop-goes_on.noted.quiet.made c.loop-goes_on.goes_on c.loop-goes_on-test.true c.requires.limit c.requires.room c.loop-goes_on.invariant.at.at in
+    c.loop-goes_on.noted.quiet.elapsed c.loop-goes_on.goes_on c.loop-goes_on-test.true c.requires.limit c.requires.room c.loop-goes_on.invariant.at.at in
     let none = ap length c.begin.ensures.none in
-    let same = ap (λ k. quiet_room k.quiet.made k.quiet.bus.now) c.begin.ensures.same in
+    let same = ap (λ k. quiet_room k.quiet.elapsed k.quiet.bus.now) c.begin.ensures.same in
     omega (arith, room, none, same)
 
 pub overflow_sub-clocks : goal.overflow_sub-clocks
 overflow_sub-clocks g c =
     let t = c.loop-goes_on.noted.quiet.bus.now in
-    let made = c.loop-goes_on.noted.quiet.made in
+    let elapsed = c.loop-goes_on.noted.quiet.elapsed in
     let start =
-    ap (λ l. noting (passed c.begin.new.self.quiet.made c.begin.new.self.quiet.bus.now) l) c.begin.ensures.none
-    ∙ ap (λ k. noting (passed k.quiet.made k.quiet.bus.now) []) c.begin.ensures.same in
+    ap (λ l. noting (passed c.begin.new.self.quiet.elapsed c.begin.new.self.quiet.bus.now) l) c.begin.ensures.none
+    ∙ ap (λ k. noting (passed k.quiet.elapsed k.quiet.bus.now) []) c.begin.ensures.same in
     let did =
-    noted-by c.args.tape.now.entries (λ k. noting (passed k.quiet.made k.quiet.bus.now) k.reached.now) (λ k. k.quiet.bus.now) (λ k. k.quiet.bus.ghost_name)
-    (λ k. k.reached.ghost_name) (λ x a b h. h) c.loop-goes_on.cpu c.instruction-fetched.new.self made t c.begin.new.self c.instruction-fetched.new.bus start
+    noted-by c.args.tape.now.entries (λ k. noting (passed k.quiet.elapsed k.quiet.bus.now) k.reached.now) (λ k. k.quiet.bus.now) (λ k. k.quiet.bus.ghost_name)
+    (λ k. k.reached.ghost_name) (λ x a b h. h) c.loop-goes_on.cpu c.instruction-fetched.new.self elapsed t c.begin.new.self c.instruction-fetched.new.bus start
     (ap (λ k. k.quiet.bus.now) c.begin.ensures.same) c.instruction-fetched.ensures.runs in
     let short =
     noted-short g.T.Tracer.next g.T.Tracer.has_enough c.args.tape.now c.args.limit c.horizon_from-horizon.result c.args.cpu c.loop-goes_on.cpu c.instruction-fetched.new.self
-    c.args.bus.now t c.instruction-fetched.new.bus.quiet.bus.now made c.instruction-fetched.new.bus.quiet.made c.instruction-fetched.new.bus.reached.now c.args.tracer.now
+    c.args.bus.now t c.instruction-fetched.new.bus.quiet.bus.now elapsed c.instruction-fetched.new.bus.quiet.elapsed c.instruction-fetched.new.bus.reached.now c.args.tracer.now
     c.loop-goes_on.tracer c.loop-goes_on.enough c.loop-goes_on.goes_on c.loop-goes_on-test.true c.loop-goes_on.invariant.at did.runs c.instruction-fetched.ensures.boundary in
     let later = short.later in
     let few = short.few in
     let most = short.reached in
-    let from = c.clock-start.ensures ∙ ap (λ k. k.quiet.bus.now.peripherals.clock + k.quiet.made) c.begin.ensures.same in
+    let from = c.clock-start.ensures ∙ ap (λ k. k.quiet.bus.now.peripherals.clock + k.quiet.elapsed) c.begin.ensures.same in
     let to = c.clock.ensures in
     omega (arith, later, from, to)
 
 pub overflow_cast-clocks : goal.overflow_cast-clocks
 overflow_cast-clocks g c =
     let t = c.loop-goes_on.noted.quiet.bus.now in
-    let made = c.loop-goes_on.noted.quiet.made in
+    let elapsed = c.loop-goes_on.noted.quiet.elapsed in
     let start =
-    ap (λ l. noting (passed c.begin.new.self.quiet.made c.begin.new.self.quiet.bus.now) l) c.begin.ensures.none
-    ∙ ap (λ k. noting (passed k.quiet.made k.quiet.bus.now) []) c.begin.ensures.same in
+    ap (λ l. noting (passed c.begin.new.self.quiet.elapsed c.begin.new.self.quiet.bus.now) l) c.begin.ensures.none
+    ∙ ap (λ k. noting (passed k.quiet.elapsed k.quiet.bus.now) []) c.begin.ensures.same in
     let did =
-    noted-by c.args.tape.now.entries (λ k. noting (passed k.quiet.made k.quiet.bus.now) k.reached.now) (λ k. k.quiet.bus.now) (λ k. k.quiet.bus.ghost_name)
-    (λ k. k.reached.ghost_name) (λ x a b h. h) c.loop-goes_on.cpu c.instruction-fetched.new.self made t c.begin.new.self c.instruction-fetched.new.bus start
+    noted-by c.args.tape.now.entries (λ k. noting (passed k.quiet.elapsed k.quiet.bus.now) k.reached.now) (λ k. k.quiet.bus.now) (λ k. k.quiet.bus.ghost_name)
+    (λ k. k.reached.ghost_name) (λ x a b h. h) c.loop-goes_on.cpu c.instruction-fetched.new.self elapsed t c.begin.new.self c.instruction-fetched.new.bus start
     (ap (λ k. k.quiet.bus.now) c.begin.ensures.same) c.instruction-fetched.ensures.runs in
     let short =
     noted-short g.T.Tracer.next g.T.Tracer.has_enough c.args.tape.now c.args.limit c.horizon_from-horizon.result c.args.cpu c.loop-goes_on.cpu c.instruction-fetched.new.self
-    c.args.bus.now t c.instruction-fetched.new.bus.quiet.bus.now made c.instruction-fetched.new.bus.quiet.made c.instruction-fetched.new.bus.reached.now c.args.tracer.now
+    c.args.bus.now t c.instruction-fetched.new.bus.quiet.bus.now elapsed c.instruction-fetched.new.bus.quiet.elapsed c.instruction-fetched.new.bus.reached.now c.args.tracer.now
     c.loop-goes_on.tracer c.loop-goes_on.enough c.loop-goes_on.goes_on c.loop-goes_on-test.true c.loop-goes_on.invariant.at did.runs c.instruction-fetched.ensures.boundary in
     let later = short.later in
     let few = short.few in
     let most = short.reached in
-    let from = c.clock-start.ensures ∙ ap (λ k. k.quiet.bus.now.peripherals.clock + k.quiet.made) c.begin.ensures.same in
+    let from = c.clock-start.ensures ∙ ap (λ k. k.quiet.bus.now.peripherals.clock + k.quiet.elapsed) c.begin.ensures.same in
     let to = c.clock.ensures in
     omega (arith, few, from, to)
 
 pub invariant_of-note : goal.invariant_of-note
 invariant_of-note g c =
     let t = c.loop-goes_on.noted.quiet.bus.now in
-    let made = c.loop-goes_on.noted.quiet.made in
+    let elapsed = c.loop-goes_on.noted.quiet.elapsed in
     let start =
-    ap (λ l. noting (passed c.begin.new.self.quiet.made c.begin.new.self.quiet.bus.now) l) c.begin.ensures.none
-    ∙ ap (λ k. noting (passed k.quiet.made k.quiet.bus.now) []) c.begin.ensures.same in
+    ap (λ l. noting (passed c.begin.new.self.quiet.elapsed c.begin.new.self.quiet.bus.now) l) c.begin.ensures.none
+    ∙ ap (λ k. noting (passed k.quiet.elapsed k.quiet.bus.now) []) c.begin.ensures.same in
     let did =
-    noted-by c.args.tape.now.entries (λ k. noting (passed k.quiet.made k.quiet.bus.now) k.reached.now) (λ k. k.quiet.bus.now) (λ k. k.quiet.bus.ghost_name)
-    (λ k. k.reached.ghost_name) (λ x a b h. h) c.loop-goes_on.cpu c.instruction-fetched.new.self made t c.begin.new.self c.instruction-fetched.new.bus start
+    noted-by c.args.tape.now.entries (λ k. noting (passed k.quiet.elapsed k.quiet.bus.now) k.reached.now) (λ k. k.quiet.bus.now) (λ k. k.quiet.bus.ghost_name)
+    (λ k. k.reached.ghost_name) (λ x a b h. h) c.loop-goes_on.cpu c.instruction-fetched.new.self elapsed t c.begin.new.self c.instruction-fetched.new.bus start
     (ap (λ k. k.quiet.bus.now) c.begin.ensures.same) c.instruction-fetched.ensures.runs in
     let short =
     noted-short g.T.Tracer.next g.T.Tracer.has_enough c.args.tape.now c.args.limit c.horizon_from-horizon.result c.args.cpu c.loop-goes_on.cpu c.instruction-fetched.new.self
-    c.args.bus.now t c.instruction-fetched.new.bus.quiet.bus.now made c.instruction-fetched.new.bus.quiet.made c.instruction-fetched.new.bus.reached.now c.args.tracer.now
+    c.args.bus.now t c.instruction-fetched.new.bus.quiet.bus.now elapsed c.instruction-fetched.new.bus.quiet.elapsed c.instruction-fetched.new.bus.reached.now c.args.tracer.now
     c.loop-goes_on.tracer c.loop-goes_on.enough c.loop-goes_on.goes_on c.loop-goes_on-test.true c.loop-goes_on.invariant.at did.runs c.instruction-fetched.ensures.boundary in
     let later = short.later in
     let few = short.few in
     let most = short.reached in
-    let from = c.clock-start.ensures ∙ ap (λ k. k.quiet.bus.now.peripherals.clock + k.quiet.made) c.begin.ensures.same in
+    let from = c.clock-start.ensures ∙ ap (λ k. k.quiet.bus.now.peripherals.clock + k.quiet.elapsed) c.begin.ensures.same in
     let to = c.clock.ensures in
     let same = ap length c.as_slice.ensures in
     record { clocks = omega (arith, few, from, to); reached = omega (arith, most, from, to, same) }
@@ -105,37 +105,37 @@ invariant_of-note g c =
 pub loop-goes_on-smaller : goal.loop-goes_on-smaller
 loop-goes_on-smaller g c =
     let t = c.loop-goes_on.noted.quiet.bus.now in
-    let made = c.loop-goes_on.noted.quiet.made in
+    let elapsed = c.loop-goes_on.noted.quiet.elapsed in
     let start =
-    ap (λ l. noting (passed c.begin.new.self.quiet.made c.begin.new.self.quiet.bus.now) l) c.begin.ensures.none
-    ∙ ap (λ k. noting (passed k.quiet.made k.quiet.bus.now) []) c.begin.ensures.same in
+    ap (λ l. noting (passed c.begin.new.self.quiet.elapsed c.begin.new.self.quiet.bus.now) l) c.begin.ensures.none
+    ∙ ap (λ k. noting (passed k.quiet.elapsed k.quiet.bus.now) []) c.begin.ensures.same in
     let did =
-    noted-by c.args.tape.now.entries (λ k. noting (passed k.quiet.made k.quiet.bus.now) k.reached.now) (λ k. k.quiet.bus.now) (λ k. k.quiet.bus.ghost_name)
-    (λ k. k.reached.ghost_name) (λ x a b h. h) c.loop-goes_on.cpu c.instruction-fetched.new.self made t c.begin.new.self c.instruction-fetched.new.bus start
+    noted-by c.args.tape.now.entries (λ k. noting (passed k.quiet.elapsed k.quiet.bus.now) k.reached.now) (λ k. k.quiet.bus.now) (λ k. k.quiet.bus.ghost_name)
+    (λ k. k.reached.ghost_name) (λ x a b h. h) c.loop-goes_on.cpu c.instruction-fetched.new.self elapsed t c.begin.new.self c.instruction-fetched.new.bus start
     (ap (λ k. k.quiet.bus.now) c.begin.ensures.same) c.instruction-fetched.ensures.runs in
     noted-smaller g.T.Tracer.next g.T.Tracer.has_enough c.args.tape.now c.args.limit c.horizon_from-horizon.result c.args.cpu c.loop-goes_on.cpu c.instruction-fetched.new.self
-    c.args.bus.now t c.instruction-fetched.new.bus.quiet.bus.now made c.instruction-fetched.new.bus.quiet.made c.instruction-fetched.new.bus.reached.now c.args.tracer.now
+    c.args.bus.now t c.instruction-fetched.new.bus.quiet.bus.now elapsed c.instruction-fetched.new.bus.quiet.elapsed c.instruction-fetched.new.bus.reached.now c.args.tracer.now
     c.loop-goes_on.tracer c.loop-goes_on.enough c.loop-goes_on.goes_on c.loop-goes_on-test.true c.loop-goes_on.invariant.at did.runs c.instruction-fetched.ensures.boundary
 
 pub loop-goes_on-preserved : goal.loop-goes_on-preserved
 loop-goes_on-preserved g c =
     let t = c.loop-goes_on.noted.quiet.bus.now in
-    let made = c.loop-goes_on.noted.quiet.made in
+    let elapsed = c.loop-goes_on.noted.quiet.elapsed in
     let start =
-    ap (λ l. noting (passed c.begin.new.self.quiet.made c.begin.new.self.quiet.bus.now) l) c.begin.ensures.none
-    ∙ ap (λ k. noting (passed k.quiet.made k.quiet.bus.now) []) c.begin.ensures.same in
+    ap (λ l. noting (passed c.begin.new.self.quiet.elapsed c.begin.new.self.quiet.bus.now) l) c.begin.ensures.none
+    ∙ ap (λ k. noting (passed k.quiet.elapsed k.quiet.bus.now) []) c.begin.ensures.same in
     let did =
-    noted-by c.args.tape.now.entries (λ k. noting (passed k.quiet.made k.quiet.bus.now) k.reached.now) (λ k. k.quiet.bus.now) (λ k. k.quiet.bus.ghost_name)
-    (λ k. k.reached.ghost_name) (λ x a b h. h) c.loop-goes_on.cpu c.instruction-fetched.new.self made t c.begin.new.self c.instruction-fetched.new.bus start
+    noted-by c.args.tape.now.entries (λ k. noting (passed k.quiet.elapsed k.quiet.bus.now) k.reached.now) (λ k. k.quiet.bus.now) (λ k. k.quiet.bus.ghost_name)
+    (λ k. k.reached.ghost_name) (λ x a b h. h) c.loop-goes_on.cpu c.instruction-fetched.new.self elapsed t c.begin.new.self c.instruction-fetched.new.bus start
     (ap (λ k. k.quiet.bus.now) c.begin.ensures.same) c.instruction-fetched.ensures.runs in
     let u = c.instruction-fetched.new.bus.quiet.bus.now in
-    let n = c.instruction-fetched.new.bus.quiet.made in
+    let n = c.instruction-fetched.new.bus.quiet.elapsed in
     let clocks = c.clock.result - c.clock-start.result in
-    let from = c.clock-start.ensures ∙ ap (λ k. k.quiet.bus.now.peripherals.clock + k.quiet.made) c.begin.ensures.same in
+    let from = c.clock-start.ensures ∙ ap (λ k. k.quiet.bus.now.peripherals.clock + k.quiet.elapsed) c.begin.ensures.same in
     record {
       at =
           noted-goes g.T.Tracer.next g.T.Tracer.has_enough c.args.tape.now c.args.limit c.horizon_from-horizon.result c.args.cpu c.loop-goes_on.cpu c.instruction-fetched.new.self
-          c.args.bus.now t u made n c.byte_at-opcode.result clocks c.instruction-fetched.new.bus.reached.now c.args.tracer.now c.loop-goes_on.tracer c.turn-enough.new.self
+          c.args.bus.now t u elapsed n c.byte_at-opcode.result clocks c.instruction-fetched.new.bus.reached.now c.args.tracer.now c.loop-goes_on.tracer c.turn-enough.new.self
           c.loop-goes_on.enough c.loop-goes_on.goes_on c.goes_on-goes_on.result c.turn-enough.result c.loop-goes_on-test.true c.requires.limit c.loop-goes_on.invariant.at
           did.runs c.instruction-fetched.ensures.boundary c.instruction-fetched.ensures.accepts.0 did.lines
           (λ w ram program. c.byte_at-opcode.ensures w (ram ∙ sym (ap (λ k. k.quiet.bus.now.peripherals.ram) c.begin.ensures.same))

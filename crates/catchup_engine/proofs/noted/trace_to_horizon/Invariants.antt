@@ -5,10 +5,10 @@ use Rattle.catchup_engine.proofs.noted.trace_to_horizon.Given as goal
 
 abbrev pub invariant-loop-goes_on : goal.invariant-loop-goes_on
 invariant-loop-goes_on g l = record {
-  at : AtNoted g.T.Tracer.next g.T.Tracer.has_enough l.tape l.limit l.horizon l.fn.cpu l.fn.bus l.noted.quiet.made l.noted.quiet.bus.now l.cpu l.fn.tracer l.tracer l.enough l.goes_on;
+  at : AtNoted g.T.Tracer.next g.T.Tracer.has_enough l.tape l.limit l.horizon l.fn.cpu l.fn.bus l.noted.quiet.elapsed l.noted.quiet.bus.now l.cpu l.fn.tracer l.tracer l.enough l.goes_on;
   bus : l.noted.quiet.bus.ghost_name ≡ l.initial.noted.quiet.bus.ghost_name;
   reached : l.noted.reached.ghost_name ≡ l.initial.noted.reached.ghost_name;
 }
 
 abbrev pub decreases-loop-goes_on : goal.decreases-loop-goes_on
-decreases-loop-goes_on g l = l.limit - (passed l.noted.quiet.made l.noted.quiet.bus.now).peripherals.clock
+decreases-loop-goes_on g l = l.limit - (passed l.noted.quiet.elapsed l.noted.quiet.bus.now).peripherals.clock

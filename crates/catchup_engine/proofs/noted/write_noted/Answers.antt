@@ -4,34 +4,34 @@ use Rattle.catchup_engine.specs.Notes.{with_reached}
 use Rattle.catchup_engine.specs.Trace.{access_at}
 use Rattle.catchup_engine.proofs.HorizonLaws.{passed-keeps}
 use Rattle.catchup_engine.proofs.NotedSteps.{noted-written}
-use Rattle.catchup_engine.proofs.QuietLaws.{counted-more, told-begun, told-room}
+use Rattle.catchup_engine.proofs.QuietLaws.{counted-more, flushed-clock, flushed-room}
 use Rattle.catchup_engine.proofs.noted.write_noted.Goals as goal
 
 pub pass-requires-clause-clock : goal.pass-requires-clause-clock
-pass-requires-clause-clock g c = (counted-more c.args._tape.now c.args.made c.args.bus.now c.requires.accepts c.requires.room).last
+pass-requires-clause-clock g c = (counted-more c.args._tape.now c.args.elapsed c.args.bus.now c.requires.accepts c.requires.room).last
 
 pub pass-requires-clause-room : goal.pass-requires-clause-room
-pass-requires-clause-room g c = (counted-more c.args._tape.now c.args.made c.args.bus.now c.requires.accepts c.requires.room).until
+pass-requires-clause-room g c = (counted-more c.args._tape.now c.args.elapsed c.args.bus.now c.requires.accepts c.requires.room).until
 
 pub put_by-requires-clause-room : goal.put_by-requires-clause-room
-put_by-requires-clause-room g c = told-room c.args.made c.args.bus.now c.pass.new.self c.requires.room c.pass.ensures.value
+put_by-requires-clause-room g c = flushed-room c.args.elapsed c.args.bus.now c.pass.new.self c.requires.room c.pass.ensures.value
 
-pub put_by-requires-clause-begun : goal.put_by-requires-clause-begun
-put_by-requires-clause-begun g c = told-begun c.args.made c.args.bus.now c.pass.new.self c.pass.ensures.value
+pub put_by-requires-clause-clock_done : goal.put_by-requires-clause-clock_done
+put_by-requires-clause-clock_done g c = flushed-clock c.args.elapsed c.args.bus.now c.pass.new.self c.pass.ensures.value
 
 pub overflow_sub-access : goal.overflow_sub-access
 overflow_sub-access g c =
-    let begun = told-begun c.args.made c.args.bus.now c.pass.new.self c.pass.ensures.value in
+    let clock_done = flushed-clock c.args.elapsed c.args.bus.now c.pass.new.self c.pass.ensures.value in
     let same = ap (λ b. b.peripherals.clock) c.put_by.ensures.does.value in
     let is = c.clock.ensures.value in
-    omega (arith, begun, same, is)
+    omega (arith, clock_done, same, is)
 
 pub returns : goal.returns
 returns g c =
     let is =
-    noted-written c.args._tape.now c.args.made c.args.addr c.args.value c.args.bus.now c.pass.new.self c.put_by.new.self c.args.reached.now c.requires.accepts
+    noted-written c.args._tape.now c.args.elapsed c.args.addr c.args.value c.args.bus.now c.pass.new.self c.put_by.new.self c.args.reached.now c.requires.accepts
     c.requires.room c.pass.ensures.value
-    (passed-keeps (c.args.made + 1) c.args.bus.now c.pass.new.self c.pass.ensures.value c.pass.ensures.irq c.pass.ensures.pending)
+    (passed-keeps (c.args.elapsed + 1) c.args.bus.now c.pass.new.self c.pass.ensures.value c.pass.ensures.irq c.pass.ensures.pending)
     c.put_by.ensures.does c.put_by.ensures.few in
     record {
       lines = is.lines;

@@ -13,8 +13,8 @@ use Rattle.catchup_engine.proofs.OpcodeLaws.{reads-opcode}
 use Rattle.catchup_engine.proofs.QuietLaws.{quiet-runs}
 use Rattle.catchup_engine.proofs.quiet.run_to_horizon.Goals as goal
 
-pub horizon_from-horizon-requires-clause-quiet : goal.horizon_from-horizon-requires-clause-quiet
-horizon_from-horizon-requires-clause-quiet g c = (reads-opcode c.args.cpu c.args.bus.now c.requires.goes_on.reads).reads.quiet
+pub horizon_from-horizon-requires-clause-no_event : goal.horizon_from-horizon-requires-clause-no_event
+horizon_from-horizon-requires-clause-no_event g c = (reads-opcode c.args.cpu c.args.bus.now c.requires.goes_on.reads).reads.no_event
 
 pub horizon_from-horizon-requires-clause-pending : goal.horizon_from-horizon-requires-clause-pending
 horizon_from-horizon-requires-clause-pending g c =
@@ -32,37 +32,37 @@ loop-goes_on-init g c = record {
 pub instruction-fetched-requires-clause-room : goal.instruction-fetched-requires-clause-room
 instruction-fetched-requires-clause-room g c =
     horizon-room c.args.tape.now c.args.limit (g.B.Breaks.addresses c.args.breaks.now) c.horizon_from-horizon.result c.args.cpu c.loop-goes_on.cpu c.args.bus.now
-    c.loop-goes_on.quiet.bus.now c.loop-goes_on.quiet.made c.loop-goes_on.goes_on c.loop-goes_on-test.true c.requires.limit c.requires.room c.loop-goes_on.invariant.at
+    c.loop-goes_on.quiet.bus.now c.loop-goes_on.quiet.elapsed c.loop-goes_on.goes_on c.loop-goes_on-test.true c.requires.limit c.requires.room c.loop-goes_on.invariant.at
 
-pub loop-goes_on-smaller-then-lasts : goal.loop-goes_on-smaller-then-lasts
-loop-goes_on-smaller-then-lasts g c =
+pub loop-goes_on-smaller-then-is_before : goal.loop-goes_on-smaller-then-is_before
+loop-goes_on-smaller-then-is_before g c =
     let seen =
-    quiet-runs c.args.tape.now.entries (λ s. s.bus.now) (λ s. s.made) (λ s. s.bus.ghost_name) (λ x a b h. (h.0, h.2)) (registers_of c.loop-goes_on.cpu) Opcode
+    quiet-runs c.args.tape.now.entries (λ s. s.bus.now) (λ s. s.elapsed) (λ s. s.bus.ghost_name) (λ x a b h. (h.0, h.2)) (registers_of c.loop-goes_on.cpu) Opcode
     c.loop-goes_on.quiet c.instruction-fetched.new.bus c.instruction-fetched.new.self c.instruction-fetched.ensures.runs in
     horizon-smaller c.args.tape.now c.args.limit (g.B.Breaks.addresses c.args.breaks.now) c.horizon_from-horizon.result c.args.cpu c.loop-goes_on.cpu
-    c.instruction-fetched.new.self c.args.bus.now c.loop-goes_on.quiet.bus.now c.instruction-fetched.new.bus.bus.now c.loop-goes_on.quiet.made
-    c.instruction-fetched.new.bus.made c.loop-goes_on.goes_on c.loop-goes_on-test.true c.loop-goes_on.invariant.at seen.1 c.instruction-fetched.ensures.boundary
+    c.instruction-fetched.new.self c.args.bus.now c.loop-goes_on.quiet.bus.now c.instruction-fetched.new.bus.bus.now c.loop-goes_on.quiet.elapsed
+    c.instruction-fetched.new.bus.elapsed c.loop-goes_on.goes_on c.loop-goes_on-test.true c.loop-goes_on.invariant.at seen.1 c.instruction-fetched.ensures.boundary
 
-pub loop-goes_on-preserved-then-lasts : goal.loop-goes_on-preserved-then-lasts
-loop-goes_on-preserved-then-lasts g c =
+pub loop-goes_on-preserved-then-is_before : goal.loop-goes_on-preserved-then-is_before
+loop-goes_on-preserved-then-is_before g c =
     let seen =
-    quiet-runs c.args.tape.now.entries (λ s. s.bus.now) (λ s. s.made) (λ s. s.bus.ghost_name) (λ x a b h. (h.0, h.2)) (registers_of c.loop-goes_on.cpu) Opcode
+    quiet-runs c.args.tape.now.entries (λ s. s.bus.now) (λ s. s.elapsed) (λ s. s.bus.ghost_name) (λ x a b h. (h.0, h.2)) (registers_of c.loop-goes_on.cpu) Opcode
     c.loop-goes_on.quiet c.instruction-fetched.new.bus c.instruction-fetched.new.self c.instruction-fetched.ensures.runs in
     let lines =
     runs-keep (λ s. s.bus.now) (λ x a b h. h.1) (registers_of c.loop-goes_on.cpu) Opcode c.loop-goes_on.quiet c.instruction-fetched.new.bus
     c.instruction-fetched.new.self c.instruction-fetched.ensures.runs in
     let addresses = g.B.Breaks.addresses c.args.breaks.now in
     let t = c.instruction-fetched.new.bus.bus.now in
-    let n = c.instruction-fetched.new.bus.made in
+    let n = c.instruction-fetched.new.bus.elapsed in
     let f = c.instruction-fetched.new.self in
     let horizon = c.horizon_from-horizon.result in
     record {
       at =
-          horizon-goes c.args.tape.now c.args.limit addresses horizon c.args.cpu c.loop-goes_on.cpu f c.args.bus.now c.loop-goes_on.quiet.bus.now t c.loop-goes_on.quiet.made n
+          horizon-goes c.args.tape.now c.args.limit addresses horizon c.args.cpu c.loop-goes_on.cpu f c.args.bus.now c.loop-goes_on.quiet.bus.now t c.loop-goes_on.quiet.elapsed n
           c.loop-goes_on.goes_on _ c.loop-goes_on-test.true c.requires.limit c.loop-goes_on.invariant.at seen.1 c.instruction-fetched.ensures.boundary
-          c.instruction-fetched.ensures.accepts lines (λ _. c.lasts.ensures.wrap)
-          (and-then (nat_lt (t.peripherals.clock + n) horizon.until && (is_none f.jam && (horizon.silent || is_masked f.p))) (is_at_any addresses (over_bus f (passed n t))) c.has.result
-          (sym c.lasts.ensures.value ∙ c.if-lasts.true)
+          c.instruction-fetched.ensures.accepts lines (λ _. c.is_before.ensures.wrap)
+          (and-then (nat_lt (t.peripherals.clock + n) horizon.until && (is_none f.jam && (horizon.irq_idle || is_masked f.p))) (is_at_any addresses (over_bus f (passed n t))) c.has.result
+          (sym c.is_before.ensures.value ∙ c.if-is_before.true)
           (ap (λ (k : CpuValue). is_at_any addresses (over_bus k (passed n t))) (sym (c.behind-cpu.view_is ∙ c.state.ensures.value)) ∙ sym c.has.ensures));
       same = seen.0 ∙ c.loop-goes_on.invariant.same;
     }
@@ -70,31 +70,31 @@ loop-goes_on-preserved-then-lasts g c =
 pub loop-goes_on-smaller : goal.loop-goes_on-smaller
 loop-goes_on-smaller g c =
     let seen =
-    quiet-runs c.args.tape.now.entries (λ s. s.bus.now) (λ s. s.made) (λ s. s.bus.ghost_name) (λ x a b h. (h.0, h.2)) (registers_of c.loop-goes_on.cpu) Opcode
+    quiet-runs c.args.tape.now.entries (λ s. s.bus.now) (λ s. s.elapsed) (λ s. s.bus.ghost_name) (λ x a b h. (h.0, h.2)) (registers_of c.loop-goes_on.cpu) Opcode
     c.loop-goes_on.quiet c.instruction-fetched.new.bus c.instruction-fetched.new.self c.instruction-fetched.ensures.runs in
     horizon-smaller c.args.tape.now c.args.limit (g.B.Breaks.addresses c.args.breaks.now) c.horizon_from-horizon.result c.args.cpu c.loop-goes_on.cpu
-    c.instruction-fetched.new.self c.args.bus.now c.loop-goes_on.quiet.bus.now c.instruction-fetched.new.bus.bus.now c.loop-goes_on.quiet.made
-    c.instruction-fetched.new.bus.made c.loop-goes_on.goes_on c.loop-goes_on-test.true c.loop-goes_on.invariant.at seen.1 c.instruction-fetched.ensures.boundary
+    c.instruction-fetched.new.self c.args.bus.now c.loop-goes_on.quiet.bus.now c.instruction-fetched.new.bus.bus.now c.loop-goes_on.quiet.elapsed
+    c.instruction-fetched.new.bus.elapsed c.loop-goes_on.goes_on c.loop-goes_on-test.true c.loop-goes_on.invariant.at seen.1 c.instruction-fetched.ensures.boundary
 
 pub loop-goes_on-preserved : goal.loop-goes_on-preserved
 loop-goes_on-preserved g c =
     let seen =
-    quiet-runs c.args.tape.now.entries (λ s. s.bus.now) (λ s. s.made) (λ s. s.bus.ghost_name) (λ x a b h. (h.0, h.2)) (registers_of c.loop-goes_on.cpu) Opcode
+    quiet-runs c.args.tape.now.entries (λ s. s.bus.now) (λ s. s.elapsed) (λ s. s.bus.ghost_name) (λ x a b h. (h.0, h.2)) (registers_of c.loop-goes_on.cpu) Opcode
     c.loop-goes_on.quiet c.instruction-fetched.new.bus c.instruction-fetched.new.self c.instruction-fetched.ensures.runs in
     let lines =
     runs-keep (λ s. s.bus.now) (λ x a b h. h.1) (registers_of c.loop-goes_on.cpu) Opcode c.loop-goes_on.quiet c.instruction-fetched.new.bus
     c.instruction-fetched.new.self c.instruction-fetched.ensures.runs in
     let addresses = g.B.Breaks.addresses c.args.breaks.now in
     let t = c.instruction-fetched.new.bus.bus.now in
-    let n = c.instruction-fetched.new.bus.made in
+    let n = c.instruction-fetched.new.bus.elapsed in
     let f = c.instruction-fetched.new.self in
     let horizon = c.horizon_from-horizon.result in
     record {
       at =
-          horizon-goes c.args.tape.now c.args.limit addresses horizon c.args.cpu c.loop-goes_on.cpu f c.args.bus.now c.loop-goes_on.quiet.bus.now t c.loop-goes_on.quiet.made n
+          horizon-goes c.args.tape.now c.args.limit addresses horizon c.args.cpu c.loop-goes_on.cpu f c.args.bus.now c.loop-goes_on.quiet.bus.now t c.loop-goes_on.quiet.elapsed n
           c.loop-goes_on.goes_on _ c.loop-goes_on-test.true c.requires.limit c.loop-goes_on.invariant.at seen.1 c.instruction-fetched.ensures.boundary
-          c.instruction-fetched.ensures.accepts lines (λ _. c.lasts.ensures.wrap)
-          (and-else (nat_lt (t.peripherals.clock + n) horizon.until && (is_none f.jam && (horizon.silent || is_masked f.p))) c.lasts.result (is_at_any addresses (over_bus f (passed n t)))
-          c.if-lasts.false);
+          c.instruction-fetched.ensures.accepts lines (λ _. c.is_before.ensures.wrap)
+          (and-else (nat_lt (t.peripherals.clock + n) horizon.until && (is_none f.jam && (horizon.irq_idle || is_masked f.p))) c.is_before.result (is_at_any addresses (over_bus f (passed n t)))
+          c.if-is_before.false);
       same = seen.0 ∙ c.loop-goes_on.invariant.same;
     }

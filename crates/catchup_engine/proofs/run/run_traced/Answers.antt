@@ -12,12 +12,12 @@ loop-enough-init g c = record {
 pub loop-enough-preserved-then-is_private : goal.loop-enough-preserved-then-is_private
 loop-enough-preserved-then-is_private g c = record {
   at =
-      told-goes_calmly g.T.Tracer.next g.T.Tracer.has_enough c.args.tape.now.entries c.args.limit c.args.cpu c.args.bus.now c.loop-enough.bus c.trace_to_horizon-told.new.bus
-      c.loop-enough.cpu c.trace_to_horizon-told.result.cpu c.args.tracer.now c.loop-enough.tracer c.trace_to_horizon-told.new.tracer c.trace_to_horizon-told.result.enough
+      told-goes_calmly g.T.Tracer.next g.T.Tracer.has_enough c.args.tape.now.entries c.args.limit c.args.cpu c.args.bus.now c.loop-enough.bus c.trace_to_horizon-turns.new.bus
+      c.loop-enough.cpu c.trace_to_horizon-turns.result.cpu c.args.tracer.now c.loop-enough.tracer c.trace_to_horizon-turns.new.tracer c.trace_to_horizon-turns.result.enough
       (subst (λ f. AtTold g.T.Tracer.next g.T.Tracer.has_enough c.args.tape.now.entries c.args.limit c.args.cpu c.args.bus.now c.loop-enough.bus c.loop-enough.cpu
       c.args.tracer.now c.loop-enough.tracer f) c.loop-enough-test.true c.loop-enough.invariant.at)
-      c.trace_to_horizon-told.ensures.on c.trace_to_horizon-told.ensures.told c.trace_to_horizon-told.ensures.later;
-  accepts = c.trace_to_horizon-told.ensures.accepts;
+      c.trace_to_horizon-turns.ensures.on c.trace_to_horizon-turns.ensures.turns c.trace_to_horizon-turns.ensures.later;
+  accepts = c.trace_to_horizon-turns.ensures.accepts;
 }
 
 pub loop-enough-preserved : goal.loop-enough-preserved

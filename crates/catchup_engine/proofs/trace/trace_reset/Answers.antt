@@ -4,8 +4,8 @@ use Rattle.catchup_engine.proofs.Turns.{reset-inside}
 use Rattle.std.proofs.Common.{arith}
 use Rattle.catchup_engine.proofs.trace.trace_reset.Goals as goal
 
-pub begin_reset-requires-clause-begun : goal.begin_reset-requires-clause-begun
-begin_reset-requires-clause-begun g c =
+pub begin_reset-requires-clause-clock_done : goal.begin_reset-requires-clause-clock_done
+begin_reset-requires-clause-clock_done g c =
     (reset-starts c.args.tape.now.entries c.args.cpu.now c.trace_first-trace.new.cpu c.args.bus.now (traced c.trace_first-trace.new.bus c.trace_first-trace.result)
     c.trace_first-trace.ensures.advances).clock
 

@@ -1,8 +1,8 @@
 use Rattle.catchup_engine.proofs.Turns.{effects-by, reset-begun, reset-inside, resets-one, resets-more}
 use Rattle.catchup_engine.proofs.turn.take_reset.Goals as goal
 
-pub begin_reset-requires-clause-begun : goal.begin_reset-requires-clause-begun
-begin_reset-requires-clause-begun g c = (reset-begun c.args.tape.now.entries c.args.cpu.now c.args.bus.now c.begin-fetched.new.bus c.begin-fetched.new.self c.begin-fetched.ensures.advances).clock
+pub begin_reset-requires-clause-clock_done : goal.begin_reset-requires-clause-clock_done
+begin_reset-requires-clause-clock_done g c = (reset-begun c.args.tape.now.entries c.args.cpu.now c.args.bus.now c.begin-fetched.new.bus c.begin-fetched.new.self c.begin-fetched.ensures.advances).clock
 
 pub returns-then-clocks-eq1-clause-resets : goal.returns-then-clocks-eq1-clause-resets
 returns-then-clocks-eq1-clause-resets g c =

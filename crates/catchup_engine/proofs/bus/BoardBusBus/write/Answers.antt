@@ -14,7 +14,7 @@ returns-clause-step g c =
     write-step c.args.tape.now.entries c.args.addr c.args.value c.args.self.now c.enter.new.self c.put.new.self
     (ap (λ (b : BusValue). b.peripherals) c.enter.ensures.value) (ap (λ (b : BusValue). b.peripherals) c.put.ensures.does.value)
     (record {
-      begun = ap (λ (b : BusValue). b.begun) c.put.ensures.does.value ∙ ap (λ (b : BusValue). b.begun) c.enter.ensures.value;
+      clock_open = ap (λ (b : BusValue). b.clock_open) c.put.ensures.does.value ∙ ap (λ (b : BusValue). b.clock_open) c.enter.ensures.value;
       rooms = ap (λ (b : BusValue). b.rooms) c.put.ensures.does.value ∙ ap (λ (b : BusValue). b.rooms) c.enter.ensures.value;
       until = (let first = c.enter.ensures.until in let then = c.put.ensures.does.until in omega arith);
       calls = (let first = c.enter.ensures.calls in let then = c.put.ensures.does.calls in omega arith);

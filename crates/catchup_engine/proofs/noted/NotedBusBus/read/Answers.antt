@@ -13,11 +13,11 @@ returns-then-addr-ge-PROGRAM_START g c =
     let room = c.requires.room in
     let few = c.requires.accepts.1 in
     let is =
-    program-reads c.args.tape.now q.made c.args.addr c.program_at.result q.bus.now c.requires.accepts.0 (omega (arith, room)) c.if-addr-ge-PROGRAM_START.true
+    program-reads c.args.tape.now q.elapsed c.args.addr c.program_at.result q.bus.now c.requires.accepts.0 (omega (arith, room)) c.if-addr-ge-PROGRAM_START.true
     c.ranges.addr.fits c.program_at.ensures in
     let left = is.room in
     let reached =
-    plain-reached c.args.self.now.reached.now ((passed (q.made + 1) q.bus.now).peripherals.clock - 1) (read_of c.args.addr c.program_at.result)
+    plain-reached c.args.self.now.reached.now ((passed (q.elapsed + 1) q.bus.now).peripherals.clock - 1) (read_of c.args.addr c.program_at.result)
     (program-plain c.args.addr c.program_at.result c.if-addr-ge-PROGRAM_START.true c.ranges.addr.fits) in
     record {
       step = (refl, refl, keeps-refl q.bus.now, record { step = is.step; reached = reached });
@@ -31,10 +31,10 @@ returns-then-addr g c =
     let room = c.requires.room in
     let few = c.requires.accepts.1 in
     let is =
-    ram-reads c.args.tape.now q.made c.args.addr c.ram_byte.result q.bus.now c.requires.accepts.0 (omega (arith, room)) c.if-addr.true c.ram_byte.ensures in
+    ram-reads c.args.tape.now q.elapsed c.args.addr c.ram_byte.result q.bus.now c.requires.accepts.0 (omega (arith, room)) c.if-addr.true c.ram_byte.ensures in
     let left = is.room in
     let reached =
-    plain-reached c.args.self.now.reached.now ((passed (q.made + 1) q.bus.now).peripherals.clock - 1) (read_of c.args.addr c.ram_byte.result)
+    plain-reached c.args.self.now.reached.now ((passed (q.elapsed + 1) q.bus.now).peripherals.clock - 1) (read_of c.args.addr c.ram_byte.result)
     (ram-plain c.args.addr c.ram_byte.result c.if-addr.true) in
     record {
       step = (refl, refl, keeps-refl q.bus.now, record { step = is.step; reached = reached });

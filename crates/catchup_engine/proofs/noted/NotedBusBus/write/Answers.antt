@@ -14,10 +14,10 @@ returns-then-addr g c =
     let few = c.requires.accepts.1 in
     let t = c.put_ram.new.self in
     let is =
-    ram-writes c.args.tape.now q.made c.args.addr c.args.value q.bus.now t c.requires.accepts.0 (omega (arith, room)) c.if-addr.true c.put_ram.ensures in
+    ram-writes c.args.tape.now q.elapsed c.args.addr c.args.value q.bus.now t c.requires.accepts.0 (omega (arith, room)) c.if-addr.true c.put_ram.ensures in
     let left = is.room in
     let reached =
-    plain-reached c.args.self.now.reached.now ((passed (q.made + 1) t).peripherals.clock - 1) (write_of c.args.addr c.args.value)
+    plain-reached c.args.self.now.reached.now ((passed (q.elapsed + 1) t).peripherals.clock - 1) (write_of c.args.addr c.args.value)
     (ram-put-plain c.args.addr c.args.value c.if-addr.true) in
     record {
       step = (refl, refl, ram-keeps q.bus.now t c.args.addr c.args.value c.put_ram.ensures, record { step = is.step; reached = reached });
