@@ -14,7 +14,8 @@ use Rattle.asm_avg.specs.Operands.{operands_of}
 abbrev pub values_of : NameValues → List Word → List (Option ℤ)
 values_of names ws = map (λ item. option_and_then (λ e. value_of names e) (expression_of item)) (operands_of ws)
 
--- what a statement says to the generator: its first word and, of a long vector, the distance in x and how bright it is
+-- what a statement says to the generator: its first word and, of a long vector, the distance in x
+-- and how bright it is
 abbrev pub Said : Type 0
 Said = VgWord × Option (ℤ × ℕ)
 
@@ -52,7 +53,8 @@ AreRead (word, Some more) (low ∷ high ∷ second_low ∷ second_high ∷ []) =
     IsSpelling word (low + 256 * high) × (second_of (second_low + 256 * second_high) ≡ more)
 AreRead said bytes = ⊥
 
--- a statement with these values says something that fits its words, and the generator reads that in these bytes
+-- a statement with these values says something that fits its words, and the generator reads that in
+-- these bytes
 pub record IsReadBack (mnemonic : Mnemonic) (values : List (Option ℤ)) (bytes : List ℕ) : Type 0 where
   pub said : Said
   pub by : said_by mnemonic values ≡ Some said

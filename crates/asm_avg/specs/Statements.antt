@@ -41,7 +41,8 @@ number bits shift = record { low = pos 0; high = pos (2 ^ bits - 1); even = fals
 abbrev pub target : Place
 target = record { low = pos 0; high = pos 0x3FFF; even = true; bits = 13; shift = 0 }
 
--- the places of a statement's operands, in the order of the source; bits 16 to 31 are the second word's
+-- the places of a statement's operands, in the order of the source; bits 16 to 31 are the second
+-- word's
 abbrev pub places_of : Mnemonic → List Place
 places_of Vctr = long_distance 16 ∷ long_distance 0 ∷ number 3 29 ∷ []
 places_of Svec = short_distance 0 ∷ short_distance 8 ∷ number 3 5 ∷ []

@@ -14,8 +14,8 @@ pub const VECTOR_ROM: Rom = Rom {
     even: true,
 };
 
-/// Assembles a source of the vector generator's statements into an image, whose other bytes stay, and
-/// lists the lines that give bytes. After a refusal the image's bytes are open.
+/// Assembles a source of the vector generator's statements into an image, whose other bytes stay,
+/// and lists the lines that give bytes. After a refusal the image's bytes are open.
 pub fn assemble(alloc: Global, text: &[u8], image: &mut Image) -> Result<Listing, AsmFault>
     ensures { Answers (λ listing. (image.new, listing)) result (source_assembled text.now image.old) }
 {

@@ -20,7 +20,8 @@ takes place value = is_in_range place.low place.high place.even value
 abbrev pub unit_of : Place → ℕ
 unit_of place = if place.even then 2 else 1
 
--- the number that holds a value in a place: its bits, in two's complement, at their place in the cell
+-- the number that holds a value in a place: its bits, in two's complement, at their place in the
+-- cell
 abbrev pub held : Place → ℤ → ℕ
 held place value = residue (unit_of place * 2 ^ place.bits) value / unit_of place * 2 ^ place.shift
 

@@ -37,7 +37,8 @@ minus_of (word.Mark byte) = if byte == 43 then Some false else (if byte == 45 th
 abbrev pub term_before : Bool → Option Operand → Option (List Term) → Option (List Term)
 term_before negative first rest = option_and_then (λ operand. option_map (λ terms. record { negative = negative; operand = operand } ∷ terms) rest) first
 
--- the terms of a sum, which has one or more, with signs between them; the sign of the first is given
+-- the terms of a sum, which has one or more, with signs between them; the sign of the first is
+-- given
 unfoldable pub terms_of : Bool → List Word → Option (List Term)
 terms_of negative [] = None
 terms_of negative (w ∷ []) = term_before negative (operand_of w) (Some [])
@@ -51,7 +52,8 @@ sum_of ws = if begins_with 45 ws then terms_of true (drop 1 ws) else terms_of fa
 abbrev pub part_of_sum : Part → List Word → Option Expression
 part_of_sum part ws = option_map (λ terms. record { part = part; terms = terms }) (sum_of ws)
 
--- the expression that these words are: `<` or `>` takes the low or the high byte of the whole sum behind it
+-- the expression that these words are: `<` or `>` takes the low or the high byte of the whole sum
+-- behind it
 abbrev pub expression_of : List Word → Option Expression
 expression_of ws =
     if begins_with 60 ws then part_of_sum Low (drop 1 ws) else (if begins_with 62 ws then part_of_sum High (drop 1 ws) else part_of_sum Whole ws)

@@ -46,7 +46,8 @@ abbrev pub where_ok : {X : Type 0} → (X → List ReadLine) → Result X AsmFau
 where_ok lines (Ok x) = lines x
 where_ok lines (Err fault) = []
 
--- the lines of a source from this number on, up to one that is refused: each is read under what the lines before it make known
+-- the lines of a source from this number on, up to one that is refused: each is read under what the
+-- lines before it make known
 unfoldable pub lines_read : Language → Rom → ℕ → Known → List (List ℕ) → List ReadLine
 lines_read language rom number known [] = []
 lines_read language rom number known (text ∷ texts) =
@@ -79,13 +80,15 @@ body_size (body.Gives cells) = size_of cells
 abbrev pub sizes_of : List ReadLine → ℕ
 sizes_of lines = sum_by (λ read. body_size read.line.body) lines
 
--- the address behind lines that begin at the address `first`: the value of their last `.org` and the sizes of the lines behind it, or `first` and the sizes of all
+-- the address behind lines that begin at the address `first`: the value of their last `.org` and
+-- the sizes of the lines behind it, or `first` and the sizes of all
 pub record IsAddressBehind (first : ℕ) (lines : List ReadLine) (addr : ℕ) : Type 0 where
   pub last : (before between : List ReadLine) → (org : ReadLine) → (value : ℕ) → lines ≡ before ++ org ∷ between → line_origin org ≡ Some value → All HasNoOrigin between
       → addr ≡ value + sizes_of between
   pub none : All HasNoOrigin lines → addr ≡ first + sizes_of lines
 
--- a line that gives bytes is the line of its number, and its address is the one behind the lines before it
+-- a line that gives bytes is the line of its number, and its address is the one behind the lines
+-- before it
 pub record IsInPlace (lines : List ReadLine) (placed : Placed) : Type 0 where
   pub before : List ReadLine
   pub line : ReadLine

@@ -14,7 +14,8 @@ use Rattle.asm_core.specs.Expressions.{NameValues, expression_of}
 use Rattle.asm_core.specs.Lists.{cells_of}
 use Rattle.asm_core.specs.Words.{begins_with, is_mark, is_plain, items_of, plain_name}
 
--- what a language makes of a statement, under the names of earlier lines and at its address: of its first word, and of the words behind that
+-- what a language makes of a statement, under the names of earlier lines and at its address: of its
+-- first word, and of the words behind that
 abbrev pub Language : Type 0
 Language = NameValues → ℕ → List ℕ → List Word → Form
 

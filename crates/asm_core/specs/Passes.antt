@@ -28,7 +28,8 @@ then_on next (Err fault) = Err fault
 abbrev pub unless : {X : Type 0} → Bool → ℕ → AsmCause → Result X AsmFault → Result X AsmFault
 unless bad number cause rest = if bad then Err (fault.Line number cause) else rest
 
--- what pass 1 knows before a line: the names of earlier lines, the line's address, and the earlier lines that give bytes
+-- what pass 1 knows before a line: the names of earlier lines, the line's address, and the earlier
+-- lines that give bytes
 pub record Known : Type 0 where
   pub names : NameValues
   pub at : ℕ
@@ -69,7 +70,8 @@ meets at count placed = nat_lt at (placed.at + size_of placed.cells) && nat_lt p
 abbrev pub is_in_rom : Rom → ℕ → ℕ → Bool
 is_in_rom rom at count = nat_le rom.low at && nat_le (at + count) rom.high
 
--- how many bytes a line gives, where its values are in their ranges, and its bytes in the ROM and no earlier line's
+-- how many bytes a line gives, where its values are in their ranges, and its bytes in the ROM and
+-- no earlier line's
 abbrev pub room_for : Rom → ℕ → Known → List Cell → Result ℕ AsmFault
 room_for rom number known cells =
     unless (not (all_fine known.names cells)) number OutOfRange

@@ -123,11 +123,11 @@ fn look_at_lines<'a, D: Dialect>(
     Ok(pass)
 }
 
-/// Assembles a source of at most `TEXT_LIMIT` bytes into an image, whose other bytes stay, and lists
-/// the lines that give bytes.
+/// Assembles a source of at most `TEXT_LIMIT` bytes into an image, whose other bytes stay, and
+/// lists the lines that give bytes.
 ///
-/// It is refused for its first bad line: of all lines, looked at under the names of earlier ones, and
-/// then of those that give bytes, under all names. After a refusal the image's bytes are open.
+/// It is refused for its first bad line: of all lines, looked at under the names of earlier ones,
+/// and then of those that give bytes, under all names. After a refusal the image's bytes are open.
 pub fn assemble<D: Dialect>(
     alloc: Global,
     dialect: &D,

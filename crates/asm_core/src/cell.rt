@@ -126,7 +126,8 @@ pub(crate) fn all_known(names: &Names, cells: &[Cell]) -> bool
         .all(|cell| fields_known(names, cell.fields.items()))
 }
 
-/// How many bytes a statement has. Any number of cells that stands in memory has a size of 128 bits.
+/// How many bytes a statement has. Any number of cells that stands in memory has a size of 128
+/// bits.
 pub(crate) fn size_of(cells: &[Cell]) -> u128
     ensures size { result ≡ size_of cells.now }
     ensures small { result ≤ 255 * length cells.now }

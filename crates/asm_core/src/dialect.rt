@@ -2,8 +2,8 @@ use crate::{Cells, Names, Words};
 use board_base::OutOfMemory;
 use std::alloc::Global;
 
-/// The addresses whose bytes a source may give, from `low` up to `high`, which isn't one of them, and
-/// whether its bytes begin at even addresses alone.
+/// The addresses whose bytes a source may give, from `low` up to `high`, which isn't one of them,
+/// and whether its bytes begin at even addresses alone.
 #[derive(Clone, Copy, Debug, PartialEq, Eq, Drop)]
 pub struct Rom {
     pub low: u32,
@@ -30,8 +30,8 @@ pub trait Dialect {
 
     ghost language: { Language };
 
-    /// Reads a statement by its first word and those behind it, under the names of earlier lines and
-    /// at its address.
+    /// Reads a statement by its first word and those behind it, under the names of earlier lines
+    /// and at its address.
     fn read_statement<'a>(
         &self,
         alloc: Global,

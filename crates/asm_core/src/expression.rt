@@ -112,8 +112,8 @@ fn read_part<'a>(
     }
 }
 
-/// The expression that these words are, all of them: numbers and names with `+` and `-` between them,
-/// a `-` that may stand before the first, and a `<` or `>` for a byte of the sum before that.
+/// The expression that these words are, all of them: numbers and names with `+` and `-` between
+/// them, a `-` that may stand before the first, and a `<` or `>` for a byte of the sum before that.
 pub fn read_expression<'a>(
     alloc: Global,
     words: &Words<'a>,

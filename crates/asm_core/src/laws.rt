@@ -28,8 +28,8 @@ pub fn lines_share_no_byte()
         → pass_one language rom 1 at_the_start (lines_with_ends text) ≡ Ok known → AreInRom rom known.placed }
 {}
 
-/// What is known after some lines, their addresses and sizes among it, rests on them alone, whatever
-/// stands behind them. It states a law, and does nothing.
+/// What is known after some lines, their addresses and sizes among it, rests on them alone,
+/// whatever stands behind them. It states a law, and does nothing.
 #[tactic(auto, using(crate::proofs::SourceLaws::lines))]
 pub fn earlier_lines_decide()
     ensures { (language : Language) → (rom : Rom) → (number : ℕ) → (known : Known) → (texts more : List (List ℕ))
@@ -46,8 +46,8 @@ pub fn bytes_stand_at_their_addresses()
         → HasBytes known.names known.placed image after }
 {}
 
-/// A line's address is the value of the last `.org` before it and the sizes of the lines between. It
-/// states a law, and does nothing.
+/// A line's address is the value of the last `.org` before it and the sizes of the lines between.
+/// It states a law, and does nothing.
 ///
 /// That is the address which is known after the lines before it, and the one at which its bytes are
 /// placed.

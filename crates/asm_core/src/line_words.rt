@@ -31,7 +31,8 @@ fn behind_blanks(code: &[u8]) -> &[u8]
     rest
 }
 
-/// The words of a part of a line. They are read from its text as they are wanted, and take no memory.
+/// The words of a part of a line. They are read from its text as they are wanted, and take no
+/// memory.
 #[derive(Drop)]
 pub struct Words<'a> {
     code: &'a [u8],

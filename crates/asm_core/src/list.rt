@@ -5,7 +5,8 @@ use std::alloc::Global;
 use std::marker::Model;
 use std::mem::replace;
 
-/// A list that grows at its end. One item stands in the list itself, and takes no memory of its own.
+/// A list that grows at its end. One item stands in the list itself, and takes no memory of its
+/// own.
 #[derive(Drop)]
 pub struct List<T> {
     alloc: Global,

@@ -18,7 +18,8 @@ pub record AloneEncodes (bytes : List ℕ) (op : Op) (mode : Mode) (operand : �
   pub these : Encodes bytes op mode operand
   pub alone : (others : List ℕ) → Encodes others op mode operand → others ≡ bytes
 
--- the operand of an instruction at an address, for an expression's value: modulo 256 or 65,536 as the mode has one byte or two, and of a branch how far it goes
+-- the operand of an instruction at an address, for an expression's value: modulo 256 or 65,536 as
+-- the mode has one byte or two, and of a branch how far it goes
 abbrev pub operand_number : Mode → ℕ → ℤ → ℕ
 operand_number mode at value = residue (256 ^ (length_of mode - 1)) (value -ℤ pos (operand_origin mode at))
 

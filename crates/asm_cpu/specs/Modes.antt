@@ -19,7 +19,8 @@ has_mode op mode = is_some (opcode_of op mode)
 abbrev pub is_short : NameValues → Expression → Bool
 is_short names e = option_map_or (λ value. int_le (pos 0) value && int_le value (pos 255)) (value_of names e) false
 
--- the mode with an address of one byte, where the operation has it and the address is short; else the one with an address of two bytes, where the operation has that
+-- the mode with an address of one byte, where the operation has it and the address is short; else
+-- the one with an address of two bytes, where the operation has that
 abbrev pub by_length : NameValues → Op → Expression → Mode → Mode → Mode
 by_length names op e short long = if has_mode op short && is_short names e then short else (if has_mode op long then long else short)
 
@@ -49,7 +50,8 @@ branch_place = record { low = neg_ℤ (pos 128); high = pos 127; even = false; b
 abbrev pub address_place : Place
 address_place = record { low = pos 0; high = pos 65535; even = false; bits = 16; shift = 8 }
 
--- the place of the operand, in a mode that has one; the first two have none, and nothing asks for it
+-- the place of the operand, in a mode that has one; the first two have none, and nothing asks for
+-- it
 abbrev pub place_of : Mode → Place
 place_of Implied = zero_page_place
 place_of Accumulator = zero_page_place

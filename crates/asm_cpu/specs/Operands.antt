@@ -38,7 +38,8 @@ indirect_shape ws index =
     else (if is_register 121 index then option_map (λ inner. (IndirectY, inner)) (before_close ws)
     else None)
 
--- an operand up to its comma and behind it, and the words of its expression: `(e,x)`, `(e),y`, `e,x` or `e,y`
+-- an operand up to its comma and behind it, and the words of its expression: `(e,x)`, `(e),y`,
+-- `e,x` or `e,y`
 abbrev pub indexed_shape : List Word → List Word → Option (Shape × List Word)
 indexed_shape ws index =
     if begins_with 40 ws then indirect_shape (drop 1 ws) index

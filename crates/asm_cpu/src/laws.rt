@@ -35,15 +35,15 @@ pub fn bytes_of_an_opcode()
         → AloneEncodes (cells_bytes names cells) op mode 0 }
 {}
 
-/// The bytes of an instruction with an expression, of which all names have a value, are the one list
-/// that is decoded to its operation, its mode and its operand.
+/// The bytes of an instruction with an expression, of which all names have a value, are the one
+/// list that is decoded to its operation, its mode and its operand.
 pub fn bytes_of_an_operand()
     ensures { (names : NameValues) (op : Op) (at : ℕ) (mode : Mode) (e : Expression) (value : ℤ) (cells : List Cell) → mode_form op at mode e ≡ Gives cells
         → value_of names e ≡ Some value → AloneEncodes (cells_bytes names cells) op mode (operand_number mode at value) }
 {}
 
-/// The bytes of any instruction, of which all names have a value in the end, are the one list that is
-/// decoded to its operation, a mode and an operand.
+/// The bytes of any instruction, of which all names have a value in the end, are the one list that
+/// is decoded to its operation, a mode and an operand.
 pub fn bytes_of_an_instruction()
     ensures { (names later : NameValues) (at : ℕ) (op : Op) (words : List Word) (cells : List Cell) → instruction_of names at op words ≡ Gives cells
         → all_known later cells ≡ true → HasOneEncoding (cells_bytes later cells) op }

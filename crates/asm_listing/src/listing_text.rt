@@ -58,8 +58,8 @@ fn push_line(text: &mut Text, image: &Image, line: &ListingLine) -> Result<(), O
 }
 
 /// Puts a listing behind a text: for each line that gives bytes its address in four hexadecimal
-/// digits, its number in the source, and the bytes that the image has there. After a refusal the text
-/// is only to be dropped.
+/// digits, its number in the source, and the bytes that the image has there. After a refusal the
+/// text is only to be dropped.
 pub fn push_listing(text: &mut Text, listing: &Listing, image: &Image) -> Result<(), OutOfMemory>
     ensures { OnOk result (text.new ≡ text.old ++ listing_text image.now listing.now) }
 {

@@ -1,4 +1,5 @@
-//! Tests of the assemblers, of what they print and of the workload, each in the file of its crate's name.
+//! Tests of the assemblers, of what they print and of the workload, each in the file of its crate's
+//! name.
 #![tactic(auto)]
 
 #[cfg(test)]

@@ -56,9 +56,9 @@ struct Expected {
     last: [Entry; 2],
 }
 
-/// Worked out by hand from the formula, apart from this code: number n of a seed is `a^n * seed + c * (a^n - 1) / (a - 1)`
-/// modulo 2^64, with the factor a and the summand c of the generator, and draw n its highest sixteen
-/// bits.
+/// Worked out by hand from the formula, apart from this code: number n of a seed is `a^n * seed + c
+/// * (a^n - 1) / (a - 1)` modulo 2^64, with the factor a and the summand c of the generator, and
+/// draw n its highest sixteen bits.
 const EXPECTED: [Expected; 2] = [
     Expected {
         seed: 1,

@@ -197,7 +197,8 @@ lines_bad text line place (bytes ∷ lines) l cause here inside are begins numbe
     (λ more. let feeds = after_line text place bytes (concat lines) here in let this = number (omega arith) in let lf = are.1 more in omega (arith, feeds, this, lf)) said)
     given
 
--- where a text is refused for a line, a piece of that line is bad, and all before it is accounted for
+-- where a text is refused for a line, a piece of that line is bad, and all before it is accounted
+-- for
 pub text_refused : (text : List ℕ) (fault : AsmFault) → Faults fault (tokens_from 1 0 (lines_with_ends text)) → Refused text fault
 text_refused text TooLong said = tt
 text_refused text OutOfMemory said = tt

@@ -16,7 +16,8 @@ is_one_of bytes byte = list_any (λ one. byte == one) bytes
 abbrev pub is_word_byte : ℕ → Bool
 is_word_byte byte = is_ascii_alphanumeric byte || byte == 95
 
--- a letter, a digit or `_` behind this byte belongs to its piece: behind another of these, and behind `$`, `%` or `.`
+-- a letter, a digit or `_` behind this byte belongs to its piece: behind another of these, and
+-- behind `$`, `%` or `.`
 abbrev pub takes_word : ℕ → Bool
 takes_word byte = is_word_byte byte || is_one_of (codes "$%.") byte
 
@@ -26,7 +27,8 @@ ends_line [] = false
 ends_line (byte ∷ []) = false
 ends_line (byte ∷ next ∷ code) = byte == 13 && next == 10
 
--- two neighbours are of one piece: a letter, a digit or `_` after another or after `$`, `%` or `.`, and LF after CR
+-- two neighbours are of one piece: a letter, a digit or `_` after another or after `$`, `%` or `.`,
+-- and LF after CR
 unfoldable pub joins : ℕ → ℕ → Bool
 joins before byte = (takes_word before && is_word_byte byte) || (before == 13 && byte == 10)
 

@@ -21,7 +21,8 @@ IsInComment text place = (start : ℕ) × (start ≤ place) × (slice_index text
 abbrev pub EndsWord : List ℕ → ℕ → Type 0
 EndsWord text end = end < length text → is_word_byte (slice_index text (end - 1)) ≡ true → is_word_byte (slice_index text end) ≡ false
 
--- a token of a text is a slice with its kind, to which no further letter, digit or `_` belongs, and lies in no comment
+-- a token of a text is a slice with its kind, to which no further letter, digit or `_` belongs, and
+-- lies in no comment
 pub record IsTokenOf (text : List ℕ) (token : Token) : Type 0 where
   pub slice : IsSliceOf text token
   pub ends : EndsWord text token.end
@@ -45,8 +46,9 @@ abbrev pub IsAccounted : List ℕ → List Token → ℕ → Type 0
 IsAccounted text tokens place =
     Any (λ token. (token.start ≤ place) × (place < token.end)) tokens ⊎ (IsTrue (is_one_of (32 ∷ 9 ∷ 10 ∷ 13 ∷ []) (slice_index text place)) ⊎ IsInComment text place)
 
--- a text is refused for a piece of this line, which is bad for this cause: before it stand tokens, blanks and comments
--- alone, no further letter, digit or `_` belongs to it, and it lies in no comment
+-- a text is refused for a piece of this line, which is bad for this cause: before it stand tokens,
+-- blanks and comments alone, no further letter, digit or `_` belongs to it, and it lies in no
+-- comment
 pub record Refuses (text : List ℕ) (number : ℕ) (cause : AsmCause) : Type 0 where
   pub place : ℕ
   pub end : ℕ

@@ -23,8 +23,8 @@ fn read_digits(base: u32, digits: &[u8]) -> Option<u16>
 /// The value of a number's text, which is in base 10, behind `$` in base 16 with digits of either
 /// case, or behind `%` in base 2.
 ///
-/// A text without digits has none, and neither has one with a stranger among them or one whose value
-/// doesn't fit 16 bits.
+/// A text without digits has none, and neither has one with a stranger among them or one whose
+/// value doesn't fit 16 bits.
 pub fn number(text: &[u8]) -> Option<u16>
     ensures { result ≡ number_of text.now }
 {

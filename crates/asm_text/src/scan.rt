@@ -15,7 +15,8 @@ pub const TEXT_LIMIT: usize = 1_048_576;
 /// Appends the tokens of one line, which may end with its LF. Its first byte has the place `start`
 /// in the source, counted in bytes, and its number is `line`.
 ///
-/// It is refused for its first bad token, or because memory ran out; then `tokens` is only to be dropped.
+/// It is refused for its first bad token, or because memory ran out; then `tokens` is only to be
+/// dropped.
 pub fn push_line(
     tokens: &mut Vec<Token>,
     text: &[u8],
@@ -52,13 +53,14 @@ pub fn push_line(
 
 /// Reads the tokens of a source, line by line from its front to its end.
 ///
-/// Words are names: they begin with a letter or an underscore, go on with these and with digits, and
-/// are 32 characters long at most. The letters of the three registers count as names, and so does a
-/// word behind a dot, unless it is a register's letter. Numbers are written in base 10, behind `$` in
-/// base 16 and behind `%` in base 2, and fit 16 bits. Neither ends while such characters go on, so
-/// `5x` is one bad number, and no number before a name. The marks are `:`, `=`, `#`, `(`, `)`, `,`,
-/// `<`, `>`, `+` and `-`. Tokens may be parted by spaces, tabs and the end of a line, which is LF with
-/// or without a CR before it. From a `;` to the end of its line, all is a comment.
+/// Words are names: they begin with a letter or an underscore, go on with these and with digits,
+/// and are 32 characters long at most. The letters of the three registers count as names, and so
+/// does a word behind a dot, unless it is a register's letter. Numbers are written in base 10,
+/// behind `$` in base 16 and behind `%` in base 2, and fit 16 bits. Neither ends while such
+/// characters go on, so `5x` is one bad number, and no number before a name. The marks are `:`,
+/// `=`, `#`, `(`, `)`, `,`, `<`, `>`, `+` and `-`. Tokens may be parted by spaces, tabs and the end
+/// of a line, which is LF with or without a CR before it. From a `;` to the end of its line, all is
+/// a comment.
 ///
 /// The text has at most `TEXT_LIMIT` bytes. Memory is taken for the tokens alone.
 pub fn tokens(alloc: Global, text: &[u8]) -> Result<Vec<Token>, AsmFault>

@@ -1,4 +1,5 @@
--- The words of the vector generator, and how they are spelled. The layout of their fields is this project's own profile.
+-- The words of the vector generator, and how they are spelled. The layout of their fields is this
+-- project's own profile.
 use Rattle.std.specs.Prelude.{◌≡◌, ℕ, ◌+◌, ◌*◌, ◌/◌, ◌^◌, ⊤, ◌<◌, ◌==◌, if◌then◌else◌, List, [], ◌∷◌, slice_index_or, ℤ, pos, neg_ℤ, ◌+ℤ◌, ◌≤ℤ◌}
 use Rattle.avg_decode.specs.declared.word.VgWord.{VgWord}
 use Rattle.avg_decode.specs.declared.word.VgWord.TheVariants.{Vctr, Halt, Svec, Stat, Scal, Cntr, Jsrl, Rtsl, Jmpl}
@@ -16,7 +17,8 @@ setting_of w =
     then Stat (field w 0 3) (field w 4 4)
     else Scal (field w 8 3) (field w 0 8)
 
--- what a number spells, for each value that its bits 13 to 15 may have; bits that no field has aren't looked at
+-- what a number spells, for each value that its bits 13 to 15 may have; bits that no field has
+-- aren't looked at
 abbrev pub words_of : ℕ → List VgWord
 words_of w =
     Vctr (signed 4096 (field w 0 13))

@@ -1,5 +1,5 @@
--- The vector generator, clock by clock: it reads a word, does what the word says, and draws. All of it is this project's
--- own profile.
+-- The vector generator, clock by clock: it reads a word, does what the word says, and draws. All of
+-- it is this project's own profile.
 use Rattle.std.specs.Prelude.{ℕ, ◌+◌, ◌-◌, ◌*◌, ◌%◌, ◌==◌, nat_lt, true, false, not, ◌&&◌, if◌then◌else◌, List, [], ◌∷◌, slice_index, slice_set, replicate, ℤ, pos, ◌+ℤ◌}
 use Rattle.avg_decode.specs.declared.word.VgWord.{VgWord}
 use Rattle.avg_decode.specs.declared.word.VgWord.TheVariants.{Vctr, Halt, Svec, Stat, Scal, Cntr, Jsrl, Rtsl, Jmpl}
@@ -53,7 +53,8 @@ second_high_read memory v = record v {
 abbrev pub word_at : List ℕ → ℕ → ℕ
 word_at bytes k = slice_index bytes k + 256 * slice_index bytes (k + 1)
 
--- how bright a vector is: not drawn for 0, at the intensity that is set for 1, and else twice the number
+-- how bright a vector is: not drawn for 0, at the intensity that is set for 1, and else twice the
+-- number
 abbrev pub pen_of : ℕ → ℕ → ℕ
 pen_of z intensity = if z == 0 then 0 else if z == 1 then intensity else 2 * z
 
@@ -125,8 +126,8 @@ strokes_at clock v = if v.pen == 0 then [] else stroke_at clock v ∷ []
 unfoldable pub vg_gives : ℕ → VgValue → List Record
 vg_gives clock v = if not v.halted && v.phase == DRAW && v.left == 1 then strokes_at clock v else []
 
--- the generator begins anew: at the first word, with an empty return stack and no vector under way; the beam, the colour, the
--- intensity, the scales and the words of the stack stay
+-- the generator begins anew: at the first word, with an empty return stack and no vector under way;
+-- the beam, the colour, the intensity, the scales and the words of the stack stay
 unfoldable pub vg_go : VgValue → VgValue
 vg_go v = record v {
   halted = false;

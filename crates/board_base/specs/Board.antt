@@ -1,4 +1,5 @@
--- The whole board, as a plain record. The map, the ports and the power-on values are this project's own profile.
+-- The whole board, as a plain record. The map, the ports and the power-on values are this project's
+-- own profile.
 use Rattle.std.specs.Prelude.{◌≡◌, ℕ, ◌+◌, ◌<◌, ◌≤◌, List, length, replicate, IsSome}
 use Rattle.board_base.specs.declared.board.TheConstants.{RAM_LEN, CLOCK_LIMIT}
 use Rattle.board_base.specs.declared.vector_memory.TheConstants.{VECTOR_RAM_LEN}
@@ -24,8 +25,8 @@ pub record BoardValue : Type 0 where
   pub ram : List ℕ
   pub vram : List ℕ
 
--- the clock may stand up to 16 past the greatest number of a tape, and inside a sequence at that number at most; six bits
--- of the first port; two memories in their lengths
+-- the clock may stand up to 16 past the greatest number of a tape, and inside a sequence at that
+-- number at most; six bits of the first port; two memories in their lengths
 pub record IsBoard (b : BoardValue) : Type 0 where
   pub clock : b.clock ≤ CLOCK_LIMIT + 16
   pub middle : IsSome b.cpu.mid → b.clock ≤ CLOCK_LIMIT
@@ -33,7 +34,8 @@ pub record IsBoard (b : BoardValue) : Type 0 where
   pub ram : length b.ram ≡ RAM_LEN
   pub vram : length b.vram ≡ VECTOR_RAM_LEN
 
--- all memory is 0, no input of the ports is active, each device is as at its own power-on, and no clock is done
+-- all memory is 0, no input of the ports is active, each device is as at its own power-on, and no
+-- clock is done
 abbrev pub board_at_power_on : BoardValue
 board_at_power_on = record {
   clock = 0;

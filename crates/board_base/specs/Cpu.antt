@@ -2,7 +2,8 @@
 use Rattle.std.specs.Prelude.{◌≡◌, ◌≤◌, ◌/◌, ◌%◌, ℕ, List, length, Option, None, Some}
 use Rattle.board_base.specs.declared.cpu.Sequence.{Sequence}
 
--- how far a sequence has come: the clocks done, and six bytes of which the first are those of its accesses
+-- how far a sequence has come: the clocks done, and six bytes of which the first are those of its
+-- accesses
 pub record MidValue : Type 0 where
   pub sequence : Sequence
   pub count : ℕ

@@ -4,7 +4,8 @@ use Rattle.board_base.specs.declared.divider.TheConstants.{DIVIDER_PERIOD, WATCH
 use Rattle.board_base.specs.declared.divider.Pending.{Pending}
 use Rattle.board_base.specs.declared.divider.Pending.TheVariants.{Nothing, Power, Watchdog}
 
--- the clocks since the last wrap, the interrupt latch, the wraps since the watchdog was cleared, and the pending reset
+-- the clocks since the last wrap, the interrupt latch, the wraps since the watchdog was cleared,
+-- and the pending reset
 pub record DividerValue : Type 0 where
   pub phase : ℕ
   pub irq : Bool

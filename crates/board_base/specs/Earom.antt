@@ -1,8 +1,10 @@
--- The EAROM, as a plain record. Its behaviour is this project's own profile, after the ER2055 data sheet.
+-- The EAROM, as a plain record. Its behaviour is this project's own profile, after the ER2055 data
+-- sheet.
 use Rattle.std.specs.Prelude.{◌≡◌, ℕ, ◌<◌, ◌≤◌, List, length, replicate}
 use Rattle.board_base.specs.declared.earom.TheConstants.{CELLS, HOLD_CLOCKS}
 
--- the address and data latches, the control bits, the clocks held so far, the output latch and the cells
+-- the address and data latches, the control bits, the clocks held so far, the output latch and the
+-- cells
 pub record EaromValue : Type 0 where
   pub addr : ℕ
   pub value : ℕ

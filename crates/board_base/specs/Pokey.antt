@@ -1,9 +1,11 @@
--- A POKEY, as a plain record (POKEY C012294 data sheet; each definition states what is this project's own profile).
+-- A POKEY, as a plain record (POKEY C012294 data sheet; each definition states what is this
+-- project's own profile).
 use Rattle.std.specs.Prelude.{◌≡◌, ℕ, ◌<◌, ◌≤◌, List, length, replicate, All}
 use Rattle.board_base.specs.declared.pokey.TheConstants.{LONGEST_PERIOD, POT_LIMIT, PRESCALER_BASE, PRESCALER_LINE}
 
--- the registers written, the interrupt status, the four polynomial registers, the two prescalers, and of each channel
--- the pulses left, the tone bit and the level; the high-pass bits, the pot count and the pot targets
+-- the registers written, the interrupt status, the four polynomial registers, the two prescalers,
+-- and of each channel the pulses left, the tone bit and the level; the high-pass bits, the pot
+-- count and the pot targets
 pub record PokeyValue : Type 0 where
   pub audf : List ℕ
   pub audc : List ℕ
@@ -24,8 +26,8 @@ pub record PokeyValue : Type 0 where
   pub targets : List ℕ
   pub last : List ℕ
 
--- four channels, three requests, registers of 4, 5, 9 and 17 bits, two prescalers, a longest period, levels of four bits,
--- eight pots that count to one limit
+-- four channels, three requests, registers of 4, 5, 9 and 17 bits, two prescalers, a longest
+-- period, levels of four bits, eight pots that count to one limit
 pub record IsPokey (p : PokeyValue) : Type 0 where
   pub audf : length p.audf ≡ 4
   pub audc : length p.audc ≡ 4
@@ -46,7 +48,8 @@ pub record IsPokey (p : PokeyValue) : Type 0 where
   pub last : length p.last ≡ 4
   pub levels : All (λ level. level < 16) p.last
 
--- all 0, but no request is standing, the polynomial registers are all ones, and one pulse is left of each channel
+-- all 0, but no request is standing, the polynomial registers are all ones, and one pulse is left
+-- of each channel
 abbrev pub pokey_at_power_on : PokeyValue
 pokey_at_power_on = record {
   audf = replicate 4 0;

@@ -1,4 +1,5 @@
--- Records, the parts that make them, and what the trails of these parts hold. They are this project's own.
+-- Records, the parts that make them, and what the trails of these parts hold. They are this
+-- project's own.
 use Rattle.std.specs.Prelude.{ℕ, ◌≤◌, ◌<◌, List, [], ◌∷◌, All}
 use Rattle.std.specs.List.Sorted.{IsNonDecreasingBy}
 use Rattle.board_base.specs.declared.part.Part.{Part}
@@ -13,7 +14,8 @@ clock_of (Levels clock l1 l2 l3 l4) = clock
 clock_of (Latch clock value) = clock
 clock_of (WatchdogReset clock) = clock
 
--- the generator makes strokes alone, a POKEY levels, and the rest of the board latch writes and watchdog resets
+-- the generator makes strokes alone, a POKEY levels, and the rest of the board latch writes and
+-- watchdog resets
 abbrev pub Makes : Part → Record → Type 0
 Makes Generator (Stroke clock x0 y0 x1 y1 colour intensity) = Unit {0}
 Makes Pokey1 (Levels clock l1 l2 l3 l4) = Unit {0}
@@ -27,7 +29,8 @@ pub record IsTrailOf (part : Part) (records : List Record) : Type 0 where
   pub clocks : IsNonDecreasingBy clock_of records
   pub kinds : All (Makes part) records
 
--- records of a part that were made from one clock to another, which isn't in it any more, in the order of their clocks
+-- records of a part that were made from one clock to another, which isn't in it any more, in the
+-- order of their clocks
 abbrev pub MadeBetween : Part → ℕ → List Record → ℕ → Type 0
 MadeBetween part from [] to = from ≤ to
 MadeBetween part from (made ∷ records) to =

@@ -1,4 +1,5 @@
--- Ticks one after another, and the records that they make: the words that each device and the board share.
+-- Ticks one after another, and the records that they make: the words that each device and the board
+-- share.
 use Rattle.std.specs.Prelude.{ℕ, ◌+◌, List, [], ◌++◌, zero, suc}
 
 -- the state after n ticks at the clocks from, from + 1, and so on

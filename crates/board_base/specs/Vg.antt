@@ -4,8 +4,9 @@ use Rattle.board_base.specs.declared.phase.TheConstants.{DRAW}
 use Rattle.board_base.specs.declared.vg.TheConstants.{BEAM_EDGE, DELTA_EDGE}
 use Rattle.board_base.specs.Ranges.{IsWithin}
 
--- whether it is halted, the phase of its next tick, where it reads, its return stack, what it draws with, the word
--- under way, the beam, and the vector being drawn with the clocks that are left of it
+-- whether it is halted, the phase of its next tick, where it reads, its return stack, what it draws
+-- with, the word under way, the beam, and the vector being drawn with the clocks that are left of
+-- it
 pub record VgValue : Type 0 where
   pub halted : Bool
   pub phase : ℕ

@@ -18,9 +18,9 @@ pub const CLOCK_END: u64 = 562_949_953_421_312;
 
 /// The whole board between two clocks.
 ///
-/// `clock` is the number of clocks done, at most `CLOCK_LIMIT` + 16, and at most `CLOCK_LIMIT` inside
-/// a sequence. `in0` has bits 0 to 5 alone; `out` is the output latch; `ram` and `vram` are the bytes
-/// from 0000 and from 2000.
+/// `clock` is the number of clocks done, at most `CLOCK_LIMIT` + 16, and at most `CLOCK_LIMIT`
+/// inside a sequence. `in0` has bits 0 to 5 alone; `out` is the output latch; `ram` and `vram` are
+/// the bytes from 0000 and from 2000.
 #[derive(Debug, PartialEq, Eq, Drop)]
 pub struct BoardState {
     pub clock: u64,

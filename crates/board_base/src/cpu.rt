@@ -41,8 +41,8 @@ impl Model for Mid {
 /// stopped the processor. While `mid` is there, the registers are those at the start of the
 /// sequence; for a reset `s` is lowered by 3 already and I is set.
 ///
-/// The registers don't stand in a row: four in a row LLVM would keep in one vector register, and take
-/// them out of it in each instruction.
+/// The registers don't stand in a row: four in a row LLVM would keep in one vector register, and
+/// take them out of it in each instruction.
 #[derive(Clone, Copy, Debug, PartialEq, Eq)]
 pub struct CpuState {
     pub pc: u16,

@@ -9,7 +9,8 @@ pub trait Clocked: Drop {
     /// The calls counted so far.
     ghost calls: { Self → ℕ };
 
-    /// The counted calls since the device was made; it stands still at the greatest number of a u64.
+    /// The counted calls since the device was made; it stands still at the greatest number of a
+    /// u64.
     fn calls(&self) -> u64
         ensures { result ≡ calls self.now };
 }

@@ -1,5 +1,5 @@
-//! What all parts of the board share: records and their trails, the states of the devices, the words
-//! for ticks and times, and the numbers of the board.
+//! What all parts of the board share: records and their trails, the states of the devices, the
+//! words for ticks and times, and the numbers of the board.
 #![tactic(auto)]
 
 pub mod board;

@@ -1,7 +1,8 @@
 use crate::device::PowerOn;
 use std::marker::Model;
 
-/// The clocks from a pulse of the prescaler of the base clock to the next (C012294 data sheet, 64 kHz).
+/// The clocks from a pulse of the prescaler of the base clock to the next (C012294 data sheet, 64
+/// kHz).
 pub const PRESCALER_BASE: u8 = 28;
 
 /// The clocks from a pulse of the slow prescaler to the next (C012294 data sheet, 15 kHz).
@@ -17,8 +18,8 @@ pub const LONGEST_PERIOD: u32 = 65_542;
 /// project's own profile).
 ///
 /// `audf`, `audc`, `left` and `last` have channels 1 to 4 in this order; `left` counts pulses to
-/// the next underflow, 1 to `LONGEST_PERIOD`. Bit i - 1 of `tone` is channel i's; `pass` has the high-pass
-/// bits of channels 1 and 2. `irqst` has a 0 where a request stands.
+/// the next underflow, 1 to `LONGEST_PERIOD`. Bit i - 1 of `tone` is channel i's; `pass` has the
+/// high-pass bits of channels 1 and 2. `irqst` has a 0 where a request stands.
 #[derive(Clone, Copy, Debug, PartialEq, Eq)]
 pub struct PokeyState {
     pub audf: [u8; 4],

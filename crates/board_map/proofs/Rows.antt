@@ -59,7 +59,8 @@ one-range p true rest x y alone other = rw (alone refl) (kept (p x))
     kept false = refl
 one-range p false rest x y alone other = rw (and-none (p x)) other
 
--- the row of an address passes a test where one of the rising ranges that hold the address has such a row
+-- the row of an address passes a test where one of the rising ranges that hold the address has such
+-- a row
 pub passing : (p : Row → Bool) → p (row 0 Open Ignored) ≡ false → (ranges : List Range) (from address : ℕ) → are_rising from ranges ≡ true
     → p (row_in ranges address) ≡ is_in_passing p ranges address
 passing p none [] from address rising = none

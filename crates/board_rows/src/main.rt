@@ -1,5 +1,5 @@
-//! Does the rows of the suite in `data/`, with the program's call over files and sinks in memory, and
-//! makes each I/O call fail in turn. `data/FORMAT.txt` says how a row is written.
+//! Does the rows of the suite in `data/`, with the program's call over files and sinks in memory,
+//! and makes each I/O call fail in turn. `data/FORMAT.txt` says how a row is written.
 #![tactic(auto)]
 
 use gravitar_commands::{Words, gravitar};

@@ -1,5 +1,5 @@
-//! The devices with the clocks up to which they were moved: each is brought to a clock in one move, and in none where it
-//! stands there.
+//! The devices with the clocks up to which they were moved: each is brought to a clock in one move,
+//! and in none where it stands there.
 #![tactic(auto)]
 
 pub mod catch_up;

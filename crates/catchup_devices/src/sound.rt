@@ -170,7 +170,8 @@ impl<P: SoundUnit> SoundCatchUp<P> {
         self.wired && self.request_at <= clock
     }
 
-    /// Whether it asserts the interrupt line after the ticks of the clock that comes next after so many.
+    /// Whether it asserts the interrupt line after the ticks of the clock that comes next after so
+    /// many.
     #[inline(always)]
     #[tactic(auto, using(crate::proofs::CatchUpLaws::next_requests))]
     pub fn asserts_irq_next(&self, clock: u64) -> bool

@@ -1,4 +1,5 @@
-//! Tests of the chips, of the processor and of the small parts, each in the file of its crate's name.
+//! Tests of the chips, of the processor and of the small parts, each in the file of its crate's
+//! name.
 #![tactic(auto)]
 
 #[cfg(test)]

@@ -6,7 +6,8 @@ use Rattle.command_line.specs.CommandValue.{CommandValue, asm_of, debug_of, fram
 use Rattle.command_line.specs.declared.number.TheConstants.{CUTS}
 use Rattle.command_line.specs.SettingsValue.{SettingsValue}
 
--- the clock to end at and each cut are within the limit of the clocks, and no cut is before an earlier one
+-- the clock to end at and each cut are within the limit of the clocks, and no cut is before an
+-- earlier one
 pub record AreClocks (said : SettingsValue) : Type 0 where
   pub until : IfSome said.until (λ clock. clock ≤ CLOCK_LIMIT)
   pub cuts : All (λ clock. clock ≤ CLOCK_LIMIT) said.cuts

@@ -29,8 +29,9 @@ pub record SeekValue : Type 0 where
   pub run : RunValue
   pub clocks : List ℕ
 
--- a run, two sources to assemble, a debugger's session, the name of the state to show, the number of a workload, a run whose samples are
--- asked for, one whose frames are, one in which clocks are sought, or one whose profile is asked for
+-- a run, two sources to assemble, a debugger's session, the name of the state to show, the number
+-- of a workload, a run whose samples are asked for, one whose frames are, one in which clocks are
+-- sought, or one whose profile is asked for
 pub data CommandValue : Type 0 where
   run_of : RunValue → CommandValue
   asm_of : AsmValue → CommandValue

@@ -49,6 +49,7 @@ settings_from verb said None (word ∷ words) =
 settings_from verb said (Some option) (word ∷ words) =
     option_and_then (λ more. settings_from verb more None words) (with_value option word said)
 
--- the settings that the words of a command's options say: each option is one that the command takes, and none lacks its value
+-- the settings that the words of a command's options say: each option is one that the command
+-- takes, and none lacks its value
 abbrev pub settings_of : Verb → List (List ℕ) → Option SettingsValue
 settings_of verb words = settings_from verb no_settings None words

@@ -96,8 +96,8 @@ impl<'a> Model for PcmWords<'a> {
     ghost invariant = { λ w. (1 ≤ w.per) × (w.per ≤ PER_LIMIT) };
 }
 
-/// The words of a seek: those of a run, whose options are fewer, and the clocks to seek, in any order:
-/// 1 to `CUTS` of them, each at most `CLOCK_LIMIT`.
+/// The words of a seek: those of a run, whose options are fewer, and the clocks to seek, in any
+/// order: 1 to `CUTS` of them, each at most `CLOCK_LIMIT`.
 #[derive(Drop)]
 pub struct SeekWords<'a> {
     pub run: RunWords<'a>,

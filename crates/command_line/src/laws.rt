@@ -20,8 +20,8 @@ pub fn command_words()
     ensures profile { map option_word (options_of Verb.Profile) ≡ codes "--state" ∷ codes "--earom" ∷ codes "--until" ∷ codes "--timers" ∷ [] }
 {}
 
-/// The most cuts of a run, and the most clocks of a seek, are 1,000, and the most clocks of a sample
-/// 65,535.
+/// The most cuts of a run, and the most clocks of a seek, are 1,000, and the most clocks of a
+/// sample 65,535.
 pub fn command_limits()
     ensures cuts { CUTS ≡ 1000 }
     ensures per { PER_LIMIT ≡ 65535 }

@@ -16,8 +16,8 @@ agree false b = not b
 unfoldable pub overflows : ℕ → ℕ → ℕ → Bool
 overflows a m sum = agree (is_bit a 7) (is_bit m 7) && not (agree (is_bit a 7) (is_bit sum 7))
 
--- the binary sum of A, an operand and C: its low byte and its flags; C is its ninth bit, and D and I
--- stay
+-- the binary sum of A, an operand and C: its low byte and its flags; C is its ninth bit, and D and
+-- I stay
 unfoldable pub binary_adc : ℕ → ℕ → Flags → ℕ × Flags
 binary_adc a m f =
     let s = a + m + from_bool f.carry in

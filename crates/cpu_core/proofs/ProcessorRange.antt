@@ -1,4 +1,5 @@
--- The processor stays in its range, sequence by sequence: so do the bus cycles of each, whatever bytes they read.
+-- The processor stays in its range, sequence by sequence: so do the bus cycles of each, whatever
+-- bytes they read.
 use Rattle.std.proofs.Common.{◌≡◌, ◌≤◌, ◌<◌, ◌+◌, ◌-◌, ◌*◌, ◌/◌, ◌%◌, ◌==◌, ◌||◌, ℕ, Bool, true, false, nat_lt, if◌then◌else◌, List, [], ◌∷◌, length, Option, Some, None, IfSome, All, ℤ, pos, negsuc, bit_and, bit_or, bit_xor, refl, ap, subst, arith}
 use Rattle.std.specs.Int.{from_bool}
 use Rattle.std.proofs.lemmas.Nat.{and_le_l, or_lt, xor_lt}
@@ -230,7 +231,8 @@ record EndsInRange (e : CpuValue) : Type 0 where
   registers : AreRegistersInRange (registers_of e)
   jam : IfSome e.jam (λ o. IsByte o × (row_of o ≡ None))
 
--- whatever the bytes read are, those written are bytes too, and the processor at the end is in range
+-- whatever the bytes read are, those written are bytes too, and the processor at the end is in
+-- range
 abbrev StaysInRange : BusCycles → Type 0
 StaysInRange (finish e) = EndsInRange e
 StaysInRange (read a k) = (v : ℕ) → IsByte v → StaysInRange (k v)

@@ -7,7 +7,8 @@ pub data Access : Type 0 where
   read_of : ℕ → ℕ → Access
   write_of : ℕ → ℕ → Access
 
--- the accesses still to be made, the later ones by the bytes of the earlier ones, and the processor at the end
+-- the accesses still to be made, the later ones by the bytes of the earlier ones, and the processor
+-- at the end
 pub data BusCycles : Type 0 where
   finish : CpuValue → BusCycles
   read : ℕ → (ℕ → BusCycles) → BusCycles

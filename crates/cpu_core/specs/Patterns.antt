@@ -48,7 +48,8 @@ indexed low high index always k =
     then dummy_read (address_of ((low + index) % 256) high) (k ((address_of low high + index) % 65536))
     else k ((address_of low high + index) % 65536)
 
--- the address of the operand, in the modes without a pointer; an immediate operand is the byte at pc
+-- the address of the operand, in the modes without a pointer; an immediate operand is the byte at
+-- pc
 abbrev pub directly_addressed : Mode → Bool → RegistersValue → (RegistersValue → ℕ → BusCycles) → BusCycles
 directly_addressed Immediate always r k = k (record r { pc = (r.pc + 1) % 65536 }) r.pc
 directly_addressed ZeroPage always r k = fetched r k

@@ -31,7 +31,8 @@ pub record IsPlace (r : RegistersValue) (m : MidValue) : Type 0 where
 abbrev pub IsMiddle : CpuValue → Type 0
 IsMiddle c = (c.jam ≡ None) × IsSomeAnd c.mid (IsPlace (registers_of c))
 
--- a processor that an undocumented opcode has stopped, that stands inside a sequence, or between two
+-- a processor that an undocumented opcode has stopped, that stands inside a sequence, or between
+-- two
 pub record IsProcessor (c : CpuValue) : Type 0 where
   pub undocumented : IfSome c.jam (λ o. row_of o ≡ None)
   pub place : IfSome c.mid (λ _. IsMiddle c)
@@ -53,7 +54,8 @@ stopped r q bytes next = paused r q bytes
 abbrev pub standing : RegistersValue → Sequence → List ℕ → CpuValue
 standing r q bytes = stopped r q bytes (next_of r q bytes)
 
--- from s to t a bus makes the next accesses of a sequence, here made, after which the bytes given have become now
+-- from s to t a bus makes the next accesses of a sequence, here made, after which the bytes given
+-- have become now
 pub record Gone {S : Type 0} (step : Access → S → S → Type 0) (r : RegistersValue) (q : Sequence) (given now : List ℕ) (made : ℕ) (s t : S) : Type 0 where
   pub more : List ℕ
   pub moves : Moves step r q given more s t

@@ -10,7 +10,8 @@ use Rattle.cpu_core.specs.Places.{IsProcessor}
 abbrev pub IsByte : ℕ → Type 0
 IsByte n = n < 256
 
--- the registers in range: pc has 16 bits, the others are bytes, and bits 4 and 5 of the flags are clear
+-- the registers in range: pc has 16 bits, the others are bytes, and bits 4 and 5 of the flags are
+-- clear
 pub record AreRegistersInRange (r : RegistersValue) : Type 0 where
   pub pc : r.pc < 65536
   pub a : IsByte r.a
@@ -25,8 +26,8 @@ pub record IsMidInRange (m : MidValue) : Type 0 where
   pub place : IsMid m
   pub bytes : All IsByte m.bytes
 
--- a processor in range: where it is jammed, an undocumented opcode did it, and where it stands inside a sequence, its
--- accesses so far are those of that sequence
+-- a processor in range: where it is jammed, an undocumented opcode did it, and where it stands
+-- inside a sequence, its accesses so far are those of that sequence
 pub record IsProcessorInRange (c : CpuValue) : Type 0 where
   pub registers : AreRegistersInRange (registers_of c)
   pub jam : IfSome c.jam IsByte

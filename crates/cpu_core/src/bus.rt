@@ -3,8 +3,8 @@ ghost use Rattle.cpu_core.specs.BusCycles.{Access, read_of, write_of};
 
 /// What a processor reads and writes. Each call is one access and takes one clock.
 ///
-/// A bus owns its parts; whatever else an access needs, as an input tape, is lent to it as the feed.
-/// `step` relates the bus before an access to the bus after it and to the byte, `accepts`
+/// A bus owns its parts; whatever else an access needs, as an input tape, is lent to it as the
+/// feed. `step` relates the bus before an access to the bus after it and to the byte, `accepts`
 /// states which feeds may be lent, and `room` for how many more accesses the bus has room.
 pub trait Bus {
     type Feed;

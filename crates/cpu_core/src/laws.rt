@@ -7,9 +7,9 @@ ghost use Rattle.cpu_core.specs.Ranges.{AreRegistersInRange, IsByte, IsProcessor
 ghost use Rattle.cpu_core.specs.Registers.{RegistersValue};
 ghost use Rattle.cpu_core.specs.Sequences.{next_of, start_of};
 
-/// A sequence keeps the processor in its range, whatever bytes it reads: its registers at the start,
-/// the bytes that it writes, and the processor after each of its accesses. It states a law, and does
-/// nothing.
+/// A sequence keeps the processor in its range, whatever bytes it reads: its registers at the
+/// start, the bytes that it writes, and the processor after each of its accesses. It states a law,
+/// and does nothing.
 #[tactic(auto, using(crate::proofs::ProcessorRange::ranges))]
 pub fn sequences_keep_range()
     ensures start { (q : Sequence) → (c : CpuValue) → IsProcessorInRange c → AreRegistersInRange (start_of q c) }

@@ -8,8 +8,8 @@ ghost use Rattle.cpu_core.specs.Places.{Advances, given_by};
 use crate::bus::Bus;
 
 /// A sequence may stop after any of its accesses and go on: the accesses of both parts, one after
-/// another, are those of the whole, and a processor that has begun a sequence by some clocks and then
-/// goes on for the rest of the seven has done it all. It states a law, and does nothing.
+/// another, are those of the whole, and a processor that has begun a sequence by some clocks and
+/// then goes on for the rest of the seven has done it all. It states a law, and does nothing.
 pub fn in_two_parts<B: Bus>(feed: &B::Feed)
     ensures joined { (r : RegistersValue) (q : Sequence) (first rest : List ℕ) (s m t : B)
         → Moves (B.step feed.now) r q [] first s m → Moves (B.step feed.now) r q first rest m t

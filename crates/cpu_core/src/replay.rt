@@ -4,8 +4,8 @@ use crate::bus::Bus;
 use board_base::CpuState;
 use std::marker::Model;
 
-/// What comes next in a sequence: the address of a read, the address and the byte of a write, or the
-/// processor after its end.
+/// What comes next in a sequence: the address of a read, the address and the byte of a write, or
+/// the processor after its end.
 #[derive(Clone, Copy, PartialEq, Eq)]
 pub enum Next {
     /// A read of an address.
@@ -49,7 +49,8 @@ impl<'a> Replay<'a> {
         self.due
     }
 
-    /// Takes the next byte given. An access past them is kept if it is the first, and its byte is 0.
+    /// Takes the next byte given. An access past them is kept if it is the first, and its byte is
+    /// 0.
     fn take(&mut self, access: Next) -> u8
         ensures { Takes self.old.due self.old.given access result self.new }
     {

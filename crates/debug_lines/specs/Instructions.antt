@@ -1,4 +1,5 @@
--- Instructions of the processor as a debugger shows them (MCS6500 Programming Manual, its notation of operands).
+-- Instructions of the processor as a debugger shows them (MCS6500 Programming Manual, its notation
+-- of operands).
 use Rattle.std.specs.Prelude.{ℕ, ◌+◌, List, [], ◌∷◌, ◌++◌, take, nat_lt, codes, Option, Some, None, zero, suc, if◌then◌else◌}
 use Rattle.std.specs.List.{flat_map}
 use Rattle.std.specs.Option.{option_map_or}
@@ -11,7 +12,8 @@ use Rattle.text_line.specs.Words.{hex_byte, hex_word}
 use Rattle.debug_lines.specs.Bytes.{Seen, further}
 use Rattle.debug_lines.specs.Columns.{listed}
 
--- where a branch goes: its byte counts from the next instruction, and from 80 on it is a minus (two's complement)
+-- where a branch goes: its byte counts from the next instruction, and from 80 on it is a minus
+-- (two's complement)
 abbrev pub target_of : ℕ → ℕ → ℕ
 target_of address byte = further address (2 + byte + (if nat_lt byte 128 then 0 else 0xFF00))
 
@@ -40,7 +42,8 @@ abbrev pub first_text : List ℕ → List ℕ
 first_text [] = codes "-- "
 first_text (byte ∷ bytes) = hex_byte byte ++ 32 ∷ []
 
--- the line of what some bytes at an address are decoded to: an instruction with its bytes, or else one byte
+-- the line of what some bytes at an address are decoded to: an instruction with its bytes, or else
+-- one byte
 abbrev pub instruction_line : ℕ → List ℕ → Option (Op × Mode × ℕ) → List ℕ
 instruction_line address bytes None = listed address 9 (first_text bytes) (codes "???")
 instruction_line address bytes (Some (op, mode, n)) =

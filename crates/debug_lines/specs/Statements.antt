@@ -11,7 +11,8 @@ use Rattle.text_line.specs.Words.{hex_word}
 use Rattle.debug_lines.specs.Bytes.{Seen, further}
 use Rattle.debug_lines.specs.Columns.{listed}
 
--- the operands of a statement behind its word: a blank before the first, a comma and a blank before each other
+-- the operands of a statement behind its word: a blank before the first, a comma and a blank before
+-- each other
 abbrev pub operands : List (List ℕ) → List ℕ
 operands [] = []
 operands (first ∷ others) = (32 ∷ first) ++ flat_map (λ operand. 44 ∷ 32 ∷ operand) others

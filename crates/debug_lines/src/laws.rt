@@ -46,8 +46,8 @@ pub fn an_assembled_opcode_is_shown()
     bytes_of_an_opcode();
 }
 
-/// What the assembler makes of an instruction with an expression, of which all names have a value, is
-/// shown as it: its operand is the expression's.
+/// What the assembler makes of an instruction with an expression, of which all names have a value,
+/// is shown as it: its operand is the expression's.
 pub fn an_assembled_operand_is_shown()
     ensures { (names : NameValues) (op : Op) (at : ℕ) (mode : Mode) (e : Expression) (value : ℤ) (cells : List Cell) → mode_form op at mode e ≡ Gives cells
         → value_of names e ≡ Some value → ReadsAs at (cells_bytes names cells) op mode (operand_number mode at value) }

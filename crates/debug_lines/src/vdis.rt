@@ -35,8 +35,8 @@ fn size(kind: VgWord) -> u8
     }
 }
 
-/// The line of the instruction at an address that begins with this word, with the word after it, and
-/// how many bytes it has.
+/// The line of the instruction at an address that begins with this word, with the word after it,
+/// and how many bytes it has.
 pub fn vdis_line(address: u16, word: u16, second: u16) -> (Line, u8)
     ensures line { result.0 ≡ vdis_line address word second }
     ensures size { result.1 ≡ statement_size (word_of word) }

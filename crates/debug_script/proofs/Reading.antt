@@ -16,7 +16,8 @@ with_front-push : (front : List Command) (command : Command) (read : Result (Lis
 with_front-push front command (Ok commands) = rw append_assoc refl
 with_front-push front command (Err number) = refl
 
--- after some lines: their commands, the stops that these leave, how many lines they are, and the rest of the text
+-- after some lines: their commands, the stops that these leave, how many lines they are, and the
+-- rest of the text
 pub record ReadSoFar (text : List ℕ) (commands : List Command) (stops : StopsValue) (number : ℕ) (rest : List ℕ) : Type 0 where
   pub script : with_front commands (script_from (number + 1) stops (lines_of rest)) ≡ script_of text
   pub lines : number + length rest ≤ length text

@@ -4,8 +4,8 @@ use Rattle.debug_script.specs.declared.command.Command.{Command}
 use Rattle.debug_script.specs.declared.command.Command.TheVariants.{Break, Watch, StopVg, Clear}
 use Rattle.debug_script.specs.declared.stops.TheConstants.{STOPS}
 
--- the addresses to stop at and the bytes to watch, each in the order in which they were given, and whether to stop where the
--- vector generator halts
+-- the addresses to stop at and the bytes to watch, each in the order in which they were given, and
+-- whether to stop where the vector generator halts
 pub record StopsValue : Type 0 where
   pub breaks : List ℕ
   pub watches : List ℕ

@@ -22,8 +22,8 @@ abbrev pub with_command : ℕ → Option Command → (Command → Result (List C
 with_command number None more = Err number
 with_command number (Some command) more = with_first command (more command)
 
--- the commands of the lines from this number on, where these stops stand, or the number of the first malformed line; an
--- empty line does nothing
+-- the commands of the lines from this number on, where these stops stand, or the number of the
+-- first malformed line; an empty line does nothing
 unfoldable pub script_from : ℕ → StopsValue → List (List ℕ) → Result (List Command) ℕ
 script_from number stops [] = Ok []
 script_from number stops ([] ∷ lines) = script_from (number + 1) stops lines
@@ -34,8 +34,8 @@ script_from number stops ((byte ∷ line) ∷ lines) =
 abbrev pub script_of : List ℕ → Result (List Command) ℕ
 script_of text = script_from 1 no_stops (lines_of text)
 
--- how a text is read: too long above the limit of its bytes, else as its commands, which a view shows, or with its fault,
--- unless memory runs out
+-- how a text is read: too long above the limit of its bytes, else as its commands, which a view
+-- shows, or with its fault, unless memory runs out
 abbrev pub ReadsScript : {V : Type 0} → (V → List Command) → List ℕ → Result V ScriptFault → Type 0
 ReadsScript view text (Ok commands) = (length text ≤ SCRIPT_LIMIT) × (script_of text ≡ Ok (view commands))
 ReadsScript view text (Err TooLong) = SCRIPT_LIMIT < length text

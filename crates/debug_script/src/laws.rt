@@ -5,8 +5,8 @@ use crate::line::{MOST_BYTES, MOST_INSTRUCTIONS, MOST_TURNS};
 use crate::script::SCRIPT_LIMIT;
 use crate::stops::STOPS;
 
-/// The most bytes of a script, the most breaks and watches at one time, and the most turns, bytes and
-/// instructions of a command.
+/// The most bytes of a script, the most breaks and watches at one time, and the most turns, bytes
+/// and instructions of a command.
 pub fn script_limits()
     ensures script { SCRIPT_LIMIT ≡ 65536 }
     ensures stops { STOPS ≡ 16 }

@@ -1,5 +1,6 @@
--- The EAROM's latches, and the hold that an erase or a write takes (after the ER2055 data sheet). Which control bit is
--- which line, how long a hold lasts, and that a write can only clear bits are this project's own profile.
+-- The EAROM's latches, and the hold that an erase or a write takes (after the ER2055 data sheet).
+-- Which control bit is which line, how long a hold lasts, and that a write can only clear bits are
+-- this project's own profile.
 use Rattle.std.specs.Prelude.{ℕ, ◌+◌, ◌%◌, Bool, not, ◌&&◌, ◌==◌, nat_lt, if◌then◌else◌, slice_index, slice_set, bit_and}
 use Rattle.bit_words.specs.Bits.{is_bit}
 use Rattle.board_base.specs.declared.earom.TheConstants.{HOLD_CLOCKS}
@@ -22,7 +23,8 @@ is_selected control = is_bit control 3
 abbrev pub is_held : ℕ → Bool
 is_held control = is_selected control && is_not_c1_high control
 
--- what the addressed cell becomes when the hold is complete: an erase sets all its bits, a write can only clear some
+-- what the addressed cell becomes when the hold is complete: an erase sets all its bits, a write
+-- can only clear some
 abbrev pub written_cell : EaromValue → ℕ
 written_cell e = if is_c2_high e.control then 255 else bit_and (slice_index e.cells e.addr) e.value
 
@@ -46,7 +48,8 @@ latched addr value e = record e { addr = addr; value = value; hold = 0 }
 abbrev pub reads_out : ℕ → ℕ → Bool
 reads_out old new = is_clock_high old && not (is_clock_high new) && is_selected new && not (is_not_c1_high new)
 
--- the control bits are written, the hold begins anew, and a read puts the addressed cell into the output latch
+-- the control bits are written, the hold begins anew, and a read puts the addressed cell into the
+-- output latch
 unfoldable pub controlled : ℕ → EaromValue → EaromValue
 controlled value e = record e {
   control = value % 16;

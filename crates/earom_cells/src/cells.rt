@@ -79,7 +79,8 @@ fn advance_state(state: &mut EaromState, n: u64)
     }
 }
 
-/// Writes the control bits, and reads the addressed cell into the output latch where they ask for it.
+/// Writes the control bits, and reads the addressed cell into the output latch where they ask for
+/// it.
 #[tactic(auto, unfolding(crate::specs::Tick::controlled))]
 fn write_control(state: &mut EaromState, value: u8)
     ensures { state.new ≡ controlled value state.old }

@@ -11,7 +11,8 @@ pub record IsLeast (times : List (Option ℕ)) (name at : ℕ) : Type 0 where
 abbrev pub IsLeastOf : List (Option ℕ) → Option (ℕ × ℕ) → Type 0
 IsLeastOf times found = MatchOption found ((name at : ℕ) → slice_get times name ≢ Some (Some at)) (λ deadline. IsLeast times deadline.0 deadline.1)
 
--- of a name's deadline and the least of the greater names, the one that comes first, at a tie the lesser name
+-- of a name's deadline and the least of the greater names, the one that comes first, at a tie the
+-- lesser name
 abbrev pub earlier_of : ℕ → Option ℕ → Option (ℕ × ℕ) → Option (ℕ × ℕ)
 earlier_of name None best = best
 earlier_of name (Some at) None = Some (name, at)

@@ -1,4 +1,5 @@
-//! A folder in memory with a file and a new file beside it. It notes its calls, and lets some of them fail.
+//! A folder in memory with a file and a new file beside it. It notes its calls, and lets some of
+//! them fail.
 
 use std::alloc::Allocator;
 use std::cell::Cell;

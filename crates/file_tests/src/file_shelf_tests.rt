@@ -3,8 +3,8 @@ use crate::fake_files::{Call, Fake, Folder, Kind};
 use outside_io::{Failed, FileShelf, Shelf};
 use std::process::Abort;
 
-/// Stores `new!` in a folder: the answer, the bytes of the file afterwards, and the calls in their order. No
-/// new file is left beside it.
+/// Stores `new!` in a folder: the answer, the bytes of the file afterwards, and the calls in their
+/// order. No new file is left beside it.
 fn assert_store(
     rt: &impl Abort,
     folder: &Folder<'_>,

@@ -390,7 +390,8 @@ unfolding command_outcome
 asm-comes None words made holds good comes = tt
 asm-comes (Some files) words made holds good comes = λ reading is. record { calls = 0; fits = tt; of_outcome = rw good comes }
 
--- what was done of good sources: both listings and the store, the listings alone, or a first part of them
+-- what was done of good sources: both listings and the store, the listings alone, or a first part
+-- of them
 module _ (words : AsmValue) (made : Assembled) (before read now : Seen) (good : IfSome before.files (λ files. asm_files files words ≡ Ok made))
     (nothing : HostDidNothing before read) (text : List ℕ) (listed : text ≡ both_listings made) where
   pub asm-unwritten : {E : Type 0} (e : E) → HostWrites {T = Unit {0}} read now text (Err e) → Performs (asm_of words) before now (Err Outside)

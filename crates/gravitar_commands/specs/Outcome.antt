@@ -95,7 +95,8 @@ tape_or_cause (Err fault) = Err (Tape (BadLine fault.0 fault.1))
 unfoldable pub tape_read : List ℕ → Result TapeValue Cause
 tape_read bytes = if nat_lt TAPE_LIMIT (length bytes) then Err (Tape TooLong) else tape_or_cause (tape_of bytes)
 
--- the board that bytes are read as, or the cause of their refusal: the reading is given by a relation
+-- the board that bytes are read as, or the cause of their refusal: the reading is given by a
+-- relation
 abbrev pub state_read : Result BoardValue StateFault → Result BoardValue Cause
 state_read (Ok board) = Ok board
 state_read (Err fault) = Err (State fault)
@@ -235,7 +236,8 @@ abbrev pub finished : {A : Type 0} → Result A Outcome → (A → Outcome) → 
 finished (Ok a) outcome = outcome a
 finished (Err refusal) outcome = refusal
 
--- the outcome of a command over these files, with this reading of its state file and this number of device calls
+-- the outcome of a command over these files, with this reading of its state file and this number of
+-- device calls
 unfoldable pub command_outcome : CommandValue → Files → Result BoardValue StateFault → ℕ → Outcome
 command_outcome (run_of run) files reading calls =
     finished (run_files files run reading) (λ parts. run_outcome run.settings parts calls)
@@ -267,8 +269,8 @@ state_name (profile_of run) = run.settings.state
 abbrev pub IsReading : Option (List ℕ) → Files → Result BoardValue StateFault → Type 0
 IsReading name files reading = IfSome name (λ n. IfSome (files n) (λ bytes. ReadsState (take (STATE_LEN + 1) bytes) reading))
 
--- the number of device calls is one that a run of these parts may have: from five for each slice up to its budget, the first
--- five being those of taking up the first board
+-- the number of device calls is one that a run of these parts may have: from five for each slice up
+-- to its budget, the first five being those of taking up the first board
 abbrev pub FitsRun : SettingsValue → Parts → ℕ → Type 0
 FitsRun said parts calls =
     FitsCalls parts.tape.entries (limit_of said.until parts.tape.end) (length said.cuts) (first_board said.timers parts) 5 calls
@@ -284,7 +286,8 @@ IsNumber (frames_of run) files reading calls = Unit {0}
 IsNumber (seek_of seek) files reading calls = Unit {0}
 IsNumber (profile_of run) files reading calls = Unit {0}
 
--- this holds of the outcome of a command. Words and files fix it but for the number of device calls, which is one that fits.
+-- this holds of the outcome of a command. Words and files fix it but for the number of device
+-- calls, which is one that fits.
 pub record CommandComes (command : CommandValue) (files : Files) (reading : Result BoardValue StateFault) (holds : Outcome → Type 0) : Type 0 where
   pub calls : ℕ
   pub fits : IsNumber command files reading calls
@@ -299,8 +302,8 @@ abbrev pub ComesOver : CommandValue → Option Files → (Outcome → Type 0) �
 ComesOver command known holds =
     IfSome known (λ files. ForReading (state_name command) files (λ reading. CommandComes command files reading holds))
 
--- the same of words: malformed ones are refused, and a command that reads no file has its outcome whether the files of the
--- shelf are known or not
+-- the same of words: malformed ones are refused, and a command that reads no file has its outcome
+-- whether the files of the shelf are known or not
 abbrev pub ComesOf : Option CommandValue → Option Files → (Outcome → Type 0) → Type 0
 ComesOf None known holds = holds (refused 2 usage_text)
 ComesOf (Some (run_of run)) known holds = ComesOver (run_of run) known holds

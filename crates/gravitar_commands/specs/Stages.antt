@@ -31,7 +31,8 @@ note_of (Absent note) = string_bytes note
 note_of Outside = outside_text
 note_of NoMemory = memory_text
 
--- a stage that writes nothing: its answer is the one that is defined over the files, or a fault or lack of memory
+-- a stage that writes nothing: its answer is the one that is defined over the files, or a fault or
+-- lack of memory
 abbrev pub Refuses : {B : Type 0} → Result B Outcome → Failure → Type 0
 Refuses defined Outside = Unit {0}
 Refuses defined NoMemory = Unit {0}

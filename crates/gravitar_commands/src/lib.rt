@@ -1,5 +1,5 @@
-//! What the program `gravitar` does for the words of a command line, over any shelf of files and any
-//! sinks for its text and its notes.
+//! What the program `gravitar` does for the words of a command line, over any shelf of files and
+//! any sinks for its text and its notes.
 #![tactic(auto)]
 
 mod answer;

@@ -137,9 +137,10 @@ fn perform<S: Shelf, O: Sink>(
 
 /// What the program does for its words, with the text of its notes, and its status.
 ///
-/// 0: done. 2: the words are malformed. 3: the board is jammed at the end. 4: a file is malformed. 5: a
-/// file is absent. 6: a fault of the shelf or of the output. 7: out of memory. A run takes its memory
-/// before it moves or writes anything. A failed write to the notes doesn't change the status.
+/// 0: done. 2: the words are malformed. 3: the board is jammed at the end. 4: a file is malformed.
+/// 5: a file is absent. 6: a fault of the shelf or of the output. 7: out of memory. A run takes its
+/// memory before it moves or writes anything. A failed write to the notes doesn't change the
+/// status.
 pub fn gravitar<S: Shelf, O: Sink, N: Sink>(
     alloc: Global,
     words: &Words,
@@ -147,7 +148,8 @@ pub fn gravitar<S: Shelf, O: Sink, N: Sink>(
     out: &mut O,
     notes: &mut N,
 ) -> u8
-    // Without a fault and with memory, all is as defined, where the shelf says what its files are or none is read.
+    // Without a fault and with memory, all is as defined, where the shelf says what its files are
+    // or none is read.
     ensures outcome { result ≢ 6 → result ≢ 7 → Comes words.now (S.files shelf.old) (λ outcome.
         (result ≡ outcome.status) × Did outcome.events (O.taken out.old) (O.taken out.new) (S.stores shelf.old) (S.stores shelf.new)) }
 

@@ -41,8 +41,8 @@ pub trait Report {
         ensures faults { StageFaults (O.faults out.old) (O.faults out.new) result };
 }
 
-/// Runs an image with a tape, and reports the run. Nothing is stored, and a board that jams ends it as
-/// any other end does. All memory is taken before the first clock.
+/// Runs an image with a tape, and reports the run. Nothing is stored, and a board that jams ends it
+/// as any other end does. All memory is taken before the first clock.
 pub fn perform_report<R: Report, S: Shelf, O: Sink>(
     alloc: Global,
     run: &RunWords<'_>,

@@ -17,7 +17,8 @@ use keyframes::{Keyframes, keep_start};
 use outside_io::Sink;
 use std::alloc::Global;
 
-/// The pages of 256 bytes for the boards that are kept: those of the start and of 1,000 asked clocks.
+/// The pages of 256 bytes for the boards that are kept: those of the start and of 1,000 asked
+/// clocks.
 pub const SEEK_PAGES: u32 = 16_016;
 
 /// How many boards are kept at most.
@@ -49,8 +50,8 @@ fn lowered(clocks: &[u64], limit: u64) -> Cuts
     lowered
 }
 
-/// The boards of a run at these clocks, at most 1,000, in their order, each lowered to the run's limit.
-/// A board that jams is shown as any other.
+/// The boards of a run at these clocks, at most 1,000, in their order, each lowered to the run's
+/// limit. A board that jams is shown as any other.
 #[derive(Clone, Copy)]
 pub struct Boards<'a> {
     pub clocks: &'a [u64],

@@ -12,8 +12,8 @@ use run_windows::SyncedMachine;
 use std::alloc::Global;
 use workload_gen::make;
 
-/// Makes the workload of a number, runs it to the end of its tape, and writes its summary. All memory
-/// is taken before the first clock.
+/// Makes the workload of a number, runs it to the end of its tape, and writes its summary. All
+/// memory is taken before the first clock.
 pub fn perform_soak<S: Shelf, O: Sink>(
     alloc: Global,
     seed: u64,

@@ -1,4 +1,5 @@
--- A clock adds one record of each part at most, so that the records of a part come in the order of their clocks.
+-- A clock adds one record of each part at most, so that the records of a part come in the order of
+-- their clocks.
 use Rattle.std.proofs.Common.{◌≡◌, ℕ, ◌+◌, ◌≤◌, List, [], ◌∷◌, ◌++◌, length, Option, Some, None, zero, suc, refl, sym, subst, ◌∙◌, arith, append-nil}
 use Rattle.board_base.specs.declared.cpu.Sequence.{Sequence}
 use Rattle.board_base.specs.declared.cpu.Sequence.TheVariants.{Opcode, Interrupt, Reset}

@@ -1,4 +1,5 @@
--- Where a step leaves the processor: between two sequences, or after one access more of its sequence.
+-- Where a step leaves the processor: between two sequences, or after one access more of its
+-- sequence.
 use Rattle.std.proofs.Common.{◌≡◌, ℕ, ◌+◌, ◌≤◌, List, [], ◌∷◌, ◌++◌, length, Option, Some, None, IfSome, zero, suc, refl, sym, ap, subst, arith, length-append}
 use Rattle.board_base.specs.declared.cpu.Sequence.{Sequence}
 use Rattle.board_base.specs.declared.cpu.Sequence.TheVariants.{Opcode, Interrupt, Reset}

@@ -109,7 +109,8 @@ unfolding stepped
 stepped-add entries zero m b = rw (zero-add m) refl
 stepped-add entries (suc n) m b = let e : suc n + m ≡ suc (n + m) = omega arith in rw e (stepped-add entries n m (step entries b))
 
--- no step was made from a board at which another run had come to its end, where it comes to it no sooner
+-- no step was made from a board at which another run had come to its end, where it comes to it no
+-- sooner
 pub reached-asked : (entries : List TapeEntry) (asked sooner : Board → Bool) → ((c : Board) → sooner c ≡ false → asked c ≡ false)
     → (n : ℕ) (b last : Board) → StepsTo entries sooner n b last → StepsTo entries asked n b last
 reached-asked entries asked sooner weaker zero b last r = r

@@ -21,7 +21,8 @@ use Rattle.lockstep_board.proofs.Ends.{boundary-split, to_boundary-clock, to_bou
 use Rattle.lockstep_board.proofs.Places.{begun-cpu, to_boundary-placed}
 use Rattle.lockstep_board.proofs.Runs.{to_boundary-is}
 
--- the test of a run to a boundary, over a jam, whether the board stands at a boundary, and its clock
+-- the test of a run to a boundary, over a jam, whether the board stands at a boundary, and its
+-- clock
 open-clock : (jam : Option ℕ) (boundary : Bool) (limit clock : ℕ) → jam ≡ None → clock < limit → is_some jam || (boundary && nat_le limit clock) ≡ false
 open-clock jam boundary limit clock e h = grind (arith, nat_tests)
 

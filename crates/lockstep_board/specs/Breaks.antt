@@ -5,7 +5,8 @@ use Rattle.tape_ports.specs.declared.entry.TapeEntry.{TapeEntry}
 use Rattle.lockstep_board.specs.Lockstep.{Board}
 use Rattle.lockstep_board.specs.Run.{is_over, to_boundary}
 
--- a turn is what is left of the sequence under way, or else one instruction or sequence; a jammed board stays as it is
+-- a turn is what is left of the sequence under way, or else one instruction or sequence; a jammed
+-- board stays as it is
 abbrev pub turn : List TapeEntry → Board → Board
 turn entries b = to_boundary entries (b.peripherals.clock + 1) b
 
@@ -18,8 +19,8 @@ turned entries (suc n) b = turned entries n (turn entries b)
 abbrev pub is_at_any : List ℕ → Board → Bool
 is_at_any addresses b = list_any (λ address. address == b.cpu.pc) addresses
 
--- Some turns lead from b to c, one at least. After none of them but the last a run to this limit is over, or the processor
--- stands at one of these addresses.
+-- Some turns lead from b to c, one at least. After none of them but the last a run to this limit is
+-- over, or the processor stands at one of these addresses.
 pub record BreakRun (entries : List TapeEntry) (limit : ℕ) (addresses : List ℕ) (b c : Board) : Type 0 where
   pub count : ℕ
   pub some : 1 ≤ count

@@ -1,4 +1,5 @@
--- The device calls that a run may cost, counted over the clocks of the lockstep board. This project's own profile.
+-- The device calls that a run may cost, counted over the clocks of the lockstep board. This
+-- project's own profile.
 use Rattle.std.specs.Prelude.{ℕ, ◌+◌, ◌*◌, List, length, Bool, not, ◌&&◌, ◌==◌, Option, Some, None, if◌then◌else◌, zero, suc}
 use Rattle.std.specs.Int.{from_bool}
 use Rattle.board_base.specs.declared.divider.TheConstants.{DIVIDER_PERIOD}
@@ -51,7 +52,8 @@ entries_applied entries w = length (due_at w.clock entries)
 abbrev pub requests_of : PokeyValue → ℕ
 requests_of p = from_bool (not (has_request p) && has_request (pokey_tick p))
 
--- the POKEYs that make a request by the ticks of a clock whose entries are applied, where they are wired
+-- the POKEYs that make a request by the ticks of a clock whose entries are applied, where they are
+-- wired
 abbrev pub requests_made : Peripherals → ℕ
 requests_made w = if w.wired then requests_of w.sound1 + requests_of w.sound2 else 0
 
@@ -82,8 +84,8 @@ counted entries of_clock (suc n) b = of_clock b + counted entries of_clock n (st
 unfoldable pub ticks_price : List TapeEntry → Peripherals → ℕ
 ticks_price entries w = 5 * (wraps w + entries_applied entries w + requests entries w)
 
--- the calls that a clock may cost: two for a device access, and five each for a wrap, an entry, a request of a wired POKEY
--- and a reset
+-- the calls that a clock may cost: two for a device access, and five each for a wrap, an entry, a
+-- request of a wired POKEY and a reset
 unfoldable pub price : List TapeEntry → Board → ℕ
 price entries b = 2 * device_accesses entries b + 5 * resets_begun entries b + ticks_price entries b.peripherals
 

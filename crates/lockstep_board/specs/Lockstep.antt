@@ -1,4 +1,5 @@
--- The lockstep board: every part moved by one clock in each step. The order within a clock is this project's own profile.
+-- The lockstep board: every part moved by one clock in each step. The order within a clock is this
+-- project's own profile.
 use Rattle.std.specs.Prelude.{ℕ, ◌+◌, List, [], ◌∷◌, ◌++◌, Bool, true, false, not, ◌&&◌, Option, Some, None, if◌then◌else◌}
 use Rattle.board_base.specs.declared.divider.Pending.{Pending}
 use Rattle.board_base.specs.declared.divider.Pending.TheVariants.{Nothing, Power, Watchdog}
@@ -20,8 +21,8 @@ pub record Board : Type 0 where
   pub cpu : CpuValue
   pub peripherals : Peripherals
 
--- the access that comes next is made, and the processor stands after it: a read gives the byte as the devices stand after
--- their ticks, and changes nothing
+-- the access that comes next is made, and the processor stands after it: a read gives the byte as
+-- the devices stand after their ticks, and changes nothing
 abbrev pub accessed_by : Next → RegistersValue → Sequence → List ℕ → Peripherals → Board
 accessed_by (Read address) r q bytes w = record {
   cpu = standing r q (bytes ++ byte_read address w ∷ []);
@@ -43,7 +44,8 @@ is_reset Nothing = false
 is_reset Power = true
 is_reset Watchdog = true
 
--- what a fetch begins: a pending reset comes first, then an interrupt that isn't masked, then the instruction at pc
+-- what a fetch begins: a pending reset comes first, then an interrupt that isn't masked, then the
+-- instruction at pc
 abbrev pub sequence_due : CpuValue → Peripherals → Sequence
 sequence_due c w =
     if is_reset w.divider.pending then Reset else (if line_of w && not (is_masked c.p) then Interrupt else Opcode)
@@ -67,8 +69,8 @@ after_access (Some mid) c w = accessed (registers_of c) mid.sequence (given_by m
 abbrev pub clocked : Board → Board
 clocked b = record b { peripherals = record b.peripherals { clock = b.peripherals.clock + 1 } }
 
--- One clock of a board that isn't jammed: the entries of this clock are applied, the devices tick, and then the processor
--- makes one access.
+-- One clock of a board that isn't jammed: the entries of this clock are applied, the devices tick,
+-- and then the processor makes one access.
 unfoldable pub step : List TapeEntry → Board → Board
 step entries b = clocked (after_access b.cpu.mid b.cpu (ticked entries b.peripherals))
 

@@ -44,14 +44,16 @@ behind l b = record b {
   };
 }
 
--- each part's records are those that it makes, made from one clock to another, in the order of their clocks
+-- each part's records are those that it makes, made from one clock to another, in the order of
+-- their clocks
 pub record AreMadeBetween (from : ℕ) (l : Recorded) (to : ℕ) : Type 0 where
   pub strokes : MadeBetween part.Generator from l.strokes to
   pub levels1 : MadeBetween part.Pokey1 from l.levels1 to
   pub levels2 : MadeBetween part.Pokey2 from l.levels2 to
   pub written : MadeBetween part.Board from l.written to
 
--- A step adds to each part's records one at most, which is of its kind and of the clock of the step.
+-- A step adds to each part's records one at most, which is of its kind and of the clock of the
+-- step.
 pub record AddsOneClock (entries : List TapeEntry) (b : Board) : Type 0 where
   pub added : Recorded
   pub made : AreMadeBetween b.peripherals.clock added (b.peripherals.clock + 1)

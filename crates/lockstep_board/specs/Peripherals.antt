@@ -1,5 +1,6 @@
--- The lockstep board without its processor: its peripherals between two clocks, and the records made since the
--- last clearing. The map and the order within a clock are this project's own profile.
+-- The lockstep board without its processor: its peripherals between two clocks, and the records
+-- made since the last clearing. The map and the order within a clock are this project's own
+-- profile.
 use Rattle.std.specs.Prelude.{ℕ, ◌+◌, ◌%◌, List, [], ◌∷◌, ◌++◌, Bool, not, ◌&&◌, ◌||◌, ◌==◌, if◌then◌else◌, take, drop, slice_index, slice_set}
 use Rattle.board_base.specs.declared.vector_memory.TheConstants.{VECTOR_RAM_LEN, VECTOR_ROM_LEN}
 use Rattle.board_base.specs.declared.record.Record.{Record}
@@ -27,8 +28,8 @@ use Rattle.tape_ports.specs.declared.entry.Port.TheVariants as port
 use Rattle.tape_ports.specs.declared.entry.TapeEntry.{TapeEntry}
 use Rattle.tape_ports.specs.Due.{due_at}
 
--- the clocks done, whether the POKEYs reach the interrupt line, the output latch and the ports, the devices, the memories
--- as the processor and the generator see them, and the four lists of records
+-- the clocks done, whether the POKEYs reach the interrupt line, the output latch and the ports, the
+-- devices, the memories as the processor and the generator see them, and the four lists of records
 pub record Peripherals : Type 0 where
   pub clock : ℕ
   pub wired : Bool
@@ -62,7 +63,8 @@ unfoldable pub applied : List TapeEntry → Peripherals → Peripherals
 applied [] w = w
 applied (entry ∷ entries) w = applied entries (port_set entry.port entry.value w)
 
--- the divider ticks, then the generator over the memory as it stands, POKEY 1, POKEY 2 and the EAROM
+-- the divider ticks, then the generator over the memory as it stands, POKEY 1, POKEY 2 and the
+-- EAROM
 unfoldable pub devices_ticked : Peripherals → Peripherals
 devices_ticked w = record w {
   divider = divider_tick w.divider;
@@ -91,7 +93,8 @@ line_of w = w.divider.irq || w.wired && (has_request w.sound1 || has_request w.s
 abbrev pub in0_byte : Peripherals → ℕ
 in0_byte w = w.in0 + (if w.vg.halted then 64 else 0) + (if line_3k w.divider then 128 else 0)
 
--- the byte that a read gives, by an offset in a memory or a register's number; the open bus gives FF
+-- the byte that a read gives, by an offset in a memory or a register's number; the open bus gives
+-- FF
 abbrev pub byte_in : Reads → ℕ → Peripherals → ℕ
 byte_in reads.Ram k w = slice_index w.ram k
 byte_in reads.VectorRam k w = slice_index w.memory k
@@ -128,8 +131,8 @@ put_in writes.Ignored k value w = w
 unfoldable pub byte_put : ℕ → ℕ → Peripherals → Peripherals
 byte_put address value w = put_in (row_of address).writes (row_of address).offset value w
 
--- what the first clock of a reset does besides its read: one by the watchdog halts the generator, clears the output latch
--- without a record of a write to it, and is recorded itself
+-- what the first clock of a reset does besides its read: one by the watchdog halts the generator,
+-- clears the output latch without a record of a write to it, and is recorded itself
 abbrev pub reset_by : Pending → Peripherals → Peripherals
 reset_by Watchdog w = record w {
   out = 0;
@@ -144,7 +147,8 @@ reset_by Nothing w = record w { divider = reset_taken w.divider }
 unfoldable pub reset_begun : Peripherals → Peripherals
 reset_begun w = reset_by w.divider.pending w
 
--- the peripherals of a board over an image, with no records yet: the vector ROM stands behind the vector RAM
+-- the peripherals of a board over an image, with no records yet: the vector ROM stands behind the
+-- vector RAM
 abbrev pub peripherals_of : List ℕ → Bool → BoardValue → Peripherals
 peripherals_of image wired b = record {
   clock = b.clock;

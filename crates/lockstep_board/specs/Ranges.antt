@@ -38,8 +38,8 @@ pub record IsEaromInRange (e : EaromValue) : Type 0 where
   pub out : IsByte e.out
   pub cells : All IsByte e.cells
 
--- peripherals in range: the output latch and the ports are bytes, the first port of six bits, each device is in range, and each
--- memory has its bytes; of the clock nothing is said
+-- peripherals in range: the output latch and the ports are bytes, the first port of six bits, each
+-- device is in range, and each memory has its bytes; of the clock nothing is said
 pub record AreWiresInRange (w : Peripherals) : Type 0 where
   pub out : IsByte w.out
   pub in0 : w.in0 < 64

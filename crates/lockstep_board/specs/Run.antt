@@ -25,7 +25,8 @@ is_jammed b = is_some b.cpu.jam
 abbrev pub is_at_boundary : Board → Bool
 is_at_boundary b = is_none b.cpu.mid
 
--- a run to a boundary is over with a jam, and else at the first boundary that isn't before the limit
+-- a run to a boundary is over with a jam, and else at the first boundary that isn't before the
+-- limit
 abbrev pub is_over : ℕ → Board → Bool
 is_over limit b = is_jammed b || (is_at_boundary b && nat_le limit b.peripherals.clock)
 
@@ -33,11 +34,13 @@ is_over limit b = is_jammed b || (is_at_boundary b && nat_le limit b.peripherals
 abbrev pub is_at : ℕ → Board → Bool
 is_at cut b = is_jammed b || nat_le cut b.peripherals.clock
 
--- a run to a clock that ends with a window too: at the first boundary that isn't before the divider's wrap
+-- a run to a clock that ends with a window too: at the first boundary that isn't before the
+-- divider's wrap
 abbrev pub is_cut : ℕ → ℕ → Board → Bool
 is_cut cut wrap b = is_jammed b || (nat_le cut b.peripherals.clock || (is_at_boundary b && nat_le wrap b.peripherals.clock))
 
--- a sequence takes seven clocks at most, so that a run to a boundary ends within six clocks after its limit
+-- a sequence takes seven clocks at most, so that a run to a boundary ends within six clocks after
+-- its limit
 abbrev pub boundary_steps : List TapeEntry → ℕ → Board → ℕ
 boundary_steps entries limit b = steps_until entries (is_over limit) ((limit - b.peripherals.clock) + 6) b
 
@@ -48,7 +51,8 @@ clock_steps entries cut b = steps_until entries (is_at cut) (cut - b.peripherals
 abbrev pub cut_steps : List TapeEntry → ℕ → ℕ → Board → ℕ
 cut_steps entries cut wrap b = steps_until entries (is_cut cut wrap) (cut - b.peripherals.clock) b
 
--- the board at the end of a run to a boundary, of one to a clock, and of one to a clock or a window's end
+-- the board at the end of a run to a boundary, of one to a clock, and of one to a clock or a
+-- window's end
 unfoldable pub to_boundary : List TapeEntry → ℕ → Board → Board
 to_boundary entries limit b = stepped entries (boundary_steps entries limit b) b
 

@@ -1,4 +1,5 @@
--- Steps one after another, through boards that aren't as asked or that stand inside a sequence. This project's own.
+-- Steps one after another, through boards that aren't as asked or that stand inside a sequence.
+-- This project's own.
 use Rattle.std.specs.Prelude.{◌≡◌, ℕ, List, Bool, false, None, IsSome, zero, suc}
 use Rattle.tape_ports.specs.declared.entry.TapeEntry.{TapeEntry}
 use Rattle.lockstep_board.specs.Lockstep.{Board, step}

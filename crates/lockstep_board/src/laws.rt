@@ -1,4 +1,5 @@
-//! Laws of the lockstep board, over all boards and tapes. Each function states one, and does nothing.
+//! Laws of the lockstep board, over all boards and tapes. Each function states one, and does
+//! nothing.
 ghost use Rattle.std.specs.Prelude.{◌≡◌, ℕ, ◌+◌, ◌*◌, ◌-◌, ◌≤◌, ◌<◌, List, [], ◌∷◌, All, true, false, None};
 ghost use Rattle.board_base.specs.declared.divider.TheConstants.{DIVIDER_PERIOD};
 ghost use Rattle.tape_ports.specs.declared.entry.TapeEntry.{TapeEntry};
@@ -85,8 +86,8 @@ pub fn earlier_records()
 {}
 
 /// A step adds to each part's records one at most, which is of its kind and of the clock of the
-/// step, and each of the three runs keeps the records in the order of their clocks. It states a law,
-/// and does nothing.
+/// step, and each of the three runs keeps the records in the order of their clocks. It states a
+/// law, and does nothing.
 #[tactic(auto, using(crate::proofs::InOrder::orders))]
 pub fn one_record_of_each_part()
     ensures step { (entries : List TapeEntry) → (b : Board) → AddsOneClock entries b }
@@ -99,8 +100,8 @@ pub fn one_record_of_each_part()
 {}
 
 /// The device calls that a run may cost are two for each device access, and five for each wrap,
-/// entry, request and reset; and what some clocks and then others may cost adds up. It states a law,
-/// and does nothing.
+/// entry, request and reset; and what some clocks and then others may cost adds up. It states a
+/// law, and does nothing.
 #[tactic(auto, using(crate::proofs::Budgets::budgets))]
 pub fn budget_in_parts()
     ensures parts { (entries : List TapeEntry) → (n : ℕ) → (b : Board)
@@ -124,8 +125,8 @@ pub fn wraps_are_counted()
         → DIVIDER_PERIOD - b.peripherals.divider.phase ≤ n → 1 ≤ counted entries (λ c. wraps c.peripherals) n b }
 {}
 
-/// A step keeps a board in its range, and so do some of them one after another: all that the types of
-/// its parts say of it, and bytes where the board has bytes. It states a law, and does nothing.
+/// A step keeps a board in its range, and so do some of them one after another: all that the types
+/// of its parts say of it, and bytes where the board has bytes. It states a law, and does nothing.
 #[tactic(auto, using(crate::proofs::BoardRange::in_range))]
 pub fn steps_keep_range()
     ensures step { (entries : List TapeEntry) → (b : Board) → All (λ entry. IsByte entry.value) entries
@@ -142,8 +143,8 @@ pub fn device_addresses()
     ensures writes { (address value : ℕ) → reaches_device (write_of address value) ≡ is_among device_writes address }
 {}
 
-/// The sets of devices, each by five truth values: the generator, POKEY 1, POKEY 2, the EAROM and the
-/// divider. It states a law, and does nothing.
+/// The sets of devices, each by five truth values: the generator, POKEY 1, POKEY 2, the EAROM and
+/// the divider. It states a law, and does nothing.
 pub fn device_sets()
     ensures none { NO_DEVICE ≡ devices false false false false false }
     ensures all { ALL_DEVICES ≡ devices true true true true true }
@@ -155,8 +156,8 @@ pub fn device_sets()
     ensures vector_and_divider { VECTOR_AND_DIVIDER ≡ devices true false false false true }
 {}
 
-/// The devices that give the byte of each read and see each write, each set by its five truth values.
-/// It states a law, and does nothing.
+/// The devices that give the byte of each read and see each write, each set by its five truth
+/// values. It states a law, and does nothing.
 pub fn devices_of_accesses()
     ensures read_sound1 { devices_read Reads.Sound1 ≡ devices false true false false false }
     ensures read_sound2 { devices_read Reads.Sound2 ≡ devices false false true false false }

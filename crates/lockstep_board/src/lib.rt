@@ -1,5 +1,5 @@
-//! The board advanced one clock at a time, which is what a run means: definitions and laws, and no code but the cause
-//! for which a run ends and the devices that reads and writes use.
+//! The board advanced one clock at a time, which is what a run means: definitions and laws, and no
+//! code but the cause for which a run ends and the devices that reads and writes use.
 #![tactic(auto)]
 
 mod laws;

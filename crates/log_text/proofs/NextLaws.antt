@@ -26,7 +26,8 @@ from-part t part records from = each-map (λ made. t ≤ clock made) (λ made. (
 after-part : (t : ℕ) (part : Part) (records : List Record) → After t records → Each (λ made. t < clock made) (from_part part records)
 after-part t part records after = each-map (λ made. t < clock made) (λ made. (part, made)) records after
 
--- the first record of a part comes first, where those of earlier parts are later, and those of later parts aren't earlier
+-- the first record of a part comes first, where those of earlier parts are later, and those of
+-- later parts aren't earlier
 pub generator_first : (made : Record) (v a b d : List Record) → From (clock_of made) v → From (clock_of made) a → From (clock_of made) b
     → From (clock_of made) d → merged (made ∷ v) a b d ≡ (Generator, made) ∷ merged v a b d
 unfolding merged
@@ -123,7 +124,8 @@ is_earliest t v a b d e =
     least : (t : ℕ) → NotBefore t (Some t)
     least t = omega arith
 
--- Each of these is about a call that found the earliest clock, and took a record of it from the first list that had one.
+-- Each of these is about a call that found the earliest clock, and took a record of it from the
+-- first list that had one.
 
 pub next_generator : (t : ℕ) (v a b d rest : List Record) (made : Record) → AreSorted v a b d → Some t ≡ earliest_of v a b d
     → TakesAt t v rest (Some made) → (merged v a b d ≡ (Generator, made) ∷ merged rest a b d) × AreSorted rest a b d

@@ -1,4 +1,5 @@
--- The log of records up to a clock, and then that of the records from it on, is the log of all of them.
+-- The log of records up to a clock, and then that of the records from it on, is the log of all of
+-- them.
 use Rattle.std.proofs.Common.{◌≡◌, ℕ, ◌<◌, ◌≤◌, List, [], ◌∷◌, ◌++◌, Bool, true, false, if◌then◌else◌, refl, sym, ap, ◌∙◌, arith, append-nil, append_assoc}
 use Rattle.std.specs.Prelude.{nat_lt}
 use Rattle.std.proofs.lemmas.Bool.{le-ltb}
@@ -76,7 +77,8 @@ module _ (at : ℕ) where
   each-both P [] ys _ more = more
   each-both P (x ∷ xs) ys (here, others) more = (here, each-both P xs ys others more)
 
-  -- the records of the parts so far come to those before the clock and those from it on, each sorted by itself
+  -- the records of the parts so far come to those before the clock and those from it on, each
+  -- sorted by itself
   record Parted (all first rest : List PartRecord) : Type 0 where
     sorted : by_clock all ≡ by_clock first ++ by_clock rest
     sooner : AllBefore at first

@@ -7,12 +7,14 @@ use Rattle.board_base.specs.declared.record.Record.TheVariants.{Stroke, Levels, 
 use Rattle.board_base.specs.declared.part.Part.{Part}
 use Rattle.board_base.specs.declared.part.Part.TheVariants.{Pokey2}
 
--- the letter of a line of levels: A for those of POKEY 1, B for those of POKEY 2; no other part makes levels
+-- the letter of a line of levels: A for those of POKEY 1, B for those of POKEY 2; no other part
+-- makes levels
 abbrev pub levels_letter : Part → List ℕ
 levels_letter Pokey2 = codes "B"
 levels_letter _ = codes "A"
 
--- the line of a record: numbers are decimal and have no leading zeros, but the byte of the latch is hexadecimal
+-- the line of a record: numbers are decimal and have no leading zeros, but the byte of the latch is
+-- hexadecimal
 unfoldable pub record_text : Part → Record → List ℕ
 record_text part (Stroke clock x0 y0 x1 y1 colour intensity) =
     line (codes "S" ∷ decimal clock ∷ signed_decimal x0 ∷ signed_decimal y0 ∷ signed_decimal x1 ∷ signed_decimal y1

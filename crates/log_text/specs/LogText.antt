@@ -31,15 +31,15 @@ by_clock (made ∷ others) = placed made (by_clock others)
 abbrev pub from_part : Part → List Record → List PartRecord
 from_part part records = map (λ made. (part, made)) records
 
--- the records of the generator, of POKEY 1, of POKEY 2 and of the rest of the board, in one list: by clock, and within a
--- clock in this order of parts
+-- the records of the generator, of POKEY 1, of POKEY 2 and of the rest of the board, in one list:
+-- by clock, and within a clock in this order of parts
 unfoldable pub merged : List Record → List Record → List Record → List Record → List PartRecord
 merged vector sound1 sound2 board =
     by_clock (from_part Generator vector
     ++ (from_part Pokey1 sound1 ++ (from_part Pokey2 sound2 ++ from_part Board board)))
 
--- the lines of the records of the generator, of POKEY 1, of POKEY 2 and of the rest of the board: by clock, and within a
--- clock in this order of parts
+-- the lines of the records of the generator, of POKEY 1, of POKEY 2 and of the rest of the board:
+-- by clock, and within a clock in this order of parts
 unfoldable pub merged_text : List Record → List Record → List Record → List Record → List ℕ
 merged_text vector sound1 sound2 board = log_text (merged vector sound1 sound2 board)
 
@@ -51,7 +51,8 @@ end_text clock = line (codes "E" ∷ decimal clock ∷ [])
 unfoldable pub jam_text : ℕ → ℕ → ℕ → List ℕ
 jam_text clock pc opcode = line (codes "X" ∷ decimal clock ∷ hex_word pc ∷ hex_byte opcode ∷ [])
 
--- the last line of a run that has ended at this clock and program counter, by the opcode that stopped it, if one did
+-- the last line of a run that has ended at this clock and program counter, by the opcode that
+-- stopped it, if one did
 abbrev pub last_text : ℕ → ℕ → Option ℕ → List ℕ
 last_text clock pc (Some opcode) = jam_text clock pc opcode
 last_text clock pc None = end_text clock

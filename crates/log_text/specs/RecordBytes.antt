@@ -1,5 +1,5 @@
--- Records as bytes, 40 of each. They are this project's own: on a little-endian machine those of a struct of a clock of 64 bits,
--- a kind of 32, six signed values of 32, and 32 bits that are 0.
+-- Records as bytes, 40 of each. They are this project's own: on a little-endian machine those of a
+-- struct of a clock of 64 bits, a kind of 32, six signed values of 32, and 32 bits that are 0.
 use Rattle.std.specs.Prelude.{ℕ, ℤ, List, ◌++◌, flat_map}
 use Rattle.std.specs.Int.{w32, w64, to_le_bytes, cast_unsigned}
 use Rattle.board_base.specs.declared.record.Record.{Record}

@@ -13,9 +13,9 @@ use board_base::{Part, Trails};
 use outside_io::{BlockWriter, Sink, SinkFault};
 use text_line::Line;
 
-/// Writes a line for each record, earlier clocks first. Lines of one clock come as the parts move in
-/// it: generator, POKEY 1, POKEY 2, and then what the rest of the board recorded. The lines go out in
-/// blocks, each in one write, and the first write that fails is the last.
+/// Writes a line for each record, earlier clocks first. Lines of one clock come as the parts move
+/// in it: generator, POKEY 1, POKEY 2, and then what the rest of the board recorded. The lines go
+/// out in blocks, each in one write, and the first write that fails is the last.
 pub fn write_merged<O: Sink>(trails: &Trails<'_>, out: &mut O) -> Result<(), SinkFault>
     requires vector { IsTrailOf Part.Generator trails.now.vector.now.records }
     requires sound1 { IsTrailOf Part.Pokey1 trails.now.sound1.now.records }
@@ -55,15 +55,15 @@ pub fn write_records<O: Sink>(trails: &Trails<'_>, out: &mut O) -> Result<(), Si
     block.flush(out)
 }
 
-/// The lines of four trails are those of the one list whose records they share out. It states a law,
-/// and does nothing.
+/// The lines of four trails are those of the one list whose records they share out. It states a
+/// law, and does nothing.
 #[tactic(auto, using(crate::proofs::LogLaws::merged_is_one_log))]
 pub fn one_log()
     ensures { (records : List PartRecord) → IsInOrder records → MergedIsOneLog records }
 {}
 
-/// The log of the records up to a clock, and then that of the records from it on up to a later one, is
-/// the log of all of them. It states a law, and does nothing.
+/// The log of the records up to a clock, and then that of the records from it on up to a later one,
+/// is the log of all of them. It states a law, and does nothing.
 pub fn logs_join()
     ensures { (from at upto : ℕ) → (v1 v2 a1 a2 b1 b2 w1 w2 : List record_value)
         → MadeBetween Part.Generator from v1 at → MadeBetween Part.Generator at v2 upto

@@ -1,5 +1,5 @@
--- Counts of faults and of absences. They are this project's own: a count never falls, and stays at the greatest number
--- of 64 bits once it is there.
+-- Counts of faults and of absences. They are this project's own: a count never falls, and stays at
+-- the greatest number of 64 bits once it is there.
 use Rattle.std.specs.Prelude.{◌≡◌, ℕ, ◌^◌, ◌<◌, ◌≤◌}
 use Rattle.std.specs.Prelude.{Result, Ok, Err}
 use Rattle.board_base.specs.Counts.{one_more}

@@ -34,8 +34,9 @@ pub record Did (events : List Event) (out0 out1 : Option (List ℕ)) (stores0 st
   pub text : out1 ≡ grown out0 (text_of events)
   pub stores : stores1 ≡ grown stores0 (stores_of events)
 
--- The first of them were done and the others not. So the output holds a first part of the text, and the stores are the
--- first of the stores; and no store was made while text that stands in front of it was still missing.
+-- The first of them were done and the others not. So the output holds a first part of the text, and
+-- the stores are the first of the stores; and no store was made while text that stands in front of
+-- it was still missing.
 pub record DidFirst (events : List Event) (out0 out1 : Option (List ℕ)) (stores0 stores1 : Option (List Kept)) : Type 0 where
   pub count : ℕ
   pub did : Did (take count events) out0 out1 stores0 stores1

@@ -10,7 +10,8 @@ pub record IsGathered (before now : Option (List ℕ)) (text rest : List ℕ) : 
   pub taken : now ≡ grown before sent
   pub parts : text ≡ sent ++ rest
 
--- Ok: the sink took a first part of the text, perhaps none, and the rest of it waits. Err: it took a first part.
+-- Ok: the sink took a first part of the text, perhaps none, and the rest of it waits. Err: it took
+-- a first part.
 abbrev pub Gathers : {T E : Type 0} → Option (List ℕ) → Option (List ℕ) → List ℕ → List ℕ → Result T E → Type 0
 Gathers before now text rest (Ok _) = IsGathered before now text rest
 Gathers before now text rest (Err _) = (k : ℕ) × (now ≡ grown before (take k text))

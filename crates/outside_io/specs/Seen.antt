@@ -1,10 +1,12 @@
--- What clauses see of a shelf and an output that are lent together, and what was done to both. This project's own.
+-- What clauses see of a shelf and an output that are lent together, and what was done to both. This
+-- project's own.
 use Rattle.std.specs.Prelude.{◌≡◌, ℕ, ◌≤◌, List, [], ◌∷◌, Option, Result, OnErr, OnOk, ◌⊎◌}
 use Rattle.outside_io.specs.Causes.{HasCause, Rose}
 use Rattle.outside_io.specs.Events.{Event, Did, DidFirst, sending, stored}
 use Rattle.outside_io.specs.Shelf.{Files, Kept}
 
--- The names of the two loans; the files, the stores and the text, each where it is known; and the counts.
+-- The names of the two loans; the files, the stores and the text, each where it is known; and the
+-- counts.
 pub record Seen : Type 0 where
   pub shelf_loan : ℕ
   pub out_loan : ℕ

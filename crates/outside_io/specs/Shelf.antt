@@ -16,8 +16,8 @@ Files = List ℕ → Option (List ℕ)
 abbrev pub Kept : Type 0
 Kept = List ℕ × List ℕ
 
--- Found: the file's first bytes, all of them or one more than the limit. Absent: the name isn't there, and no byte came.
--- Memory runs out only on the way through a file that is there.
+-- Found: the file's first bytes, all of them or one more than the limit. Absent: the name isn't
+-- there, and no byte came. Memory runs out only on the way through a file that is there.
 abbrev pub Loads : Option Files → List ℕ → ℕ → Result Loaded ShelfFault → List ℕ → Type 0
 Loads known name limit (Ok Found) bytes =
     (length bytes ≤ limit + 1) × IfSome known (λ files. IsSomeAnd (files name) (λ whole. bytes ≡ take (limit + 1) whole))

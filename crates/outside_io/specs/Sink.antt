@@ -1,4 +1,5 @@
--- What a write does to the bytes that a sink has taken. A sink is this project's own view of a stream of output.
+-- What a write does to the bytes that a sink has taken. A sink is this project's own view of a
+-- stream of output.
 use Rattle.std.specs.Prelude.{◌≡◌, ℕ, List, take}
 use Rattle.std.specs.Prelude.{Option}
 use Rattle.std.specs.Prelude.{Result, Ok, Err}

@@ -88,10 +88,10 @@ impl<'a, R: Files> Shelf for FileShelf<'a, R> {
         }
     }
 
-    /// A regular file, or a name that no file has, is replaced as a whole: after a signal at any moment the
-    /// name has the old bytes or the new ones. A link, a pipe, a device, a file with other hard links or of
-    /// another owner, and one in a folder that takes no new file, is written in place. It doesn't wait for
-    /// the disk.
+    /// A regular file, or a name that no file has, is replaced as a whole: after a signal at any
+    /// moment the name has the old bytes or the new ones. A link, a pipe, a device, a file with
+    /// other hard links or of another owner, and one in a folder that takes no new file, is written
+    /// in place. It doesn't wait for the disk.
     fn store(&mut self, name: &str, bytes: &[u8]) -> Result<(), Failed>
         ensures stored { OnOk result (unknown_stores ≡ grown unknown_stores ((name.now, bytes.now) ∷ [])) }
         ensures not_stored { OnErr result (unknown_stores ≡ unknown_stores) }

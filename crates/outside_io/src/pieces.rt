@@ -90,10 +90,10 @@ pub(crate) fn read_opened<F: Read + Drop>(
     }
 }
 
-/// Writes a piece over a file in place, from its start. A regular file is first made one byte longer than
-/// the piece and at last cut to its length, so that a reader refuses it by its length until it is whole.
-/// After an `Err` it is as it was, or a first part of the piece, or one byte too long. A pipe or a device
-/// takes the piece alone.
+/// Writes a piece over a file in place, from its start. A regular file is first made one byte
+/// longer than the piece and at last cut to its length, so that a reader refuses it by its length
+/// until it is whole. After an `Err` it is as it was, or a first part of the piece, or one byte too
+/// long. A pipe or a device takes the piece alone.
 pub(crate) fn write_over<F: Write + OpenFile>(file: &mut F, bytes: &[u8]) -> Result<(), Failed>
     ensures whole { OnOk result (Appends (F.contents file.old) (F.contents file.new) bytes.now) }
     ensures part { OnErr result ((k : ℕ) × Appends (F.contents file.old) (F.contents file.new) (take k bytes.now)) }
@@ -114,8 +114,8 @@ pub(crate) fn write_over<F: Write + OpenFile>(file: &mut F, bytes: &[u8]) -> Res
     }
 }
 
-/// The length to leave a file with after a piece that wasn't taken whole: the old one where the file is
-/// still as it was.
+/// The length to leave a file with after a piece that wasn't taken whole: the old one where the
+/// file is still as it was.
 fn len_after(short: Short, before: u64, len: u64) -> u64 {
     if short.taken == 0 && before <= len {
         before

@@ -1,5 +1,5 @@
-//! A file is replaced as a whole: its bytes go into a new file in the same folder, which is then renamed
-//! over its name.
+//! A file is replaced as a whole: its bytes go into a new file in the same folder, which is then
+//! renamed over its name.
 
 use crate::answers::Failed;
 use crate::pieces::write_whole;
@@ -41,8 +41,9 @@ enum Target {
     Other,
 }
 
-/// Writes the bytes into a new file and renames it over `name`. After an `Err`, and after a signal at any
-/// moment, `name` is what it was or has all the new bytes. `path` holds the path of the new file.
+/// Writes the bytes into a new file and renames it over `name`. After an `Err`, and after a signal
+/// at any moment, `name` is what it was or has all the new bytes. `path` holds the path of the new
+/// file.
 pub(crate) fn replace<R: Files>(
     rt: &R,
     process: u32,
@@ -69,8 +70,8 @@ pub(crate) fn replace<R: Files>(
     Ok(Replaced::Renamed)
 }
 
-/// Looks at a name without following a link. A regular file is opened for writing, so that one which
-/// may not be written isn't replaced.
+/// Looks at a name without following a link. A regular file is opened for writing, so that one
+/// which may not be written isn't replaced.
 fn look<R: Files>(rt: &R, name: &str) -> Target {
     match fs::symlink_metadata(rt, name) {
         Ok(found) if found.is_file() && found.nlink() <= 1 => {
@@ -84,7 +85,8 @@ fn look<R: Files>(rt: &R, name: &str) -> Target {
     }
 }
 
-/// Creates a file under the first name beside `name` that is free, with no more permissions than `target`.
+/// Creates a file under the first name beside `name` that is free, with no more permissions than
+/// `target`.
 fn create_new<R: Files>(
     rt: &R,
     process: u32,

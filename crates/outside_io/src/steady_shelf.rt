@@ -39,7 +39,8 @@ impl SteadyShelf {
         }
     }
 
-    /// Puts these bytes under this name, in the place of what stands there. Any call may run out of memory.
+    /// Puts these bytes under this name, in the place of what stands there. Any call may run out of
+    /// memory.
     pub fn put(&mut self, name: &str, bytes: &[u8]) -> Result<(), OutOfMemory>
         ensures ok { OnOk result (self.new ≡ record self.old { files = self.old.files ++ (name.now, bytes.now) ∷ [] }) }
         ensures err { OnErr result (self.new ≡ self.old) }

@@ -41,7 +41,8 @@ impl<W: Write + Drop> Sink for TextSink<W> {
 
     ghost faults = { λ s. s.1 };
 
-    /// Where the stream states what it holds, that has grown by the piece, or after an `Err` by a first part.
+    /// Where the stream states what it holds, that has grown by the piece, or after an `Err` by a
+    /// first part.
     fn write(&mut self, bytes: &[u8]) -> Result<(), SinkFault>
         ensures taken { Takes None None bytes.now result }
         ensures cause { HasCause self.old.1 self.new.1 result }

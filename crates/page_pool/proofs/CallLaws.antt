@@ -24,7 +24,8 @@ less-bytes (Some page) live =
     less : Bool → Option Holding
     less b = if b then None else Some (record { bytes = page.bytes; holders = page.holders - 1 })
 
--- a write at one place: another keeps its bytes, and so does that place where the written page has the bytes of the old
+-- a write at one place: another keeps its bytes, and so does that place where the written page has
+-- the bytes of the old
 written-bytes : (pool : List (Option Holding)) (at place : ℕ) (o : Option Holding) → IsLive pool place
     → (at ≡ place → bytes_of o ≡ bytes_of (held_at pool place)) → bytes_at (slice_set pool at o) place ≡ bytes_at pool place
 written-bytes pool at place o live same = elim (cases_lt at place) [

@@ -16,7 +16,8 @@ holders_of o = unwrap_or (option_map (λ page. page.holders) o) 0
 abbrev HasHolder : Option Holding → Type 0
 HasHolder o = IfSome o (λ page. 1 ≤ page.holders)
 
--- the place that a call is for, what it asks of that place and leaves there, and whether it is a gain or a loss
+-- the place that a call is for, what it asks of that place and leaves there, and whether it is a
+-- gain or a loss
 abbrev place_of : Call → ℕ
 place_of (take_at at bytes) = at
 place_of (share_at at) = at

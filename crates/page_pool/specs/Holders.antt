@@ -36,17 +36,19 @@ gains place calls = count_by (is_gain place) calls
 abbrev pub losses : ℕ → List Call → ℕ
 losses place calls = count_by (is_loss place) calls
 
--- the holders of a place are those before the calls, and one for each take and share, less one for each give
+-- the holders of a place are those before the calls, and one for each take and share, less one for
+-- each give
 abbrev pub HoldersAreCounted : List (Option Holding) → List Call → ℕ → Type 0
 HoldersAreCounted pool calls place =
     holders_at (all_called pool calls) place + losses place calls ≡ holders_at pool place + gains place calls
 
--- however many of the calls are done, a page was taken and shared at the place more often than given back
+-- however many of the calls are done, a page was taken and shared at the place more often than
+-- given back
 abbrev pub Outnumber : ℕ → List Call → Type 0
 Outnumber place calls = (n : ℕ) → 1 ≤ n → n ≤ length calls → losses place (take n calls) < gains place (take n calls)
 
--- A page is taken at a place, and other calls follow. For as long as the takes and shares of the place outnumber its gives,
--- its bytes lie there.
+-- A page is taken at a place, and other calls follow. For as long as the takes and shares of the
+-- place outnumber its gives, its bytes lie there.
 abbrev pub OutnumberedPagesStay : Type 0
 OutnumberedPagesStay = (pool : List (Option Holding)) (place : ℕ) (bytes : List ℕ) (calls : List Call)
     → AreDue pool (take_at place bytes ∷ calls) → Outnumber place (take_at place bytes ∷ calls)

@@ -76,8 +76,8 @@ impl PagePool {
         Ok(PagePool { slots, free })
     }
 
-    /// A page with these bytes and one holder, at a place that was free. It is refused where all places
-    /// are held, and then nothing changes.
+    /// A page with these bytes and one holder, at a place that was free. It is refused where all
+    /// places are held, and then nothing changes.
     pub fn take(&mut self, bytes: &[u8; PAGE_LEN]) -> Result<Page, Full>
         ensures refused { IsErr result ↔ (live_of self.old ≡ length self.old) }
         ensures full { IfErr result (λ full. full.capacity ≡ length self.old) }

@@ -1,4 +1,5 @@
--- What a channel counts in a clock, and that all channels may count before the first underflow takes effect.
+-- What a channel counts in a clock, and that all channels may count before the first underflow
+-- takes effect.
 use Rattle.std.proofs.Common.{◌≡◌, ℕ, ◌+◌, ◌-◌, ◌==◌, Bool, true, false, ◌&&◌, nat_le, if◌then◌else◌, List, [], ◌∷◌, length, slice_set, refl, ap, ◌∙◌, arith}
 use Rattle.std.proofs.lemmas.Bool.Decides.{nat_tests}
 use Rattle.board_base.specs.Pokey.{PokeyValue}
@@ -91,7 +92,8 @@ all_effects p q =
     (underflow_effect (underflows (base_pulses p) p Second) Second
     (underflow_effect (underflows (base_pulses p) p First) First q)))
 
--- what a channel counts doesn't depend on another's underflow, so all of them may count before the first takes effect
+-- what a channel counts doesn't depend on another's underflow, so all of them may count before the
+-- first takes effect
 pub counts-first : (p : PokeyValue) → pokey_tick p ≡ levelled (all_effects p (counted_on p))
 unfolding pokey_tick channels_ticked channel_ticked with_left underflow_effect all_effects counted_on pot_counted clocked requested toned passed levels_of
 counts-first p = refl

@@ -1,5 +1,5 @@
--- A move from underflow to underflow: between two of them nothing but registers, prescalers, pulses left and pots moves, and
--- at a clock with underflows those that are due take effect, in order.
+-- A move from underflow to underflow: between two of them nothing but registers, prescalers, pulses
+-- left and pots moves, and at a clock with underflows those that are due take effect, in order.
 use Rattle.std.proofs.Common.{◌≡◌, ℕ, ◌+◌, ◌<◌, ◌++◌, Bool, zero, suc, refl, sym, ap, ◌∙◌, arith, add-zero, append-nil}
 use Rattle.board_base.proofs.TickLaws.{made-add, ticks-times}
 use Rattle.board_base.specs.Pokey.{PokeyValue}
@@ -62,8 +62,8 @@ counted-stood : (p r : PokeyValue) → stood p (counted_on r) ≡ stood p (recor
 unfolding stood counted_on pot_counted clocked pokey_tick channels_ticked channel_ticked with_left underflow_effect
 counted-stood p r = refl
 
--- a POKEY that stood while `m` clocks without an underflow went by, with the registers of the clock after them, comes to
--- that clock by the effects of the underflows in it
+-- a POKEY that stood while `m` clocks without an underflow went by, with the registers of the clock
+-- after them, comes to that clock by the effects of the underflows in it
 pub event : (p q : PokeyValue) (m : ℕ) → (0 < m → q.last ≡ levels_of q) → NoneUnderflows q m
     → levelled (underflow_effects
     (underflows (base_pulses (times pokey_tick m q)) (times pokey_tick m q) First)

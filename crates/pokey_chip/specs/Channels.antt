@@ -12,7 +12,8 @@ place Second = 1
 place Third = 2
 place Fourth = 3
 
--- AUDCTL bit 4 joins channels 1 and 2, bit 3 channels 3 and 4: the lower channel of a pair stands still
+-- AUDCTL bit 4 joins channels 1 and 2, bit 3 channels 3 and 4: the lower channel of a pair stands
+-- still
 abbrev pub is_still : ℕ → Channel → Bool
 is_still audctl First = is_bit audctl JOIN_1_2
 is_still audctl Second = false
@@ -26,16 +27,16 @@ is_upper audctl Second = is_bit audctl JOIN_1_2
 is_upper audctl Third = false
 is_upper audctl Fourth = is_bit audctl JOIN_3_4
 
--- AUDCTL bit 6 puts channel 1 on the chip clock, bit 5 channel 3; the upper channel of a pair has the clock of its lower
--- one, and else channels 2 and 4 have the base clock
+-- AUDCTL bit 6 puts channel 1 on the chip clock, bit 5 channel 3; the upper channel of a pair has
+-- the clock of its lower one, and else channels 2 and 4 have the base clock
 abbrev pub is_on_chip_clock : ℕ → Channel → Bool
 is_on_chip_clock audctl First = is_bit audctl CHIP_CLOCK_1
 is_on_chip_clock audctl Second = is_bit audctl JOIN_1_2 && is_bit audctl CHIP_CLOCK_1
 is_on_chip_clock audctl Third = is_bit audctl CHIP_CLOCK_3
 is_on_chip_clock audctl Fourth = is_bit audctl JOIN_3_4 && is_bit audctl CHIP_CLOCK_3
 
--- the number that a channel counts: its AUDF, or in the upper channel of a pair those of both, the lower one's as
--- the low byte
+-- the number that a channel counts: its AUDF, or in the upper channel of a pair those of both, the
+-- lower one's as the low byte
 abbrev pub frequency_of : List ℕ → ℕ → Channel → ℕ
 frequency_of audf audctl First = slice_index audf 0
 frequency_of audf audctl Second =

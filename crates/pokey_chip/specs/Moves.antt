@@ -1,5 +1,5 @@
--- A move of a POKEY from underflow to underflow. The pulses and the clocks of a channel are counted from the start of the
--- move; no register is written in it.
+-- A move of a POKEY from underflow to underflow. The pulses and the clocks of a channel are counted
+-- from the start of the move; no register is written in it.
 use Rattle.std.specs.Prelude.{◌≡◌, ℕ, ◌+◌, ◌-◌, ◌*◌, ◌/◌, ◌^◌, ◌<◌, ◌≤◌, ◌==◌, if◌then◌else◌, Bool}
 use Rattle.board_base.specs.declared.board.TheConstants.{CLOCK_END}
 use Rattle.board_base.specs.declared.pokey.TheConstants.{LONGEST_PERIOD, PRESCALER_BASE, PRESCALER_LINE}
@@ -74,7 +74,8 @@ pub record IsLeft (v : Voice) (n : ℕ) : Type 0 where
   pub some : paced v.clock_source n < pulse_of v
   pub most : pulse_of v ≤ paced v.clock_source n + LONGEST_PERIOD
 
--- a channel after `done` clocks of a move: its pulses, its period, and the pulse with which it underflows next
+-- a channel after `done` clocks of a move: its pulses, its period, and the pulse with which it
+-- underflows next
 pub record IsVoice (c : Channel) (done : ℕ) (p : PokeyValue) (v : Voice) : Type 0 where
   pub timed : IsTimed v
   pub paced_by : (n : ℕ) → pulses_of c n p ≡ paced v.clock_source n

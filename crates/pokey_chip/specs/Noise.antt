@@ -15,12 +15,14 @@ use Rattle.pokey_chip.specs.Tick.{is_held, long_register}
 abbrev pub long_poly : ℕ → Poly
 long_poly audctl = if is_bit audctl NINE_BITS then Nine else Seventeen
 
--- a word begins with the register that a value has become by so many shifts, and goes on with what leaves that register
+-- a word begins with the register that a value has become by so many shifts, and goes on with what
+-- leaves that register
 pub record IsWord (poly : Poly) (r since word : ℕ) : Type 0 where
   pub ahead : IsAhead poly (word % 2 ^ width_of poly) (REACH + width_of poly) word
   pub start : word % 2 ^ width_of poly ≡ times (shifted poly) since r
 
--- the words of a POKEY's registers from a clock of a move on; nothing is said of them while the registers are held
+-- the words of a POKEY's registers from a clock of a move on; nothing is said of them while the
+-- registers are held
 pub record IsNoise (p : PokeyValue) (noise : Noise) : Type 0 where
   pub four : is_held p.skctl ≡ false → IsWord Four p.poly4 noise.since noise.four
   pub five : is_held p.skctl ≡ false → IsWord Five p.poly5 noise.since noise.five

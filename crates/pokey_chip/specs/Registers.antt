@@ -1,4 +1,5 @@
--- The sixteen registers of a POKEY, read and written (POKEY C012294 data sheet; the pots are this project's own profile).
+-- The sixteen registers of a POKEY, read and written (POKEY C012294 data sheet; the pots are this
+-- project's own profile).
 use Rattle.std.specs.Prelude.{ℕ, ◌+◌, ◌-◌, ◌/◌, ◌%◌, ◌==◌, nat_lt, if◌then◌else◌, min, bit_or, [], ◌∷◌, map, slice_index, slice_set}
 use Rattle.bit_words.specs.Bits.{number}
 use Rattle.board_base.specs.Pokey.{PokeyValue}
@@ -15,7 +16,8 @@ pot_of p which = min p.pot (slice_index p.targets which)
 unfoldable pub all_pot : PokeyValue → ℕ
 all_pot p = number (map (λ target. nat_lt p.pot target) p.targets)
 
--- the byte that a register gives: 0 to 7 are the pots, and KBCODE, SERIN, SKSTAT and those without a name give FF
+-- the byte that a register gives: 0 to 7 are the pots, and KBCODE, SERIN, SKSTAT and those without
+-- a name give FF
 unfoldable pub register_read : ℕ → PokeyValue → ℕ
 register_read reg p =
     if nat_lt reg 8 then pot_of p reg
@@ -42,7 +44,8 @@ timers_started p = record p {
 unfoldable pub requests_enabled : ℕ → PokeyValue → PokeyValue
 requests_enabled value p = record p { irqen = value % 8; irqst = bit_or p.irqst (7 - value % 8) }
 
--- a register written: 0 to 7 are AUDF and AUDC of the channels, and SKREST, SEROUT and those without a name do nothing
+-- a register written: 0 to 7 are AUDF and AUDC of the channels, and SKREST, SEROUT and those
+-- without a name do nothing
 unfoldable pub register_written : ℕ → ℕ → PokeyValue → PokeyValue
 register_written reg value p =
     if nat_lt reg 8 then channel_written reg value p

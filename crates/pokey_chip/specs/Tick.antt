@@ -1,5 +1,5 @@
--- One clock of a POKEY, in five steps (POKEY C012294 data sheet; the order within a clock, the pots and what a joined pair
--- does are this project's own profile).
+-- One clock of a POKEY, in five steps (POKEY C012294 data sheet; the order within a clock, the pots
+-- and what a joined pair does are this project's own profile).
 use Rattle.std.specs.Prelude.{ℕ, ◌+◌, ◌-◌, ◌*◌, ◌%◌, ◌^◌, Bool, false, not, ◌&&◌, ◌||◌, ◌==◌, nat_eq, nat_lt, if◌then◌else◌, List, [], ◌∷◌, slice_index}
 use Rattle.std.specs.Int.{bit_at, from_bool}
 use Rattle.std.specs.Cmp.Lexicographic.{pointwise}
@@ -54,7 +54,8 @@ line_pulses p = not (is_held p.skctl) && pulsed PRESCALER_LINE p.pre114
 abbrev pub base_pulses : PokeyValue → Bool
 base_pulses p = not (is_held p.skctl) && (if is_bit p.audctl SLOW_BASE_CLOCK then pulsed PRESCALER_LINE p.pre114 else pulsed PRESCALER_BASE p.pre28)
 
--- whether the pots are counted in this clock: in each one while SKCTL bit 2 is set, and else at a pulse of the prescaler by 114
+-- whether the pots are counted in this clock: in each one while SKCTL bit 2 is set, and else at a
+-- pulse of the prescaler by 114
 abbrev pub pots_rise : PokeyValue → Bool
 pots_rise p = is_bit p.skctl FAST_POT_SCAN || line_pulses p
 
@@ -62,7 +63,8 @@ pots_rise p = is_bit p.skctl FAST_POT_SCAN || line_pulses p
 unfoldable pub pot_counted : Bool → PokeyValue → PokeyValue
 pot_counted rise p = record p { pot = if rise && nat_lt p.pot POT_LIMIT then p.pot + 1 else p.pot }
 
--- a channel gets a pulse in each clock, or with the base clock; the lower channel of a pair gets none
+-- a channel gets a pulse in each clock, or with the base clock; the lower channel of a pair gets
+-- none
 abbrev pub is_pulsed : Bool → ℕ → Channel → Bool
 is_pulsed base audctl c = not (is_still audctl c) && (is_on_chip_clock audctl c || base)
 
@@ -70,7 +72,8 @@ is_pulsed base audctl c = not (is_still audctl c) && (is_on_chip_clock audctl c 
 abbrev pub left_of : Channel → PokeyValue → ℕ
 left_of c p = slice_index p.left (place c)
 
--- step 3: a channel counts its pulse, where it gets one; what is left of it, and its underflows in this clock, one or none
+-- step 3: a channel counts its pulse, where it gets one; what is left of it, and its underflows in
+-- this clock, one or none
 abbrev pub counted_down : Bool → PokeyValue → Channel → ℕ × ℕ
 counted_down base p c =
     if is_pulsed base p.audctl c then pulse_taken (period_of p.audf p.audctl c) (left_of c p, 0)
@@ -110,8 +113,9 @@ long_register p = if is_bit p.audctl NINE_BITS then p.poly9 else p.poly17
 abbrev pub tone_of : Channel → PokeyValue → Bool
 tone_of c p = is_bit p.tone (place c)
 
--- the tone bit after an underflow: AUDC bit 7 clear lets the 5-bit register's 0 keep it; AUDC bit 5 turns it over; else it
--- is the output of the 4-bit register, where AUDC bit 6 is set, or of the long one
+-- the tone bit after an underflow: AUDC bit 7 clear lets the 5-bit register's 0 keep it; AUDC bit 5
+-- turns it over; else it is the output of the 4-bit register, where AUDC bit 6 is set, or of the
+-- long one
 abbrev pub new_tone : ℕ → Channel → PokeyValue → Bool
 new_tone audc c p =
     if not (is_bit audc NO_FIVE_BITS) && not (is_bit p.poly5 0) then tone_of c p
@@ -123,8 +127,8 @@ new_tone audc c p =
 unfoldable pub toned : Channel → PokeyValue → ℕ
 toned c p = with_bit p.tone (place c) (new_tone (slice_index p.audc (place c)) c p)
 
--- the high-pass bits after an underflow: channel 3 takes the tone bit of channel 1 into bit 0, channel 4 that of channel 2
--- into bit 1
+-- the high-pass bits after an underflow: channel 3 takes the tone bit of channel 1 into bit 0,
+-- channel 4 that of channel 2 into bit 1
 unfoldable pub passed : Channel → PokeyValue → ℕ
 passed First p = p.pass
 passed Second p = p.pass
@@ -143,14 +147,16 @@ underflow_effect underflow c p = record p {
 abbrev pub filtered : Bool → Bool → Bool → Bool
 filtered on bit tone = if on && bit then not tone else tone
 
--- a channel's signal: channel 1 is filtered where AUDCTL bit 2 is set, channel 2 where AUDCTL bit 1 is
+-- a channel's signal: channel 1 is filtered where AUDCTL bit 2 is set, channel 2 where AUDCTL bit 1
+-- is
 unfoldable pub signal : PokeyValue → Channel → Bool
 signal p First = filtered (is_bit p.audctl HIGH_PASS_1) (is_bit p.pass 0) (tone_of First p)
 signal p Second = filtered (is_bit p.audctl HIGH_PASS_2) (is_bit p.pass 1) (tone_of Second p)
 signal p Third = tone_of Third p
 signal p Fourth = tone_of Fourth p
 
--- the level of a signal: the volume, AUDC's low four bits, while the signal is 1, or always where AUDC bit 4 is set
+-- the level of a signal: the volume, AUDC's low four bits, while the signal is 1, or always where
+-- AUDC bit 4 is set
 abbrev pub level_of : ℕ → Bool → ℕ
 level_of audc on = if is_bit audc VOLUME_ONLY || on then audc % 16 else 0
 

@@ -1,5 +1,5 @@
--- The tones of a POKEY in a move. Four bits in a word are one for each channel, at its place: bit 0 is that of channel 1, bit
--- 3 that of channel 4.
+-- The tones of a POKEY in a move. Four bits in a word are one for each channel, at its place: bit 0
+-- is that of channel 1, bit 3 that of channel 4.
 use Rattle.std.specs.Prelude.{◌≡◌, ℕ, ◌%◌, Bool, false, zero, suc, not, ◌&&◌, if◌then◌else◌, List, [], ◌∷◌, slice_index}
 use Rattle.bit_words.specs.Bits.{is_bit, number}
 use Rattle.board_base.specs.Pokey.{PokeyValue}
@@ -36,9 +36,9 @@ asker (suc (suc k)) = Fourth
 abbrev pub audc_of : PokeyValue → Channel → ℕ
 audc_of p c = slice_index p.audc (place c)
 
--- what the registers written say of the tones: the channels that the 5-bit register doesn't hold back, those whose tone bit is
--- turned over, those that take the 4-bit register's noise, those that a high-pass filter is on for, and those that give
--- their volume always
+-- what the registers written say of the tones: the channels that the 5-bit register doesn't hold
+-- back, those whose tone bit is turned over, those that take the 4-bit register's noise, those that
+-- a high-pass filter is on for, and those that give their volume always
 pub record IsTuning (p : PokeyValue) (tuning : Tuning) : Type 0 where
   pub free : (c : Channel) → has tuning.free c ≡ is_bit (audc_of p c) NO_FIVE_BITS
   pub pure : (c : Channel) → has tuning.pure c ≡ is_bit (audc_of p c) PURE_TONE

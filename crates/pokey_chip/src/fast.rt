@@ -18,8 +18,8 @@ pub type FastPokey = Device<PokeyState, ByUnderflows>;
 /// From one underflow to the next.
 pub struct ByUnderflows;
 
-/// Records the levels of a clock where other channels are on than were `last_on`, or nothing is known of
-/// those, and the levels changed.
+/// Records the levels of a clock where other channels are on than were `last_on`, or nothing is
+/// known of those, and the levels changed.
 #[inline(always)]
 #[tactic(auto, using(crate::proofs::RecordLemmas::quiet))]
 fn record_levels(

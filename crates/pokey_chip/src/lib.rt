@@ -1,7 +1,8 @@
 //! A POKEY (C012294 data sheet): its clock, its registers, and two devices of the same behaviour.
 //!
-//! `control` has the bits of its control registers and `registers` its registers by their numbers. Of a
-//! clock's five steps `tick` does the first three and the last, and `channel` knows the periods.
+//! `control` has the bits of its control registers and `registers` its registers by their numbers.
+//! Of a clock's five steps `tick` does the first three and the last, and `channel` knows the
+//! periods.
 #![tactic(auto)]
 
 mod bits;

@@ -11,8 +11,9 @@ use bit_words::is_set;
 use board_base::{CLOCK_END, PokeyState};
 use pokey_poly::{Poly, REACH};
 
-/// The noise in a move: the bits that leave the polynomial registers from the clock `since` of the move
-/// on, as words with the lowest bit first. The long register that no channel listens to has none.
+/// The noise in a move: the bits that leave the polynomial registers from the clock `since` of the
+/// move on, as words with the lowest bit first. The long register that no channel listens to has
+/// none.
 #[derive(Clone, Copy)]
 pub struct Noise {
     pub since: u64,
@@ -21,8 +22,8 @@ pub struct Noise {
     pub long: u64,
 }
 
-/// The outputs of the polynomial registers in a clock: of that of 4 bits, of that of 5, and of the long
-/// one.
+/// The outputs of the polynomial registers in a clock: of that of 4 bits, of that of 5, and of the
+/// long one.
 #[derive(Clone, Copy)]
 pub struct Outputs {
     pub four: bool,

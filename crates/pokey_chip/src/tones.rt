@@ -156,8 +156,8 @@ pub(crate) fn levels_on(on: u8, audc: &[u8; 4]) -> [u8; 4]
     ]
 }
 
-/// IRQST after underflows of some channels: those of channels 1, 2 and 4 are the requests of bits 0, 1
-/// and 2, where they are enabled.
+/// IRQST after underflows of some channels: those of channels 1, 2 and 4 are the requests of bits
+/// 0, 1 and 2, where they are enabled.
 #[inline(always)]
 #[tactic(auto, using(crate::proofs::ToneLaws::requests))]
 fn requests_made(underflowed: u8, irqen: u8, irqst: u8) -> u8

@@ -47,8 +47,8 @@ pub trait SoundUnit: Clocked {
         ensures state { device self.new ≡ pot_set which value (device self.old) }
         ensures counted { Counted (Self.calls self.old) (Self.calls self.new) };
 
-    /// The clocks up to and with the first after which a request stands (IRQST isn't all ones), while
-    /// no register is written; 0 where one stands already.
+    /// The clocks up to and with the first after which a request stands (IRQST isn't all ones),
+    /// while no register is written; 0 where one stands already.
     fn quiet(&self) -> Option<u64>
         ensures exact { MatchOption result (IsEverQuiet (device self.now)) (λ n. IsQuietBefore (device self.now) n) }
         ensures lagging { AnswersEachLag (device self.now) result };

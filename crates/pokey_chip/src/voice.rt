@@ -9,8 +9,9 @@ use crate::clock_source::ClockSource;
 use crate::tones::four_bits;
 use board_base::{CLOCK_END, LONGEST_PERIOD, PRESCALER_BASE, PRESCALER_LINE, PokeyState};
 
-/// A channel in a move: what gives it its pulses, the pulse with which it underflows first, its period
-/// in pulses and in clocks, and the clock of its next underflow, counted from the start of the move.
+/// A channel in a move: what gives it its pulses, the pulse with which it underflows first, its
+/// period in pulses and in clocks, and the clock of its next underflow, counted from the start of
+/// the move.
 #[derive(Clone, Copy)]
 pub struct Voice {
     pub clock_source: ClockSource,
@@ -83,7 +84,8 @@ impl Voice {
         }
     }
 
-    /// The clock of its next underflow after the clock `at`, in which it underflows where it is due.
+    /// The clock of its next underflow after the clock `at`, in which it underflows where it is
+    /// due.
     #[inline(always)]
     #[tactic(auto, using(crate::proofs::VoiceLaws::passes))]
     fn due_after(self, at: u64) -> u64

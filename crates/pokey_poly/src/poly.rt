@@ -17,7 +17,8 @@ pub enum Poly {
     Seventeen,
 }
 
-/// How many shifts one move makes at most: with the bits of the longest register, as many as a word has.
+/// How many shifts one move makes at most: with the bits of the longest register, as many as a word
+/// has.
 pub const REACH: u64 = 47;
 
 /// The next 64 bits that leave the 4-bit register from each value on, the lowest first.
@@ -135,8 +136,8 @@ impl Poly {
         self.window(self.ahead(r), n)
     }
 
-    /// The register so many shifts after the one from which a word of bits leaves it: as it is a window
-    /// on these bits, the word moves down.
+    /// The register so many shifts after the one from which a word of bits leaves it: as it is a
+    /// window on these bits, the word moves down.
     #[inline(always)]
     #[tactic(auto, using(crate::proofs::LeapLaws::windows))]
     pub fn window(self, ahead: u64, n: u64) -> u32
@@ -173,7 +174,8 @@ impl Poly {
         }
     }
 
-    /// The bits that leave the register from a value on, the lowest first; so the lowest are the value.
+    /// The bits that leave the register from a value on, the lowest first; so the lowest are the
+    /// value.
     #[inline(always)]
     #[tactic(auto, using(crate::proofs::TableLaws::tables))]
     pub fn ahead(self, r: u32) -> u64
@@ -219,8 +221,8 @@ fn seventeen_on(r: u32) -> u64
 /// A word whose bits below a place stay, and each from there on becomes the exclusive or of the bit
 /// that stands so many places lower and of another, `tap` places above that.
 ///
-/// Where each bit that leaves a register is the sum of two that left it before, it is also the sum of
-/// two twice as far back; so a word grows by more, the more of these bits it has.
+/// Where each bit that leaves a register is the sum of two that left it before, it is also the sum
+/// of two twice as far back; so a word grows by more, the more of these bits it has.
 #[inline(always)]
 #[tactic(auto, using(crate::proofs::WordLaws::words))]
 fn lengthened(word: u64, place: u32, tap: u32) -> u64

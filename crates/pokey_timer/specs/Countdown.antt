@@ -1,5 +1,5 @@
--- How a channel counts its pulses down (POKEY C012294 data sheet, AUDF). A countdown is a pair: the pulses before the
--- next underflow, that one's pulse included, and how often it has underflowed.
+-- How a channel counts its pulses down (POKEY C012294 data sheet, AUDF). A countdown is a pair: the
+-- pulses before the next underflow, that one's pulse included, and how often it has underflowed.
 use Rattle.std.specs.Prelude.{ℕ, ◌+◌, ◌-◌, ◌==◌, if◌then◌else◌, zero, suc}
 
 -- one pulse is counted; the last one before an underflow begins a whole period

@@ -58,7 +58,8 @@ fn zeros(alloc: Global, n: usize) -> Result<Vec<u8>, OutOfMemory>
 }
 
 impl Image {
-    /// Copies the bytes of an image file; refuses any other number of bytes, before memory is taken.
+    /// Copies the bytes of an image file; refuses any other number of bytes, before memory is
+    /// taken.
     pub fn read(alloc: Global, bytes: &[u8]) -> Result<Image, ImageFault>
         ensures { ReadsImage bytes.now result }
     {

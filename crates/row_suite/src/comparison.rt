@@ -207,7 +207,8 @@ impl<'t, 'f, 'c> Comparison<'t, 'f, 'c> {
         Ok(())
     }
 
-    /// A part of what is wanted of the stores: its word, the rest of its first line, and its content.
+    /// A part of what is wanted of the stores: its word, the rest of its first line, and its
+    /// content.
     fn part_of_stores(
         &mut self,
         word: Word,
@@ -224,7 +225,8 @@ impl<'t, 'f, 'c> Comparison<'t, 'f, 'c> {
         }
     }
 
-    /// What the step says of the end: the status, the note, and the name under which the text stays.
+    /// What the step says of the end: the status, the note, and the name under which the text
+    /// stays.
     fn part_of_end(&mut self, word: Word, rest: &'t str) -> Result<(), Stopped> {
         match word {
             Word::Status => self.status = decimal(rest)?,

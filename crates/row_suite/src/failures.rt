@@ -57,8 +57,8 @@ fn are_first(made: &[Stored], whole: &[Stored]) -> bool {
     made.len() <= whole.len()
 }
 
-/// Whether so many stores come after the text in front of them, and so many bytes of text before the
-/// next store. `ends` are the bytes of text in front of each store.
+/// Whether so many stores come after the text in front of them, and so many bytes of text before
+/// the next store. `ends` are the bytes of text in front of each store.
 fn are_in_order(ends: &[usize], stores: usize, text: usize) -> bool {
     for (i, end) in ends.iter().enumerate() {
         let is_made = i < stores;
@@ -134,7 +134,8 @@ impl<E: Emulator> Whole<'_, '_, E> {
         Ok(self.is_stopped(&trial, b""))
     }
 
-    /// Whether a trial with a call that fails was ended by it, or did all where it made no such call.
+    /// Whether a trial with a call that fails was ended by it, or did all where it made no such
+    /// call.
     fn is_right(&self, kind: Kind, call: u64, trial: &Trial) -> Result<bool, Stopped> {
         if trial.status != 6 {
             return Ok(self.is_whole(trial));
@@ -164,7 +165,8 @@ impl<E: Emulator> Whole<'_, '_, E> {
         report.add(self.command.line, "the calls have no end")
     }
 
-    /// A write of the notes fails, which changes nothing else. Returns whether there was such a write.
+    /// A write of the notes fails, which changes nothing else. Returns whether there was such a
+    /// write.
     fn fails_at_note(&self, call: u64, report: &mut Report) -> Result<bool, Stopped> {
         let trial = self.command.run(note_fault(call))?;
         if !self.is_all_but_note(&trial) {

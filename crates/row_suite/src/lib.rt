@@ -1,6 +1,6 @@
-//! The rows of a suite, done by any program with the board's command line: what each command of a row
-//! gives is compared with what the row wants, and each of its I/O calls is made to fail in turn.
-//! `board_rows/data/FORMAT.txt` says how a row is written.
+//! The rows of a suite, done by any program with the board's command line: what each command of a
+//! row gives is compared with what the row wants, and each of its I/O calls is made to fail in
+//! turn. `board_rows/data/FORMAT.txt` says how a row is written.
 #![tactic(auto)]
 
 mod comparison;

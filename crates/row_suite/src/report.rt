@@ -76,7 +76,8 @@ impl Report {
         Ok(())
     }
 
-    /// Reports that an I/O call of a command fails, and more or less is done than what comes before it.
+    /// Reports that an I/O call of a command fails, and more or less is done than what comes before
+    /// it.
     pub fn add_call(&mut self, command: &str, kind: &str, call: u64) -> Result<(), Stopped> {
         self.add(command, "a call that fails")?;
         writeln!(self.text, "  number {call} of the calls of the {kind}")?;

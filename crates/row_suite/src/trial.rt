@@ -16,8 +16,8 @@ const TEXT_ROOM: usize = 8_388_608;
 
 const NOTE_ROOM: usize = 1000;
 
-/// The call of the shelf, the write of the output and the write of the notes that fail, each counted
-/// from 1 (0 is none), and how many bytes the output takes.
+/// The call of the shelf, the write of the output and the write of the notes that fail, each
+/// counted from 1 (0 is none), and how many bytes the output takes.
 #[derive(Clone, Copy)]
 pub struct Faults {
     pub shelf: u64,

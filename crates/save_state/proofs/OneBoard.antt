@@ -110,7 +110,8 @@ zeros_spelled cpu facts = search arith
 sequence_most : (q : Sequence) → sequence_number q ≤ 3
 sequence_most q = elim q as (λ (q : Sequence). sequence_number q ≤ 3) [ Opcode ↦ omega arith | Interrupt ↦ omega arith | Reset ↦ omega arith ]
 
--- the place of a processor that stands inside no sequence, or inside one, where the file's processor does so too
+-- the place of a processor that stands inside no sequence, or inside one, where the file's
+-- processor does so too
 middle_by : (c cpu : CpuValue) (facts : Facts) (mid : Option MidValue) → c.mid ≡ mid → facts.jammed ≡ is_some c.jam → facts.idle ≡ (number_of mid == 0) → IfSome mid IsMid → IfSome mid (λ _. IsMiddle c) → IfSome mid (λ _. IsMiddle cpu) → AreSpelled cpu facts (sequence_rows ++ place_rows) mid
 middle_by c cpu facts None s e f range place told = rw f (search arith)
 middle_by c cpu facts (Some m) s e f range place told =

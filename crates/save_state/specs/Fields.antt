@@ -1,5 +1,5 @@
--- The fields of a format of fixed lengths: where each stands, how many bytes it has, which bytes are in its range, and how
--- it is spelled.
+-- The fields of a format of fixed lengths: where each stands, how many bytes it has, which bytes
+-- are in its range, and how it is spelled.
 use Rattle.std.specs.Prelude.{◌≡◌, ◌≤◌, ℕ, ◌/◌, ◌%◌, ℤ, Bool, List, [], ◌∷◌, ◌+◌, map, slice_index, None}
 use Rattle.std.specs.Int.{Width, w16, w32, w64, byte_len, from_le_bytes, to_le_bytes, cast_signed, cast_unsigned, from_bool}
 use Rattle.board_base.specs.Cpu.{CpuValue}
@@ -21,8 +21,8 @@ pub data Range : Type 0 where
   undocumented_opcode : Range
   place : Range
 
--- bytes are in a range, in a file of this processor; numbers stand low byte first, signed ones in two's
--- complement
+-- bytes are in a range, in a file of this processor; numbers stand low byte first, signed ones in
+-- two's complement
 abbrev pub Fits : CpuValue → Range → List ℕ → Type 0
 Fits cpu anything piece = Unit {0}
 Fits cpu (byte_at_most greatest) piece = slice_index piece 0 ≤ greatest
@@ -83,15 +83,16 @@ u64_bytes n = to_le_bytes w64 n
 abbrev pub i32_bytes : ℤ → List ℕ
 i32_bytes z = to_le_bytes w32 (cast_unsigned w32 z)
 
--- what ranges go by in a file: the greatest clock, whether the processor is jammed, whether it stands inside no sequence,
--- and whether a vector is being drawn
+-- what ranges go by in a file: the greatest clock, whether the processor is jammed, whether it
+-- stands inside no sequence, and whether a vector is being drawn
 pub record Facts : Type 0 where
   pub last : ℕ
   pub jammed : Bool
   pub idle : Bool
   pub drawing : Bool
 
--- a row of a table: the offset of a field and the number of its bytes, its range, and how it is spelled
+-- a row of a table: the offset of a field and the number of its bytes, its range, and how it is
+-- spelled
 pub record Row (V : Type 0) : Type 0 where
   pub at : ℕ
   pub width : ℕ

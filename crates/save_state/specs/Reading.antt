@@ -13,7 +13,8 @@ use Rattle.cpu_core.specs.Places.{IsProcessor}
 use Rattle.save_state.specs.Fields.{Row, Fits}
 use Rattle.save_state.specs.StateBytes.{table, facts_of, processor_of, state_bytes, first_state_bytes}
 
--- a processor in range: pc is a number of 16 bits, and all else is as its type and the processor's crate have it
+-- a processor in range: pc is a number of 16 bits, and all else is as its type and the processor's
+-- crate have it
 pub record IsWholeCpu (c : CpuValue) : Type 0 where
   pub pc : c.pc < 2 ^ 16
   pub registers : IsCpu c
@@ -30,7 +31,8 @@ pub record IsWhole (b : BoardValue) : Type 0 where
   pub sound2 : IsPokey b.sound2
   pub earom : IsEarom b.earom
 
--- these bytes are a board's, in version 2, or in version 1 where its processor stands inside no sequence
+-- these bytes are a board's, in version 2, or in version 1 where its processor stands inside no
+-- sequence
 abbrev pub Spells : List ℕ → BoardValue → Type 0
 Spells file b = (file ≡ state_bytes b) ⊎ ((file ≡ first_state_bytes b) × (b.cpu.mid ≡ None))
 
@@ -38,7 +40,8 @@ Spells file b = (file ≡ state_bytes b) ⊎ ((file ≡ first_state_bytes b) × 
 abbrev pub Holds : ℕ → List ℕ → Row BoardValue → Type 0
 Holds version file r = Fits (processor_of file) (r.range (facts_of version file)) (take r.width (drop r.at file))
 
--- of these rows the first whose field is out of its range has this offset, in a file of this version
+-- of these rows the first whose field is out of its range has this offset, in a file of this
+-- version
 pub record IsFirstBroken (version : ℕ) (file : List ℕ) (rows : List (Row BoardValue)) (offset : ℕ) : Type 0 where
   pub before : List (Row BoardValue)
   pub broken : Row BoardValue
@@ -48,11 +51,13 @@ pub record IsFirstBroken (version : ℕ) (file : List ℕ) (rows : List (Row Boa
   pub bad : ¬ Holds version file broken
   pub here : offset ≡ broken.at
 
--- the first field of a file of this version whose bytes are out of their range stands at this offset
+-- the first field of a file of this version whose bytes are out of their range stands at this
+-- offset
 unfoldable pub BreaksFirst : ℕ → List ℕ → ℕ → Type 0
 BreaksFirst version file offset = IsFirstBroken version file (table version) offset
 
--- each field of a file of this version is in its range, and has the bytes of a board's at its offset
+-- each field of a file of this version is in its range, and has the bytes of a board's at its
+-- offset
 unfoldable pub HasFields : ℕ → List ℕ → BoardValue → Type 0
 HasFields version file b = All (λ r. Holds version file r × (take r.width (drop r.at file) ≡ r.spelled b)) (table version)
 

@@ -163,7 +163,8 @@ stack_rows =
     row 64 (number_to w16 8191) (λ stack. u16_bytes (slice_index stack 3)) ∷
     []
 
--- the beam, the vector being drawn, and the clocks that are left of it, in the phase that draws alone
+-- the beam, the vector being drawn, and the clocks that are left of it, in the phase that draws
+-- alone
 abbrev pub beam_rows : List (Row VgValue)
 beam_rows =
     row 66 (signed_to BEAM_EDGE) (λ v. i32_bytes v.x) ∷
@@ -177,7 +178,8 @@ beam_rows =
 abbrev pub vg_rows : List (Row VgValue)
 vg_rows = halted_rows ++ pen_rows ++ rows_of (λ v. v.stack) stack_rows ++ beam_rows
 
--- a POKEY, from its own first byte: its registers, its requests, its polynomial registers and its prescalers
+-- a POKEY, from its own first byte: its registers, its requests, its polynomial registers and its
+-- prescalers
 abbrev pub tone_rows : List (Row PokeyValue)
 tone_rows =
     row 0 (any 4) (λ p. p.audf) ∷

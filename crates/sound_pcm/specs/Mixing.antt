@@ -7,8 +7,8 @@ use Rattle.board_base.specs.declared.record.Record.TheVariants.{Levels}
 use Rattle.sound_pcm.specs.declared.mixer.TheConstants.{MAX_LEVEL}
 use Rattle.sound_pcm.specs.Samples.{levels_of, levels_after, weights, samples, group_after}
 
--- the clocks done, the clocks of a group, the four levels of each POKEY, and the sum and the number of clocks of the group
--- under way
+-- the clocks done, the clocks of a group, the four levels of each POKEY, and the sum and the number
+-- of clocks of the group under way
 pub record MixerValue : Type 0 where
   pub clock : ℕ
   pub per : ℕ

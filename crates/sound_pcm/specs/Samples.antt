@@ -1,4 +1,5 @@
--- Samples of the sound: the levels of both POKEYs, summed over groups of clocks. They are this project's own.
+-- Samples of the sound: the levels of both POKEYs, summed over groups of clocks. They are this
+-- project's own.
 use Rattle.std.specs.Prelude.{ℕ, ◌+◌, List, [], ◌∷◌, map, sum, flat_map, nat_le, ◌==◌, if◌then◌else◌}
 use Rattle.std.specs.Int.{w32, to_le_bytes}
 use Rattle.std.specs.List.{range_with_len}
@@ -30,8 +31,9 @@ weight before1 before2 sound1 sound2 clock = sum (levels_at before1 sound1 clock
 abbrev pub weights : List ℕ → List ℕ → List Record → List Record → ℕ → ℕ → List ℕ
 weights before1 before2 sound1 sound2 from n = map (weight before1 before2 sound1 sound2) (range_with_len from n)
 
--- The samples that become whole over the weights of further clocks, where the group under way has this sum and this number
--- of clocks: each clock goes into the group, and the group that has its number of clocks is a sample.
+-- The samples that become whole over the weights of further clocks, where the group under way has
+-- this sum and this number of clocks: each clock goes into the group, and the group that has its
+-- number of clocks is a sample.
 unfoldable pub samples : ℕ → ℕ → ℕ → List ℕ → List ℕ
 samples per so_far count [] = []
 samples per so_far count (first ∷ others) =

@@ -11,7 +11,8 @@ abbrev pub StartsFrom : ℕ → List Record → Type 0
 StartsFrom clock [] = Unit {0}
 StartsFrom clock (first ∷ others) = clock ≤ clock_of first
 
--- the first record of one list is taken away, which isn't later than that of the other; none is left where both are empty
+-- the first record of one list is taken away, which isn't later than that of the other; none is
+-- left where both are empty
 abbrev pub TakesSooner : List Record → List Record → List Record → List Record → Option (Part × Record) → Type 0
 TakesSooner sound1 sound2 left1 left2 None = (sound1 ≡ []) × (sound2 ≡ [])
 TakesSooner sound1 sound2 left1 left2 (Some (Pokey1, made)) =

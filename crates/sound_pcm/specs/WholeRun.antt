@@ -7,8 +7,8 @@ use Rattle.sound_pcm.specs.Samples.{weights}
 use Rattle.sound_pcm.specs.declared.mixer.TheConstants.{MAX_LEVEL, MAX_PER}
 use Rattle.sound_pcm.specs.Mixing.{MixerValue, AreLevels, HoldsLevels, samples_of, mixed}
 
--- the samples of the clocks from one to another: sample k is the sum of the weights of `per` clocks from `from + k * per`
--- on, one for each such group that is whole
+-- the samples of the clocks from one to another: sample k is the sum of the weights of `per` clocks
+-- from `from + k * per` on, one for each such group that is whole
 unfoldable pub run_samples : List ℕ → List ℕ → List Record → List Record → ℕ → ℕ → ℕ → List ℕ
 run_samples before1 before2 sound1 sound2 from per upto =
     map (λ k. sum (weights before1 before2 sound1 sound2 (from + k * per) per)) (range_with_len 0 ((upto - from) / per))
@@ -34,7 +34,8 @@ pub record IsCut (m : MixerValue) (first1 first2 rest1 rest2 : List Record) (at 
   pub after1 : AreFrom at rest1
   pub after2 : AreFrom at rest2
 
--- to take a first part and then the rest is to take the whole: the samples are those of the parts, and so is the mixer
+-- to take a first part and then the rest is to take the whole: the samples are those of the parts,
+-- and so is the mixer
 pub record IsTakenInParts (m : MixerValue) (first1 first2 rest1 rest2 : List Record) (at upto : ℕ) : Type 0 where
   pub made : samples_of m (first1 ++ rest1) (first2 ++ rest2) upto
       ≡ samples_of m first1 first2 at ++ samples_of (mixed m first1 first2 at) rest1 rest2 upto

@@ -8,15 +8,15 @@ ghost use Rattle.sound_pcm.specs.WholeRun.{HasLevels, IsCut, IsTakenInParts, Mak
 use crate::mixer::{MAX_LEVEL, MAX_PER};
 use outside_io::BLOCK_LEN;
 
-/// The numbers of a mixer, each by its name in the definitions: a block is 4,096 bytes, which are 1,024
-/// samples; a group has 65,535 clocks at most, and a level is at most 15.
+/// The numbers of a mixer, each by its name in the definitions: a block is 4,096 bytes, which are
+/// 1,024 samples; a group has 65,535 clocks at most, and a level is at most 15.
 pub fn mixer_numbers()
     ensures block { (BLOCK_LEN ≡ 4096) × (BLOCK_LEN ≡ 4 * 1024) }
     ensures limits { (MAX_PER ≡ 65535) × (MAX_LEVEL ≡ 15) × (CLOCK_END ≡ 2 ^ 49) }
 {}
 
-/// A mixer that begins a group makes a sample for each whole group of clocks from its own on, the sum
-/// of their weights, and no other.
+/// A mixer that begins a group makes a sample for each whole group of clocks from its own on, the
+/// sum of their weights, and no other.
 #[tactic(auto, using(crate::proofs::RunLaws::makes_run))]
 pub fn whole_groups()
     ensures { (m : MixerValue) → 1 ≤ m.per → m.sum ≡ 0 → m.count ≡ 0 → (sound1 sound2 : List RecordValue) → (upto : ℕ) → MakesRun m sound1 sound2 upto }

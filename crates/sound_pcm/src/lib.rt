@@ -1,5 +1,5 @@
-//! Samples of the sound, to listen to: the levels of both POKEYs, summed over groups of clocks. They
-//! are this project's own: unsigned numbers of 32 bits, the lowest byte first.
+//! Samples of the sound, to listen to: the levels of both POKEYs, summed over groups of clocks.
+//! They are this project's own: unsigned numbers of 32 bits, the lowest byte first.
 #![tactic(auto)]
 
 mod group;

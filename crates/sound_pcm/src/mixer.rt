@@ -19,9 +19,9 @@ pub const MAX_LEVEL: u8 = 15;
 /// The clocks of a group at most.
 pub const MAX_PER: u32 = 65_535;
 
-/// Makes samples of the levels of both POKEYs. A sample is the sum of the eight levels over a group of
-/// clocks, each clock with the levels after its records. It takes no memory. After a fault it is only
-/// to be dropped.
+/// Makes samples of the levels of both POKEYs. A sample is the sum of the eight levels over a group
+/// of clocks, each clock with the levels after its records. It takes no memory. After a fault it is
+/// only to be dropped.
 #[derive(Drop)]
 pub struct Mixer {
     clock: u64,
@@ -58,8 +58,8 @@ fn loudness(levels: [u8; 4]) -> u32
 }
 
 impl Mixer {
-    /// A mixer from this clock on, with `per` clocks a sample, 1 to 65,535, and with the four levels of
-    /// POKEY 1 and then those of POKEY 2, each at most 15. No clock of its group is done.
+    /// A mixer from this clock on, with `per` clocks a sample, 1 to 65,535, and with the four
+    /// levels of POKEY 1 and then those of POKEY 2, each at most 15. No clock of its group is done.
     pub fn new(clock: u64, per: u32, levels: [u8; 8]) -> Mixer
         requires some { 1 ≤ per }
         requires longest { per ≤ MAX_PER }
@@ -80,8 +80,8 @@ impl Mixer {
     }
 
     /// Takes the clocks before `upto`, whose records these are, and writes the samples that become
-    /// whole, each as four bytes, the lowest first. It writes them in blocks, and the first write that
-    /// fails is the last.
+    /// whole, each as four bytes, the lowest first. It writes them in blocks, and the first write
+    /// that fails is the last.
     pub fn take<O: Sink>(
         &mut self,
         trails: &Trails<'_>,

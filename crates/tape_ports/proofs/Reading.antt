@@ -26,7 +26,8 @@ with_front-push : (front : List TapeEntry) (entry : TapeEntry) (read : Result Ta
 with_front-push front entry (Ok tape) = rw append_assoc refl
 with_front-push front entry (Err fault) = refl
 
--- after some good entry lines: the entries read, the number of the next line, the last clock, and the rest of the text
+-- after some good entry lines: the entries read, the number of the next line, the last clock, and
+-- the rest of the text
 pub record ReadSoFar (text : List ℕ) (entries : List TapeEntry) (line before : ℕ) (rest : List ℕ) : Type 0 where
   pub tape : with_front entries (tape_from line before (lines_of rest)) ≡ tape_of text
   pub number : line + length rest ≤ 1 + length text

@@ -38,7 +38,8 @@ clock_lets : (before clock : ℕ) → before ≤ clock → clock ≤ CLOCK_LIMIT
 unfolding clock_after
 clock_lets before clock rises low = rw (le-ltb CLOCK_LIMIT clock low, le-ltb clock before rises) refl
 
--- what an entry line states, by whether its second word is END, and by the readings of its three words
+-- what an entry line states, by whether its second word is END, and by the readings of its three
+-- words
 abbrev entry_by : ℕ → Bool → Option ℕ → Option ℕ → Option Port → Result Line LineCause
 entry_by before ends clock value port =
     if ends then Err cause.Form
@@ -49,7 +50,8 @@ entry_by before ends clock value port =
       at ← clock_after before given
       Ok (Entry (record { clock = at; port = where_to; value = byte })))
 
--- an entry that was stated has a clock that was let through, and the readings of the two other words
+-- an entry that was stated has a clock that was let through, and the readings of the two other
+-- words
 record IsTold (before : ℕ) (entry : TapeEntry) (clock value : Option ℕ) (port : Option Port) : Type 0 where
   its_clock : clock ≡ Some entry.clock
   its_value : value ≡ Some entry.value
@@ -93,7 +95,8 @@ no_end_told before end false (Some clock) (Some value) (Some port) said = none (
     none (Err fault) said = cc
     none (Ok at) said = cc
 
--- what a line of two words states, by whether its second word is END, and by the reading of the first
+-- what a line of two words states, by whether its second word is END, and by the reading of the
+-- first
 abbrev end_by : ℕ → Bool → Option ℕ → Result Line LineCause
 end_by before ends clock =
     if ends
@@ -182,7 +185,8 @@ tells_end : (before : ℕ) (line : List ℕ) (end : ℕ) → IsEndLine line end 
 unfolding end_line
 tells_end before line end is later = rw (is.words, is.clock, clock_lets before end later is.range) refl
 
--- what is read from the lines after a clock: they are those of the tape, and no clock is below the one before
+-- what is read from the lines after a clock: they are those of the tape, and no clock is below the
+-- one before
 abbrev FollowOn : ℕ → List (List ℕ) → TapeValue → Type 0
 FollowOn before lines tape = AreTapeLines lines tape × All (λ clock. before ≤ clock) (clocks_of tape)
 

@@ -9,7 +9,8 @@ use Rattle.tape_ports.specs.Tape.{count_before}
 abbrev pub due_at : ℕ → List TapeEntry → List TapeEntry
 due_at clock entries = filter (λ entry. entry.clock == clock) entries
 
--- Where clocks don't fall, the entries of a clock stand from its place up to the place of the next clock.
+-- Where clocks don't fall, the entries of a clock stand from its place up to the place of the next
+-- clock.
 abbrev pub AreTogether : ℕ → List TapeEntry → Type 0
 AreTogether clock entries =
     IsNonDecreasingBy (λ entry. entry.clock) entries

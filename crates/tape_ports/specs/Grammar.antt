@@ -53,7 +53,8 @@ tape_line_of before (clock ∷ word ∷ []) = end_line before clock word
 tape_line_of before (clock ∷ name ∷ value ∷ []) = entry_line before clock name value
 tape_line_of before _ = Err cause.Form
 
--- a good line's clock is at most the limit and not below that of the line before, and its port is one
+-- a good line's clock is at most the limit and not below that of the line before, and its port is
+-- one
 abbrev pub ComesAfter : ℕ → Line → Type 0
 ComesAfter before (Entry entry) = (before ≤ entry.clock) × (entry.clock ≤ CLOCK_LIMIT) × IsPort entry.port
 ComesAfter before (End end) = (before ≤ end) × (end ≤ CLOCK_LIMIT)
@@ -74,7 +75,8 @@ with_line number (Ok (Entry entry)) more last = more entry
 with_line number (Ok (End end)) more last = last end
 with_line number (Err fault) more last = Err (number, fault)
 
--- the tape of the lines from this number on, after a line with the clock before, or the first fault with its line
+-- the tape of the lines from this number on, after a line with the clock before, or the first fault
+-- with its line
 unfoldable pub tape_from : ℕ → ℕ → List (List ℕ) → Result TapeValue (ℕ × LineCause)
 tape_from number before [] = Err (number, cause.NoEnd)
 tape_from number before (line ∷ lines) =
@@ -84,7 +86,8 @@ tape_from number before (line ∷ lines) =
 abbrev pub tape_of : List ℕ → Result TapeValue (ℕ × LineCause)
 tape_of text = tape_from 1 0 (lines_of text)
 
--- how a text is read: too long above the limit of its bytes, else its tape or its fault, unless memory runs out
+-- how a text is read: too long above the limit of its bytes, else its tape or its fault, unless
+-- memory runs out
 abbrev pub ReadsTape : List ℕ → Result TapeValue TapeFault → Type 0
 ReadsTape text (Ok tape) = (length text ≤ TAPE_LIMIT) × (tape_of text ≡ Ok tape)
 ReadsTape text (Err TooLong) = TAPE_LIMIT < length text

@@ -10,7 +10,8 @@ pub record TapeValue : Type 0 where
   pub entries : List TapeEntry
   pub end : ℕ
 
--- the clocks don't fall, none is above the END clock, which is at most the limit, and each port is one
+-- the clocks don't fall, none is above the END clock, which is at most the limit, and each port is
+-- one
 pub record IsTape (tape : TapeValue) : Type 0 where
   pub rising : IsNonDecreasingBy (λ entry. entry.clock) tape.entries
   pub within : All (λ entry. entry.clock ≤ tape.end) tape.entries

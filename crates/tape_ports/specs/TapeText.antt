@@ -35,8 +35,8 @@ AreEntryLines _ _ = ⊥
 abbrev pub clocks_of : TapeValue → List ℕ
 clocks_of tape = map (λ entry. entry.clock) tape.entries ++ tape.end ∷ []
 
--- these lines are those of a tape: all but the last are entry lines, the last is the END line, and no clock is above a
--- later one
+-- these lines are those of a tape: all but the last are entry lines, the last is the END line, and
+-- no clock is above a later one
 pub record AreTapeLines (lines : List (List ℕ)) (tape : TapeValue) : Type 0 where
   pub front : List (List ℕ)
   pub last : List ℕ

@@ -3,8 +3,8 @@ use thiserror::Error;
 
 /// What is wrong with a line of a tape.
 ///
-/// On one line `AfterEnd` is looked at first, and then the others in this order. `NoEnd` is reported of
-/// the line after the last.
+/// On one line `AfterEnd` is looked at first, and then the others in this order. `NoEnd` is
+/// reported of the line after the last.
 #[derive(Clone, Copy, Debug, PartialEq, Eq, Error)]
 pub enum LineCause {
     /// It isn't a clock, a port and a value, nor a clock and `END`.

@@ -11,8 +11,8 @@ use std::marker::Model;
 /// The most bytes that a tape's text has.
 pub const TAPE_LIMIT: usize = 16_777_216;
 
-/// The bytes that a run sets at the ports, each with its clock, and the clock at which the run ends.
-/// This project's own profile.
+/// The bytes that a run sets at the ports, each with its clock, and the clock at which the run
+/// ends. This project's own profile.
 #[derive(Drop)]
 pub struct Tape {
     entries: Vec<TapeEntry>,
@@ -37,8 +37,8 @@ impl Tape {
     ///
     /// An entry line is a clock, a port and two hexadecimal digits of either case, parted by single
     /// spaces; the last line is a clock and `END`. A clock has 1 to 15 digits and is at most
-    /// `CLOCK_LIMIT`. Each line ends with LF, which may be missing after the last. The text has at most
-    /// `TAPE_LIMIT` bytes. Memory is taken for the entries alone.
+    /// `CLOCK_LIMIT`. Each line ends with LF, which may be missing after the last. The text has at
+    /// most `TAPE_LIMIT` bytes. Memory is taken for the entries alone.
     pub fn read(alloc: Global, bytes: &[u8]) -> Result<Tape, TapeFault>
         ensures { ReadsTape bytes.now result }
     {

@@ -14,8 +14,8 @@ pub fn longest_line()
     ensures { LONGEST ≡ 113 }
 {}
 
-/// A line of text while it is put together: words with a blank between each two, and LF. It takes no
-/// memory, and the bytes behind the text are any.
+/// A line of text while it is put together: words with a blank between each two, and LF. It takes
+/// no memory, and the bytes behind the text are any.
 #[derive(Drop)]
 pub struct Line {
     bytes: [u8; LONGEST],

@@ -28,8 +28,8 @@ interrupt_vectors = 0x00 ∷ 0x90 ∷ 0x00 ∷ 0x90 ∷ 0x3D ∷ 0x90 ∷ []
 abbrev pub filled : ℕ → List ℕ → List ℕ
 filled size bytes = bytes ++ replicate (size - length bytes) 0
 
--- the image: the words at the start of the vector ROM, the program at the start of the program ROM, the
--- interrupt vectors at its end, and all else 0
+-- the image: the words at the start of the vector ROM, the program at the start of the program ROM,
+-- the interrupt vectors at its end, and all else 0
 unfoldable pub image_with : List ℕ → List ℕ
 image_with words = filled VECTOR_ROM_LEN (flat_map bytes_of words) ++ filled (PROGRAM_ROM_LEN - length interrupt_vectors) program ++ interrupt_vectors
 

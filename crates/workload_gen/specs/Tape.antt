@@ -12,8 +12,8 @@ use Rattle.workload_gen.specs.Words.{choices}
 abbrev pub drawn_port : ℕ → Port
 drawn_port draw = slice_index_or ports (draw % length ports) In0
 
--- the entries from entry k on, one each 100,000 clocks: each takes two draws, the first for its port and the second for its
--- value
+-- the entries from entry k on, one each 100,000 clocks: each takes two draws, the first for its
+-- port and the second for its value
 unfoldable pub entries_from : ℕ → List ℕ → List TapeEntry
 entries_from k (port ∷ value ∷ rest) = record { clock = 100000 * k; port = drawn_port port; value = value % 256 } ∷ entries_from (k + 1) rest
 entries_from k _ = []

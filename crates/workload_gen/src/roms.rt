@@ -11,10 +11,10 @@ use std::alloc::Global;
 /// Where the processor finds its interrupt vectors, at the program ROM's end.
 const INTERRUPT_VECTORS_AT: u16 = 0xFFFA;
 
-/// The program. It puts a jump to the vector ROM at the start of the vector RAM, sets both POKEYs and
-/// enables interrupts. Then, each time the generator has halted, it starts it again, hands a random
-/// number of each POKEY to one of its channels, and writes a count to the output latch; while it
-/// waits it clears the watchdog. An interrupt is acknowledged, and IN3 goes to a channel.
+/// The program. It puts a jump to the vector ROM at the start of the vector RAM, sets both POKEYs
+/// and enables interrupts. Then, each time the generator has halted, it starts it again, hands a
+/// random number of each POKEY to one of its channels, and writes a count to the output latch;
+/// while it waits it clears the watchdog. An interrupt is acknowledged, and IN3 goes to a channel.
 const PROGRAM: [u8; 73] = [
     0xD8, 0xA2, 0xFF, 0x9A, 0xA9, 0xE4, 0x8D, 0x01, 0x20, 0xA9, 0x03, 0x8D, 0x0F, 0x60, 0x8D, 0x0F,
     0x68, 0xA9, 0xA6, 0x8D, 0x01, 0x60, 0x8D, 0x03, 0x68, 0x58, 0x8D, 0x80, 0x89, 0xAD, 0x00, 0x78,

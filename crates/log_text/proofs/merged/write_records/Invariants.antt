@@ -4,8 +4,8 @@ use Rattle.log_text.specs.LogText.{merged}
 use Rattle.log_text.specs.RecordBytes.{records_bytes}
 use Rattle.log_text.proofs.merged.write_records.Given as goal
 
--- the records so far and those that are left are all, the bytes of those so far were taken or stand in the block, and no
--- call failed
+-- the records so far and those that are left are all, the bytes of those so far were taken or stand
+-- in the block, and no call failed
 abbrev pub invariant-loop-part : goal.invariant-loop-part
 invariant-loop-part g l = let all = l.trails in let left = l.part-iterator in record {
   split : merged all.vector.now.records all.sound1.now.records all.sound2.now.records all.board.now.records

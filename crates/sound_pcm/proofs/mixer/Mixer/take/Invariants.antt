@@ -5,8 +5,8 @@ use Rattle.sound_pcm.specs.Samples.{bytes_of}
 use Rattle.sound_pcm.proofs.MixLaws.{MayTake}
 use Rattle.sound_pcm.proofs.mixer.Mixer.take.Given as goal
 
--- what is left may be taken; the samples of all records are those that were gathered and those of the records that are
--- left, and so is the mixer after them; no call failed
+-- what is left may be taken; the samples of all records are those that were gathered and those of
+-- the records that are left, and so is the mixer after them; no call failed
 abbrev pub invariant-loop-part : goal.invariant-loop-part
 invariant-loop-part g l = let all = l.fn.trails in record {
   may : MayTake l.self l.sound1 l.sound2 l.upto;
