@@ -107,7 +107,7 @@ fn put_cells(image: &mut Image, names: &Names, at: u32, cells: &[Cell])
     }
 }
 
-/// Puts the bytes of a line into an image: pass 2 of it.
+/// Puts the bytes of a line into an image: pass 2.
 fn write_line(image: &mut Image, names: &Names, rom: Rom, placed: &Placed) -> Result<(), AsmFault>
     requires rom { IsRom rom }
     requires placed { IsPlaced rom placed.now }
