@@ -24,7 +24,7 @@ use Rattle.catchup_engine.specs.Runs.{GoesOn, HasRoomTo, IsInRange, over_bus}
 use Rattle.catchup_engine.specs.Trace.{TraceValue}
 use Rattle.catchup_engine.specs.Traced.{ToldTurns}
 use Rattle.catchup_engine.proofs.HorizonLaws.{runs-keep}
-use Rattle.catchup_engine.proofs.HorizonRuns.{AtHorizon, horizon-goes, horizon-smaller, horizon-starts, goes-before}
+use Rattle.catchup_engine.proofs.HorizonRuns.{AtHorizon, horizon-goes, horizon-smaller, horizon-starts}
 use Rattle.catchup_engine.proofs.Notes.{noted-turn, opcode_note}
 use Rattle.catchup_engine.proofs.QuietLaws.{passed-zero}
 use Rattle.catchup_engine.proofs.OpcodeLaws.{reads-opcode}
