@@ -54,7 +54,7 @@ through-on : (entries : List TapeEntry) (n : ℕ) (b last : Board) → Through e
 through-on entries zero b last e = e
 through-on entries (suc n) b last t = (refl, through-on entries n (step entries b) last t.1)
 
--- a run to an address that stands at a boundary
+-- a run to an address that is at a boundary
 pub record AtTurn (entries : List TapeEntry) (limit : ℕ) (addresses : List ℕ) (c : CpuValue) (s t : BusValue) (e : CpuValue) : Type 0 where
   pub run : RunsOn entries never c s t e
   pub turns : BreakRun entries limit addresses (over_bus c s) (over_bus e t)

@@ -19,7 +19,7 @@ use Rattle.catchup_engine.specs.declared.horizon.Horizon.{Horizon}
 use Rattle.catchup_engine.specs.declared.bus.TheConstants.{MAX_SEQUENCE_CLOCKS}
 use Rattle.lockstep_board.specs.Breaks.{is_at_any}
 use Rattle.catchup_engine.specs.Bus.{BusValue, Does, at_clock}
-use Rattle.catchup_engine.specs.Horizon.{NothingDue, IsHorizon, KeepsLines, LeavesLines}
+use Rattle.catchup_engine.specs.Horizon.{IsHorizon, KeepsLines, LeavesLines, NothingDue}
 use Rattle.lockstep_board.specs.Lockstep.{is_reset, sequence_due}
 use Rattle.catchup_engine.specs.Quiet.{later, passed}
 use Rattle.lockstep_board.specs.Run.{is_over}
@@ -37,11 +37,11 @@ both-not true true e = cc
 -- the boundaries from one on whose fetch reads an opcode
 pub horizon-since : (limit until : ℕ) (irq_idle : Bool) (s : BusValue) → until ≡ min limit (s.event_at - 6) → LeavesLines s.peripherals → (devices_ticked s.peripherals).divider.pending ≡ Nothing → irq_idle ≡ (not s.peripherals.wired && not s.peripherals.divider.irq)
     → IsHorizon limit (record { until = until; irq_idle = irq_idle }) s
-horizon-since limit until irq_idle s is leaves pending lets_go = λ early. record {
+horizon-since limit until irq_idle s is leaves pending idle_is = λ early. record {
   before = omega arith;
   no_event = omega arith;
   pending = sym leaves.pending ∙ pending;
-  irq_idle = λ e. both-not s.peripherals.wired s.peripherals.divider.irq (sym lets_go ∙ e);
+  irq_idle = λ e. both-not s.peripherals.wired s.peripherals.divider.irq (sym idle_is ∙ e);
 }
 
 pub ruleset horizon = horizon-since
@@ -159,10 +159,10 @@ opcode-due Power line masked e f = cc
 opcode-due Watchdog line masked e f = cc
 
 masked-off : (line irq_idle masked : Bool) → (irq_idle ≡ true → line ≡ false) → irq_idle || masked ≡ true → line && not masked ≡ false
-masked-off false irq_idle masked let_go e = refl
-masked-off true irq_idle true let_go e = refl
-masked-off true true false let_go e = let f = let_go refl in cc
-masked-off true false false let_go e = cc
+masked-off false irq_idle masked deasserted e = refl
+masked-off true irq_idle true deasserted e = refl
+masked-off true true false deasserted e = let f = deasserted refl in cc
+masked-off true false false deasserted e = cc
 
 wired-ticked : (w : Peripherals) → (devices_ticked w).wired ≡ w.wired
 unfolding devices_ticked
@@ -174,9 +174,9 @@ line-off irq wired first second e f = rw (e, f) refl
 -- an unwired line is the divider's interrupt
 unwired : (w : Peripherals) → w.wired ≡ false → LeavesLines w → w.divider.irq ≡ false → line_of (devices_ticked w) ≡ false
 unfolding line_of
-unwired w off leaves let_go =
+unwired w off leaves deasserted =
     line-off (devices_ticked w).divider.irq (devices_ticked w).wired (has_request (devices_ticked w).sound1) (has_request (devices_ticked w).sound2)
-    (leaves.irq ∙ let_go) (wired-ticked w ∙ off)
+    (leaves.irq ∙ deasserted) (wired-ticked w ∙ off)
 
 before-limit : (jam : Option ℕ) (boundary : Bool) (limit clock : ℕ) → is_none jam ≡ true → clock < limit
     → is_some jam || (boundary && nat_le limit clock) ≡ false
@@ -199,7 +199,7 @@ unfolding reads_opcode
 horizon-goes_on limit addresses horizon c s boundary early are leaves running quiet_line elsewhere =
     let before = are.before in
     let no_event = are.no_event in
-    let lets_go : line_of (devices_ticked s.peripherals) && not (is_masked c.p) ≡ false =
+    let not_taken : line_of (devices_ticked s.peripherals) && not (is_masked c.p) ≡ false =
     masked-off (line_of (devices_ticked s.peripherals)) horizon.irq_idle (is_masked c.p)
     (λ e. unwired s.peripherals (are.irq_idle e).0 leaves (are.irq_idle e).1) quiet_line in
     record {
@@ -209,7 +209,7 @@ horizon-goes_on limit addresses horizon c s boundary early are leaves running qu
       reads =
           all-true (is_none c.mid) (nat_le (s.peripherals.clock + MAX_SEQUENCE_CLOCKS) s.event_at) (is_opcode (sequence_due c (devices_ticked s.peripherals)))
           (rw boundary refl) (quiet-yet s.peripherals.clock s.event_at (omega arith))
-          (opcode-due (devices_ticked s.peripherals).divider.pending (line_of (devices_ticked s.peripherals)) (is_masked c.p) (leaves.pending ∙ are.pending) lets_go);
+          (opcode-due (devices_ticked s.peripherals).divider.pending (line_of (devices_ticked s.peripherals)) (is_masked c.p) (leaves.pending ∙ are.pending) not_taken);
     }
 
 -- the parts of what is tested at a boundary

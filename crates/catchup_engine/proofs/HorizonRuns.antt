@@ -13,8 +13,8 @@ use Rattle.lockstep_board.specs.Breaks.{is_at_any}
 use Rattle.lockstep_board.specs.Run.{is_over}
 use Rattle.catchup_engine.specs.declared.bus.TheConstants.{MAX_SEQUENCE_CLOCKS}
 use Rattle.catchup_engine.specs.declared.horizon.Horizon.{Horizon}
-use Rattle.catchup_engine.specs.Bus.{BusStep, BusValue, Accepts, room_of}
-use Rattle.catchup_engine.specs.Horizon.{NothingDue, IsHorizon, KeepsLines}
+use Rattle.catchup_engine.specs.Bus.{Accepts, BusStep, BusValue, room_of}
+use Rattle.catchup_engine.specs.Horizon.{IsHorizon, KeepsLines, NothingDue}
 use Rattle.catchup_engine.specs.Quiet.{IsCounted, later, passed, quiet_room}
 use Rattle.catchup_engine.specs.Runs.{GoesOn, HasRoomTo, IsInRange, TurnsOn, over_bus}
 use Rattle.catchup_engine.specs.Turn.{TurnedBus, reads_opcode}

@@ -15,7 +15,7 @@ pub row-program : (a : ℕ) → 36864 ≤ a → a < 65536 → row_of a ≡ row (
 unfolding row_of
 row-program a h last = grind (arith, nat_tests)
 
--- and the bytes that a read gives there
+-- and the bytes that a read returns there
 pub ram-byte : (a : ℕ) (w : Peripherals) → a < 2048 → byte_read a w ≡ slice_index w.ram a
 unfolding byte_read
 ram-byte a w h = rw (row-ram a h) refl

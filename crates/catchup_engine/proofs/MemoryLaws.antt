@@ -1,4 +1,4 @@
--- The vector RAM stands before its ROM.
+-- The vector RAM comes before its ROM.
 use Rattle.std.proofs.Common.{◌≡◌, ℕ, List, ◌++◌, length, drop, replicate, ap}
 use Rattle.std.proofs.lemmas.List.{length-replicate}
 use Rattle.std.proofs.Math.Seq.{drop-append_seam}

@@ -16,7 +16,7 @@ use Rattle.lockstep_board.specs.Run.{is_over}
 use Rattle.lockstep_board.specs.Peripherals.{Peripherals, byte_read, devices_ticked, ticked}
 use Rattle.catchup_engine.specs.declared.trace.Access.{Access}
 use Rattle.catchup_engine.specs.declared.horizon.Horizon.{Horizon}
-use Rattle.catchup_engine.specs.Bus.{BusStep, BusValue, Accepts, is_private}
+use Rattle.catchup_engine.specs.Bus.{Accepts, BusStep, BusValue, is_private}
 use Rattle.catchup_engine.specs.Horizon.{IsHorizon, KeepsLines}
 use Rattle.catchup_engine.specs.Notes.{NotedStep, NotedValue, note_of, noting}
 use Rattle.catchup_engine.specs.Quiet.{IsCounted, later, passed}
@@ -24,7 +24,7 @@ use Rattle.catchup_engine.specs.Runs.{GoesOn, HasRoomTo, IsInRange, over_bus}
 use Rattle.catchup_engine.specs.Trace.{TraceValue}
 use Rattle.catchup_engine.specs.Traced.{ToldTurns}
 use Rattle.catchup_engine.proofs.HorizonLaws.{runs-keep}
-use Rattle.catchup_engine.proofs.HorizonRuns.{AtHorizon, horizon-goes, horizon-smaller, horizon-starts, goes-before}
+use Rattle.catchup_engine.proofs.HorizonRuns.{AtHorizon, horizon-goes, horizon-smaller, horizon-starts}
 use Rattle.catchup_engine.proofs.Notes.{noted-turn, opcode_note}
 use Rattle.catchup_engine.proofs.QuietLaws.{passed-zero}
 use Rattle.catchup_engine.proofs.OpcodeLaws.{reads-opcode}
@@ -95,18 +95,18 @@ module _ {T : Type 0} (next : T → TraceValue → ℕ → T) (enough : T → Bo
       let goes = at.at.goes on_yet in
       let reads = (reads-opcode e (passed elapsed t) goes.reads).reads in
       let turn = noted-turn tape e (passed elapsed t) (noting (passed n u) l) f reads at.at.on.run.goes.between at.at.counted.accepts runs boundary in
-      let calm_then = nat_lt (u.peripherals.clock + n) horizon.until && (is_none f.jam && (horizon.irq_idle || is_masked f.p)) in
+      let before_then = nat_lt (u.peripherals.clock + n) horizon.until && (is_none f.jam && (horizon.irq_idle || is_masked f.p)) in
       let memories = kept-memories tape elapsed t at.at.counted.accepts reads.no_event in
       let note = ap (λ k. opcode_note code k l) time ∙ turn.note code (byte (ticked tape.entries (passed elapsed t).peripherals) memories.0 memories.1) in
       record {
         at = horizon-goes tape limit [] horizon c e f s t u elapsed n more then on_yet last at.at (bus-runs e f (passed elapsed t) (noting (passed n u) l) runs) boundary counted lines wrap
-            (λ on. and-none _ (parts has calm_then (is_private f.pc) (sym goes_on ∙ on)).1);
+            (λ on. and-none _ (parts has before_then (is_private f.pc) (sym goes_on ∙ on)).1);
         turns =
             (turns-more next enough tape.entries limit (over_bus c s) (passed elapsed t) (passed n u) e f w v new turn.trace has last
             (subst (λ flag. ToldTurns next enough tape.entries limit (over_bus c s) (over_bus e (passed elapsed t)) w v flag) (at.open_yet on_yet) at.turns)
             (or_parts (is_over limit (over_bus e (passed elapsed t))) (is_at_any [] (over_bus e (passed elapsed t))) goes.open_yet).0 at.at.on.range turn.turned turn.is (told turn.trace note) asked).0;
-        open_yet = λ on. (parts has calm_then (is_private f.pc) (sym goes_on ∙ on)).0;
-        opcode = λ on. (parts has calm_then (is_private f.pc) (sym goes_on ∙ on)).2;
+        open_yet = λ on. (parts has before_then (is_private f.pc) (sym goes_on ∙ on)).0;
+        opcode = λ on. (parts has before_then (is_private f.pc) (sym goes_on ∙ on)).2;
       }
     where
       and-none : (b : Bool) → b ≡ true → (b && not false) ≡ true

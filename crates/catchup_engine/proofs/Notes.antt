@@ -1,5 +1,5 @@
 -- What is noted of the accesses of an instruction is the note of its trace.
-use Rattle.std.proofs.Common.{◌≡◌, ℕ, ◌+◌, ◌-◌, ◌≤◌, ◌==◌, Bool, true, false, List, [], ◌∷◌, ◌++◌, length, drop, replicate, length-append, append-nil, Option, Some, None, refl, sym, ap, ◌∙◌, arith, rules, if◌then◌else◌}
+use Rattle.std.proofs.Common.{◌≡◌, ℕ, ◌+◌, ◌-◌, ◌≤◌, Bool, true, false, List, [], ◌∷◌, ◌++◌, length, drop, replicate, length-append, append-nil, Option, None, refl, sym, ap, ◌∙◌, arith}
 use Rattle.std.specs.List.{filter}
 use Rattle.std.proofs.Math.Seq.{take-append_seam}
 use Rattle.std.proofs.lemmas.List.Elements.{filter-append}
@@ -17,7 +17,7 @@ use Rattle.lockstep_board.specs.Budget.{reaches_device}
 use Rattle.lockstep_board.specs.Lockstep.{access_in, due_access, made_by, sequence_due}
 use Rattle.lockstep_board.specs.Peripherals.{byte_read, ticked}
 use Rattle.catchup_engine.specs.declared.trace.Access.{Access}
-use Rattle.catchup_engine.specs.Bus.{BusStep, BusValue, Accepts}
+use Rattle.catchup_engine.specs.Bus.{Accepts, BusStep, BusValue}
 use Rattle.catchup_engine.specs.Notes.{NoteValue, NotedStep, NotedValue, note_of, noting, reaching, with_reached}
 use Rattle.catchup_engine.specs.Runs.{over_bus}
 use Rattle.catchup_engine.specs.Trace.{TraceValue, TracedStep, access_at, byte_of, first_byte, first_value, made_of, no_access, sequence_at, seven_of, trace_of, traced}

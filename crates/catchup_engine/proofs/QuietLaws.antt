@@ -22,7 +22,7 @@ use Rattle.catchup_engine.specs.declared.bus.TheConstants.{PROGRAM_START, MAX_SE
 use Rattle.lockstep_board.specs.Budget.{reaches_device}
 use Rattle.catchup_engine.specs.Lags.{DeviceLags, all_lag, lagging_at}
 use Rattle.catchup_devices.specs.Lags.{lags}
-use Rattle.catchup_engine.specs.Bus.{BusStep, BusValue, Does, Accepts, Stays, at_clock, begin_price, done_clock, in_clock, room_of}
+use Rattle.catchup_engine.specs.Bus.{Accepts, BusStep, BusValue, Does, Stays, at_clock, begin_price, done_clock, in_clock, room_of}
 use Rattle.catchup_engine.specs.Quiet.{IsCounted, later, passed, quiet_room}
 use Rattle.lockstep_board.specs.Peripherals.{Peripherals, byte_put, byte_read, devices_ticked}
 use Rattle.catchup_engine.proofs.AccessLaws.{write-step}
@@ -169,7 +169,7 @@ program-read tape n a v s c h near last is = (
   rw (row-program a near last) refl,
 )
 
--- a write to the RAM, which no device sees
+-- a write to the RAM, which reaches no device
 later-ram : (n : ℕ) (ram : List ℕ) (w : Peripherals)
     → later n (let r : Peripherals = record w { ram = ram } in r) ≡ (let r : Peripherals = record (later n w) { ram = ram } in r)
 unfolding later

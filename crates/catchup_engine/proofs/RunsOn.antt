@@ -99,7 +99,7 @@ pub runs-asked : (entries : List TapeEntry) (asked sooner : Board → Bool) → 
 runs-asked entries asked sooner weaker c s t e run =
     runs-as entries asked sooner c s t e run (reached-asked entries asked sooner weaker run.count (over_bus c s) (over_bus e t) run.reached)
 
--- a run to a boundary that stands at one
+-- a run to a boundary that is at one
 pub record AtBoundary (entries : List TapeEntry) (limit : ℕ) (c : CpuValue) (s t : BusValue) (e : CpuValue) : Type 0 where
   pub run : RunsOn entries (is_over limit) c s t e
   pub few : run.count ≤ (limit - s.peripherals.clock) + 6
@@ -144,7 +144,7 @@ running-inside c inside place = middle-running c c.mid refl inside place
 pub middle-open : (limit : ℕ) (b : Board) → IsSome b.cpu.mid → b.cpu.jam ≡ None → is_over limit b ≡ false
 middle-open limit b inside running = grind (arith, rules)
 
--- at a boundary a run that isn't over stands before its limit, and isn't jammed
+-- at a boundary a run that isn't over is before its limit, and isn't jammed
 pub record IsBefore (limit : ℕ) (b : Board) : Type 0 where
   pub clock : b.peripherals.clock < limit
   pub running : b.cpu.jam ≡ None

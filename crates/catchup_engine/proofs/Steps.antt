@@ -52,7 +52,7 @@ not-end (Read a) v x is end = end
 not-end (Write a w) v x is end = end
 not-end (End e) v x is end = is
 
--- where an access is due, the processor stands inside the sequence
+-- where an access is due, the processor is inside the sequence
 pub paused-is : (next : Next) (r : RegistersValue) (q : Sequence) (bytes : List ℕ) (v : ℕ) (x : Access) → IsAccess next v x
     → stopped r q bytes next ≡ paused r q bytes
 paused-is (Read a) r q bytes v x is = refl

@@ -16,7 +16,7 @@ use Rattle.tape_ports.specs.Ports.{IsPort}
 use Rattle.tape_ports.specs.Tape.{TapeValue, IsTape, count_before}
 use Rattle.catchup_engine.specs.Events.{next_event_of}
 use Rattle.lockstep_board.specs.Peripherals.{Peripherals, applied, devices_ticked, port_set, ticked}
-use Rattle.catchup_engine.specs.Bus.{BusValue, ComesNext, Does, Accepts, IsTapePlace}
+use Rattle.catchup_engine.specs.Bus.{Accepts, BusValue, ComesNext, Does, IsTapePlace}
 
 -- where the entries before a place are before a clock and the others aren't, that place is their
 -- number
@@ -33,7 +33,7 @@ count-at t n es within before from =
       length-take-le n es within,
     )
 
--- the entries due at the bus's clock stand between the place of this clock and that of the next
+-- the entries due at the bus's clock are those from the place of this clock to that of the next
 pub due-between : (tape : TapeValue) (clock tape_pos after : ℕ) → IsTape tape → IsTapePlace tape clock tape_pos → IsTapePlace tape (clock + 1) after
     → due_at clock tape.entries ≡ slice_range tape.entries tape_pos after
 due-between tape clock tape_pos after valid here then =

@@ -143,7 +143,7 @@ module _ {T : Type 0} (next : T → TraceValue → ℕ → T) where
 
   -- From c, s and w some turns have led to e, t and v, and the flag says whether the tracer has
   -- enough.
-  pub record AtTold (enough : T → Bool) (entries : List TapeEntry) (limit : ℕ) (c : CpuValue) (s t : BusValue) (e : CpuValue) (w v : T) (flag : Bool) : Type 0 where
+  pub record AtTraced (enough : T → Bool) (entries : List TapeEntry) (limit : ℕ) (c : CpuValue) (s t : BusValue) (e : CpuValue) (w v : T) (flag : Bool) : Type 0 where
     pub run : RunsOn entries (is_over limit) c s t e
     pub turns : ToldTurns next enough entries limit (over_bus c s) (over_bus e t) w v flag
     pub first : turns.count ≡ 0 → (e ≡ c) × (t ≡ s)
@@ -151,9 +151,9 @@ module _ {T : Type 0} (next : T → TraceValue → ℕ → T) where
     pub near : (t.peripherals.clock ≤ s.peripherals.clock + 7) ⊎ (t.peripherals.clock ≤ limit + 6)
     pub range : IsInRange e t
 
-  pub told-starts : (enough : T → Bool) (entries : List TapeEntry) (limit : ℕ) (c : CpuValue) (s : BusValue) (w : T) → s.clock_open ≡ false → IsInRange c s
-      → AtTold enough entries limit c s s c w w false
-  told-starts enough entries limit c s w between range = let none = turns-none enough entries limit (over_bus c s) w in record {
+  pub traced-starts : (enough : T → Bool) (entries : List TapeEntry) (limit : ℕ) (c : CpuValue) (s : BusValue) (w : T) → s.clock_open ≡ false → IsInRange c s
+      → AtTraced enough entries limit c s s c w w false
+  traced-starts enough entries limit c s w between range = let none = turns-none enough entries limit (over_bus c s) w in record {
     run = starts entries (is_over limit) c s between;
     turns = none.0;
     first = λ _. (refl, refl);
@@ -163,11 +163,11 @@ module _ {T : Type 0} (next : T → TraceValue → ℕ → T) where
   }
 
   -- a board at which a run isn't over, and one of its turns
-  pub told-goes_on : (enough : T → Bool) (entries : List TapeEntry) (limit : ℕ) (c : CpuValue) (s t u : BusValue) (e f : CpuValue) (w v new : T) (trace : TraceValue) (flag : Bool)
-      → limit ≤ 2 ^ 48 → AtTold enough entries limit c s t e w v false → is_over limit (over_bus e t) ≡ false → TurnedBus entries 7 e t u f
+  pub traced-goes_on : (enough : T → Bool) (entries : List TapeEntry) (limit : ℕ) (c : CpuValue) (s t u : BusValue) (e f : CpuValue) (w v new : T) (trace : TraceValue) (flag : Bool)
+      → limit ≤ 2 ^ 48 → AtTraced enough entries limit c s t e w v false → is_over limit (over_bus e t) ≡ false → TurnedBus entries 7 e t u f
       → trace ≡ trace_of entries (u.peripherals.clock - t.peripherals.clock) (over_bus e t) → new ≡ next v trace f.pc → flag ≡ enough new
-      → AtTold enough entries limit c s u f w new flag
-  told-goes_on enough entries limit c s t u e f w v new trace flag last at open_yet turned_bus is told_new asked =
+      → AtTraced enough entries limit c s u f w new flag
+  traced-goes_on enough entries limit c s t u e f w v new trace flag last at open_yet turned_bus is told_new asked =
       let open_turn = over-running limit (over_bus e t) open_yet in
       let made = trace-ends entries e t u f open_turn.running at.range (λ boundary. let h = open_turn.before boundary in omega arith) turned_bus in
       let clock = turned_bus.turned.clock in
@@ -197,11 +197,11 @@ module _ {T : Type 0} (next : T → TraceValue → ℕ → T) where
           some-none same = cc
 
   -- and some turns of it from a boundary on
-  pub told-goes_calmly : (enough : T → Bool) (entries : List TapeEntry) (limit : ℕ) (c : CpuValue) (s t u : BusValue) (e f : CpuValue) (w v new : T) (flag : Bool)
-      → AtTold enough entries limit c s t e w v false → TurnsOn entries limit [] e t u f
+  pub traced-to-horizon : (enough : T → Bool) (entries : List TapeEntry) (limit : ℕ) (c : CpuValue) (s t u : BusValue) (e f : CpuValue) (w v new : T) (flag : Bool)
+      → AtTraced enough entries limit c s t e w v false → TurnsOn entries limit [] e t u f
       → ToldTurns next enough entries limit (over_bus e t) (over_bus f u) v new flag → t.peripherals.clock < u.peripherals.clock
-      → AtTold enough entries limit c s u f w new flag
-  told-goes_calmly enough entries limit c s t u e f w v new flag at on turns more =
+      → AtTraced enough entries limit c s u f w new flag
+  traced-to-horizon enough entries limit c s t u e f w v new flag at on turns more =
       let clock = at.run.clock in
       let whole = turns-then enough entries limit (over_bus c s) (over_bus e t) (over_bus f u) w v new flag at.turns turns (omega arith) more in
       record {
@@ -218,7 +218,7 @@ module _ {T : Type 0} (next : T → TraceValue → ℕ → T) where
 
   -- it has come to its end
   pub told-ends : (enough : T → Bool) (entries : List TapeEntry) (limit : ℕ) (c : CpuValue) (s t : BusValue) (e : CpuValue) (w v : T) (flag : Bool)
-      → AtTold enough entries limit c s t e w v flag → IfSome c.mid (λ _. IsMiddle c) → (flag ≡ true) ⊎ (is_over limit (over_bus e t) ≡ true)
+      → AtTraced enough entries limit c s t e w v flag → IfSome c.mid (λ _. IsMiddle c) → (flag ≡ true) ⊎ (is_over limit (over_bus e t) ≡ true)
       → TracedBusRun next enough entries limit c s t e w v
   told-ends enough entries limit c s t e w v flag at place ends =
       let clock = at.run.clock in

@@ -458,7 +458,7 @@ over-after limit b boundary late = rw (boundary, le-leb limit b.peripherals.cloc
     or-true None = refl
     or-true (Some o) = refl
 
--- a board at which a run isn't over: it isn't jammed, and at a boundary it stands before the limit
+-- a board at which a run isn't over: it isn't jammed, and at a boundary it is before the limit
 pub record IsRunning (limit : ℕ) (b : Board) : Type 0 where
   pub running : b.cpu.jam ≡ None
   pub before : b.cpu.mid ≡ None → b.peripherals.clock < limit
@@ -568,7 +568,7 @@ none-jammed c off = of c.jam off
     of None off = refl
     of (Some o) off = cc
 
--- a board that is jammed does nothing
+-- a board that is jammed makes no access
 pub jammed-run : (entries : List TapeEntry) (c : CpuValue) (s : BusValue) → s.clock_open ≡ false → is_some c.jam ≡ true
     → IfSome c.mid (λ _. IsMiddle c) → IsInRange c s → BoundaryRun entries (s.peripherals.clock + 1) c s s c
 jammed-run entries c s between jammed middle range =

@@ -186,7 +186,7 @@ price-fetch entries c w q v x boundary due is =
     ∙ ap (λ (p : Sequence). 2 * device_access (made_by (next_of (start_of p c) p []) u) + 5 * reset_count p + ticks_price entries w) (sym due)
     ∙ ap (λ n. 2 * n + 5 * reset_count q + ticks_price entries w) same
 
--- the line doesn't look at the clock
+-- the line doesn't depend on the clock
 line-clock : (clock : ℕ) (w : Peripherals) → line_of (at_clock clock w) ≡ line_of w
 unfolding line_of
 line-clock clock w = refl
@@ -509,7 +509,7 @@ resets-one entries c clocks s m n k one b h =
     some-none None is none = cc
     some-none (Some p) is none = cc
 
--- the processor stands inside the reset
+-- the processor is inside the reset
 pub reset-inside : (entries : List TapeEntry) (c : CpuValue) (s m : BusValue) (k : CpuValue) → ResetBegun entries c s m k → IsSome k.mid
 reset-inside entries c s m k b = rw b.stands (search rules)
 

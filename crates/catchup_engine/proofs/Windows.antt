@@ -27,7 +27,7 @@ before-by_jam : (jam : Option ℕ) (limit : ℕ) (b : Board) → cause_at jam li
 before-by_jam (Some o) limit b cause = cc
 before-by_jam None limit b cause = grind (arith, nat_tests)
 
--- and it stands before the limit
+-- and it is before the limit
 pub window-before : (limit : ℕ) (b : Board) → cause_of limit b ≡ Window → b.peripherals.clock < limit
 window-before limit b cause = before-by_jam b.cpu.jam limit b cause
 

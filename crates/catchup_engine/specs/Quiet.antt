@@ -7,7 +7,7 @@ use Rattle.earom_cells.specs.Tick.{earom_tick}
 use Rattle.irq_watchdog.specs.Tick.{divider_tick}
 use Rattle.pokey_chip.specs.Tick.{levels_made, pokey_tick}
 use Rattle.tape_ports.specs.Tape.{TapeValue}
-use Rattle.catchup_engine.specs.Bus.{BusValue, Accepts, room_of}
+use Rattle.catchup_engine.specs.Bus.{Accepts, BusValue, room_of}
 use Rattle.catchup_engine.specs.Lags.{all_lag}
 use Rattle.lockstep_board.specs.Peripherals.{Peripherals}
 

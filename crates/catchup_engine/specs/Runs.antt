@@ -1,14 +1,17 @@
 -- A run of the processor over the bus.
-use Rattle.std.specs.Prelude.{◌≡◌, ℕ, ◌+◌, ◌-◌, ◌≤◌, ◌<◌, ◌⊎◌, ◌||◌, Bool, not, List, length, true, false, None, IsSome}
+use Rattle.std.specs.Prelude.{◌≡◌, ℕ, ◌+◌, ◌-◌, ◌≤◌, ◌<◌, ◌⊎◌, ◌||◌, Bool, not, List, [], length, true, false, None, IsSome}
 use Rattle.board_base.specs.declared.board.TheConstants.{CLOCK_LIMIT}
+use Rattle.board_base.specs.declared.divider.TheConstants.{DIVIDER_PERIOD}
 use Rattle.board_base.specs.Cpu.{CpuValue}
 use Rattle.tape_ports.specs.declared.entry.TapeEntry.{TapeEntry}
+use Rattle.tape_ports.specs.Tape.{TapeValue}
 use Rattle.lockstep_board.specs.Lockstep.{Board}
 use Rattle.lockstep_board.specs.Run.{is_over, is_cut, to_boundary, to_cut, boundary_steps, cut_steps}
 use Rattle.lockstep_board.specs.Breaks.{is_at_any, BreakRun}
 use Rattle.lockstep_board.specs.Budget.{budget}
 use Rattle.lockstep_board.specs.Steps.{StepsTo}
-use Rattle.catchup_engine.specs.Bus.{BusValue, room_of}
+use Rattle.catchup_engine.specs.declared.bus.TheConstants.{TRAIL_ROOM}
+use Rattle.catchup_engine.specs.Bus.{Accepts, BusValue, room_of}
 use Rattle.catchup_engine.specs.Trace.{TraceValue}
 use Rattle.catchup_engine.specs.Traced.{TracedRun}
 use Rattle.catchup_engine.specs.Turn.{Goes, reads_opcode}
@@ -36,6 +39,26 @@ pub record RunsOn (entries : List TapeEntry) (asked : Board → Bool) (c : CpuVa
 abbrev pub HasRoomTo : ℕ → BusValue → Type 0
 HasRoomTo limit s = limit + 8 ≤ s.peripherals.clock + room_of s
 
+-- Turns up to a limit can begin here: the processor is in range, no clock is open, there is room for
+-- their records, and the bus accepts the tape.
+pub record CanTakeTurns (limit : ℕ) (tape : TapeValue) (c : CpuValue) (s : BusValue) : Type 0 where
+  pub within : limit ≤ CLOCK_LIMIT
+  pub range : IsInRange c s
+  pub between : s.clock_open ≡ false
+  pub room : HasRoomTo limit s
+  pub accepts : Accepts tape s
+
+-- A run to a limit, or to a wrap of the divider, can begin here: nothing is recorded yet, and each
+-- trail has room for the records of a window.
+pub record CanRun (limit wrap : ℕ) (tape : TapeValue) (c : CpuValue) (s : BusValue) : Type 0 where
+  pub within : limit ≤ CLOCK_LIMIT
+  pub window : wrap ≤ s.peripherals.clock + DIVIDER_PERIOD
+  pub range : IsInRange c s
+  pub between : s.clock_open ≡ false
+  pub until : s.peripherals.clock + TRAIL_ROOM ≤ s.until
+  pub written : s.peripherals.written ≡ []
+  pub accepts : Accepts tape s
+
 -- turns begin before a limit, and end within six clocks after it
 pub record IsNear (limit : ℕ) (s t : BusValue) : Type 0 where
   pub before : s.peripherals.clock < limit
@@ -50,7 +73,7 @@ pub record TurnsOn (entries : List TapeEntry) (limit : ℕ) (addresses : List �
   pub boundary : e.mid ≡ None
   pub range : IsInRange e t
 
--- and have come as far as they can: such a run is over, or stands at one of these addresses, or the
+-- and have come as far as they can: such a run is over, or is at one of these addresses, or the
 -- next fetch reads no opcode, or an event is due in the clocks of its sequence
 pub record QuietRun (entries : List TapeEntry) (limit : ℕ) (addresses : List ℕ) (c : CpuValue) (s t : BusValue) (e : CpuValue) : Type 0 where
   pub on : TurnsOn entries limit addresses c s t e

@@ -7,12 +7,13 @@ use Rattle.board_base.specs.Cpu.{CpuValue}
 use Rattle.cpu_core.specs.Places.{Advances}
 use Rattle.cpu_core.specs.Sequences.{Moves, start_of}
 use Rattle.tape_ports.specs.declared.entry.TapeEntry.{TapeEntry}
+use Rattle.tape_ports.specs.Tape.{TapeValue}
 use Rattle.catchup_engine.specs.declared.bus.TheConstants.{MAX_SEQUENCE_CLOCKS}
 use Rattle.lockstep_board.specs.Peripherals.{devices_ticked, reset_begun}
 use Rattle.lockstep_board.specs.Lockstep.{Board, sequence_due, step}
 use Rattle.lockstep_board.specs.Budget.{budget}
 use Rattle.lockstep_board.specs.Steps.{Through}
-use Rattle.catchup_engine.specs.Bus.{BusStep, BusValue, at_clock}
+use Rattle.catchup_engine.specs.Bus.{Accepts, BusStep, BusValue, at_clock, room_of}
 
 -- One step, and then as many through the inside of the sequence; with the bytes that came before
 -- they are no more than a whole sequence has. Each makes one record on the board's trail at most,
@@ -31,6 +32,15 @@ pub record Goes (s t : BusValue) : Type 0 where
   pub rooms : t.rooms ≡ s.rooms
   pub until : s.until ≤ t.until
   pub between : t.clock_open ≡ false
+
+-- A turn of so many clocks at most can begin here: no clock is open, the bus accepts the tape, and
+-- there is room for the turn's records.
+pub record CanTurn (clocks : ℕ) (tape : TapeValue) (s : BusValue) : Type 0 where
+  pub some : 1 ≤ clocks
+  pub few : clocks ≤ MAX_SEQUENCE_CLOCKS
+  pub between : s.clock_open ≡ false
+  pub accepts : Accepts tape s
+  pub room : clocks + 2 ≤ room_of s
 
 -- a turn of the processor c over the bus s, in so many clocks at most; it stops inside a sequence
 -- only where these are done

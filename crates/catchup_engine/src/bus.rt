@@ -130,7 +130,7 @@ impl<V: VectorUnit, P: SoundUnit, C: CellUnit, D: DividerUnit> Model for BoardBu
 
 impl<V: VectorUnit, P: SoundUnit, C: CellUnit, D: DividerUnit> Bus for BoardBus<V, P, C, D> {
     ghost use Rattle.std.specs.Prelude.{◌≡◌};
-    ghost use Rattle.catchup_engine.specs.Bus.{BusStep, Accepts, room_of};
+    ghost use Rattle.catchup_engine.specs.Bus.{Accepts, BusStep, room_of};
 
     type Feed = Tape;
 

@@ -1,5 +1,5 @@
 //! Instructions in whose clocks no event is due, each of which is passed to a tracer.
-ghost use Rattle.std.specs.Prelude.{◌≡◌, ◌+◌, ◌-◌, ◌<◌, ◌≤◌, ◌&&◌, ◌||◌, [], false, true, is_none, length, nat_lt, not};
+ghost use Rattle.std.specs.Prelude.{◌≡◌, ◌+◌, ◌-◌, ◌<◌, ◌≤◌, ◌&&◌, ◌||◌, [], true, is_none, length, nat_lt, not};
 ghost use Rattle.board_base.specs.declared.divider.TheConstants.{DIVIDER_PERIOD};
 ghost use Rattle.cpu_alu.specs.Flags.{is_masked};
 ghost use Rattle.cpu_core.specs.BusCycles.{read_of, write_of};
@@ -8,7 +8,7 @@ ghost use Rattle.catchup_engine.specs.Bus.{Accepts, is_private};
 ghost use Rattle.catchup_engine.specs.Horizon.{KeepsLines};
 ghost use Rattle.catchup_engine.specs.Notes.{NotedStep, noting};
 ghost use Rattle.catchup_engine.specs.Quiet.{passed, IsCounted, quiet_room};
-ghost use Rattle.catchup_engine.specs.Runs.{over_bus, GoesOn, HasRoomTo, IsInRange, TurnsOn};
+ghost use Rattle.catchup_engine.specs.Runs.{over_bus, CanTakeTurns, GoesOn, TurnsOn};
 ghost use Rattle.catchup_engine.specs.Traced.{ToldTurns};
 
 use crate::bus::{BoardBus, PROGRAM_START, is_private};
@@ -18,7 +18,7 @@ use crate::quiet::QuietBus;
 use crate::trace::Access;
 use crate::tracer::Tracer;
 use avg_device::VectorUnit;
-use board_base::{CLOCK_LIMIT, RAM_LEN, Sequence};
+use board_base::{RAM_LEN, Sequence};
 use board_map::row;
 use cpu_core::{Bus, Cpu};
 use earom_cells::CellUnit;
@@ -202,11 +202,7 @@ pub(crate) fn trace_to_horizon<V: VectorUnit, P: SoundUnit, C: CellUnit, D: Divi
     limit: u64,
     tracer: &mut T,
 ) -> TracedTurns
-    requires limit { limit ≤ CLOCK_LIMIT }
-    requires range { IsInRange cpu bus.old }
-    requires between { bus.old.clock_open ≡ false }
-    requires room { HasRoomTo limit bus.old }
-    requires accepts { Accepts tape.now bus.old }
+    requires ready { CanTakeTurns limit tape.now cpu bus.old }
     requires goes_on { GoesOn limit [] cpu bus.old }
     requires opcode { is_private cpu.pc ≡ true }
     ensures on { TurnsOn tape.now.entries limit [] cpu bus.old bus.new result.cpu }

@@ -5,13 +5,13 @@ ghost use Rattle.cpu_alu.specs.Flags.{is_masked};
 ghost use Rattle.catchup_engine.specs.Bus.{Accepts};
 ghost use Rattle.catchup_engine.specs.Horizon.{KeepsLines};
 ghost use Rattle.catchup_engine.specs.Quiet.{passed};
-ghost use Rattle.catchup_engine.specs.Runs.{GoesOn, HasRoomTo, IsInRange, TurnsOn};
+ghost use Rattle.catchup_engine.specs.Runs.{CanTakeTurns, GoesOn, TurnsOn};
 
 use crate::breaks::Breaks;
 use crate::bus::{BoardBus, PROGRAM_START};
 use crate::horizon::{Horizon, horizon_from};
 use avg_device::VectorUnit;
-use board_base::{CLOCK_END, CLOCK_LIMIT, RAM_LEN};
+use board_base::{CLOCK_END, RAM_LEN};
 use cpu_alu::Flags;
 use cpu_core::{Bus, Cpu};
 use earom_cells::CellUnit;
@@ -87,7 +87,7 @@ impl<'a, V: VectorUnit, P: SoundUnit, C: CellUnit, D: DividerUnit, U> QuietBus<'
 impl<'a, V: VectorUnit, P: SoundUnit, C: CellUnit, D: DividerUnit, U> Bus
     for QuietBus<'a, V, P, C, D, U> {
     ghost use Rattle.std.specs.Prelude.{◌≡◌, ◌-◌, false};
-    ghost use Rattle.catchup_engine.specs.Bus.{BusStep, Accepts, room_of};
+    ghost use Rattle.catchup_engine.specs.Bus.{Accepts, BusStep, room_of};
     ghost use Rattle.catchup_engine.specs.Horizon.{KeepsLines};
     ghost use Rattle.catchup_engine.specs.Quiet.{passed, IsCounted, quiet_room};
 
@@ -135,11 +135,7 @@ pub(crate) fn run_to_horizon<V: VectorUnit, P: SoundUnit, C: CellUnit, D: Divide
     limit: u64,
     breaks: &B,
 ) -> Cpu
-    requires limit { limit ≤ CLOCK_LIMIT }
-    requires range { IsInRange cpu bus.old }
-    requires between { bus.old.clock_open ≡ false }
-    requires room { HasRoomTo limit bus.old }
-    requires accepts { Accepts tape.now bus.old }
+    requires ready { CanTakeTurns limit tape.now cpu bus.old }
     requires goes_on { GoesOn limit (B.addresses breaks.now) cpu bus.old }
     ensures on { TurnsOn tape.now.entries limit (B.addresses breaks.now) cpu bus.old bus.new result }
     ensures later { bus.old.peripherals.clock < bus.new.peripherals.clock }

@@ -1,14 +1,14 @@
 //! Runs of the processor over the bus, turn by turn.
-ghost use Rattle.std.specs.Prelude.{◌≡◌, ◌+◌, ◌≤◌, ◌<◌, ◌⊎◌, ◌&&◌, ◌||◌, not, [], false, None, IfSome};
+ghost use Rattle.std.specs.Prelude.{◌≡◌, ◌+◌, ◌≤◌, ◌<◌, ◌⊎◌, ◌&&◌, ◌||◌, not, None, IfSome};
 ghost use Rattle.cpu_core.specs.Places.{IsMiddle};
 ghost use Rattle.lockstep_board.specs.Breaks.{is_at_any};
 ghost use Rattle.catchup_engine.specs.Bus.{Accepts};
 ghost use Rattle.lockstep_board.specs.Run.{is_over, is_cut};
 ghost use Rattle.catchup_engine.specs.Turn.{reads_opcode};
-ghost use Rattle.catchup_engine.specs.Runs.{over_bus, BoundaryRun, BreakRunBus, CutRun, HasRoomTo, IsInRange, QuietRun, TracedBusRun, TurnsRun};
+ghost use Rattle.catchup_engine.specs.Runs.{over_bus, BoundaryRun, BreakRunBus, CanRun, CanTakeTurns, CutRun, IsInRange, QuietRun, TracedBusRun, TurnsRun};
 
 use crate::breaks::{BreakList, Breaks, Nowhere};
-use crate::bus::{BoardBus, MAX_SEQUENCE_CLOCKS, TRAIL_ROOM, is_private};
+use crate::bus::{BoardBus, MAX_SEQUENCE_CLOCKS, is_private};
 use crate::note::{Reached, TurnNote};
 use crate::noted::trace_to_horizon;
 use crate::quiet::run_to_horizon;
@@ -16,7 +16,6 @@ use crate::trace::trace_running;
 use crate::tracer::Tracer;
 use crate::turn::{reads_opcode, step_slow};
 use avg_device::VectorUnit;
-use board_base::{CLOCK_LIMIT, DIVIDER_PERIOD};
 use cpu_core::Cpu;
 use earom_cells::CellUnit;
 use irq_watchdog::DividerUnit;
@@ -90,12 +89,8 @@ fn run_fast<V: VectorUnit, P: SoundUnit, C: CellUnit, D: DividerUnit, B: Breaks>
     limit: u64,
     breaks: &B,
 ) -> Cpu
-    requires limit { limit ≤ CLOCK_LIMIT }
+    requires ready { CanTakeTurns limit tape.now cpu bus.old }
     requires boundary { cpu.mid ≡ None }
-    requires range { IsInRange cpu bus.old }
-    requires between { bus.old.clock_open ≡ false }
-    requires room { HasRoomTo limit bus.old }
-    requires accepts { Accepts tape.now bus.old }
     ensures runs { QuietRun tape.now.entries limit (B.addresses breaks.now) cpu bus.old bus.new result }
     ensures accepts { Accepts tape.now bus.new }
 {
@@ -117,12 +112,8 @@ fn run_turns<V: VectorUnit, P: SoundUnit, C: CellUnit, D: DividerUnit, B: Breaks
     limit: u64,
     breaks: &B,
 ) -> Cpu
-    requires limit { limit ≤ CLOCK_LIMIT }
+    requires ready { CanTakeTurns limit tape.now cpu bus.old }
     requires boundary { cpu.mid ≡ None }
-    requires range { IsInRange cpu bus.old }
-    requires between { bus.old.clock_open ≡ false }
-    requires room { HasRoomTo limit bus.old }
-    requires accepts { Accepts tape.now bus.old }
     ensures runs { TurnsRun tape.now.entries limit (B.addresses breaks.now) cpu bus.old bus.new result }
     ensures accepts { Accepts tape.now bus.new }
 {
@@ -144,12 +135,8 @@ fn run_turns_to_break<V: VectorUnit, P: SoundUnit, C: CellUnit, D: DividerUnit>(
     limit: u64,
     addresses: &[u16],
 ) -> Cpu
-    requires limit { limit ≤ CLOCK_LIMIT }
+    requires ready { CanTakeTurns limit tape.now cpu bus.old }
     requires boundary { cpu.mid ≡ None }
-    requires range { IsInRange cpu bus.old }
-    requires between { bus.old.clock_open ≡ false }
-    requires room { HasRoomTo limit bus.old }
-    requires accepts { Accepts tape.now bus.old }
     ensures runs { TurnsRun tape.now.entries limit addresses.now cpu bus.old bus.new result }
 {
     if addresses.is_empty() {
@@ -167,13 +154,7 @@ pub(crate) fn run_until<V: VectorUnit, P: SoundUnit, C: CellUnit, D: DividerUnit
     tape: &Tape,
     limit: u64,
 ) -> Cpu
-    requires limit { limit ≤ CLOCK_LIMIT }
-    requires window { limit ≤ bus.old.peripherals.clock + DIVIDER_PERIOD }
-    requires range { IsInRange cpu bus.old }
-    requires between { bus.old.clock_open ≡ false }
-    requires until { bus.old.peripherals.clock + TRAIL_ROOM ≤ bus.old.until }
-    requires written { bus.old.peripherals.written ≡ [] }
-    requires accepts { Accepts tape.now bus.old }
+    requires ready { CanRun limit limit tape.now cpu bus.old }
     ensures runs { BoundaryRun tape.now.entries limit cpu bus.old bus.new result }
 {
     // opens its range
@@ -193,14 +174,8 @@ pub(crate) fn run_to_break<V: VectorUnit, P: SoundUnit, C: CellUnit, D: DividerU
     limit: u64,
     addresses: &[u16],
 ) -> Cpu
-    requires limit { limit ≤ CLOCK_LIMIT }
+    requires ready { CanRun limit limit tape.now cpu bus.old }
     requires before { bus.old.peripherals.clock < limit }
-    requires window { limit ≤ bus.old.peripherals.clock + DIVIDER_PERIOD }
-    requires range { IsInRange cpu bus.old }
-    requires between { bus.old.clock_open ≡ false }
-    requires until { bus.old.peripherals.clock + TRAIL_ROOM ≤ bus.old.until }
-    requires written { bus.old.peripherals.written ≡ [] }
-    requires accepts { Accepts tape.now bus.old }
     ensures runs { BreakRunBus tape.now.entries limit addresses.now cpu bus.old bus.new result }
 {
     // opens its range
@@ -220,14 +195,8 @@ pub(crate) fn run_traced<V: VectorUnit, P: SoundUnit, C: CellUnit, D: DividerUni
     limit: u64,
     tracer: &mut T,
 ) -> Cpu
-    requires limit { limit ≤ CLOCK_LIMIT }
-    requires window { limit ≤ bus.old.peripherals.clock + DIVIDER_PERIOD }
-    requires range { IsInRange cpu bus.old }
+    requires ready { CanRun limit limit tape.now cpu bus.old }
     requires place { IfSome cpu.mid (λ _. IsMiddle cpu) }
-    requires between { bus.old.clock_open ≡ false }
-    requires until { bus.old.peripherals.clock + TRAIL_ROOM ≤ bus.old.until }
-    requires written { bus.old.peripherals.written ≡ [] }
-    requires accepts { Accepts tape.now bus.old }
     ensures runs { TracedBusRun T.next T.has_enough tape.now.entries limit cpu bus.old bus.new result tracer.old tracer.new }
 {
     // opens its range
@@ -271,13 +240,7 @@ pub(crate) fn run_to_cut<V: VectorUnit, P: SoundUnit, C: CellUnit, D: DividerUni
     cut: u64,
     wrap: u64,
 ) -> Cpu
-    requires cut { cut ≤ CLOCK_LIMIT }
-    requires window { wrap ≤ bus.old.peripherals.clock + DIVIDER_PERIOD }
-    requires range { IsInRange cpu bus.old }
-    requires between { bus.old.clock_open ≡ false }
-    requires until { bus.old.peripherals.clock + TRAIL_ROOM ≤ bus.old.until }
-    requires written { bus.old.peripherals.written ≡ [] }
-    requires accepts { Accepts tape.now bus.old }
+    requires ready { CanRun cut wrap tape.now cpu bus.old }
     ensures runs { CutRun tape.now.entries cut wrap cpu bus.old bus.new result }
 {
     // A turn that begins before this clock ends at the cut at the latest.

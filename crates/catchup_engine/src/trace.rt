@@ -1,12 +1,12 @@
 //! The accesses of a sequence.
-ghost use Rattle.std.specs.Prelude.{◌≡◌, ◌≢◌, ◌+◌, ◌-◌, ◌<◌, ◌≤◌, ℕ, [], true, false, None, IfSome, IsSome};
+ghost use Rattle.std.specs.Prelude.{◌≡◌, ◌≢◌, ◌+◌, ◌-◌, ◌<◌, ◌≤◌, ℕ, [], true, None, IfSome, IsSome};
 ghost use Rattle.cpu_core.specs.Places.{given_by, Advances};
 ghost use Rattle.cpu_core.specs.Registers.{registers_of};
 ghost use Rattle.cpu_core.specs.Sequences.{start_of, Runs};
 ghost use Rattle.catchup_engine.specs.Bus.{Accepts, room_of};
 ghost use Rattle.catchup_engine.specs.Runs.{over_bus, BoundaryRun, IsInRange};
 ghost use Rattle.catchup_engine.specs.Trace.{TracedReset, TracedStep, no_trace, step_trace, trace_of, traced};
-ghost use Rattle.catchup_engine.specs.Turn.{TurnedBus};
+ghost use Rattle.catchup_engine.specs.Turn.{CanTurn, TurnedBus};
 
 use crate::bus::{BoardBus, MAX_SEQUENCE_CLOCKS};
 use crate::turn::{due, perform};
@@ -316,11 +316,9 @@ fn trace_fetch<V: VectorUnit, P: SoundUnit, C: CellUnit, D: DividerUnit>(
     bus: &mut BoardBus<V, P, C, D>,
     tape: &Tape,
 ) -> Trace
+    requires ready { CanTurn MAX_SEQUENCE_CLOCKS tape.now bus.old }
     requires running { cpu.old.jam ≡ None }
     requires boundary { cpu.old.mid ≡ None }
-    requires between { bus.old.clock_open ≡ false }
-    requires accepts { Accepts tape.now bus.old }
-    requires room { 9 ≤ room_of bus.old }
     ensures turned { TurnedBus tape.now.entries MAX_SEQUENCE_CLOCKS cpu.old bus.old bus.new cpu.new }
     ensures trace { result ≡ trace_of tape.now.entries (bus.new.peripherals.clock - bus.old.peripherals.clock) (over_bus cpu.old bus.old) }
     ensures accepts { Accepts tape.now bus.new }
@@ -346,10 +344,8 @@ fn trace_middle<V: VectorUnit, P: SoundUnit, C: CellUnit, D: DividerUnit>(
     bus: &mut BoardBus<V, P, C, D>,
     tape: &Tape,
 ) -> Trace
+    requires ready { CanTurn MAX_SEQUENCE_CLOCKS tape.now bus.old }
     requires middle { IsSome cpu.old.mid }
-    requires between { bus.old.clock_open ≡ false }
-    requires accepts { Accepts tape.now bus.old }
-    requires room { MAX_SEQUENCE_CLOCKS ≤ room_of bus.old }
     ensures turned { TurnedBus tape.now.entries MAX_SEQUENCE_CLOCKS cpu.old bus.old bus.new cpu.new }
     ensures trace { result ≡ trace_of tape.now.entries (bus.new.peripherals.clock - bus.old.peripherals.clock) (over_bus cpu.old bus.old) }
     ensures accepts { Accepts tape.now bus.new }
@@ -370,10 +366,8 @@ pub(crate) fn trace_running<V: VectorUnit, P: SoundUnit, C: CellUnit, D: Divider
     bus: &mut BoardBus<V, P, C, D>,
     tape: &Tape,
 ) -> Trace
+    requires ready { CanTurn MAX_SEQUENCE_CLOCKS tape.now bus.old }
     requires running { cpu.old.jam ≡ None }
-    requires between { bus.old.clock_open ≡ false }
-    requires accepts { Accepts tape.now bus.old }
-    requires room { 9 ≤ room_of bus.old }
     ensures turned { TurnedBus tape.now.entries MAX_SEQUENCE_CLOCKS cpu.old bus.old bus.new cpu.new }
     ensures trace { result ≡ trace_of tape.now.entries (bus.new.peripherals.clock - bus.old.peripherals.clock) (over_bus cpu.old bus.old) }
     ensures accepts { Accepts tape.now bus.new }
@@ -385,17 +379,15 @@ pub(crate) fn trace_running<V: VectorUnit, P: SoundUnit, C: CellUnit, D: Divider
     }
 }
 
-/// Does what `trace_running` does; a processor that is jammed does nothing.
+/// Does what `trace_running` does; a processor that is jammed makes no access.
 pub(crate) fn trace_sequence<V: VectorUnit, P: SoundUnit, C: CellUnit, D: DividerUnit>(
     cpu: &mut Cpu,
     bus: &mut BoardBus<V, P, C, D>,
     tape: &Tape,
 ) -> Trace
-    requires between { bus.old.clock_open ≡ false }
-    requires accepts { Accepts tape.now bus.old }
+    requires ready { CanTurn MAX_SEQUENCE_CLOCKS tape.now bus.old }
     requires range { IsInRange cpu.old bus.old }
     requires early { cpu.old.mid ≡ None → bus.old.peripherals.clock < CLOCK_LIMIT }
-    requires room { 9 ≤ room_of bus.old }
     ensures run { BoundaryRun tape.now.entries (bus.old.peripherals.clock + 1) cpu.old bus.old bus.new cpu.new }
     ensures trace { result ≡ step_trace tape.now.entries (over_bus cpu.old bus.old) }
 {

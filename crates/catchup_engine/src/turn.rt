@@ -1,10 +1,10 @@
 //! One turn of the board: what is left of a sequence, or the sequence that a fetch begins.
-ghost use Rattle.std.specs.Prelude.{◌≡◌, ◌≢◌, ◌+◌, ◌<◌, ◌≤◌, ℕ, [], false, None, IsSome};
+ghost use Rattle.std.specs.Prelude.{◌≡◌, ◌≢◌, ◌+◌, ◌<◌, ◌≤◌, ℕ, [], None, IsSome};
 ghost use Rattle.cpu_core.specs.Places.{Advances};
 ghost use Rattle.cpu_core.specs.Sequences.{start_of, Runs};
-ghost use Rattle.catchup_engine.specs.Bus.{BusStep, Accepts, room_of};
+ghost use Rattle.catchup_engine.specs.Bus.{Accepts, BusStep, room_of};
 ghost use Rattle.lockstep_board.specs.Lockstep.{sequence_due};
-ghost use Rattle.catchup_engine.specs.Turn.{Resets, TurnedBus, reads_opcode};
+ghost use Rattle.catchup_engine.specs.Turn.{CanTurn, Resets, TurnedBus, reads_opcode};
 
 use crate::bus::{BoardBus, MAX_SEQUENCE_CLOCKS};
 use avg_device::VectorUnit;
@@ -109,13 +109,9 @@ fn fetch<V: VectorUnit, P: SoundUnit, C: CellUnit, D: DividerUnit>(
     tape: &Tape,
     clocks: u8,
 )
+    requires ready { CanTurn clocks tape.now bus.old }
     requires running { cpu.old.jam ≡ None }
     requires boundary { cpu.old.mid ≡ None }
-    requires between { bus.old.clock_open ≡ false }
-    requires accepts { Accepts tape.now bus.old }
-    requires some { 1 ≤ clocks }
-    requires few { clocks ≤ MAX_SEQUENCE_CLOCKS }
-    requires room { clocks + 2 ≤ room_of bus.old }
     ensures turned { TurnedBus tape.now.entries clocks cpu.old bus.old bus.new cpu.new }
     ensures accepts { Accepts tape.now bus.new }
 {
@@ -134,12 +130,8 @@ fn resume<V: VectorUnit, P: SoundUnit, C: CellUnit, D: DividerUnit>(
     tape: &Tape,
     clocks: u8,
 )
+    requires ready { CanTurn clocks tape.now bus.old }
     requires middle { IsSome cpu.old.mid }
-    requires between { bus.old.clock_open ≡ false }
-    requires accepts { Accepts tape.now bus.old }
-    requires some { 1 ≤ clocks }
-    requires few { clocks ≤ MAX_SEQUENCE_CLOCKS }
-    requires room { clocks ≤ room_of bus.old }
     ensures turned { TurnedBus tape.now.entries clocks cpu.old bus.old bus.new cpu.new }
     ensures accepts { Accepts tape.now bus.new }
 {
@@ -158,12 +150,8 @@ pub(crate) fn step_slow<V: VectorUnit, P: SoundUnit, C: CellUnit, D: DividerUnit
     tape: &Tape,
     clocks: u8,
 ) -> Cpu
+    requires ready { CanTurn clocks tape.now bus.old }
     requires running { cpu.jam ≡ None }
-    requires between { bus.old.clock_open ≡ false }
-    requires accepts { Accepts tape.now bus.old }
-    requires some { 1 ≤ clocks }
-    requires few { clocks ≤ MAX_SEQUENCE_CLOCKS }
-    requires room { clocks + 2 ≤ room_of bus.old }
     ensures turned { TurnedBus tape.now.entries clocks cpu bus.old bus.new result }
     ensures accepts { Accepts tape.now bus.new }
 {

@@ -6,7 +6,7 @@ ghost use Rattle.catchup_devices.specs.Lags.{lags};
 ghost use Rattle.lockstep_board.specs.Budget.{ticks_price, wraps};
 ghost use Rattle.catchup_engine.specs.Horizon.{LeavesLines};
 ghost use Rattle.catchup_engine.specs.Quiet.{passed};
-ghost use Rattle.catchup_engine.specs.Bus.{Does, Accepts, begin_price, done_clock, in_clock};
+ghost use Rattle.catchup_engine.specs.Bus.{Accepts, Does, begin_price, done_clock, in_clock};
 ghost use Rattle.lockstep_board.specs.Peripherals.{devices_ticked, ticked};
 
 use crate::bus::{BoardBus, MAX_SEQUENCE_CLOCKS, TRAIL_ROOM};

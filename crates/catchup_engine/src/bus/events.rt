@@ -5,7 +5,7 @@ ghost use Rattle.tape_ports.specs.Ports.{IsPort};
 ghost use Rattle.tape_ports.specs.Tape.{IsTape};
 ghost use Rattle.lockstep_board.specs.Budget.{ticks_price};
 ghost use Rattle.catchup_engine.specs.Events.{deadlines_of, next_event_of};
-ghost use Rattle.catchup_engine.specs.Bus.{ComesNext, Does, Accepts, IsTapePlace, done_clock};
+ghost use Rattle.catchup_engine.specs.Bus.{Accepts, ComesNext, Does, IsTapePlace, done_clock};
 ghost use Rattle.lockstep_board.specs.Peripherals.{applied, ticked};
 
 use crate::bus::BoardBus;

@@ -216,7 +216,7 @@ impl<V: VectorUnit, P: SoundUnit, C: CellUnit, D: DividerUnit> BoardBus<V, P, C,
         }
     }
 
-    /// Forgets the records.
+    /// Removes the records.
     #[tactic(auto, using(board_base::proofs::TickLaws::level, crate::proofs::SettledLaws::settled))]
     pub fn clear_trails(&mut self)
         requires settled { lagging_of self.old.lagging ≡ 0 }

@@ -21,7 +21,7 @@ pub loop-goes_on-init : goal.loop-goes_on-init
 loop-goes_on-init g c = record {
   at =
       rw (c.new.ensures.none, c.new.ensures.bus) (noted-starts g.T.Tracer.next g.T.Tracer.has_enough c.args.tape.now c.args.limit c.horizon_from-horizon.result c.args.cpu
-      c.args.bus.now c.args.tracer.now c.requires.limit c.requires.range c.requires.between c.requires.room c.requires.accepts c.requires.goes_on c.requires.opcode
+      c.args.bus.now c.args.tracer.now c.requires.ready.within c.requires.ready.range c.requires.ready.between c.requires.ready.room c.requires.ready.accepts c.requires.goes_on c.requires.opcode
       c.horizon_from-horizon.ensures.horizon c.horizon_from-horizon.ensures.until);
   bus = refl;
   reached = refl;
@@ -30,7 +30,7 @@ loop-goes_on-init g c = record {
 pub instruction-fetched-requires-clause-room : goal.instruction-fetched-requires-clause-room
 instruction-fetched-requires-clause-room g c =
     let room = horizon-room c.args.tape.now c.args.limit [] c.horizon_from-horizon.result c.args.cpu c.loop-goes_on.cpu c.args.bus.now c.loop-goes_on.noted.quiet.bus.now
-    c.loop-goes_on.noted.quiet.elapsed c.loop-goes_on.goes_on c.loop-goes_on-test.true c.requires.limit c.requires.room c.loop-goes_on.invariant.at.at in
+    c.loop-goes_on.noted.quiet.elapsed c.loop-goes_on.goes_on c.loop-goes_on-test.true c.requires.ready.within c.requires.ready.room c.loop-goes_on.invariant.at.at in
     let none = ap length c.begin.ensures.none in
     let same = ap (λ k. quiet_room k.quiet.elapsed k.quiet.bus.now) c.begin.ensures.same in
     omega (arith, room, none, same)
@@ -136,7 +136,7 @@ loop-goes_on-preserved g c =
       at =
           noted-goes g.T.Tracer.next g.T.Tracer.has_enough c.args.tape.now c.args.limit c.horizon_from-horizon.result c.args.cpu c.loop-goes_on.cpu c.instruction-fetched.new.self
           c.args.bus.now t u elapsed n c.byte_at-opcode.result clocks c.instruction-fetched.new.bus.reached.now c.args.tracer.now c.loop-goes_on.tracer c.turn-enough.new.self
-          c.loop-goes_on.enough c.loop-goes_on.goes_on c.goes_on-goes_on.result c.turn-enough.result c.loop-goes_on-test.true c.requires.limit c.loop-goes_on.invariant.at
+          c.loop-goes_on.enough c.loop-goes_on.goes_on c.goes_on-goes_on.result c.turn-enough.result c.loop-goes_on-test.true c.requires.ready.within c.loop-goes_on.invariant.at
           did.runs c.instruction-fetched.ensures.boundary c.instruction-fetched.ensures.accepts.0 did.lines
           (λ w ram program. c.byte_at-opcode.ensures w (ram ∙ sym (ap (λ k. k.quiet.bus.now.peripherals.ram) c.begin.ensures.same))
           (program ∙ sym (ap (λ k. k.quiet.bus.now.peripherals.program) c.begin.ensures.same))

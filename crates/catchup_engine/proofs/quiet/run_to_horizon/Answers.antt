@@ -24,7 +24,7 @@ pub loop-goes_on-init : goal.loop-goes_on-init
 loop-goes_on-init g c = record {
   at =
       rw (c.new-quiet.ensures.none, c.new-quiet.ensures.bus) (horizon-starts c.args.tape.now c.args.limit (g.B.Breaks.addresses c.args.breaks.now) c.horizon_from-horizon.result c.args.cpu
-      c.args.bus.now c.requires.limit c.requires.range c.requires.between c.requires.room c.requires.accepts c.requires.goes_on c.horizon_from-horizon.ensures.horizon
+      c.args.bus.now c.requires.ready.within c.requires.ready.range c.requires.ready.between c.requires.ready.room c.requires.ready.accepts c.requires.goes_on c.horizon_from-horizon.ensures.horizon
       c.horizon_from-horizon.ensures.until);
   same = refl;
 }
@@ -32,7 +32,7 @@ loop-goes_on-init g c = record {
 pub instruction-fetched-requires-clause-room : goal.instruction-fetched-requires-clause-room
 instruction-fetched-requires-clause-room g c =
     horizon-room c.args.tape.now c.args.limit (g.B.Breaks.addresses c.args.breaks.now) c.horizon_from-horizon.result c.args.cpu c.loop-goes_on.cpu c.args.bus.now
-    c.loop-goes_on.quiet.bus.now c.loop-goes_on.quiet.elapsed c.loop-goes_on.goes_on c.loop-goes_on-test.true c.requires.limit c.requires.room c.loop-goes_on.invariant.at
+    c.loop-goes_on.quiet.bus.now c.loop-goes_on.quiet.elapsed c.loop-goes_on.goes_on c.loop-goes_on-test.true c.requires.ready.within c.requires.ready.room c.loop-goes_on.invariant.at
 
 pub loop-goes_on-smaller-then-is_before : goal.loop-goes_on-smaller-then-is_before
 loop-goes_on-smaller-then-is_before g c =
@@ -59,7 +59,7 @@ loop-goes_on-preserved-then-is_before g c =
     record {
       at =
           horizon-goes c.args.tape.now c.args.limit addresses horizon c.args.cpu c.loop-goes_on.cpu f c.args.bus.now c.loop-goes_on.quiet.bus.now t c.loop-goes_on.quiet.elapsed n
-          c.loop-goes_on.goes_on _ c.loop-goes_on-test.true c.requires.limit c.loop-goes_on.invariant.at seen.1 c.instruction-fetched.ensures.boundary
+          c.loop-goes_on.goes_on _ c.loop-goes_on-test.true c.requires.ready.within c.loop-goes_on.invariant.at seen.1 c.instruction-fetched.ensures.boundary
           c.instruction-fetched.ensures.accepts lines (λ _. c.is_before.ensures.wrap)
           (and-then (nat_lt (t.peripherals.clock + n) horizon.until && (is_none f.jam && (horizon.irq_idle || is_masked f.p))) (is_at_any addresses (over_bus f (passed n t))) c.has.result
           (sym c.is_before.ensures.value ∙ c.if-is_before.true)
@@ -92,7 +92,7 @@ loop-goes_on-preserved g c =
     record {
       at =
           horizon-goes c.args.tape.now c.args.limit addresses horizon c.args.cpu c.loop-goes_on.cpu f c.args.bus.now c.loop-goes_on.quiet.bus.now t c.loop-goes_on.quiet.elapsed n
-          c.loop-goes_on.goes_on _ c.loop-goes_on-test.true c.requires.limit c.loop-goes_on.invariant.at seen.1 c.instruction-fetched.ensures.boundary
+          c.loop-goes_on.goes_on _ c.loop-goes_on-test.true c.requires.ready.within c.loop-goes_on.invariant.at seen.1 c.instruction-fetched.ensures.boundary
           c.instruction-fetched.ensures.accepts lines (λ _. c.is_before.ensures.wrap)
           (and-else (nat_lt (t.peripherals.clock + n) horizon.until && (is_none f.jam && (horizon.irq_idle || is_masked f.p))) c.is_before.result (is_at_any addresses (over_bus f (passed n t)))
           c.if-is_before.false);

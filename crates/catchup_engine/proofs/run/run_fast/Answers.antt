@@ -5,14 +5,20 @@ use Rattle.catchup_engine.proofs.run.run_fast.Goals as goal
 
 pub loop-cpu-init : goal.loop-cpu-init
 loop-cpu-init g c = record {
-  on = turns-start c.args.tape.now.entries c.args.limit (g.B.Breaks.addresses c.args.breaks.now) c.args.cpu c.args.bus.now c.requires.between c.requires.boundary c.requires.range;
-  accepts = c.requires.accepts;
+  on = turns-start c.args.tape.now.entries c.args.limit (g.B.Breaks.addresses c.args.breaks.now) c.args.cpu c.args.bus.now c.requires.ready.between c.requires.boundary c.requires.ready.range;
+  accepts = c.requires.ready.accepts;
 }
 
-pub run_to_horizon-cpu-requires-clause-room : goal.run_to_horizon-cpu-requires-clause-room
-run_to_horizon-cpu-requires-clause-room g c =
-    room-kept c.args.tape.now c.args.limit (g.B.Breaks.addresses c.args.breaks.now) c.args.cpu c.loop-cpu.cpu c.args.bus.now c.loop-cpu.bus c.requires.limit c.requires.room
-    c.loop-cpu.invariant.on
+pub run_to_horizon-cpu-requires-clause-ready : goal.run_to_horizon-cpu-requires-clause-ready
+run_to_horizon-cpu-requires-clause-ready g c = record {
+  within = c.requires.ready.within;
+  range = c.loop-cpu.invariant.on.range;
+  between = c.loop-cpu.invariant.on.run.goes.between;
+  room =
+      room-kept c.args.tape.now c.args.limit (g.B.Breaks.addresses c.args.breaks.now) c.args.cpu c.loop-cpu.cpu c.args.bus.now c.loop-cpu.bus c.requires.ready.within c.requires.ready.room
+      c.loop-cpu.invariant.on;
+  accepts = c.loop-cpu.invariant.accepts;
+}
 
 pub run_to_horizon-cpu-requires-clause-goes_on : goal.run_to_horizon-cpu-requires-clause-goes_on
 run_to_horizon-cpu-requires-clause-goes_on g c =

@@ -14,12 +14,12 @@ first g c =
     elim c.if-is_none.branch [
       | then-is_none w ↦
           rw (w.cpu-is, w.bus-is)
-          (break-begins c.args.tape.now.entries c.args.limit c.args.addresses.now c.args.cpu c.args.bus.now w.step_slow-cpu.new.bus w.step_slow-cpu.result c.requires.between
-          (jammed ∙ ap not w.if-is_none.true) (omega arith) (rw c.state.ensures.value at c.state.ensures.place) c.requires.range w.step_slow-cpu.ensures.turned)
+          (break-begins c.args.tape.now.entries c.args.limit c.args.addresses.now c.args.cpu c.args.bus.now w.step_slow-cpu.new.bus w.step_slow-cpu.result c.requires.ready.between
+          (jammed ∙ ap not w.if-is_none.true) (omega arith) (rw c.state.ensures.value at c.state.ensures.place) c.requires.ready.range w.step_slow-cpu.ensures.turned)
       | else-is_none w ↦
           rw (w.cpu-is, w.bus-is)
-          (break-jammed c.args.tape.now.entries c.args.limit c.args.addresses.now c.args.cpu c.args.bus.now c.requires.between
-          (jammed ∙ ap not w.if-is_none.false) (rw c.state.ensures.value at c.state.ensures.place) c.requires.range)
+          (break-jammed c.args.tape.now.entries c.args.limit c.args.addresses.now c.args.cpu c.args.bus.now c.requires.ready.between
+          (jammed ∙ ap not w.if-is_none.false) (rw c.state.ensures.value at c.state.ensures.place) c.requires.ready.range)
     ]
 
 pub returns : goal.returns

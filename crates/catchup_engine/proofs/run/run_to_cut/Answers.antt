@@ -7,8 +7,8 @@ use Rattle.catchup_engine.proofs.run.run_to_cut.Goals as goal
 
 pub loop-bus-init : goal.loop-bus-init
 loop-bus-init g c = record {
-  at = cut-starts c.args.tape.now.entries c.args.cut c.args.wrap c.args.cpu c.args.bus.now c.requires.between c.requires.range;
-  accepts = c.requires.accepts;
+  at = cut-starts c.args.tape.now.entries c.args.cut c.args.wrap c.args.cpu c.args.bus.now c.requires.ready.between c.requires.ready.range;
+  accepts = c.requires.ready.accepts;
 }
 
 -- a turn that isn't to go past the cut
@@ -19,7 +19,7 @@ turned g c =
     let here = c.clock.ensures.value in
     let within = c.clocks_to-clocks.ensures.within in
     cut-goes_on c.args.tape.now.entries c.args.cut c.args.wrap c.clocks_to-clocks.result c.args.cpu c.args.bus.now c.loop-bus.bus c.step_slow-cpu.new.bus c.loop-bus.cpu
-    c.step_slow-cpu.result c.requires.cut c.loop-bus.invariant.at open_yet (omega arith) (rw here at c.clocks_to-clocks.ensures.all) c.step_slow-cpu.ensures.turned
+    c.step_slow-cpu.result c.requires.ready.within c.loop-bus.invariant.at open_yet (omega arith) (rw here at c.clocks_to-clocks.ensures.all) c.step_slow-cpu.ensures.turned
 
 pub loop-bus-preserved-then-is_none : goal.loop-bus-preserved-then-is_none
 loop-bus-preserved-then-is_none g c =
@@ -28,7 +28,7 @@ loop-bus-preserved-then-is_none g c =
     let within = c.clocks_to-clocks.ensures.within in
     let at =
     cut-goes_on c.args.tape.now.entries c.args.cut c.args.wrap c.clocks_to-clocks.result c.args.cpu c.args.bus.now c.loop-bus.bus c.step_slow-cpu.new.bus c.loop-bus.cpu
-    c.step_slow-cpu.result c.requires.cut c.loop-bus.invariant.at open_yet (omega arith) (rw here at c.clocks_to-clocks.ensures.all) c.step_slow-cpu.ensures.turned in
+    c.step_slow-cpu.result c.requires.ready.within c.loop-bus.invariant.at open_yet (omega arith) (rw here at c.clocks_to-clocks.ensures.all) c.step_slow-cpu.ensures.turned in
     record {
       at =
           cut-turns c.args.tape.now.entries c.args.cut c.args.wrap c.min-near.result c.args.cpu c.args.bus.now c.step_slow-cpu.new.bus c.run_turns-cpu.new.bus

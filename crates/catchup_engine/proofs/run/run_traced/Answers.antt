@@ -1,20 +1,20 @@
 use Rattle.std.proofs.Common.{ap, sym, ◌∙◌, subst}
 use Rattle.board_base.specs.Cpu.{CpuValue}
-use Rattle.catchup_engine.proofs.TracedRuns.{AtTold, told-goes_calmly, told-goes_on, told-starts}
+use Rattle.catchup_engine.proofs.TracedRuns.{AtTraced, traced-to-horizon, traced-goes_on, traced-starts}
 use Rattle.catchup_engine.proofs.run.run_traced.Goals as goal
 
 pub loop-enough-init : goal.loop-enough-init
 loop-enough-init g c = record {
-  at = told-starts g.T.Tracer.next g.T.Tracer.has_enough c.args.tape.now.entries c.args.limit c.args.cpu c.args.bus.now c.args.tracer.now c.requires.between c.requires.range;
-  accepts = c.requires.accepts;
+  at = traced-starts g.T.Tracer.next g.T.Tracer.has_enough c.args.tape.now.entries c.args.limit c.args.cpu c.args.bus.now c.args.tracer.now c.requires.ready.between c.requires.ready.range;
+  accepts = c.requires.ready.accepts;
 }
 
 pub loop-enough-preserved-then-is_private : goal.loop-enough-preserved-then-is_private
 loop-enough-preserved-then-is_private g c = record {
   at =
-      told-goes_calmly g.T.Tracer.next g.T.Tracer.has_enough c.args.tape.now.entries c.args.limit c.args.cpu c.args.bus.now c.loop-enough.bus c.trace_to_horizon-turns.new.bus
+      traced-to-horizon g.T.Tracer.next g.T.Tracer.has_enough c.args.tape.now.entries c.args.limit c.args.cpu c.args.bus.now c.loop-enough.bus c.trace_to_horizon-turns.new.bus
       c.loop-enough.cpu c.trace_to_horizon-turns.result.cpu c.args.tracer.now c.loop-enough.tracer c.trace_to_horizon-turns.new.tracer c.trace_to_horizon-turns.result.enough
-      (subst (λ f. AtTold g.T.Tracer.next g.T.Tracer.has_enough c.args.tape.now.entries c.args.limit c.args.cpu c.args.bus.now c.loop-enough.bus c.loop-enough.cpu
+      (subst (λ f. AtTraced g.T.Tracer.next g.T.Tracer.has_enough c.args.tape.now.entries c.args.limit c.args.cpu c.args.bus.now c.loop-enough.bus c.loop-enough.cpu
       c.args.tracer.now c.loop-enough.tracer f) c.loop-enough-test.true c.loop-enough.invariant.at)
       c.trace_to_horizon-turns.ensures.on c.trace_to_horizon-turns.ensures.turns c.trace_to_horizon-turns.ensures.later;
   accepts = c.trace_to_horizon-turns.ensures.accepts;
@@ -23,10 +23,10 @@ loop-enough-preserved-then-is_private g c = record {
 pub loop-enough-preserved : goal.loop-enough-preserved
 loop-enough-preserved g c = record {
   at =
-      told-goes_on g.T.Tracer.next g.T.Tracer.has_enough c.args.tape.now.entries c.args.limit c.args.cpu c.args.bus.now c.loop-enough.bus c.trace_running-trace.new.bus
+      traced-goes_on g.T.Tracer.next g.T.Tracer.has_enough c.args.tape.now.entries c.args.limit c.args.cpu c.args.bus.now c.loop-enough.bus c.trace_running-trace.new.bus
       c.loop-enough.cpu c.trace_running-trace.new.cpu c.args.tracer.now c.loop-enough.tracer c.turn-enough.new.self c.trace_running-trace.result c.turn-enough.result
-      c.requires.limit
-      (subst (λ f. AtTold g.T.Tracer.next g.T.Tracer.has_enough c.args.tape.now.entries c.args.limit c.args.cpu c.args.bus.now c.loop-enough.bus c.loop-enough.cpu
+      c.requires.ready.within
+      (subst (λ f. AtTraced g.T.Tracer.next g.T.Tracer.has_enough c.args.tape.now.entries c.args.limit c.args.cpu c.args.bus.now c.loop-enough.bus c.loop-enough.cpu
       c.args.tracer.now c.loop-enough.tracer f) c.loop-enough-test.true c.loop-enough.invariant.at)
       (sym c.is_done.ensures ∙ c.if-not-is_done.true) c.trace_running-trace.ensures.turned c.trace_running-trace.ensures.trace
       (c.turn-enough.ensures.next c.trace_running-trace.result c.of.ensures

@@ -7,8 +7,8 @@ use Rattle.catchup_engine.proofs.run.run_turns.Goals as goal
 
 pub loop-cpu-init : goal.loop-cpu-init
 loop-cpu-init g c = record {
-  on = turns-start c.args.tape.now.entries c.args.limit (g.B.Breaks.addresses c.args.breaks.now) c.args.cpu c.args.bus.now c.requires.between c.requires.boundary c.requires.range;
-  accepts = c.requires.accepts;
+  on = turns-start c.args.tape.now.entries c.args.limit (g.B.Breaks.addresses c.args.breaks.now) c.args.cpu c.args.bus.now c.requires.ready.between c.requires.boundary c.requires.ready.range;
+  accepts = c.requires.ready.accepts;
 }
 
 pub loop-cpu-preserved : goal.loop-cpu-preserved
@@ -20,7 +20,7 @@ loop-cpu-preserved g c =
           turns-join c.args.tape.now.entries c.args.limit (g.B.Breaks.addresses c.args.breaks.now) c.args.cpu c.args.bus.now c.step_slow-cpu.new.bus c.run_fast-cpu.new.bus
           c.step_slow-cpu.result c.run_fast-cpu.result
           (turns-go_on c.args.tape.now.entries c.args.limit (g.B.Breaks.addresses c.args.breaks.now) c.args.cpu c.args.bus.now c.loop-cpu.bus c.step_slow-cpu.new.bus c.loop-cpu.cpu
-          c.step_slow-cpu.result c.requires.limit c.loop-cpu.invariant.on open_yet c.step_slow-cpu.ensures.turned)
+          c.step_slow-cpu.result c.requires.ready.within c.loop-cpu.invariant.on open_yet c.step_slow-cpu.ensures.turned)
           c.run_fast-cpu.ensures.runs.on;
       accepts = c.run_fast-cpu.ensures.accepts;
     }

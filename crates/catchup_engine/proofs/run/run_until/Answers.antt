@@ -13,12 +13,12 @@ first g c =
     elim c.if-is_some.branch [
       | then-is_some w ↦
           rw (w.cpu-is, w.bus-is)
-          (boundary-resumes c.args.tape.now.entries c.args.limit c.args.cpu c.args.bus.now w.step_slow-cpu.new.bus w.step_slow-cpu.result c.requires.between
-          (some-of c.args.cpu.mid (middle ∙ w.if-is_some.true)) (rw c.state.ensures.value at c.state.ensures.place) c.requires.range w.step_slow-cpu.ensures.turned)
+          (boundary-resumes c.args.tape.now.entries c.args.limit c.args.cpu c.args.bus.now w.step_slow-cpu.new.bus w.step_slow-cpu.result c.requires.ready.between
+          (some-of c.args.cpu.mid (middle ∙ w.if-is_some.true)) (rw c.state.ensures.value at c.state.ensures.place) c.requires.ready.range w.step_slow-cpu.ensures.turned)
       | else-is_some w ↦
           rw (w.cpu-is, w.bus-is)
-          (boundary-starts c.args.tape.now.entries c.args.limit c.args.cpu c.args.bus.now c.requires.between
-          (none-is c.args.cpu.mid (middle ∙ w.if-is_some.false)) c.requires.range)
+          (boundary-starts c.args.tape.now.entries c.args.limit c.args.cpu c.args.bus.now c.requires.ready.between
+          (none-is c.args.cpu.mid (middle ∙ w.if-is_some.false)) c.requires.ready.range)
     ]
 
 pub returns : goal.returns

@@ -11,7 +11,7 @@ returns-clause-turned g c =
     let inside : c.args.cpu.now.mid ≡ Some c.in-Some.mid = ap (λ (k : CpuValue). k.mid) (sym state) ∙ c.in-Some.is in
     let six : length c.in-Some.mid.bytes ≡ 6 = ap (λ (m : MidValue). length m.bytes) (sym c.mid.view_is) ∙ c.mid.invariant.bytes in
     let rest = middle-told c.args.tape.now.entries c.args.cpu.now c.in-Some.mid c.args.bus.now (traced c.trace_rest-trace.new.bus c.trace_rest-trace.result) c.trace_rest-trace.new.cpu
-    inside (rw c.state.ensures.value at c.state.ensures.place) six c.requires.between (rw c.new.ensures at c.trace_rest-trace.ensures.advances) in
+    inside (rw c.state.ensures.value at c.state.ensures.place) six c.requires.ready.between (rw c.new.ensures at c.trace_rest-trace.ensures.advances) in
     rest.turned
 
 pub returns-clause-trace : goal.returns-clause-trace
@@ -20,7 +20,7 @@ returns-clause-trace g c =
     let inside : c.args.cpu.now.mid ≡ Some c.in-Some.mid = ap (λ (k : CpuValue). k.mid) (sym state) ∙ c.in-Some.is in
     let six : length c.in-Some.mid.bytes ≡ 6 = ap (λ (m : MidValue). length m.bytes) (sym c.mid.view_is) ∙ c.mid.invariant.bytes in
     let rest = middle-told c.args.tape.now.entries c.args.cpu.now c.in-Some.mid c.args.bus.now (traced c.trace_rest-trace.new.bus c.trace_rest-trace.result) c.trace_rest-trace.new.cpu
-    inside (rw c.state.ensures.value at c.state.ensures.place) six c.requires.between (rw c.new.ensures at c.trace_rest-trace.ensures.advances) in
+    inside (rw c.state.ensures.value at c.state.ensures.place) six c.requires.ready.between (rw c.new.ensures at c.trace_rest-trace.ensures.advances) in
     let entries = c.args.tape.now.entries in
     let q = c.in-Some.mid.sequence in
     c.named.ensures

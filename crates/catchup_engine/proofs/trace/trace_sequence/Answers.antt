@@ -7,7 +7,7 @@ pub returns-then-is_some-clause-run : goal.returns-then-is_some-clause-run
 returns-then-is_some-clause-run g c =
     let state = c.behind-cpu.view_is ∙ c.state.ensures.value in
     let jammed : is_some c.args.cpu.now.jam ≡ true = ap (λ (k : CpuValue). is_some k.jam) (sym state) ∙ sym c.is_some.ensures ∙ c.if-is_some.true in
-    jammed-run c.args.tape.now.entries c.args.cpu.now c.args.bus.now c.requires.between jammed (rw c.state.ensures.value at c.state.ensures.place) c.requires.range
+    jammed-run c.args.tape.now.entries c.args.cpu.now c.args.bus.now c.requires.ready.between jammed (rw c.state.ensures.value at c.state.ensures.place) c.requires.range
 
 pub returns-then-is_some-clause-trace : goal.returns-then-is_some-clause-trace
 returns-then-is_some-clause-trace g c =

@@ -10,4 +10,4 @@ returns-in-Some-clause-turned g c =
     let inside : c.args.cpu.now.mid ≡ Some c.in-Some.mid = ap (λ (k : CpuValue). k.mid) (sym state) ∙ c.in-Some.is in
     let six : length c.in-Some.mid.bytes ≡ 6 = ap (λ (m : MidValue). length m.bytes) (sym c.mid.view_is) ∙ c.mid.invariant.bytes in
     resume-turn c.args.tape.now.entries c.args.cpu.now c.in-Some.mid c.args.clocks c.resume-made.result c.args.bus.now c.resume-made.new.bus c.resume-made.new.self
-    inside (rw c.state.ensures.value at c.state.ensures.place) six c.requires.between c.requires.some c.resume-made.ensures.advances
+    inside (rw c.state.ensures.value at c.state.ensures.place) six c.requires.ready.between c.requires.ready.some c.resume-made.ensures.advances
