@@ -1,4 +1,4 @@
-ghost use Rattle.std.specs.Prelude.{◌≡◌, ◌+◌, ◌-◌, ◌≤◌, ◌<◌, ◌==◌, ◌||◌, true, false, None, IfSome, IfOk, min};
+ghost use Rattle.std.specs.Prelude.{◌≡◌, ◌+◌, ◌-◌, ◌≤◌, ◌<◌, ◌==◌, ◌||◌, true, false, None, IfSome, IfOk, All, min};
 ghost use Rattle.cpu_core.specs.Places.{IsMiddle};
 ghost use Rattle.cpu_table.specs.Opcodes.{row_of};
 ghost use Rattle.lockstep_board.specs.Breaks.{is_at_any, BreakRun};
@@ -352,6 +352,25 @@ impl<V: VectorUnit, P: SoundUnit, C: CellUnit, D: DividerUnit> Engine<V, P, C, D
         self.bus.is_halted()
     }
 
+    /// The cells of the EAROM.
+    pub fn earom_cells(&self) -> [u8; 64]
+        requires settled { self.now.lagging ≡ 0 }
+        ensures { result ≡ self.now.board.peripherals.earom.cells }
+    {
+        self.bus.earom_cells()
+    }
+
+    /// The levels of the four channels of POKEY 1, and those of POKEY 2, each 0 to 15.
+    pub fn sound_levels(&self) -> ([u8; 4], [u8; 4])
+        requires settled { self.now.lagging ≡ 0 }
+        ensures sound1 { result.0 ≡ self.now.board.peripherals.sound1.last }
+        ensures sound2 { result.1 ≡ self.now.board.peripherals.sound2.last }
+        ensures range1 { All (λ level. level < 16) result.0 }
+        ensures range2 { All (λ level. level < 16) result.1 }
+    {
+        self.bus.sound_levels()
+    }
+
     /// The byte at an address of the RAM, the vector RAM or a ROM; none elsewhere.
     pub fn byte_at(&self, addr: u16) -> Option<u8>
         ensures { result ≡ memory_byte addr self.now.board.peripherals }
@@ -397,6 +416,7 @@ impl<V: VectorUnit, P: SoundUnit, C: CellUnit, D: DividerUnit> Engine<V, P, C, D
     pub fn lemma_range(&self)
         requires settled { self.now.lagging ≡ 0 }
         ensures placed { IsPlaced self.now.board }
+        ensures clock { self.now.board.peripherals.clock ≤ CLOCK_LIMIT + 16 }
         ensures phase { self.now.board.peripherals.divider.phase < DIVIDER_PERIOD }
     {
         if let Some(mid) = self.cpu.state().mid {

@@ -1,5 +1,5 @@
 //! A machine: what the crates above an engine ask of it, in words of the engine's value.
-ghost use Rattle.std.specs.Prelude.{◌≡◌, ◌+◌, ◌-◌, ◌≤◌, ◌<◌, ◌||◌, true, None, IfSome};
+ghost use Rattle.std.specs.Prelude.{◌≡◌, ◌+◌, ◌-◌, ◌≤◌, ◌<◌, ◌||◌, true, None, IfSome, All};
 ghost use Rattle.board_base.specs.declared.divider.TheConstants.{DIVIDER_PERIOD};
 ghost use Rattle.cpu_core.specs.Places.{IsMiddle};
 ghost use Rattle.cpu_table.specs.Opcodes.{row_of};
@@ -147,6 +147,19 @@ pub trait Machine {
         requires settled { (value self.now).lagging ≡ 0 }
         ensures { result ≡ (value self.now).board.peripherals.vg.halted };
 
+    /// The cells of the EAROM.
+    fn earom_cells(&self) -> [u8; 64]
+        requires settled { (value self.now).lagging ≡ 0 }
+        ensures { result ≡ (value self.now).board.peripherals.earom.cells };
+
+    /// The levels of the four channels of POKEY 1, and those of POKEY 2, each 0 to 15.
+    fn sound_levels(&self) -> ([u8; 4], [u8; 4])
+        requires settled { (value self.now).lagging ≡ 0 }
+        ensures sound1 { result.0 ≡ (value self.now).board.peripherals.sound1.last }
+        ensures sound2 { result.1 ≡ (value self.now).board.peripherals.sound2.last }
+        ensures range1 { All (λ level. level < 16) result.0 }
+        ensures range2 { All (λ level. level < 16) result.1 };
+
     /// The byte at an address of the RAM, the vector RAM or a ROM; none elsewhere.
     fn byte_at(&self, addr: u16) -> Option<u8>
         ensures { result ≡ memory_byte addr (value self.now).board.peripherals };
@@ -173,6 +186,7 @@ pub trait Machine {
     fn lemma_range(&self)
         requires settled { (value self.now).lagging ≡ 0 }
         ensures placed { IsPlaced (value self.now).board }
+        ensures clock { (value self.now).board.peripherals.clock ≤ CLOCK_LIMIT + 16 }
         ensures phase { (value self.now).board.peripherals.divider.phase < DIVIDER_PERIOD };
 }
 
@@ -232,6 +246,16 @@ impl<V: VectorUnit, P: SoundUnit, C: CellUnit, D: DividerUnit> Machine for Engin
     #[inline(always)]
     fn is_halted(&self) -> bool {
         self.is_halted()
+    }
+
+    #[inline(always)]
+    fn earom_cells(&self) -> [u8; 64] {
+        self.earom_cells()
+    }
+
+    #[inline(always)]
+    fn sound_levels(&self) -> ([u8; 4], [u8; 4]) {
+        self.sound_levels()
     }
 
     #[inline(always)]

@@ -1,16 +1,24 @@
 //! The board at rest: its devices synced, its state, and its records.
-ghost use Rattle.std.specs.Prelude.{◌≡◌, ◌+◌, ◌≤◌, ◌<◌, ◌==◌, IsSome, []};
+ghost use Rattle.std.specs.Prelude.{◌≡◌, ◌+◌, ◌≤◌, ◌<◌, ◌==◌, All, IsSome, []};
 ghost use Rattle.catchup_engine.specs.Lags.{all_lag, lagging_among, lagging_of, none_lags, with_brought};
 ghost use Rattle.lockstep_board.specs.Peripherals.{board_of};
 
 use crate::bus::clocking::catch_up_divider;
 use crate::bus::{BoardBus, TRAIL_ROOM};
 use avg_device::VectorUnit;
-use board_base::{BoardState, CLOCK_LIMIT, CpuState, DIVIDER_PERIOD, Trails};
+use board_base::{BoardState, CLOCK_LIMIT, CpuState, DIVIDER_PERIOD, PokeyState, Trails};
 use earom_cells::CellUnit;
 use irq_watchdog::DividerUnit;
 use lockstep_board::{ALL_DEVICES, DeviceSet};
 use pokey_chip::SoundUnit;
+
+/// The levels of the four channels of a POKEY.
+fn levels_of(sound: &PokeyState) -> [u8; 4]
+    ensures last { result ≡ sound.now.last }
+    ensures range { All (λ level. level < 16) result }
+{
+    sound.last
+}
 
 impl<V: VectorUnit, P: SoundUnit, C: CellUnit, D: DividerUnit> BoardBus<V, P, C, D> {
     /// Brings the generator to the present, by one call where it lags and by none where it stands there.
@@ -165,6 +173,30 @@ impl<V: VectorUnit, P: SoundUnit, C: CellUnit, D: DividerUnit> BoardBus<V, P, C,
         into.earom = self.cells.unit.state();
         into.ram.copy_from_slice(&self.ram);
         into.vram.copy_from_slice(self.memory.ram());
+    }
+
+    /// The cells of the EAROM.
+    #[tactic(auto, using(board_base::proofs::TickLaws::level, crate::proofs::SettledLaws::settled))]
+    pub fn earom_cells(&self) -> [u8; 64]
+        requires settled { lagging_of self.now.lagging ≡ 0 }
+        ensures { result ≡ self.now.peripherals.earom.cells }
+    {
+        self.cells.unit.state().cells
+    }
+
+    /// The levels of the four channels of POKEY 1, and those of POKEY 2.
+    #[tactic(auto, using(board_base::proofs::TickLaws::level, crate::proofs::SettledLaws::settled))]
+    pub fn sound_levels(&self) -> ([u8; 4], [u8; 4])
+        requires settled { lagging_of self.now.lagging ≡ 0 }
+        ensures sound1 { result.0 ≡ self.now.peripherals.sound1.last }
+        ensures sound2 { result.1 ≡ self.now.peripherals.sound2.last }
+        ensures range1 { All (λ level. level < 16) result.0 }
+        ensures range2 { All (λ level. level < 16) result.1 }
+    {
+        (
+            levels_of(&self.sound1.unit.state()),
+            levels_of(&self.sound2.unit.state()),
+        )
     }
 
     /// The records of each part since the last clearing.
