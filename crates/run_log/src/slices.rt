@@ -17,7 +17,7 @@ use crate::board_bytes::{Saved, load_saved};
 use crate::log_writer::run_slice;
 use crate::outside_fault::OutsideFault;
 use avg_device::VectorUnit;
-use board_base::{BoardState, CLOCK_LIMIT};
+use board_base::CLOCK_LIMIT;
 use catchup_engine::{Engine, Machine};
 use earom_cells::CellUnit;
 use irq_watchdog::DividerUnit;
@@ -87,9 +87,7 @@ fn write_ending<M: Machine, O: Sink>(
 fn cells_of<M: Machine>(synced: &SyncedMachine<'_, M>) -> [u8; 64]
     ensures { result ≡ (value_of synced.now).board.peripherals.earom.cells }
 {
-    let mut state = BoardState::power_on();
-    synced.machine().state(&mut state);
-    state.earom.cells
+    synced.machine().earom_cells()
 }
 
 /// Runs to the end, writes the lines, the last line and the device calls where they are asked for,

@@ -9,7 +9,7 @@ ghost use Rattle.sound_pcm.specs.declared.mixer.TheConstants.{MAX_PER};
 ghost use Rattle.run_samples.specs.BoardSamples.{sampled_bytes, IsMixerOf};
 ghost use Rattle.run_samples.specs.Sampling.{CanMix, IsSamplerOf, sampled_in_parts, sampler_after, samples_in};
 
-use board_base::{BoardState, CLOCK_LIMIT, PokeyState, Trails};
+use board_base::{CLOCK_LIMIT, Trails};
 use catchup_engine::Machine;
 use outside_io::{Sink, SinkFault};
 use run_windows::{RecordObserver, SyncedMachine, Until};
@@ -41,14 +41,6 @@ impl RecordObserver for Sampler {
     }
 }
 
-/// The four levels that a POKEY puts out.
-fn levels_of(sound: &PokeyState) -> [u8; 4]
-    ensures last { result ≡ sound.now.last }
-    ensures levels { AreLevels result }
-{
-    sound.last
-}
-
 /// A mixer that begins a group of `per` clocks, with these levels of both POKEYs.
 fn mixer_of(clock: u64, per: u32, first: [u8; 4], second: [u8; 4]) -> Mixer
     requires some { 1 ≤ per }
@@ -69,11 +61,10 @@ fn mixer_at<M: Machine>(synced: &SyncedMachine<'_, M>, per: u32) -> Mixer
     ensures mixer { IsMixerOf (value_of synced.now).board per result }
     ensures clock { (value_of synced.now).board.peripherals.clock ≤ CLOCK_LIMIT + 16 }
 {
-    let mut state = BoardState::power_on();
-    synced.machine().state(&mut state);
-    let first = levels_of(&state.sound1);
-    let second = levels_of(&state.sound2);
-    mixer_of(state.clock, per, first, second)
+    let machine = synced.machine();
+    machine.lemma_range();
+    let (first, second) = machine.sound_levels();
+    mixer_of(machine.clock(), per, first, second)
 }
 
 impl Sampler {

@@ -11,7 +11,7 @@ ghost use Rattle.run_trace.specs.Framing.{after_part, after_run, framer_after_tu
 ghost use Rattle.run_trace.specs.FramingLaws.{framed_in_parts, framed_still};
 
 use arrayvec::ArrayVec;
-use board_base::{BoardState, CLOCK_LIMIT, Trails};
+use board_base::{CLOCK_LIMIT, Trails};
 use catchup_engine::{Machine, Tracer, TurnNote};
 use frame_list::{Frames, has_starts, start_clocks};
 use log_text::write_last;
@@ -81,10 +81,10 @@ fn framer_at<M: Machine>(synced: &SyncedMachine<'_, M>) -> Framer
     ensures marks { result.marks ≡ [] }
     ensures clock { (value_of synced.now).board.peripherals.clock ≤ CLOCK_LIMIT + 16 }
 {
-    let mut state = BoardState::power_on();
-    synced.machine().state(&mut state);
+    let machine = synced.machine();
+    machine.lemma_range();
     Framer {
-        frames: Frames::new(state.clock),
+        frames: Frames::new(machine.clock()),
         marks: ArrayVec::new(),
     }
 }
