@@ -16,7 +16,7 @@ use Rattle.asm_core.specs.declared.placed.Placed.{Placed}
 use Rattle.asm_core.specs.Cells.{all_fine, is_in_range, size_of}
 use Rattle.asm_core.specs.Expressions.{NameValues, value_of}
 use Rattle.asm_core.specs.Images.{at_the_start}
-use Rattle.asm_core.specs.Laws.{HasNoOrigin, IsAddressBehind, IsInPlace, ReadLine, body_size, lines_read, line_origin, origin_value, sizes_of}
+use Rattle.asm_core.specs.Laws.{HasNoOrigin, IsAddressAfter, IsInPlace, ReadLine, body_size, lines_read, line_origin, origin_value, sizes_of}
 use Rattle.asm_core.specs.Lines.{Language}
 use Rattle.asm_core.specs.Passes.{Known, body_looked_at, pass_one, found_before, is_in_rom, is_named, line_read, looked_at, meets, ranged, room_for, text_looked_at, then_on, unless, with_label, with_name}
 use Rattle.asm_core.proofs.Apart.{fine, ok-same, then-ok, unless-ok}
@@ -48,7 +48,7 @@ behind-none at (read ∷ lines) none =
     let sum : at + size + sizes_of lines ≡ at + sizes_of (read ∷ lines) = omega (arith, sizes) in
     ap (λ a. address_behind a lines) here ∙ rest ∙ sum
 
-is-behind : (first : ℕ) (lines : List ReadLine) → IsAddressBehind first lines (address_behind first lines)
+is-behind : (first : ℕ) (lines : List ReadLine) → IsAddressAfter first lines (address_behind first lines)
 is-behind first lines = record {
   last = λ before between org value split given none.
       ap (λ all. address_behind first all) split
@@ -212,7 +212,7 @@ pub lines-all : (language : Language) (rom : Rom) (number : ℕ) (known next : K
 lines-all language rom number known next texts is = (pass-behind language rom number known next texts is).0
 
 pub lines-behind : (language : Language) (rom : Rom) (number : ℕ) (known next : Known) (texts : List (List ℕ))
-    → pass_one language rom number known texts ≡ Ok next → IsAddressBehind known.at (lines_read language rom number known texts) next.at
+    → pass_one language rom number known texts ≡ Ok next → IsAddressAfter known.at (lines_read language rom number known texts) next.at
 lines-behind language rom number known next texts is =
     rw ((pass-behind language rom number known next texts is).1) (is-behind known.at (lines_read language rom number known texts))
 

@@ -82,7 +82,7 @@ sizes_of lines = sum_by (λ read. body_size read.line.body) lines
 
 -- the address behind lines that begin at the address `first`: the value of their last `.org` and
 -- the sizes of the lines behind it, or `first` and the sizes of all
-pub record IsAddressBehind (first : ℕ) (lines : List ReadLine) (addr : ℕ) : Type 0 where
+pub record IsAddressAfter (first : ℕ) (lines : List ReadLine) (addr : ℕ) : Type 0 where
   pub last : (before between : List ReadLine) → (org : ReadLine) → (value : ℕ) → lines ≡ before ++ org ∷ between → line_origin org ≡ Some value → All HasNoOrigin between
       → addr ≡ value + sizes_of between
   pub none : All HasNoOrigin lines → addr ≡ first + sizes_of lines
@@ -96,4 +96,4 @@ pub record IsInPlace (lines : List ReadLine) (placed : Placed) : Type 0 where
   pub split : lines ≡ before ++ line ∷ behind
   pub number : placed.line ≡ 1 + length before
   pub gives : line.line.body ≡ body.Gives placed.cells
-  pub at : IsAddressBehind 0 before placed.at
+  pub at : IsAddressAfter 0 before placed.at

@@ -1,7 +1,7 @@
 ghost use Rattle.std.specs.Prelude.{◌≡◌, ◌+◌, ◌^◌, ◌≤◌, IfOk, IfSome, pos, unsigned_abs};
 ghost use Rattle.asm_core.specs.Expressions.{expression_of, minus_of, operand_of, operand_value, part_of, part_of_sum, sum_of, sum_value, summed, terms_of, value_of};
 
-use crate::{List, Name, Names, Word, Words, behind_mark};
+use crate::{List, Name, Names, Word, Words, after_mark};
 use board_base::OutOfMemory;
 use std::alloc::Global;
 
@@ -92,7 +92,7 @@ fn read_terms<'a>(
 fn read_sum<'a>(alloc: Global, words: &Words<'a>) -> Result<Option<List<Term<'a>>>, OutOfMemory>
     ensures { IfOk result (λ read. read ≡ sum_of words.now) }
 {
-    match behind_mark(words, b'-') {
+    match after_mark(words, b'-') {
         Some(rest) => read_terms(alloc, true, &rest),
         None => read_terms(alloc, false, words),
     }
@@ -120,9 +120,9 @@ pub fn read_expression<'a>(
 ) -> Result<Option<Expression<'a>>, OutOfMemory>
     ensures { IfOk result (λ read. read ≡ expression_of words.now) }
 {
-    if let Some(sum) = behind_mark(words, b'<') {
+    if let Some(sum) = after_mark(words, b'<') {
         read_part(alloc, Part::Low, &sum)
-    } else if let Some(sum) = behind_mark(words, b'>') {
+    } else if let Some(sum) = after_mark(words, b'>') {
         read_part(alloc, Part::High, &sum)
     } else {
         read_part(alloc, Part::Whole, words)

@@ -5,7 +5,7 @@ ghost use Rattle.rom_image.specs.declared.image.TheConstants.{IMAGE_LEN};
 ghost use Rattle.asm_core.specs.declared.dialect.Rom.{Rom};
 ghost use Rattle.asm_core.specs.PassOne.{IsRom};
 ghost use Rattle.asm_core.specs.Images.{at_the_start, pass_two};
-ghost use Rattle.asm_core.specs.Laws.{AreApart, AreInRom, HasBytes, IsAddressBehind, IsInPlace, lines_read};
+ghost use Rattle.asm_core.specs.Laws.{AreApart, AreInRom, HasBytes, IsAddressAfter, IsInPlace, lines_read};
 ghost use Rattle.asm_core.specs.Lines.{Language};
 ghost use Rattle.asm_core.specs.Passes.{Known, pass_one, then_on};
 
@@ -56,7 +56,7 @@ pub fn addresses_count_from_the_last_origin()
     ensures all { (language : Language) → (rom : Rom) → (number : ℕ) → (known next : Known) → (texts : List (List ℕ))
         → pass_one language rom number known texts ≡ Ok next → length (lines_read language rom number known texts) ≡ length texts }
     ensures known { (language : Language) → (rom : Rom) → (number : ℕ) → (known next : Known) → (texts : List (List ℕ))
-        → pass_one language rom number known texts ≡ Ok next → IsAddressBehind known.at (lines_read language rom number known texts) next.at }
+        → pass_one language rom number known texts ≡ Ok next → IsAddressAfter known.at (lines_read language rom number known texts) next.at }
     ensures placed { (language : Language) → (rom : Rom) → (text : List ℕ) → (known : Known)
         → pass_one language rom 1 at_the_start (lines_with_ends text) ≡ Ok known → All (IsInPlace (lines_read language rom 1 at_the_start (lines_with_ends text))) known.placed }
 {}

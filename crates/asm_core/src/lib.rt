@@ -29,7 +29,7 @@ pub use dialect::{Dialect, Form, Rom};
 pub use expression::{Expression, Operand, Part, Term, read_expression, value};
 pub use item_list::{read_list, value_cell};
 pub use line::{Body, Line};
-pub use line_words::{Words, before_close, begins_with, behind_mark, split_item};
+pub use line_words::{Words, after_mark, before_close, begins_with, split_item};
 pub use list::List;
 pub use listing::{Listing, ListingLine};
 pub use name::Name;

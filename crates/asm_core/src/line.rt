@@ -6,7 +6,7 @@ ghost use Rattle.asm_core.specs.Words.{items_of};
 
 use crate::item_list::read_list;
 use crate::{
-    Cells, Dialect, Expression, Form, Name, Names, WORD, Word, Words, behind_mark, is_plain,
+    Cells, Dialect, Expression, Form, Name, Names, WORD, Word, Words, after_mark, is_plain,
     read_expression,
 };
 use board_base::OutOfMemory;
@@ -36,7 +36,7 @@ pub struct Line<'a> {
 fn read_label<'a>(first: &Word<'a>, rest: &Words<'a>) -> Option<(Name<'a>, Words<'a>)>
     ensures { result ≡ option_map (λ name. (name, drop 2 (first.now ∷ rest.now))) (label_of (first.now ∷ rest.now)) }
 {
-    let behind = behind_mark(rest, b':')?;
+    let behind = after_mark(rest, b':')?;
     Some((first.plain_name()?, behind))
 }
 
@@ -49,7 +49,7 @@ fn read_equals<'a>(
     ensures body { IfOk result (λ read. read ≡ equals_of name.now rest.now) }
     ensures cells { IfOk result (λ read. IfSome read IsBody) }
 {
-    let Some(given) = behind_mark(rest, b'=') else {
+    let Some(given) = after_mark(rest, b'=') else {
         return Ok(None);
     };
     if !is_plain(name.bytes()) {

@@ -17,7 +17,7 @@ fn is_blank_byte(byte: u8) -> bool
 
 /// The code behind the blanks at its front.
 #[tactic(auto, using(crate::proofs::WordPieces::words))]
-fn behind_blanks(code: &[u8]) -> &[u8]
+fn after_blanks(code: &[u8]) -> &[u8]
     ensures words { words_in result.now ≡ words_in code.now }
     ensures front { begins_blank result.now ≡ false }
 {
@@ -72,7 +72,7 @@ impl<'a> Words<'a> {
     pub fn split_first(&self) -> Option<(Word<'a>, Words<'a>)>
         ensures { self.now ≡ option_map_or (λ split. split.0 ∷ split.1) result [] }
     {
-        let code = behind_blanks(self.code);
+        let code = after_blanks(self.code);
         let first = *code.first()?;
         let (piece, after) = split_piece(code);
         Some((read_word(first, piece), Words::new(after)))
@@ -92,7 +92,7 @@ impl<'a> Words<'a> {
     pub fn is_empty(&self) -> bool
         ensures { (result ≡ true) ↔ (self.now ≡ []) }
     {
-        behind_blanks(self.code).is_empty()
+        after_blanks(self.code).is_empty()
     }
 }
 
@@ -101,7 +101,7 @@ impl<'a> Words<'a> {
 pub fn begins_with(words: &Words, mark: u8) -> bool
     ensures { result ≡ begins_with mark words.now }
 {
-    match behind_blanks(words.code) {
+    match after_blanks(words.code) {
         [first, ..] => is_mark_byte(mark, *first),
         [] => false,
     }
@@ -109,10 +109,10 @@ pub fn begins_with(words: &Words, mark: u8) -> bool
 
 /// The words behind the first, where that is this punctuation mark.
 #[tactic(auto, using(crate::proofs::WordPieces::words))]
-pub fn behind_mark<'a>(words: &Words<'a>, mark: u8) -> Option<Words<'a>>
+pub fn after_mark<'a>(words: &Words<'a>, mark: u8) -> Option<Words<'a>>
     ensures { result ≡ (if begins_with mark words.now then Some (drop 1 words.now) else None) }
 {
-    match behind_blanks(words.code) {
+    match after_blanks(words.code) {
         [first, rest @ ..] if is_mark_byte(mark, *first) => Some(Words::new(rest)),
         _ => None,
     }

@@ -1,7 +1,7 @@
 ghost use Rattle.std.specs.Prelude.{◌≡◌};
 ghost use Rattle.asm_cpu.specs.Operands.{closes_x, indexed_shape, indirect_shape, is_letter, is_register, shape_of, whole_shape};
 
-use asm_core::{Word, Words, before_close, behind_mark, split_item};
+use asm_core::{Word, Words, before_close, after_mark, split_item};
 
 /// How an operand with an expression `e` is written.
 #[derive(Clone, Copy, Debug, PartialEq, Eq)]
@@ -56,9 +56,9 @@ fn closes_x(words: &Words) -> bool
 fn whole_shape<'a>(words: &Words<'a>) -> Option<(Shape, Words<'a>)>
     ensures { result ≡ whole_shape words.now }
 {
-    if let Some(rest) = behind_mark(words, b'#') {
+    if let Some(rest) = after_mark(words, b'#') {
         Some((Shape::Immediate, rest))
-    } else if let Some(rest) = behind_mark(words, b'(') {
+    } else if let Some(rest) = after_mark(words, b'(') {
         Some((Shape::Indirect, before_close(&rest)?))
     } else {
         Some((Shape::Direct, words.copied()))
@@ -82,7 +82,7 @@ fn indirect_shape<'a>(words: &Words<'a>, index: &Words) -> Option<(Shape, Words<
 fn indexed_shape<'a>(words: &Words<'a>, index: &Words) -> Option<(Shape, Words<'a>)>
     ensures { result ≡ indexed_shape words.now index.now }
 {
-    if let Some(rest) = behind_mark(words, b'(') {
+    if let Some(rest) = after_mark(words, b'(') {
         indirect_shape(&rest, index)
     } else if is_register(index, b'x') {
         Some((Shape::IndexedX, words.copied()))

@@ -12,7 +12,7 @@ use Rattle.board_base.specs.Ticks.{made, ticks}
 use Rattle.board_base.specs.Vg.{VgValue}
 use Rattle.board_base.specs.declared.phase.TheConstants.{LOW_BYTE, HIGH_BYTE, SECOND_LOW, SECOND_HIGH, EXECUTE, DRAW}
 use Rattle.avg_device.specs.Leap.{drawn_for, long_done, memory_word, short_done, strokes_for}
-use Rattle.avg_device.specs.Tick.{drawn, ended, executed, high_byte, high_read, low_byte, low_read, next_word, obeyed, phase_after, phase_done, second_high_read, second_low_read, stroke_at, strokes_at, vg_gives, vg_tick, word_at}
+use Rattle.avg_device.specs.Tick.{drawn, ended, executed, high_byte, high_read, low_byte, low_read, next_word, word_executed, phase_after, phase_done, second_high_read, second_low_read, stroke_at, strokes_at, vg_gives, vg_tick, word_at}
 
 -- one tick
 pub ticks_one : (m : List ℕ) (t : ℕ) (v : VgValue) → ticks (vg_tick m) t 1 v ≡ vg_tick m t v
@@ -141,19 +141,19 @@ both_words [] low high low' high' four = absurd (omega arith)
 
 -- words that don't look at a second one
 abbrev IsAlone : VgWord → Type 0
-IsAlone word = (s t : ℤ × ℕ) (v : VgValue) → obeyed word s v ≡ obeyed word t v
+IsAlone word = (s t : ℤ × ℕ) (v : VgValue) → word_executed word s v ≡ word_executed word t v
 
 either_alone : (b : Bool) (x y : VgWord) → IsAlone x → IsAlone y → IsAlone (if b then x else y)
 either_alone true x y one other = one
 either_alone false x y one other = other
 
 setting_alone : (w : ℕ) → IsAlone (setting_of w)
-unfolding obeyed
+unfolding word_executed
 setting_alone w = either_alone (field w 12 1 == 0) _ _ (λ s t v. refl) (λ s t v. refl)
 
 -- of the eight words only the first looks at it
 later_alone : (w k : ℕ) → IsAlone (slice_index_or (words_of w) (suc k) Halt)
-unfolding obeyed
+unfolding word_executed
 later_alone w zero s t v = refl
 later_alone w (suc zero) s t v = refl
 later_alone w (suc (suc zero)) s t v = setting_alone w s t v

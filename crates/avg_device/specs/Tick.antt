@@ -69,21 +69,21 @@ begun dx dy z v = record v {
 }
 
 -- what a word does; a long vector takes its distance in x and its brightness from a second word
-unfoldable pub obeyed : VgWord → ℤ × ℕ → VgValue → VgValue
-obeyed (Vctr dy) second v = begun second.0 dy second.1 v
-obeyed Halt second v = record v { halted = true }
-obeyed (Svec dx dy z) second v = begun dx dy z v
-obeyed (Stat colour intensity) second v = record v { colour = colour; intensity = intensity }
-obeyed (Scal bin lin) second v = record v { bin = bin; lin = lin }
-obeyed Cntr second v = record v { x = pos 0; y = pos 0 }
-obeyed (Jsrl to) second v = record v { stack = slice_set v.stack v.sp v.pc; sp = (v.sp + 1) % 4; pc = to }
-obeyed Rtsl second v = record v { sp = (v.sp + 3) % 4; pc = slice_index v.stack ((v.sp + 3) % 4) }
-obeyed (Jmpl to) second v = record v { pc = to }
+unfoldable pub word_executed : VgWord → ℤ × ℕ → VgValue → VgValue
+word_executed (Vctr dy) second v = begun second.0 dy second.1 v
+word_executed Halt second v = record v { halted = true }
+word_executed (Svec dx dy z) second v = begun dx dy z v
+word_executed (Stat colour intensity) second v = record v { colour = colour; intensity = intensity }
+word_executed (Scal bin lin) second v = record v { bin = bin; lin = lin }
+word_executed Cntr second v = record v { x = pos 0; y = pos 0 }
+word_executed (Jsrl to) second v = record v { stack = slice_set v.stack v.sp v.pc; sp = (v.sp + 1) % 4; pc = to }
+word_executed Rtsl second v = record v { sp = (v.sp + 3) % 4; pc = slice_index v.stack ((v.sp + 3) % 4) }
+word_executed (Jmpl to) second v = record v { pc = to }
 
 -- the word that was read is done, and its bytes are forgotten
 unfoldable pub executed : VgValue → VgValue
 executed v =
-    obeyed (word_of (word_at v.bytes 0)) (second_of (word_at v.bytes 2)) (record v { phase = LOW_BYTE; bytes = replicate 4 0 })
+    word_executed (word_of (word_at v.bytes 0)) (second_of (word_at v.bytes 2)) (record v { phase = LOW_BYTE; bytes = replicate 4 0 })
 
 -- the beam after a vector
 abbrev pub beam_x : VgValue → ℤ

@@ -1,6 +1,6 @@
 ghost use Rattle.std.specs.Prelude.{◌≡◌, ◌<◌, ◌+◌, ◌%◌, slice_index, slice_set};
 ghost use Rattle.avg_decode.specs.Word.{IsInRange, IsLong};
-ghost use Rattle.avg_device.specs.Tick.{begun, executed, obeyed, pen_of};
+ghost use Rattle.avg_device.specs.Tick.{begun, executed, word_executed, pen_of};
 
 use avg_decode::{VgWord, second, word_kind};
 use avg_draw::{delta, draw_clocks};
@@ -55,14 +55,14 @@ fn rtsl(state: &mut VgState)
 }
 
 /// Does what a word says. A long vector has its `dx` and its `z` in `second`.
-#[tactic(auto, unfolding(crate::specs::Tick::obeyed))]
+#[tactic(auto, unfolding(crate::specs::Tick::word_executed))]
 #[inline(always)]
 pub(crate) fn execute_word(state: &mut VgState, word: VgWord, second: (i16, u8))
     requires phase { state.old.phase ≡ LOW_BYTE }
     requires word { IsInRange word }
     requires dx { IsLong second.0 }
     requires z { second.1 < 8 }
-    ensures { state.new ≡ obeyed word second state.old }
+    ensures { state.new ≡ word_executed word second state.old }
 {
     match word {
         VgWord::Vctr { dy } => begin(state, second.0, dy, second.1),

@@ -32,7 +32,7 @@ use Rattle.tape_ports.specs.declared.entry.Port.TheVariants as port
 use Rattle.tape_ports.specs.declared.entry.TapeEntry.{TapeEntry}
 use Rattle.tape_ports.specs.Due.{due_at}
 use Rattle.lockstep_board.specs.Lockstep.{Board, accessed, accessed_by, after_access, at_fetch, begun, sequence_due, step}
-use Rattle.lockstep_board.specs.Ranges.{AreBytes, AreWiresInRange, IsBoardInRange, IsPokeyInRange}
+use Rattle.lockstep_board.specs.Ranges.{AreBytes, ArePeripheralsInRange, IsBoardInRange, IsPokeyInRange}
 use Rattle.lockstep_board.specs.Run.{stepped}
 use Rattle.lockstep_board.specs.Peripherals.{Peripherals, applied, byte_in, byte_put, byte_read, devices_ticked, in0_byte, port_set, put_in, reset_begun, reset_by, ticked}
 use Rattle.lockstep_board.proofs.DividerRange.{divider_tick-in_range}
@@ -46,7 +46,7 @@ set_bytes len bytes k value byte h = record {
   each = All-set IsByte bytes k value byte h.each;
 }
 
-port_set_in : (p : Port) (value : ℕ) (w : Peripherals) → IsByte value → AreWiresInRange w → AreWiresInRange (port_set p value w)
+port_set_in : (p : Port) (value : ℕ) (w : Peripherals) → IsByte value → ArePeripheralsInRange w → ArePeripheralsInRange (port_set p value w)
 port_set_in port.In0 value w byte h =
     record {
       out = h.out;
@@ -127,14 +127,14 @@ port_set_in (port.Pot2 which) value w byte h =
 abbrev HasByte : TapeEntry → Type 0
 HasByte entry = IsByte entry.value
 
-applied_in : (entries : List TapeEntry) (w : Peripherals) → All HasByte entries → AreWiresInRange w → AreWiresInRange (applied entries w)
+applied_in : (entries : List TapeEntry) (w : Peripherals) → All HasByte entries → ArePeripheralsInRange w → ArePeripheralsInRange (applied entries w)
 unfolding applied
 applied_in [] w all h = h
 applied_in (entry ∷ entries) w all h =
     applied_in entries (port_set entry.port entry.value w) (All-tail HasByte entry entries all)
     (port_set_in entry.port entry.value w (All-head HasByte entry entries all) h)
 
-devices_ticked_in : (w : Peripherals) → AreWiresInRange w → AreWiresInRange (devices_ticked w)
+devices_ticked_in : (w : Peripherals) → ArePeripheralsInRange w → ArePeripheralsInRange (devices_ticked w)
 unfolding devices_ticked
 devices_ticked_in w h =
     record {
@@ -152,7 +152,7 @@ devices_ticked_in w h =
       program = h.program;
     }
 
-ticked_in : (entries : List TapeEntry) (w : Peripherals) → All HasByte entries → AreWiresInRange w → AreWiresInRange (ticked entries w)
+ticked_in : (entries : List TapeEntry) (w : Peripherals) → All HasByte entries → ArePeripheralsInRange w → ArePeripheralsInRange (ticked entries w)
 unfolding ticked
 ticked_in entries w all h =
     devices_ticked_in (applied (due_at w.clock entries) w)
@@ -179,7 +179,7 @@ register_read_in reg p h =
     let other : IsByte 255 = omega arith in
     either_byte _ _ _ pot (either_byte _ _ _ (all_pot_in p h) (either_byte _ _ _ random (either_byte _ _ _ status other)))
 
-in0_byte_in : (w : Peripherals) → AreWiresInRange w → IsByte (in0_byte w)
+in0_byte_in : (w : Peripherals) → ArePeripheralsInRange w → IsByte (in0_byte w)
 in0_byte_in w h = bits w.in0 _ _ h.in0
   where
     bits : (n : ℕ) (halted high : Bool) → n < 64 → IsByte (n + (if halted then 64 else 0) + (if high then 128 else 0))
@@ -188,7 +188,7 @@ in0_byte_in w h = bits w.in0 _ _ h.in0
     bits n false true h = omega arith
     bits n false false h = omega arith
 
-byte_in_in : (got : Reads) (k : ℕ) (w : Peripherals) → AreWiresInRange w → IsByte (byte_in got k w)
+byte_in_in : (got : Reads) (k : ℕ) (w : Peripherals) → ArePeripheralsInRange w → IsByte (byte_in got k w)
 byte_in_in reads.Ram k w h = byte_at w.ram k h.ram.each
 byte_in_in reads.VectorRam k w h = byte_at w.memory k h.memory.each
 byte_in_in reads.VectorRom k w h = byte_at w.memory (VECTOR_RAM_LEN + k) h.memory.each
@@ -201,11 +201,11 @@ byte_in_in reads.In4 k w h = h.in4
 byte_in_in reads.ProgramRom k w h = byte_at w.program k h.program.each
 byte_in_in _ k w h = omega arith
 
-byte_read_in : (address : ℕ) (w : Peripherals) → AreWiresInRange w → IsByte (byte_read address w)
+byte_read_in : (address : ℕ) (w : Peripherals) → ArePeripheralsInRange w → IsByte (byte_read address w)
 unfolding byte_read
 byte_read_in address w h = byte_in_in (row_of address).reads (row_of address).offset w h
 
-put_in_in : (put : Writes) (k value : ℕ) (w : Peripherals) → IsWritable put k → IsByte value → AreWiresInRange w → AreWiresInRange (put_in put k value w)
+put_in_in : (put : Writes) (k value : ℕ) (w : Peripherals) → IsWritable put k → IsByte value → ArePeripheralsInRange w → ArePeripheralsInRange (put_in put k value w)
 put_in_in writes.Ram k value w at byte h =
     record {
       out = h.out;
@@ -375,11 +375,11 @@ put_in_in writes.WatchdogClear k value w at byte h =
     }
 put_in_in _ k value w at byte h = h
 
-byte_put_in : (address value : ℕ) (w : Peripherals) → IsByte value → AreWiresInRange w → AreWiresInRange (byte_put address value w)
+byte_put_in : (address value : ℕ) (w : Peripherals) → IsByte value → ArePeripheralsInRange w → ArePeripheralsInRange (byte_put address value w)
 unfolding byte_put
 byte_put_in address value w byte h = put_in_in (row_of address).writes (row_of address).offset value w (writable address) byte h
 
-reset_by_in : (p : Pending) (w : Peripherals) → AreWiresInRange w → AreWiresInRange (reset_by p w)
+reset_by_in : (p : Pending) (w : Peripherals) → ArePeripheralsInRange w → ArePeripheralsInRange (reset_by p w)
 reset_by_in Watchdog w h =
     let d : IsDivider w.divider = h.divider in
     record {
@@ -440,7 +440,7 @@ some-push bytes v = let long = length-append bytes (v ∷ []) in omega arith
 
 -- the next access of a sequence, made
 accessed_by_in : (next : Next) (r : RegistersValue) (q : Sequence) (bytes : List ℕ) (w : Peripherals) → next_of r q bytes ≡ next
-    → AreRegistersInRange r → All IsByte bytes → (q ≡ Reset → is_masked r.p ≡ true) → AreWiresInRange w → IsBoardInRange (accessed_by next r q bytes w)
+    → AreRegistersInRange r → All IsByte bytes → (q ≡ Reset → is_masked r.p ≡ true) → ArePeripheralsInRange w → IsBoardInRange (accessed_by next r q bytes w)
 accessed_by_in (Read address) r q bytes w is regs all mask h = record {
   cpu = standing_in r q (bytes ++ byte_read address w ∷ []) regs
       (All-push IsByte bytes (byte_read address w) all (byte_read_in address w h)) (some-push bytes (byte_read address w)) mask;
@@ -455,11 +455,11 @@ accessed_by_in (Write address value) r q bytes w is regs all mask h =
 accessed_by_in (End e) r q bytes w is regs all mask h = record { cpu = end_in r q bytes e is regs all; peripherals = h }
 
 accessed_in : (r : RegistersValue) (q : Sequence) (bytes : List ℕ) (w : Peripherals) → AreRegistersInRange r → All IsByte bytes
-    → (q ≡ Reset → is_masked r.p ≡ true) → AreWiresInRange w → IsBoardInRange (accessed r q bytes w)
+    → (q ≡ Reset → is_masked r.p ≡ true) → ArePeripheralsInRange w → IsBoardInRange (accessed r q bytes w)
 unfolding accessed
 accessed_in r q bytes w regs all mask h = accessed_by_in (next_of r q bytes) r q bytes w refl regs all mask h
 
-at_fetch_in : (c : CpuValue) (w : Peripherals) → IsProcessorInRange c → AreWiresInRange w → IsBoardInRange (at_fetch c w)
+at_fetch_in : (c : CpuValue) (w : Peripherals) → IsProcessorInRange c → ArePeripheralsInRange w → IsBoardInRange (at_fetch c w)
 unfolding at_fetch
 at_fetch_in c w cpu h =
     let q = sequence_due c w in
@@ -481,7 +481,7 @@ middle_of (Some n) P m e k = k
 place_of : (c : CpuValue) (m : MidValue) → c.mid ≡ Some m → IsProcessor c → IsPlace (registers_of c) m
 place_of c m is h = some-is (IsPlace (registers_of c)) c.mid m is (middle_of c.mid (IsMiddle c) m is h.place).1
 
-after_access_in : (mid : Option MidValue) (c : CpuValue) (w : Peripherals) → c.mid ≡ mid → IsProcessorInRange c → AreWiresInRange w
+after_access_in : (mid : Option MidValue) (c : CpuValue) (w : Peripherals) → c.mid ≡ mid → IsProcessorInRange c → ArePeripheralsInRange w
     → IsBoardInRange (after_access mid c w)
 after_access_in None c w is cpu h = at_fetch_in c w cpu h
 after_access_in (Some m) c w is cpu h =

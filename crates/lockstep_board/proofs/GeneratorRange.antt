@@ -13,7 +13,7 @@ use Rattle.avg_decode.specs.Word.{IsLong, second_of, setting_of, short_distance,
 use Rattle.avg_draw.specs.Beam.{binary_digits, clocks_of, delta_of, held}
 use Rattle.avg_draw.proofs.Scales.{delta_high, delta_low, digits_are, digits_few, power_bound, scale_bound}
 use Rattle.board_base.specs.declared.phase.TheConstants.{LOW_BYTE, HIGH_BYTE, SECOND_LOW, SECOND_HIGH, EXECUTE, DRAW}
-use Rattle.avg_device.specs.Tick.{begun, drawn, ended, executed, high_byte, high_read, low_byte, low_read, obeyed, pen_of, phase_after, phase_done, second_high_read, second_low_read, vg_go, vg_reset, vg_tick, word_at}
+use Rattle.avg_device.specs.Tick.{begun, drawn, ended, executed, high_byte, high_read, low_byte, low_read, word_executed, pen_of, phase_after, phase_done, second_high_read, second_low_read, vg_go, vg_reset, vg_tick, word_at}
 use Rattle.board_base.specs.Ranges.{IsWithin}
 use Rattle.board_base.specs.Vg.{VgValue, IsVg}
 use Rattle.cpu_core.specs.Ranges.{IsByte}
@@ -167,8 +167,8 @@ begun_in dx dy z v wide high code h =
     }
 
 obeyed_in : (word : VgWord) (second : ℤ × ℕ) (v : VgValue) → IsWord word → IsLong second.0 → second.1 < 8 → IsVgInRange v
-    → IsVgInRange (obeyed word second v)
-unfolding obeyed
+    → IsVgInRange (word_executed word second v)
+unfolding word_executed
 obeyed_in (Vctr dy) second v word far code h = begun_in second.0 dy second.1 v far word code h
 obeyed_in Halt second v word far code h =
     let d : IsVg v = h.device in

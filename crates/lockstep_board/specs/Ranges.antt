@@ -40,7 +40,7 @@ pub record IsEaromInRange (e : EaromValue) : Type 0 where
 
 -- peripherals in range: the output latch and the ports are bytes, the first port of six bits, each
 -- device is in range, and each memory has its bytes; of the clock nothing is said
-pub record AreWiresInRange (w : Peripherals) : Type 0 where
+pub record ArePeripheralsInRange (w : Peripherals) : Type 0 where
   pub out : IsByte w.out
   pub in0 : w.in0 < 64
   pub in3 : IsByte w.in3
@@ -57,4 +57,4 @@ pub record AreWiresInRange (w : Peripherals) : Type 0 where
 -- a board in range
 pub record IsBoardInRange (b : Board) : Type 0 where
   pub cpu : IsProcessorInRange b.cpu
-  pub peripherals : AreWiresInRange b.peripherals
+  pub peripherals : ArePeripheralsInRange b.peripherals

@@ -33,7 +33,7 @@ is-later c k p v is small = by_place (cases_lt k v.due)
     by_place (inl h) = h
     by_place (inr h) =
         let now : due_at v.clock_source (pulse_of v) ≤ k = omega (arith, is.timed.due) in
-        absurd (omega (arith, late v.clock_source (pulse_of v) k is.timed.prescaler is.timed.some small now, is.paced_by k, is.next, is.some))
+        absurd (omega (arith, late v.clock_source (pulse_of v) k is.timed.prescaler is.timed.some small now, is.pulses_are k, is.next, is.some))
 
 -- a channel comes to the clock `at`, before which it isn't due
 module _ (c : Channel) (k at : ℕ) (p : PokeyValue) (v : Voice) (is : IsVoice c k p v) (later : k < at) (small : at ≤ 2 ^ 49) (due : at ≤ v.due) where
@@ -128,12 +128,12 @@ module _ (c : Channel) (k at n : ℕ) (p : PokeyValue) (v : Voice) (is : IsVoice
   pub is-left : IsLeft v n
   is-left = record {
     prescaler = is.timed.prescaler;
-    some = omega (arith, at-end.next, at-end.some, at-end.paced_by n);
-    most = omega (arith, at-end.next, at-end.most, at-end.paced_by n);
+    some = omega (arith, at-end.next, at-end.some, at-end.pulses_are n);
+    most = omega (arith, at-end.next, at-end.most, at-end.pulses_are n);
   }
 
   pub left-end : left_of_voice v n ≡ left_of c (times pokey_tick n p)
-  left-end = omega (arith, at-end.next, at-end.paced_by n)
+  left-end = omega (arith, at-end.next, at-end.pulses_are n)
 
   pub none-end : HasNoUnderflow (times pokey_tick k p) c (n - k)
   none-end = none-before c k p v is (n - k) (omega arith)

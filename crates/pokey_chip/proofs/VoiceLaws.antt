@@ -13,7 +13,7 @@ use Rattle.pokey_chip.specs.declared.clock_source.ClockSource.{ClockSource}
 use Rattle.pokey_chip.specs.declared.clock_source.ClockSource.TheVariants.{Never, ChipClock, By28, By114}
 use Rattle.pokey_chip.specs.declared.voice.Voice.{Voice}
 use Rattle.pokey_chip.specs.Moves.{due_at, pulse_at, pulse_of, step_of, IsEarly, IsPassed, IsTimed, IsVoice}
-use Rattle.pokey_chip.specs.Paces.{IsPace, paced}
+use Rattle.pokey_chip.specs.ClockSources.{IsClockSource, source_pulses}
 use Rattle.pokey_chip.specs.Pulses.{HasNoUnderflow, has_pulse, pulses_of}
 use Rattle.pokey_chip.specs.Tick.{base_pulses, left_of, pokey_tick, underflows}
 use Rattle.pokey_chip.proofs.CountLaws.{left-is, underflow-is}
@@ -30,20 +30,20 @@ pulses-few period count (suc n) = one-more (pulsed period _) (pulses period coun
     one-more true m n h = omega arith
     one-more false m n h = omega arith
 
-pub paced-few : (clock_source : ClockSource) (n : ℕ) → paced clock_source n ≤ n
-paced-few Never n = omega arith
-paced-few ChipClock n = omega arith
-paced-few (By28 count) n = pulses-few 28 count n
-paced-few (By114 count) n = pulses-few 114 count n
+pub source_pulses-few : (clock_source : ClockSource) (n : ℕ) → source_pulses clock_source n ≤ n
+source_pulses-few Never n = omega arith
+source_pulses-few ChipClock n = omega arith
+source_pulses-few (By28 count) n = pulses-few 28 count n
+source_pulses-few (By114 count) n = pulses-few 114 count n
 
 -- before a pulse's clock fewer pulses come, and from then on as many or more
-pub early : (clock_source : ClockSource) (pulse j : ℕ) → IsPace clock_source → 1 ≤ pulse → j < due_at clock_source pulse → paced clock_source j < pulse
+pub early : (clock_source : ClockSource) (pulse j : ℕ) → IsClockSource clock_source → 1 ≤ pulse → j < due_at clock_source pulse → source_pulses clock_source j < pulse
 early Never pulse j is some h = some
 early ChipClock pulse j is some h = h
 early (By28 count) pulse j is some h = pulses-before 28 count pulse j is h
 early (By114 count) pulse j is some h = pulses-before 114 count pulse j is h
 
-pub late : (clock_source : ClockSource) (pulse j : ℕ) → IsPace clock_source → 1 ≤ pulse → j ≤ 2 ^ 49 → due_at clock_source pulse ≤ j → pulse ≤ paced clock_source j
+pub late : (clock_source : ClockSource) (pulse j : ℕ) → IsClockSource clock_source → 1 ≤ pulse → j ≤ 2 ^ 49 → due_at clock_source pulse ≤ j → pulse ≤ source_pulses clock_source j
 late Never pulse j is some small h = absurd (omega arith)
 late ChipClock pulse j is some small h = h
 late (By28 count) pulse j is some small h = omega (arith, pulses-reached 28 count pulse is some, pulses-grow 28 count (pulse * 28 - count) j h)
@@ -53,10 +53,10 @@ late (By114 count) pulse j is some small h = omega (arith, pulses-reached 114 co
 pub due-few : (v : Voice) (at : ℕ) → IsTimed v → at ≤ 2 ^ 49 → v.due ≡ at → pulse_of v ≤ at
 due-few v at timed small e =
     let h : due_at v.clock_source (pulse_of v) ≤ at = omega (arith, timed.due) in
-    omega (arith, late v.clock_source (pulse_of v) at timed.prescaler timed.some small h, paced-few v.clock_source at)
+    omega (arith, late v.clock_source (pulse_of v) at timed.prescaler timed.some small h, source_pulses-few v.clock_source at)
 
 -- a step later it is due with the last pulse of its next period
-next-due : (clock_source : ClockSource) (pulse period : ℕ) → IsPace clock_source → 1 ≤ pulse → due_at clock_source pulse ≤ 2 ^ 49
+next-due : (clock_source : ClockSource) (pulse period : ℕ) → IsClockSource clock_source → 1 ≤ pulse → due_at clock_source pulse ≤ 2 ^ 49
     → due_at clock_source pulse + step_of clock_source period ≡ due_at clock_source (pulse + period)
 next-due Never pulse period is some small = absurd (omega arith)
 next-due ChipClock pulse period is some small = refl
@@ -77,7 +77,7 @@ pulse-next (By28 count) due none period e small = omega arith
 pulse-next (By114 count) due none period e small = omega arith
 
 -- a pulse comes with its clock
-pub pulse-due : (clock_source : ClockSource) (pulse : ℕ) → IsPace clock_source → 1 ≤ pulse → pulse_at clock_source (due_at clock_source pulse) pulse ≡ pulse
+pub pulse-due : (clock_source : ClockSource) (pulse : ℕ) → IsClockSource clock_source → 1 ≤ pulse → pulse_at clock_source (due_at clock_source pulse) pulse ≡ pulse
 pulse-due Never pulse is some = refl
 pulse-due ChipClock pulse is some = refl
 pulse-due (By28 count) pulse is some = omega (arith, is)
@@ -114,7 +114,7 @@ pub passed : (v : Voice) (at due : ℕ) → IsTimed v → at ≤ 2 ^ 49 → due 
 passed v at due timed small e = passed-by (v.due == at) v at due refl timed small e
 
 -- where the pulse is near, its clock is
-pub near : (clock_source : ClockSource) (due none n : ℕ) → pulse_at clock_source due none ≤ paced clock_source n + 65542 → n ≤ 2 ^ 49 → IsEarly clock_source due
+pub near : (clock_source : ClockSource) (due none n : ℕ) → pulse_at clock_source due none ≤ source_pulses clock_source n + 65542 → n ≤ 2 ^ 49 → IsEarly clock_source due
 near Never due none n few small = tt
 near ChipClock due none n few small = tt
 near (By28 count) due none n few small = omega (arith, pulses-few 28 count n)
@@ -144,8 +144,8 @@ module _ (c : Channel) (k : ℕ) (p : PokeyValue) (v : Voice) (is : IsVoice c k 
   pub none-before : (m : ℕ) → k + m < v.due → HasNoUnderflow (times pokey_tick k p) c m
   none-before m h =
       let soon : k + m < due_at v.clock_source (pulse_of v) = omega (arith, is.timed.due) in
-      let few : paced v.clock_source (k + m) < pulse_of v = early v.clock_source (pulse_of v) (k + m) is.timed.prescaler is.timed.some soon in
-      omega (arith, few, pulses_of-add c k m p, is.paced_by (k + m), is.next)
+      let few : source_pulses v.clock_source (k + m) < pulse_of v = early v.clock_source (pulse_of v) (k + m) is.timed.prescaler is.timed.some soon in
+      omega (arith, few, pulses_of-add c k m p, is.pulses_are (k + m), is.next)
 
   -- and it goes on with the same pulse
   pub goes-on : (m : ℕ) → k + m < v.due → IsVoice c (k + m) p v
@@ -157,7 +157,7 @@ module _ (c : Channel) (k : ℕ) (p : PokeyValue) (v : Voice) (is : IsVoice c k 
       = ap (left_of c) (times-add pokey_tick k m p) in
       record {
         timed = is.timed;
-        paced_by = is.paced_by;
+        pulses_are = is.pulses_are;
         period = is.period;
         next = omega (arith, at, fallen, pulses_of-add c k m p, is.next);
         some = omega (arith, at, fallen, none);
@@ -194,15 +194,15 @@ module _ (c : Channel) (j : ℕ) (p : PokeyValue) (v : Voice) (is : IsVoice c j 
       by_place : (suc j < v.due) ⊎ (v.due ≤ suc j) → underflows (base_pulses (times pokey_tick j p)) (times pokey_tick j p) c ≡ (v.due == suc j)
       by_place (inl h) =
           let later : suc j < due_at v.clock_source (pulse_of v) = omega (arith, is.timed.due) in
-          let few : paced v.clock_source (suc j) < pulse_of v = early v.clock_source (pulse_of v) (suc j) is.timed.prescaler is.timed.some later in
+          let few : source_pulses v.clock_source (suc j) < pulse_of v = early v.clock_source (pulse_of v) (suc j) is.timed.prescaler is.timed.some later in
           let sum : pulses_of c (suc j) p ≡ pulses_of c j p + from_bool (has_pulse c (times pokey_tick j p)) = refl in
-          no-underflow c (times pokey_tick j p) (omega (arith, few, sum, is.paced_by (suc j), is.next)) ∙ sym (later-test v.due (suc j) h)
+          no-underflow c (times pokey_tick j p) (omega (arith, few, sum, is.pulses_are (suc j), is.next)) ∙ sym (later-test v.due (suc j) h)
       by_place (inr h) =
           let now : due_at v.clock_source (pulse_of v) ≤ suc j = omega (arith, is.timed.due) in
-          let many : pulse_of v ≤ paced v.clock_source (suc j) = late v.clock_source (pulse_of v) (suc j) is.timed.prescaler is.timed.some small now in
+          let many : pulse_of v ≤ source_pulses v.clock_source (suc j) = late v.clock_source (pulse_of v) (suc j) is.timed.prescaler is.timed.some small now in
           let sum : pulses_of c (suc j) p ≡ pulses_of c j p + from_bool (has_pulse c (times pokey_tick j p)) = refl in
           underflow-is (base_pulses (times pokey_tick j p)) (times pokey_tick j p) c
-          ∙ last-taken (has_pulse c (times pokey_tick j p)) (left_of c (times pokey_tick j p)) is.some (omega (arith, many, sum, is.paced_by (suc j), is.next))
+          ∙ last-taken (has_pulse c (times pokey_tick j p)) (left_of c (times pokey_tick j p)) is.some (omega (arith, many, sum, is.pulses_are (suc j), is.next))
           ∙ sym (now-test v.due (suc j) soon h)
 
   left-then : left_of c (times pokey_tick (suc j) p)
@@ -226,7 +226,7 @@ module _ (c : Channel) (j : ℕ) (p : PokeyValue) (v : Voice) (is : IsVoice c j 
       (counted-next (has_pulse c (times pokey_tick j p)) (left_of c (times pokey_tick j p)) v.period (pulses_of c j p) (pulse_of v) is.next is.some) in
       record {
         timed = passed.timed;
-        paced_by = λ n. is.paced_by n ∙ ap (λ (clock_source : ClockSource). paced clock_source n) (sym passed.clock_source);
+        pulses_are = λ n. is.pulses_are n ∙ ap (λ (clock_source : ClockSource). source_pulses clock_source n) (sym passed.clock_source);
         period = passed.period ∙ is.period;
         next = sum ∙ ap (λ (b : Bool). if b then pulse_of v + v.period else pulse_of v) due-is ∙ sym passed.pulse;
         some = rw left-then range.0;

@@ -1,6 +1,6 @@
 pub mod Channels
 pub mod Moves
-pub mod Paces
+pub mod ClockSources
 pub mod Pulses
 pub mod Quiet
 pub mod Registers

@@ -11,7 +11,7 @@ use Rattle.pokey_chip.specs.declared.clock_source.ClockSource.{ClockSource}
 use Rattle.pokey_chip.specs.declared.clock_source.ClockSource.TheVariants.{Never, ChipClock, By28, By114}
 use Rattle.pokey_chip.specs.declared.voice.Voice.{Voice}
 use Rattle.pokey_chip.specs.Channels.{period_of}
-use Rattle.pokey_chip.specs.Paces.{IsPace, paced}
+use Rattle.pokey_chip.specs.ClockSources.{IsClockSource, source_pulses}
 use Rattle.pokey_chip.specs.Pulses.{pulses_of}
 use Rattle.pokey_chip.specs.Tick.{left_of, pokey_tick, underflow_effect}
 
@@ -49,7 +49,7 @@ step_of (By114 count) period = period * PRESCALER_LINE
 
 -- a channel's next underflow comes with a pulse to come, and in the clock of that pulse
 pub record IsTimed (v : Voice) : Type 0 where
-  pub prescaler : IsPace v.clock_source
+  pub prescaler : IsClockSource v.clock_source
   pub some : 1 ≤ pulse_of v
   pub few : pulse_of v ≤ CLOCK_END + LONGEST_PERIOD
   pub low : 1 ≤ v.period
@@ -66,19 +66,19 @@ pub record IsPassed (at : ℕ) (before after : Voice) : Type 0 where
 
 -- the pulses that are left of a channel after n clocks
 abbrev pub left_of_voice : Voice → ℕ → ℕ
-left_of_voice v n = pulse_of v - paced v.clock_source n
+left_of_voice v n = pulse_of v - source_pulses v.clock_source n
 
 -- a channel that hasn't come to its underflow in n clocks, and is within a period of it
 pub record IsLeft (v : Voice) (n : ℕ) : Type 0 where
-  pub prescaler : IsPace v.clock_source
-  pub some : paced v.clock_source n < pulse_of v
-  pub most : pulse_of v ≤ paced v.clock_source n + LONGEST_PERIOD
+  pub prescaler : IsClockSource v.clock_source
+  pub some : source_pulses v.clock_source n < pulse_of v
+  pub most : pulse_of v ≤ source_pulses v.clock_source n + LONGEST_PERIOD
 
 -- a channel after `done` clocks of a move: its pulses, its period, and the pulse with which it
 -- underflows next
 pub record IsVoice (c : Channel) (done : ℕ) (p : PokeyValue) (v : Voice) : Type 0 where
   pub timed : IsTimed v
-  pub paced_by : (n : ℕ) → pulses_of c n p ≡ paced v.clock_source n
+  pub pulses_are : (n : ℕ) → pulses_of c n p ≡ source_pulses v.clock_source n
   pub period : v.period ≡ period_of p.audf p.audctl c
   pub next : left_of c (times pokey_tick done p) + pulses_of c done p ≡ pulse_of v
   pub some : 1 ≤ left_of c (times pokey_tick done p)

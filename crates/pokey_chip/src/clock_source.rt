@@ -1,5 +1,5 @@
 ghost use Rattle.std.specs.Prelude.{◌≡◌, ℕ, ◌≤◌};
-ghost use Rattle.pokey_chip.specs.Paces.{IsPace, paced};
+ghost use Rattle.pokey_chip.specs.ClockSources.{IsClockSource, source_pulses};
 ghost use Rattle.pokey_chip.specs.Pulses.{pulses_of};
 
 use crate::channel::Channel;
@@ -27,8 +27,8 @@ impl ClockSource {
     #[inline(always)]
     #[tactic(auto, using(crate::proofs::PulseLaws::paces))]
     pub fn of(state: &PokeyState, channel: Channel) -> ClockSource
-        ensures pulses { (n : ℕ) → pulses_of channel n state.now ≡ paced result n }
-        ensures prescaler { IsPace result }
+        ensures pulses { (n : ℕ) → pulses_of channel n state.now ≡ source_pulses result n }
+        ensures prescaler { IsClockSource result }
     {
         if channel.is_still(state.audctl) {
             ClockSource::Never
@@ -49,8 +49,8 @@ impl ClockSource {
     #[inline(always)]
     pub fn pulses(self, n: u64) -> u64
         requires n { n ≤ CLOCK_END }
-        requires prescaler { IsPace self }
-        ensures { result ≡ paced self n }
+        requires prescaler { IsClockSource self }
+        ensures { result ≡ source_pulses self n }
     {
         match self {
             ClockSource::Never => 0,

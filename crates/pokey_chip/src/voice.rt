@@ -2,7 +2,7 @@ ghost use Rattle.std.specs.Prelude.{◌≡◌, ◌+◌, ◌<◌, ◌==◌, ◌�
 ghost use Rattle.pokey_chip.specs.declared.channel.Channel.{Channel as AnyChannel};
 ghost use Rattle.pokey_chip.specs.Tones.{has, of_channel};
 ghost use Rattle.pokey_chip.specs.Moves.{due_at, pulse_at, step_of, IsEarly, IsLeft, IsPassed, IsTimed, IsVoice, left_of_voice};
-ghost use Rattle.pokey_chip.specs.Paces.{IsPace};
+ghost use Rattle.pokey_chip.specs.ClockSources.{IsClockSource};
 
 use crate::channel::Channel;
 use crate::clock_source::ClockSource;
@@ -24,7 +24,7 @@ pub struct Voice {
 /// The clock with which a pulse comes.
 #[inline(always)]
 fn clock_of(clock_source: ClockSource, pulse: u64) -> u64
-    requires prescaler { IsPace clock_source }
+    requires prescaler { IsClockSource clock_source }
     requires some { 1 ≤ pulse }
     requires few { pulse ≤ CLOCK_END + LONGEST_PERIOD }
     ensures { result ≡ due_at clock_source pulse }

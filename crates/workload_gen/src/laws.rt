@@ -23,6 +23,6 @@ pub fn bytes_by_their_addresses()
     ensures words { (seed k : ℕ) → k < length (words_of seed) → HasWord (image_of seed) (0x2800 + 2 * k) (slice_index (words_of seed) k) }
     ensures program { (seed k : ℕ) → k < length program → byte_of (image_of seed) (0x9000 + k) ≡ Some (slice_index program k) }
     ensures vectors { (seed k : ℕ) → k < length interrupt_vectors → byte_of (image_of seed) (0xFFFA + k) ≡ Some (slice_index interrupt_vectors k) }
-    ensures behind_words { (seed addr : ℕ) → 0x2A72 ≤ addr → addr < 0x6000 → byte_of (image_of seed) addr ≡ Some 0 }
-    ensures behind_program { (seed addr : ℕ) → 0x9049 ≤ addr → addr < 0xFFFA → byte_of (image_of seed) addr ≡ Some 0 }
+    ensures after_words { (seed addr : ℕ) → 0x2A72 ≤ addr → addr < 0x6000 → byte_of (image_of seed) addr ≡ Some 0 }
+    ensures after_program { (seed addr : ℕ) → 0x9049 ≤ addr → addr < 0xFFFA → byte_of (image_of seed) addr ≡ Some 0 }
 {}

@@ -1,7 +1,7 @@
 use Rattle.std.proofs.Common.{◌≡◌, true, get_or, ◌∙◌}
 use Rattle.asm_core.specs.Words.{is_blank_byte}
 use Rattle.asm_core.proofs.WordPieces.{words-skip}
-use Rattle.asm_core.proofs.line_words.behind_blanks.Goals as goal
+use Rattle.asm_core.proofs.line_words.after_blanks.Goals as goal
 
 pub blanks-preserved : goal.blanks-preserved
 blanks-preserved c =

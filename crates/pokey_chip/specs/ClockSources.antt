@@ -6,15 +6,15 @@ use Rattle.pokey_chip.specs.declared.clock_source.ClockSource.{ClockSource}
 use Rattle.pokey_chip.specs.declared.clock_source.ClockSource.TheVariants.{Never, ChipClock, By28, By114}
 
 -- the pulses of n clocks
-abbrev pub paced : ClockSource → ℕ → ℕ
-paced Never n = 0
-paced ChipClock n = n
-paced (By28 count) n = pulses PRESCALER_BASE count n
-paced (By114 count) n = pulses PRESCALER_LINE count n
+abbrev pub source_pulses : ClockSource → ℕ → ℕ
+source_pulses Never n = 0
+source_pulses ChipClock n = n
+source_pulses (By28 count) n = pulses PRESCALER_BASE count n
+source_pulses (By114 count) n = pulses PRESCALER_LINE count n
 
 -- a prescaler's count is below its period
-abbrev pub IsPace : ClockSource → Type 0
-IsPace Never = Unit {0}
-IsPace ChipClock = Unit {0}
-IsPace (By28 count) = count < PRESCALER_BASE
-IsPace (By114 count) = count < PRESCALER_LINE
+abbrev pub IsClockSource : ClockSource → Type 0
+IsClockSource Never = Unit {0}
+IsClockSource ChipClock = Unit {0}
+IsClockSource (By28 count) = count < PRESCALER_BASE
+IsClockSource (By114 count) = count < PRESCALER_LINE
