@@ -3,7 +3,7 @@ ghost use Rattle.std.specs.Option.{option_map_or};
 ghost use Rattle.asm_core.specs.Words.{items_of};
 ghost use Rattle.asm_avg.specs.Operands.{fields_of, operands_of};
 
-use asm_core::{Field, Place, Row, Words, read_expression, split_item};
+use asm_core::{Field, List, Place, Words, read_expression, split_item};
 use board_base::OutOfMemory;
 use std::alloc::Global;
 
@@ -25,11 +25,11 @@ pub(crate) fn read_fields<'a>(
     origin: u32,
     places: &[Place],
     words: &Words<'a>,
-) -> Result<Option<Row<Field<'a>>>, OutOfMemory>
+) -> Result<Option<List<Field<'a>>>, OutOfMemory>
     ensures fields { IfOk result (λ read. read ≡ fields_of origin places.now (operands_of words.now)) }
     ensures places { IfOk result (λ read. IfSome read (λ fields. map (λ field. field.place) fields ≡ places.now)) }
 {
-    let mut fields = Row::new(alloc);
+    let mut fields = List::new(alloc);
     let mut list = operand_list(words);
     'places: for place in places {
         let Some(rest) = list else {

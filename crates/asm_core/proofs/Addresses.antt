@@ -18,7 +18,7 @@ use Rattle.asm_core.specs.Expressions.{NameValues, value_of}
 use Rattle.asm_core.specs.Images.{at_the_start}
 use Rattle.asm_core.specs.Laws.{HasNoOrigin, IsAddressBehind, IsInPlace, ReadLine, body_size, lines_read, line_origin, origin_value, sizes_of}
 use Rattle.asm_core.specs.Lines.{Language}
-use Rattle.asm_core.specs.Rounds.{Known, body_looked_at, first_round, found_before, is_in_rom, is_named, line_read, looked_at, meets, ranged, room_for, text_looked_at, then_on, unless, with_label, with_name}
+use Rattle.asm_core.specs.Passes.{Known, body_looked_at, pass_one, found_before, is_in_rom, is_named, line_read, looked_at, meets, ranged, room_for, text_looked_at, then_on, unless, with_label, with_name}
 use Rattle.asm_core.proofs.Apart.{fine, ok-same, then-ok, unless-ok}
 
 -- the address behind a line, by its `.org` or by its size
@@ -144,16 +144,16 @@ unfolding lines_read
 lines-next language rom number known next text texts line read looked = rw (read, looked) refl
 
 -- each line is read, and the address goes on from line to line
-round-behind : (language : Language) (rom : Rom) (number : ℕ) (known after : Known) (texts : List (List ℕ))
-    → first_round language rom number known texts ≡ Ok after
+pass-behind : (language : Language) (rom : Rom) (number : ℕ) (known after : Known) (texts : List (List ℕ))
+    → pass_one language rom number known texts ≡ Ok after
     → (length (lines_read language rom number known texts) ≡ length texts) × (after.at ≡ address_behind known.at (lines_read language rom number known texts))
-unfolding first_round lines_read
-round-behind language rom number known after [] is = (refl, ap (λ (k : Known). k.at) (sym (ok-same known after is)))
-round-behind language rom number known after (text ∷ texts) is =
-    let next = then-ok (λ (k : Known). first_round language rom (number + 1) k texts) (text_looked_at language rom number known text) after is in
+unfolding pass_one lines_read
+pass-behind language rom number known after [] is = (refl, ap (λ (k : Known). k.at) (sym (ok-same known after is)))
+pass-behind language rom number known after (text ∷ texts) is =
+    let next = then-ok (λ (k : Known). pass_one language rom (number + 1) k texts) (text_looked_at language rom number known text) after is in
     let first = line-steps language rom number known next.0 text next.1 in
     let lines = lines-next language rom number known next.0 text texts first.line first.read first.looked in
-    let rest = round-behind language rom (number + 1) next.0 after texts next.2 in (
+    let rest = pass-behind language rom (number + 1) next.0 after texts next.2 in (
       ap length lines ∙ ap (λ n. Prim.Native.Nat.suc n) rest.0,
       rest.1 ∙ ap (λ a. address_behind a (lines_read language rom (number + 1) next.0 texts)) first.steps.0 ∙ sym (ap (λ all. address_behind known.at all) lines),
     )
@@ -168,16 +168,16 @@ record IsAmong (number first : ℕ) (lines : List ReadLine) (placed : Placed) : 
   gives : line.line.body ≡ Gives placed.cells
   at : placed.at ≡ address_behind first before
 
-round-placed : (language : Language) (rom : Rom) (number : ℕ) (known after : Known) (texts : List (List ℕ))
-    → first_round language rom number known texts ≡ Ok after → (P : Placed → Type 0) → All P known.placed
+pass-placed : (language : Language) (rom : Rom) (number : ℕ) (known after : Known) (texts : List (List ℕ))
+    → pass_one language rom number known texts ≡ Ok after → (P : Placed → Type 0) → All P known.placed
     → ((placed : Placed) → IsAmong number known.at (lines_read language rom number known texts) placed → P placed) → All P after.placed
-unfolding first_round
-round-placed language rom number known after [] is P earlier told = rw (← ok-same known after is) earlier
-round-placed language rom number known after (text ∷ texts) is P earlier told =
-    let next = then-ok (λ (k : Known). first_round language rom (number + 1) k texts) (text_looked_at language rom number known text) after is in
+unfolding pass_one
+pass-placed language rom number known after [] is P earlier told = rw (← ok-same known after is) earlier
+pass-placed language rom number known after (text ∷ texts) is P earlier told =
+    let next = then-ok (λ (k : Known). pass_one language rom (number + 1) k texts) (text_looked_at language rom number known text) after is in
     let first = line-steps language rom number known next.0 text next.1 in
     let lines = lines-next language rom number known next.0 text texts first.line first.read first.looked in
-    round-placed language rom (number + 1) next.0 after texts next.2 P
+    pass-placed language rom (number + 1) next.0 after texts next.2 P
     (placed-next first lines)
     (λ placed among. told placed (record {
       before = record { names = known.names; line = first.line } ∷ among.before;
@@ -208,19 +208,19 @@ round-placed language rom number known after (text ∷ texts) is P earlier told 
     ]
 
 pub lines-all : (language : Language) (rom : Rom) (number : ℕ) (known next : Known) (texts : List (List ℕ))
-    → first_round language rom number known texts ≡ Ok next → length (lines_read language rom number known texts) ≡ length texts
-lines-all language rom number known next texts is = (round-behind language rom number known next texts is).0
+    → pass_one language rom number known texts ≡ Ok next → length (lines_read language rom number known texts) ≡ length texts
+lines-all language rom number known next texts is = (pass-behind language rom number known next texts is).0
 
 pub lines-behind : (language : Language) (rom : Rom) (number : ℕ) (known next : Known) (texts : List (List ℕ))
-    → first_round language rom number known texts ≡ Ok next → IsAddressBehind known.at (lines_read language rom number known texts) next.at
+    → pass_one language rom number known texts ≡ Ok next → IsAddressBehind known.at (lines_read language rom number known texts) next.at
 lines-behind language rom number known next texts is =
-    rw ((round-behind language rom number known next texts is).1) (is-behind known.at (lines_read language rom number known texts))
+    rw ((pass-behind language rom number known next texts is).1) (is-behind known.at (lines_read language rom number known texts))
 
 pub source-placed : (language : Language) (rom : Rom) (text : List ℕ) (known : Known)
-    → first_round language rom 1 at_the_start (lines_with_ends text) ≡ Ok known → All (IsInPlace (lines_read language rom 1 at_the_start (lines_with_ends text))) known.placed
+    → pass_one language rom 1 at_the_start (lines_with_ends text) ≡ Ok known → All (IsInPlace (lines_read language rom 1 at_the_start (lines_with_ends text))) known.placed
 source-placed language rom text known is =
     let lines = lines_read language rom 1 at_the_start (lines_with_ends text) in
-    round-placed language rom 1 at_the_start known (lines_with_ends text) is (IsInPlace lines) (λ k d within. absurd (omega arith))
+    pass-placed language rom 1 at_the_start known (lines_with_ends text) is (IsInPlace lines) (λ k d within. absurd (omega arith))
     (λ placed among. record {
       before = among.before;
       line = among.line;

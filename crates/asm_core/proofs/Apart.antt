@@ -18,13 +18,13 @@ use Rattle.asm_core.specs.declared.placed.Placed.{Placed}
 use Rattle.std.specs.Option.{option_map_or}
 use Rattle.asm_core.specs.Cells.{all_fine, size_of}
 use Rattle.asm_core.specs.Expressions.{NameValues}
-use Rattle.asm_core.specs.FirstRound.{gives}
+use Rattle.asm_core.specs.PassOne.{gives}
 use Rattle.asm_core.specs.Laws.{AreApart, AreInRom, IsInRom}
 use Rattle.asm_core.specs.Lines.{Language}
-use Rattle.asm_core.specs.Rounds.{Known, body_looked_at, first_round, found_before, is_in_rom, is_named, line_read, looked_at, meets, ranged, room_for, text_looked_at, then_on, unless, with_label, with_name}
+use Rattle.asm_core.specs.Passes.{Known, body_looked_at, pass_one, found_before, is_in_rom, is_named, line_read, looked_at, meets, ranged, room_for, text_looked_at, then_on, unless, with_label, with_name}
 use Rattle.asm_core.proofs.Covering.{both_pass, given-by}
 
--- what is told where nothing was refused
+-- what is known where nothing was refused
 pub unless-ok : {X : Type 0} (bad : Bool) (number : ℕ) (cause : AsmCause) (rest : Result X AsmFault) (x : X) → unless bad number cause rest ≡ Ok x → (bad ≡ false) × (rest ≡ Ok x)
 unless-ok true number cause rest x is = absurd (cc)
 unless-ok false number cause rest x is = (refl, is)
@@ -50,7 +50,7 @@ pub not-false : (b : Bool) → not b ≡ false → b ≡ true
 not-false true is = refl
 not-false false is = absurd (cc)
 
--- what is known, of which the lines are told
+-- what is known, of which the lines are given
 told-lines : (names : NameValues) (at : ℕ) (lines : List Placed) (next : Known) → fine (record { names = names; at = at; placed = lines }) ≡ fine next → next.placed ≡ lines
 told-lines names at lines next is = let same : record { names = names; at = at; placed = lines } ≡ next = cc in ap (λ (known : Known). known.placed) (sym same)
 
@@ -123,27 +123,27 @@ adds-in rom before after (inl same) inside = rw same inside
 adds-in rom before after (inr added) inside = rw added.1 (All-push (IsInRom rom) before added.0 inside added.2)
 
 -- the lines that give bytes stay apart and in the ROM, from line to line
-pub round-apart : (language : Language) (rom : Rom) (number : ℕ) (known after : Known) (texts : List (List ℕ))
-    → first_round language rom number known texts ≡ Ok after → AreApart known.placed → AreInRom rom known.placed → AreApart after.placed × AreInRom rom after.placed
-unfolding first_round
-round-apart language rom number known after [] is apart inside = rw (← ok-same known after is) (apart, inside)
-round-apart language rom number known after (text ∷ texts) is apart inside =
-    let next = then-ok (λ (k : Known). first_round language rom (number + 1) k texts) (text_looked_at language rom number known text) after is in
+pub pass-apart : (language : Language) (rom : Rom) (number : ℕ) (known after : Known) (texts : List (List ℕ))
+    → pass_one language rom number known texts ≡ Ok after → AreApart known.placed → AreInRom rom known.placed → AreApart after.placed × AreInRom rom after.placed
+unfolding pass_one
+pass-apart language rom number known after [] is apart inside = rw (← ok-same known after is) (apart, inside)
+pass-apart language rom number known after (text ∷ texts) is apart inside =
+    let next = then-ok (λ (k : Known). pass_one language rom (number + 1) k texts) (text_looked_at language rom number known text) after is in
     let adds = text-adds language rom number known next.0 text next.1 in
-    round-apart language rom (number + 1) next.0 after texts next.2 (adds-apart rom known.placed next.0.placed adds apart) (adds-in rom known.placed next.0.placed adds inside)
+    pass-apart language rom (number + 1) next.0 after texts next.2 (adds-apart rom known.placed next.0.placed adds apart) (adds-in rom known.placed next.0.placed adds inside)
 
 -- what is known after some lines is known whatever stands behind them
-pub round-prefix : (language : Language) (rom : Rom) (number : ℕ) (known : Known) (texts more : List (List ℕ))
-    → first_round language rom number known (texts ++ more) ≡ then_on (λ next. first_round language rom (number + length texts) next more) (first_round language rom number known texts)
-unfolding first_round
-round-prefix language rom number known [] more = let same : number + 0 ≡ number = omega arith in rw same refl
-round-prefix language rom number known (text ∷ texts) more =
-    go (text_looked_at language rom number known text) refl (λ next. round-prefix language rom (number + 1) next texts more)
+pub pass-prefix : (language : Language) (rom : Rom) (number : ℕ) (known : Known) (texts more : List (List ℕ))
+    → pass_one language rom number known (texts ++ more) ≡ then_on (λ next. pass_one language rom (number + length texts) next more) (pass_one language rom number known texts)
+unfolding pass_one
+pass-prefix language rom number known [] more = let same : number + 0 ≡ number = omega arith in rw same refl
+pass-prefix language rom number known (text ∷ texts) more =
+    go (text_looked_at language rom number known text) refl (λ next. pass-prefix language rom (number + 1) next texts more)
   where
     go : (looked : Result Known AsmFault) → text_looked_at language rom number known text ≡ looked
-        → ((next : Known) → first_round language rom (number + 1) next (texts ++ more) ≡ then_on (λ after. first_round language rom (number + 1 + length texts) after more) (first_round language rom (number + 1) next texts))
-        → first_round language rom number known ((text ∷ texts) ++ more) ≡ then_on (λ next. first_round language rom (number + length (text ∷ texts)) next more) (first_round language rom number known (text ∷ texts))
+        → ((next : Known) → pass_one language rom (number + 1) next (texts ++ more) ≡ then_on (λ after. pass_one language rom (number + 1 + length texts) after more) (pass_one language rom (number + 1) next texts))
+        → pass_one language rom number known ((text ∷ texts) ++ more) ≡ then_on (λ next. pass_one language rom (number + length (text ∷ texts)) next more) (pass_one language rom number known (text ∷ texts))
     go (Ok next) is rest =
         let count : number + 1 + length texts ≡ number + length (text ∷ texts) = omega arith in
-        rw is (rest next ∙ ap (λ n. then_on (λ after. first_round language rom n after more) (first_round language rom (number + 1) next texts)) count)
+        rw is (rest next ∙ ap (λ n. then_on (λ after. pass_one language rom n after more) (pass_one language rom (number + 1) next texts)) count)
     go (Err e) is rest = rw is refl

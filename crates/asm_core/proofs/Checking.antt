@@ -17,7 +17,7 @@ use Rattle.asm_text.specs.Tokens.{onto, piece_tokens, with_token}
 use Rattle.asm_text.proofs.Parting.{bool_cases}
 use Rattle.asm_text.proofs.Standing.{concat-pieces, part_after, part_slice}
 use Rattle.asm_core.specs.declared.word.Word.{Word}
-use Rattle.asm_core.specs.Rounds.{then_on, words_read}
+use Rattle.asm_core.specs.Passes.{then_on, words_read}
 use Rattle.asm_core.specs.Words.{is_blank_byte, is_number_byte, piece_word, said, words_in, words_of}
 
 -- an answer, or the fault of a piece before it

@@ -13,11 +13,11 @@ use Rattle.asm_core.specs.declared.cell.Cell.{Cell}
 use Rattle.asm_core.specs.declared.dialect.Rom.{Rom}
 use Rattle.asm_core.specs.declared.placed.Placed.{Placed}
 use Rattle.asm_text.specs.declared.fault.AsmCause.TheVariants.{Overlap}
-use Rattle.asm_core.specs.declared.first_round.FirstRound.{FirstRound}
+use Rattle.asm_core.specs.declared.pass_one.PassOne.{PassOne}
 use Rattle.asm_core.specs.Cells.{all_fine, size_of}
-use Rattle.asm_core.specs.FirstRound.{Covers, IsPlaced, IsRom, IsRound, gives}
+use Rattle.asm_core.specs.PassOne.{Covers, IsPlaced, IsRom, IsPassOne, gives}
 use Rattle.asm_core.specs.Forms.{AreCells}
-use Rattle.asm_core.specs.Rounds.{Known, is_in_rom, meets, room_for, unless}
+use Rattle.asm_core.specs.Passes.{Known, is_in_rom, meets, room_for, unless}
 
 -- two tests that pass together are one
 pub same_tests : (a b : Bool) → (a ≡ true → b ≡ true) → (b ≡ true → a ≡ true) → a ≡ b
@@ -130,34 +130,34 @@ Covers-push rom taken placed p covers low inside i within =
       ]
     ]
 
--- what is told of a line's room where its values are in their ranges and its bytes in the ROM
+-- what is known of a line's room where its values are in their ranges and its bytes in the ROM
 pub room-told : (rom : Rom) (number : ℕ) (known : Known) (cells : List Cell) (met : Bool)
     → all_fine known.names cells ≡ true → is_in_rom rom known.at (size_of cells) ≡ true → list_any (meets known.at (size_of cells)) known.placed ≡ met
     → room_for rom number known cells ≡ unless met number Overlap (Ok (size_of cells))
 room-told rom number known cells met fine inside same = rw (fine, inside, same) refl
 
 -- whether some bytes of a line's room are given
-pub room-given : (rom : Rom) (round : FirstRound) (cells : List Cell) (taken : List Bool) (size : ℕ)
-    → IsRound rom round → AreCells cells → taken ≡ round.taken.items → size ≡ size_of cells → rom.low ≤ round.at → round.at + size ≤ rom.high
-    → list_any (meets round.at (size_of cells)) round.placed ≡ list_any (λ given. given) (take size (drop (round.at - rom.low) taken))
-room-given rom round cells taken size whole some is here low high =
-    let inside : (round.at - rom.low) + size_of cells ≤ length round.taken.items = omega (arith, whole.whole, here, high, low) in
-    rw (is, here) (sym (given-meets rom round.taken.items round.placed round.at (size_of cells) whole.covers whole.each low (size-some cells some) inside))
+pub room-given : (rom : Rom) (pass : PassOne) (cells : List Cell) (taken : List Bool) (size : ℕ)
+    → IsPassOne rom pass → AreCells cells → taken ≡ pass.taken.items → size ≡ size_of cells → rom.low ≤ pass.at → pass.at + size ≤ rom.high
+    → list_any (meets pass.at (size_of cells)) pass.placed ≡ list_any (λ given. given) (take size (drop (pass.at - rom.low) taken))
+room-given rom pass cells taken size whole some is here low high =
+    let inside : (pass.at - rom.low) + size_of cells ≤ length pass.taken.items = omega (arith, whole.whole, here, high, low) in
+    rw (is, here) (sym (given-meets rom pass.taken.items pass.placed pass.at (size_of cells) whole.covers whole.each low (size-some cells some) inside))
 
 -- what holds before a line holds after one that gives bytes
-pub round-next : (rom : Rom) (round : FirstRound) (line : ℕ) (cells : List Cell) (given : Vec Bool Global) (placed : List Placed) (size : ℕ)
-    → IsRom rom → IsRound rom round → AreCells cells → size ≡ size_of cells → rom.low ≤ round.at → round.at + size ≤ rom.high
-    → given.items ≡ take (round.at - rom.low) round.taken.items ++ replicate size true ++ drop ((round.at - rom.low) + size) round.taken.items
-    → placed ≡ round.placed ++ record { line = line; at = round.at; cells = cells } ∷ []
-    → IsRound rom (record { names = round.names; at = round.at + size; placed = placed; taken = given })
-round-next rom round line cells given placed size is_rom whole are here low high new more =
-    let p : Placed = record { line = line; at = round.at; cells = cells } in
-    let size_len : (round.at - rom.low) + size_of cells ≤ length round.taken.items = omega (arith, whole.whole, here, low, high) in
-    let given_len : length (take (round.at - rom.low) round.taken.items ++ replicate (size_of cells) true ++ drop ((round.at - rom.low) + size_of cells) round.taken.items) ≡ length round.taken.items = grind (arith, common_steps) in
-    let pushed = Covers-push rom round.taken.items round.placed p whole.covers low size_len in
+pub pass-next : (rom : Rom) (pass : PassOne) (line : ℕ) (cells : List Cell) (given : Vec Bool Global) (placed : List Placed) (size : ℕ)
+    → IsRom rom → IsPassOne rom pass → AreCells cells → size ≡ size_of cells → rom.low ≤ pass.at → pass.at + size ≤ rom.high
+    → given.items ≡ take (pass.at - rom.low) pass.taken.items ++ replicate size true ++ drop ((pass.at - rom.low) + size) pass.taken.items
+    → placed ≡ pass.placed ++ record { line = line; at = pass.at; cells = cells } ∷ []
+    → IsPassOne rom (record { names = pass.names; at = pass.at + size; placed = placed; taken = given })
+pass-next rom pass line cells given placed size is_rom whole are here low high new more =
+    let p : Placed = record { line = line; at = pass.at; cells = cells } in
+    let size_len : (pass.at - rom.low) + size_of cells ≤ length pass.taken.items = omega (arith, whole.whole, here, low, high) in
+    let given_len : length (take (pass.at - rom.low) pass.taken.items ++ replicate (size_of cells) true ++ drop ((pass.at - rom.low) + size_of cells) pass.taken.items) ≡ length pass.taken.items = grind (arith, common_steps) in
+    let pushed = Covers-push rom pass.taken.items pass.placed p whole.covers low size_len in
     record {
       at = omega (arith, is_rom.high, high);
       whole = rw (new, here, given_len) whole.whole;
       covers = rw (new, here, more) pushed;
-      each = rw more (All-push (IsPlaced rom) round.placed p whole.each (record { low = low; high = rw here at high; cells = are }));
+      each = rw more (All-push (IsPlaced rom) pass.placed p whole.each (record { low = low; high = rw here at high; cells = are }));
     }

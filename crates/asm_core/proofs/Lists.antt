@@ -32,7 +32,7 @@ pub cells-next : (place : Place) (size : ℕ) (item : List Word) (items : List (
 unfolding cells_of
 cells-next place size item items e good = rw (← good) refl
 
--- what holds is told of none
+-- what holds, holds where there is none too
 pub if_none-any : {X : Type 0} (o : Option X) (P : Type 0) → P → IfNone o P
 if_none-any None P p = p
 if_none-any (Some x) P p = tt

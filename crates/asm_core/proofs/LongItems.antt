@@ -18,10 +18,10 @@ use Rattle.asm_core.specs.declared.expression.Expression.{Expression}
 use Rattle.asm_core.specs.declared.word.Word.{Word}
 use Rattle.asm_core.specs.Cells.{IsCell, IsFieldPlace, all_fine, is_fine, size_of}
 use Rattle.asm_core.specs.Expressions.{NameValues, expression_of}
-use Rattle.asm_core.specs.FirstRound.{IsRom}
+use Rattle.asm_core.specs.PassOne.{IsRom}
 use Rattle.asm_core.specs.Forms.{AreCells}
 use Rattle.asm_core.specs.Lists.{IsLong, cells_of, list_cells, value_cell, value_field}
-use Rattle.asm_core.specs.Rounds.{Known, is_in_rom, room_for}
+use Rattle.asm_core.specs.Passes.{Known, is_in_rom, room_for}
 use Rattle.asm_core.specs.Words.{items_of}
 
 -- the items that are left of a list, where there is one

@@ -15,8 +15,8 @@ use Rattle.asm_core.specs.declared.cell.Cell.{Cell}
 use Rattle.asm_core.specs.declared.placed.Placed.{Placed}
 use Rattle.asm_core.specs.Cells.{all_fine, all_known, cell_bytes, cell_number, cells_bytes, low_bytes, size_of}
 use Rattle.asm_core.specs.Expressions.{NameValues}
-use Rattle.asm_core.specs.Images.{line_written, listed, put_at, second_round, with_bytes, written_and_listed}
-use Rattle.asm_core.specs.Rounds.{placed_bytes, then_on}
+use Rattle.asm_core.specs.Images.{line_written, listed, put_at, pass_two, with_bytes, written_and_listed}
+use Rattle.asm_core.specs.Passes.{placed_bytes, then_on}
 use Rattle.asm_core.proofs.Lists.{item-drop}
 
 -- bits at their place are below the next one
@@ -89,22 +89,22 @@ size-next cells i cell inside here = rw (item-drop cells i cell inside here) (su
 
 -- a line that is written, and those behind it
 pub lines-next : (names : NameValues) (lines : List Placed) (i : ℕ) (placed : Placed) (image after : List ℕ) → i < length lines → placed ≡ get_or lines i placed
-    → line_written names image placed ≡ Ok after → second_round names image (drop i lines) ≡ second_round names after (drop (i + 1) lines)
-unfolding second_round
+    → line_written names image placed ≡ Ok after → pass_two names image (drop i lines) ≡ pass_two names after (drop (i + 1) lines)
+unfolding pass_two
 lines-next names lines i placed image after inside here written = rw (item-drop lines i placed inside here, written) refl
 
 pub lines-refused : (names : NameValues) (lines : List Placed) (i : ℕ) (placed : Placed) (image : List ℕ) (fault : AsmFault) → i < length lines → placed ≡ get_or lines i placed
-    → line_written names image placed ≡ Err fault → second_round names image (drop i lines) ≡ Err fault
-unfolding second_round
+    → line_written names image placed ≡ Err fault → pass_two names image (drop i lines) ≡ Err fault
+unfolding pass_two
 lines-refused names lines i placed image fault inside here written = rw (item-drop lines i placed inside here, written) refl
 
-pub lines-over : (names : NameValues) (lines : List Placed) (i : ℕ) (image : List ℕ) → length lines ≤ i → second_round names image (drop i lines) ≡ Ok image
-unfolding second_round
+pub lines-over : (names : NameValues) (lines : List Placed) (i : ℕ) (image : List ℕ) → length lines ≤ i → pass_two names image (drop i lines) ≡ Ok image
+unfolding pass_two
 lines-over names lines i image over = rw (drop_all i lines over) refl
 
 -- a line that is refused refuses all
 pub lines-fault : (names : NameValues) (lines : List Placed) (i : ℕ) (placed : Placed) (image first : List ℕ) (fault : AsmFault) → i < length lines → placed ≡ get_or lines i placed
-    → second_round names image (drop i lines) ≡ second_round names first lines
+    → pass_two names image (drop i lines) ≡ pass_two names first lines
     → Faults fault (line_written names image placed) → Faults fault (written_and_listed names first lines)
 lines-fault names lines i placed image first OutOfMemory inside here same refused = tt
 lines-fault names lines i placed image first TooLong inside here same refused =

@@ -15,10 +15,10 @@ use Rattle.asm_core.specs.declared.placed.Placed.{Placed}
 use Rattle.asm_text.specs.declared.fault.AsmCause.TheVariants.{OutOfRange, UnknownName}
 use Rattle.asm_core.specs.declared.cell.Cell.{Cell}
 use Rattle.asm_core.specs.Cells.{all_fine, all_known, cell_bytes, cell_number, cells_bytes, size_of}
-use Rattle.asm_core.specs.Rounds.{placed_bytes, unless}
+use Rattle.asm_core.specs.Passes.{placed_bytes, unless}
 use Rattle.asm_core.specs.Expressions.{NameValues}
-use Rattle.asm_core.specs.FirstRound.{IsRom, gives}
-use Rattle.asm_core.specs.Images.{line_written, put_at, second_round, with_bytes}
+use Rattle.asm_core.specs.PassOne.{IsRom, gives}
+use Rattle.asm_core.specs.Images.{line_written, put_at, pass_two, with_bytes}
 use Rattle.asm_core.specs.Laws.{AreApart, AreInRom, HasBytes, IsInRom, Stands}
 use Rattle.asm_core.proofs.Apart.{fine, then-ok, unless-ok}
 use Rattle.asm_core.proofs.Putting.{low-len}
@@ -115,7 +115,7 @@ bytes-here (byte ∷ bytes) at (Prim.Native.Nat.suc i) image whole inside within
 bytes_same : (xs ys : List ℕ) → fine xs ≡ fine ys → xs ≡ ys
 bytes_same xs ys is = cc
 
--- a statement has as many bytes as its size tells
+-- a statement has as many bytes as its size states
 pub cells-len : (names : NameValues) (cells : List Cell) → length (cells_bytes names cells) ≡ size_of cells
 cells-len names [] = refl
 cells-len names (cell ∷ cells) =
@@ -146,16 +146,16 @@ not-given-told addr p none = elim (cases_lt addr p.at) [
   ]
 ]
 
--- after the second round the bytes of the lines stand, and no other byte changed
+-- after pass 2 the bytes of the lines stand, and no other byte changed
 pub lines-have : (names : NameValues) (rom : Rom) (lines : List Placed) (image after : List ℕ) → IsRom rom → length image ≡ IMAGE_LEN
-    → AreInRom rom lines → AreApart lines → second_round names image lines ≡ Ok after → HasBytes names lines image after
-unfolding second_round
+    → AreInRom rom lines → AreApart lines → pass_two names image lines ≡ Ok after → HasBytes names lines image after
+unfolding pass_two
 lines-have names rom [] image after is_rom whole inside apart is = record {
   each = λ k d within. absurd (omega arith);
   others = λ addr none. ap (λ i. byte_of i addr) (sym (bytes_same image after is));
 }
 lines-have names rom (p ∷ ps) image after is_rom whole inside apart is =
-    let rest : List ℕ → Result (List ℕ) AsmFault = λ next. second_round names next ps in
+    let rest : List ℕ → Result (List ℕ) AsmFault = λ next. pass_two names next ps in
     let then = then-ok rest (line_written names image p) after is in
     let wrote = line-bytes names image then.0 p then.1 in
     let here : IsInRom rom p = inside 0 p (omega arith) in

@@ -11,9 +11,9 @@ use Rattle.asm_core.specs.declared.line.Line.{Line}
 use Rattle.asm_core.specs.declared.placed.Placed.{Placed}
 use Rattle.asm_core.specs.Cells.{cells_bytes, size_of}
 use Rattle.asm_core.specs.Expressions.{NameValues, value_of}
-use Rattle.asm_core.specs.FirstRound.{gives}
+use Rattle.asm_core.specs.PassOne.{gives}
 use Rattle.asm_core.specs.Lines.{Language}
-use Rattle.asm_core.specs.Rounds.{Known, line_read, looked_at}
+use Rattle.asm_core.specs.Passes.{Known, line_read, looked_at}
 
 -- a line's bytes are in a ROM
 pub record IsInRom (rom : Rom) (placed : Placed) : Type 0 where

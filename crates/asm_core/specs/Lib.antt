@@ -2,12 +2,12 @@ pub mod Words
 pub mod Expressions
 pub mod Cells
 pub mod Lists
-pub mod FirstRound
+pub mod PassOne
 pub mod Forms
 pub mod Lines
-pub mod Rounds
+pub mod Passes
 pub mod Images
 pub mod Laws
 pub mod NameMaps
-pub mod Rows
+pub mod ListItems
 pub mod StoredCells

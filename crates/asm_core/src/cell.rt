@@ -2,7 +2,7 @@ ghost use Rattle.std.specs.Prelude.{◌≡◌, ◌*◌, ◌≤◌, length};
 ghost use Rattle.std.specs.List.{list_all};
 ghost use Rattle.asm_core.specs.Cells.{all_fine, all_known, is_fine, is_in_range, is_known, size_of};
 
-use crate::{Expression, Names, Row, value};
+use crate::{Expression, List, Names, value};
 
 /// The values that a field takes, and where in its cell it has them: in `bits` bits, of which the
 /// lowest is bit `shift`. Where only even values are taken, these bits have half of them.
@@ -46,7 +46,7 @@ pub struct Field<'a> {
 pub struct Cell<'a> {
     pub size: u8,
     pub base: u32,
-    pub fields: Row<Field<'a>>,
+    pub fields: List<Field<'a>>,
 }
 
 /// Whether a value is in a range, and even where that is asked.

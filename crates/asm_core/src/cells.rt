@@ -2,7 +2,7 @@ ghost use Rattle.std.specs.Prelude.{◌≡◌};
 ghost use Rattle.asm_core.specs.StoredCells.{stored_cells};
 
 use crate::long_list::LongList;
-use crate::{Cell, Row};
+use crate::{Cell, List};
 use std::alloc::Global;
 use std::marker::Model;
 
@@ -16,7 +16,7 @@ pub struct Cells<'a> {
 #[derive(Drop)]
 pub(crate) enum Stored<'a> {
     /// Each cell in memory.
-    Each(Row<Cell<'a>>),
+    Each(List<Cell<'a>>),
     /// The text of a list, which is too long for any ROM.
     Long(LongList<'a>),
 }
@@ -39,11 +39,11 @@ impl<'a> Cells<'a> {
     pub fn one(alloc: Global, cell: Cell<'a>) -> Cells<'a>
         ensures { result ≡ cell.entry ∷ [] }
     {
-        Cells::each(Row::one(alloc, cell))
+        Cells::each(List::one(alloc, cell))
     }
 
     /// These cells.
-    pub(crate) fn each(cells: Row<Cell<'a>>) -> Cells<'a>
+    pub(crate) fn each(cells: List<Cell<'a>>) -> Cells<'a>
         ensures { result ≡ cells.entry }
     {
         Cells {

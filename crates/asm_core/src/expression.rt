@@ -1,7 +1,7 @@
 ghost use Rattle.std.specs.Prelude.{◌≡◌, ◌+◌, ◌^◌, ◌≤◌, IfOk, IfSome, pos, unsigned_abs};
 ghost use Rattle.asm_core.specs.Expressions.{expression_of, minus_of, operand_of, operand_value, part_of, part_of_sum, sum_of, sum_value, summed, terms_of, value_of};
 
-use crate::{Name, Names, Row, Word, Words, behind_mark};
+use crate::{List, Name, Names, Word, Words, behind_mark};
 use board_base::OutOfMemory;
 use std::alloc::Global;
 
@@ -36,7 +36,7 @@ pub enum Part {
 #[derive(Drop)]
 pub struct Expression<'a> {
     pub part: Part,
-    pub terms: Row<Term<'a>>,
+    pub terms: List<Term<'a>>,
 }
 
 /// The operand that a word is.
@@ -65,10 +65,10 @@ fn read_terms<'a>(
     alloc: Global,
     first: bool,
     words: &Words<'a>,
-) -> Result<Option<Row<Term<'a>>>, OutOfMemory>
+) -> Result<Option<List<Term<'a>>>, OutOfMemory>
     ensures { IfOk result (λ read. read ≡ terms_of first words.now) }
 {
-    let mut terms = Row::with_capacity(alloc, words.term_count())?;
+    let mut terms = List::with_capacity(alloc, words.term_count())?;
     let mut negative = first;
     let mut rest = words.copied();
     'terms: while let Some((word, after)) = rest.split_first() {
@@ -89,7 +89,7 @@ fn read_terms<'a>(
 }
 
 /// The terms of a sum, of which the first may have a minus.
-fn read_sum<'a>(alloc: Global, words: &Words<'a>) -> Result<Option<Row<Term<'a>>>, OutOfMemory>
+fn read_sum<'a>(alloc: Global, words: &Words<'a>) -> Result<Option<List<Term<'a>>>, OutOfMemory>
     ensures { IfOk result (λ read. read ≡ sum_of words.now) }
 {
     match behind_mark(words, b'-') {

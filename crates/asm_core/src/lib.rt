@@ -1,4 +1,4 @@
-//! What both assemblers share: expressions, the cells of a statement, and the two rounds over the
+//! What both assemblers share: expressions, the cells of a statement, and the two passes over the
 //! lines of a source.
 #![tactic(auto)]
 
@@ -7,7 +7,7 @@ mod cell;
 mod cells;
 mod dialect;
 mod expression;
-mod first_round;
+mod item_list;
 pub mod laws;
 mod line;
 mod line_words;
@@ -17,9 +17,9 @@ mod long_list;
 mod name;
 mod name_maps;
 mod names;
+mod pass_one;
+mod pass_two;
 mod placed;
-mod row;
-mod second_round;
 mod word;
 
 pub use assembly::assemble;
@@ -27,12 +27,12 @@ pub use cell::{BYTE, Cell, Field, Place, WORD};
 pub use cells::Cells;
 pub use dialect::{Dialect, Form, Rom};
 pub use expression::{Expression, Operand, Part, Term, read_expression, value};
+pub use item_list::{read_list, value_cell};
 pub use line::{Body, Line};
 pub use line_words::{Words, before_close, begins_with, behind_mark, split_item};
-pub use list::{read_list, value_cell};
+pub use list::List;
 pub use listing::{Listing, ListingLine};
 pub use name::Name;
 pub use names::Names;
 pub use placed::Placed;
-pub use row::Row;
 pub use word::{Word, is_plain};

@@ -4,7 +4,7 @@ ghost use Rattle.asm_core.specs.Forms.{IsBody};
 ghost use Rattle.asm_core.specs.Lines.{body_of, body_of_form, equals_of, label_of, line_of_words, named_body_of};
 ghost use Rattle.asm_core.specs.Words.{items_of};
 
-use crate::list::read_list;
+use crate::item_list::read_list;
 use crate::{
     Cells, Dialect, Expression, Form, Name, Names, WORD, Word, Words, behind_mark, is_plain,
     read_expression,

@@ -1,128 +1,131 @@
-ghost use Rattle.std.specs.Prelude.{◌≡◌, ◌*◌, ◌<◌, ◌≤◌, IfOk, IfSome, length, nat_lt};
-ghost use Rattle.rom_image.specs.declared.image.TheConstants.{PROGRAM_ROM_LEN};
-ghost use Rattle.asm_core.specs.Cells.{IsCell, IsFieldPlace};
-ghost use Rattle.asm_core.specs.Forms.{AreCells};
-ghost use Rattle.asm_core.specs.Lists.{cells_of, value_cell};
-ghost use Rattle.asm_core.specs.Words.{items_of};
+ghost use Rattle.std.specs.Prelude.{◌≡◌, [], ◌∷◌, ◌++◌, IfErr, IfOk};
 
-use crate::long_list::LongList;
-use crate::{Cell, Cells, Expression, Field, Place, Row, Words, read_expression, split_item};
 use board_base::OutOfMemory;
-use rom_image::PROGRAM_ROM_LEN;
 use std::alloc::Global;
+use std::marker::Model;
+use std::mem::replace;
 
-/// A cell of so many bytes that holds one expression's value.
-pub fn value_cell<'a>(
+/// A list that grows at its end. One item stands in the list itself, and takes no memory of its own.
+#[derive(Drop)]
+pub struct List<T> {
     alloc: Global,
-    place: Place,
-    size: u8,
-    expression: Expression<'a>,
-) -> Result<Cell<'a>, OutOfMemory>
-    requires some { 1 ≤ size }
-    requires few { size ≤ 4 }
-    requires place { IsFieldPlace place }
-    ensures value { IfOk result (λ cell. cell ≡ value_cell place size expression.entry) }
-    ensures cell { IfOk result IsCell }
-{
-    let mut fields = Row::new(alloc);
-    fields.push(Field {
-        expression,
-        origin: 0,
-        place,
-    })?;
-    Ok(Cell {
-        size,
-        base: 0,
-        fields,
-    })
+    items: Items<T>,
 }
 
-/// A cell of so many bytes for each expression of a list that commas part, each in memory.
-fn read_each<'a>(
-    alloc: Global,
-    words: &Words<'a>,
-    place: Place,
-    size: u8,
-) -> Result<Option<Row<Cell<'a>>>, OutOfMemory>
-    requires some { 1 ≤ size }
-    requires few { size ≤ 4 }
-    requires place { IsFieldPlace place }
-    ensures list { IfOk result (λ read. read ≡ cells_of place size (items_of words.now)) }
-    ensures cells { IfOk result (λ read. IfSome read AreCells) }
-{
-    let mut cells = Row::new(alloc);
-    let mut list = Some(words.copied());
-    'items: while let Some(rest) = list {
-        let (item, after) = split_item(&rest);
-        let Some(expression) = read_expression(alloc, &item)? else {
-            return Ok(None);
-        };
-        let cell = value_cell(alloc, place, size, expression)?;
-        cells.push(cell)?;
-        list = after;
-    }
-    Ok(Some(cells))
+#[derive(Drop)]
+enum Items<T> {
+    None,
+    One([T; 1]),
+    Many(Vec<T>),
 }
 
-/// Whether a list gives more bytes than the largest ROM has, where each item gives so many.
-fn is_long(words: &Words, size: u8) -> bool
-    ensures { result ≡ nat_lt PROGRAM_ROM_LEN (length (items_of words.now) * size) }
+/// Two items in memory of their own, or the first again where there is none.
+fn pair<T: Drop>(alloc: Global, one: [T; 1], item: T) -> Result<Vec<T>, [T; 1]>
+    ensures ok { IfOk result (λ items. items.items ≡ one ++ item ∷ []) }
+    ensures err { IfErr result (λ back. back ≡ one) }
 {
-    let mut bytes = 0;
-    let mut list = Some(words.copied());
-    'items: while let Some(rest) = list {
-        let (_, after) = split_item(&rest);
-        bytes += usize::from(size);
-        if bytes > PROGRAM_ROM_LEN {
-            return true;
+    match Vec::with_capacity(alloc, 2) {
+        Ok(mut items) => {
+            let [first] = one;
+            items.push_reserved(first);
+            items.push_reserved(item);
+            Ok(items)
         }
-        list = after;
+        Err(_) => Err(one),
     }
-    false
 }
 
-/// A list of more bytes than a ROM has, whose text is kept, where each item is an expression.
-fn read_long<'a>(
-    alloc: Global,
-    words: &Words<'a>,
-    place: Place,
-    size: u8,
-) -> Result<Option<LongList<'a>>, OutOfMemory>
-    requires some { 1 ≤ size }
-    requires few { size ≤ 4 }
-    requires place { IsFieldPlace place }
-    requires long { PROGRAM_ROM_LEN < length (items_of words.now) * size }
-    ensures list { IfOk result (λ read. read ≡ cells_of place size (items_of words.now)) }
-    ensures cells { IfOk result (λ read. IfSome read AreCells) }
-{
-    let mut list = Some(words.copied());
-    'items: while let Some(rest) = list {
-        let (item, after) = split_item(&rest);
-        let Some(_expression) = read_expression(alloc, &item)? else {
-            return Ok(None);
-        };
-        list = after;
-    }
-    Ok(Some(LongList::new(alloc, words, place, size)))
+impl<T> Model for List<T> {
+    ghost use Rattle.std.specs.Prelude.{List};
+    ghost use Rattle.asm_core.specs.ListItems.{items_of};
+
+    ghost Value = { List T };
+
+    ghost view = { λ list. items_of list.items };
 }
 
-/// A cell of so many bytes for each expression of a list that commas part.
-pub fn read_list<'a>(
-    alloc: Global,
-    words: &Words<'a>,
-    place: Place,
-    size: u8,
-) -> Result<Option<Cells<'a>>, OutOfMemory>
-    requires some { 1 ≤ size }
-    requires few { size ≤ 4 }
-    requires place { IsFieldPlace place }
-    ensures list { IfOk result (λ read. read ≡ cells_of place size (items_of words.now)) }
-    ensures cells { IfOk result (λ read. IfSome read AreCells) }
-{
-    if is_long(words, size) {
-        let list = read_long(alloc, words, place, size)?;
-        return Ok(list.map(Cells::long));
+impl<T: Drop> List<T> {
+    ghost use Rattle.std.specs.Prelude.{◌≡◌, [], ◌∷◌, ◌++◌, IfOk, OnErr, OnOk};
+
+    /// A list without an item, which takes no memory yet.
+    pub fn new(alloc: Global) -> List<T>
+        ensures { result ≡ [] }
+    {
+        List {
+            alloc,
+            items: Items::None,
+        }
     }
-    let cells = read_each(alloc, words, place, size)?;
-    Ok(cells.map(Cells::each))
+
+    /// A list without an item. It takes memory for so many at once, and none for one.
+    pub fn with_capacity(alloc: Global, capacity: usize) -> Result<List<T>, OutOfMemory>
+        ensures { IfOk result (λ list. list ≡ []) }
+    {
+        if capacity <= 1 {
+            return Ok(List::new(alloc));
+        }
+        let items = Vec::with_capacity(alloc, capacity)?;
+        Ok(List {
+            alloc,
+            items: Items::Many(items),
+        })
+    }
+
+    /// A list of one item, which takes no memory.
+    pub fn one(alloc: Global, item: T) -> List<T>
+        ensures { result ≡ item ∷ [] }
+    {
+        List {
+            alloc,
+            items: Items::One([item]),
+        }
+    }
+
+    /// Appends an item. After a refusal the list is as before.
+    pub fn push(&mut self, item: T) -> Result<(), OutOfMemory>
+        ensures ok { OnOk result (self.new ≡ self.old ++ item ∷ []) }
+        ensures err { OnErr result (self.new ≡ self.old) }
+    {
+        let items = replace(&mut self.items, Items::None);
+        match items {
+            Items::None => {
+                self.items = Items::One([item]);
+                Ok(())
+            }
+            Items::One(one) => self.push_second(one, item),
+            Items::Many(mut items) => {
+                let pushed = items.push(item);
+                self.items = Items::Many(items);
+                pushed.map_err(|_| OutOfMemory)
+            }
+        }
+    }
+
+    /// Puts two items into memory of their own, or the first into the list itself after a refusal.
+    fn push_second(&mut self, one: [T; 1], item: T) -> Result<(), OutOfMemory>
+        ensures ok { OnOk result (self.new ≡ one ++ item ∷ []) }
+        ensures err { OnErr result (self.new ≡ one) }
+    {
+        match pair(self.alloc, one, item) {
+            Ok(items) => {
+                self.items = Items::Many(items);
+                Ok(())
+            }
+            Err(one) => {
+                self.items = Items::One(one);
+                Err(OutOfMemory)
+            }
+        }
+    }
+
+    /// The items, in the order in which they were pushed.
+    pub fn items(&self) -> &[T]
+        ensures { result.now ≡ self.now }
+    {
+        match &self.items {
+            Items::None => &[],
+            Items::One(item) => item.as_slice(),
+            Items::Many(items) => items.as_slice(),
+        }
+    }
 }

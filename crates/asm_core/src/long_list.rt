@@ -68,7 +68,7 @@ impl<'a> LongList<'a> {
         }
     }
 
-    /// A long list gives more bytes than the largest ROM has. It tells a law, and does nothing.
+    /// A long list gives more bytes than the largest ROM has. It states a law, and does nothing.
     pub(crate) fn lemma_long(&self)
         ensures { PROGRAM_ROM_LEN < size_of self.now }
     {

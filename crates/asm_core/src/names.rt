@@ -27,7 +27,7 @@ impl<'a> Model for Names<'a> {
 impl<'a> Names<'a> {
     ghost use Rattle.std.specs.Prelude.{◌≡◌, [], None, OnErr, OnOk};
     ghost use Rattle.asm_core.specs.Expressions.{value_of_name};
-    ghost use Rattle.asm_core.specs.Rounds.{with_name};
+    ghost use Rattle.asm_core.specs.Passes.{with_name};
 
     /// No names, which take no memory yet.
     pub fn new(alloc: Global) -> Names<'a>

@@ -10,7 +10,7 @@ use crate::mnemonics::read_op;
 use crate::mode::{choose_mode, origin, place};
 use crate::operand::{Shape, is_register, read_shape};
 use asm_core::{
-    BYTE, Cell, Cells, Dialect, Expression, Field, Form, Names, Row, Words, read_expression,
+    BYTE, Cell, Cells, Dialect, Expression, Field, Form, List, Names, Words, read_expression,
     read_list,
 };
 use board_base::OutOfMemory;
@@ -34,7 +34,7 @@ fn opcode_cell<'a>(alloc: Global, opcode: u8) -> Cell<'a>
     Cell {
         size: 1,
         base: u32::from(opcode),
-        fields: Row::new(alloc),
+        fields: List::new(alloc),
     }
 }
 
@@ -50,7 +50,7 @@ fn operand_cell<'a>(
     ensures value { IfOk result (λ cell. cell ≡ operand_cell at mode expression.entry opcode) }
     ensures cell { IfOk result IsCell }
 {
-    let mut fields = Row::new(alloc);
+    let mut fields = List::new(alloc);
     fields.push(Field {
         expression,
         origin: origin(mode, at),

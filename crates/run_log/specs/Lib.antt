@@ -1,5 +1,4 @@
 pub mod Faults
-pub mod LastLine
 pub mod LogParts
 pub mod OneList
 pub mod Slice

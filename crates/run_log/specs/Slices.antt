@@ -1,9 +1,9 @@
 -- A run in slices: it is cut at clocks, and the board of each cut is saved, and read back for the slice that follows.
-use Rattle.std.specs.Prelude.{ℕ, ◌+◌, ◌*◌, ◌≤◌, Bool, min, List, [], ◌∷◌, ◌++◌, length, Option, Some, None, if◌then◌else◌}
+use Rattle.std.specs.Prelude.{ℕ, ◌+◌, ◌*◌, ◌≤◌, Bool, min, List, [], ◌∷◌, ◌++◌, length, Option, if◌then◌else◌}
 use Rattle.std.specs.Borrow.{Bor}
 use Rattle.std.specs.Option.{option_map}
 use Rattle.tape_ports.specs.declared.entry.TapeEntry.{TapeEntry}
-use Rattle.log_text.specs.LogText.{cost_text}
+use Rattle.log_text.specs.LogText.{cost_text, last_text}
 use Rattle.save_state.specs.StateBytes.{state_bytes}
 use Rattle.lockstep_board.specs.Budget.{counted, device_accesses, entries_applied, requests, resets_begun, wraps}
 use Rattle.catchup_engine.specs.EngineValue.{counted_on}
@@ -13,7 +13,6 @@ use Rattle.lockstep_board.specs.Peripherals.{board_of}
 use Rattle.run_windows.specs.declared.until.Until.TheVariants.{Clock, Boundary}
 use Rattle.outside_io.specs.Shelf.{Kept}
 use Rattle.outside_io.specs.Events.{Event, DidFirst, sending, storing}
-use Rattle.run_log.specs.LastLine.{last_text}
 use Rattle.run_log.specs.Slice.{slice_text}
 
 -- the bytes of a board, saved
@@ -40,7 +39,7 @@ cost_line cost calls = if cost then cost_text calls else []
 
 -- the last line of a run, and that of its device calls
 abbrev pub ending_text : Bool → ℕ → Board → List ℕ
-ending_text cost calls last = last_text last last.cpu.jam ++ cost_line cost calls
+ending_text cost calls last = last_text last.peripherals.clock last.cpu.pc last.cpu.jam ++ cost_line cost calls
 
 -- the last slice: its lines, the ending of the text, then the board, and then the cells
 unfoldable pub last_events : List TapeEntry → ℕ → Wanted → ℕ → Board → List Event

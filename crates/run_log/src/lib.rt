@@ -12,4 +12,4 @@ pub use laws::{cuts_leave_the_run, log_is_one_list};
 pub use log_writer::LogWriter;
 pub use outside_fault::OutsideFault;
 pub use record_writer::RecordWriter;
-pub use slices::{run_slices, write_last};
+pub use slices::run_slices;

@@ -7,7 +7,6 @@ ghost use Rattle.lockstep_board.specs.Order.{HasNoRecords, cleared};
 ghost use Rattle.lockstep_board.specs.Run.{boundary_steps, clock_steps, to_clock, to_boundary};
 ghost use Rattle.run_windows.specs.SyncedMachine.{loan_of, value_of};
 ghost use Rattle.outside_io.specs.Events.{Did, DidFirst};
-ghost use Rattle.run_log.specs.LastLine.{last_text};
 ghost use Rattle.run_windows.specs.Windows.{window_price};
 ghost use Rattle.run_log.specs.Slices.{FitsCalls, StopsIn, cost_line, cut_events, ending_text, last_board, last_events, run_events, wanted_of};
 ghost use Rattle.run_log.specs.Faults.{SliceFaults};
@@ -17,13 +16,13 @@ use crate::log_writer::run_slice;
 use crate::outside_fault::OutsideFault;
 use avg_device::VectorUnit;
 use board_base::{BoardState, CLOCK_LIMIT};
-use run_windows::{SyncedMachine, Until};
 use catchup_engine::{Engine, Machine};
 use earom_cells::CellUnit;
 use irq_watchdog::DividerUnit;
-use log_text::{write_cost, write_end, write_jam};
+use log_text::{write_cost, write_last};
 use outside_io::{Shelf, Sink, SinkFault, store_under};
 use pokey_chip::SoundUnit;
+use run_windows::{SyncedMachine, Until};
 use tape_ports::Tape;
 
 /// Runs to a cut, writes its lines, stores its board under a name where one is given, and goes on
@@ -61,23 +60,6 @@ fn cut_slice<M: Machine, S: Shelf, O: Sink>(
     Ok(())
 }
 
-/// Writes the last line of a run that has ended: E with the clock, or X with the clock, pc and the
-/// opcode that jammed the processor.
-pub fn write_last<M: Machine, O: Sink>(
-    synced: &SyncedMachine<'_, M>,
-    out: &mut O,
-) -> Result<(), SinkFault>
-    ensures taken { Takes (O.taken out.old) (O.taken out.new) (last_text (value_of synced.now).board (value_of synced.now).board.cpu.jam) result }
-    ensures cause { HasCause (O.faults out.old) (O.faults out.new) result }
-{
-    let machine = synced.machine();
-    let cpu = machine.cpu();
-    match cpu.jam {
-        Some(opcode) => write_jam(machine.clock(), cpu.pc, opcode, out),
-        None => write_end(machine.clock(), out),
-    }
-}
-
 /// Writes the device calls of a run, where they are asked for.
 fn write_calls<O: Sink>(cost: bool, calls: u64, out: &mut O) -> Result<(), SinkFault>
     ensures taken { Takes (O.taken out.old) (O.taken out.new) (cost_line cost calls) result }
@@ -98,10 +80,10 @@ fn write_ending<M: Machine, O: Sink>(
     ensures taken { Takes (O.taken out.old) (O.taken out.new) (ending_text cost (value_of synced.now).calls (value_of synced.now).board) result }
     ensures cause { HasCause (O.faults out.old) (O.faults out.new) result }
 {
-    let Ok(()) = write_last(synced, out) else {
-        return Err(SinkFault);
-    };
-    write_calls(cost, synced.machine().calls(), out)
+    let machine = synced.machine();
+    let cpu = machine.cpu();
+    write_last(machine.clock(), cpu.pc, cpu.jam, out)?;
+    write_calls(cost, machine.calls(), out)
 }
 
 /// The cells of the EAROM.

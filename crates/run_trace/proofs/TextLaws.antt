@@ -1,6 +1,5 @@
 -- The text of a run whose lines are told in parts.
-use Rattle.std.proofs.Common.{◌≡◌, ℕ, List, [], ◌∷◌, ◌++◌, take, Option, Some, None, Result, Ok, Err, refl, sym, ap, ◌∙◌, append_assoc, append-nil}
-use Rattle.std.specs.Prelude.{IsErr}
+use Rattle.std.proofs.Common.{◌≡◌, ℕ, List, [], ◌∷◌, ◌++◌, take, Option, Result, refl, sym, ap, ◌∙◌, append_assoc, append-nil}
 use Rattle.std.proofs.lemmas.Grind.{flat_map-append}
 use Rattle.std.proofs.lemmas.List.Concat.{flat_map-cons}
 use Rattle.outside_io.specs.Known.{grown}
@@ -16,21 +15,24 @@ use Rattle.catchup_engine.specs.Traced.{told}
 use Rattle.cycle_profile.specs.Profile.{ProfileValue, after}
 use Rattle.cycle_profile.specs.Text.{profile_text}
 use Rattle.frame_list.specs.Frames.{FrameValue, begun, ended, frame_text, frames_text, under_way}
-use Rattle.run_log.specs.LastLine.{last_text}
+use Rattle.log_text.specs.LogText.{last_text}
 use Rattle.run_trace.specs.BoardFrames.{framed_text, run_events, run_frames}
 use Rattle.run_trace.specs.BoardProfile.{no_profile, profiled_text, run_profile, run_turns}
 
--- the last line doesn't tell records
-pub last-cleared : (b : Board) (jam : Option ℕ) → last_text (cleared b) jam ≡ last_text b jam
-last-cleared b (Some opcode) = refl
-last-cleared b None = refl
+-- the last line of a run that ended at a board
+abbrev last_line : Board → List ℕ
+last_line b = last_text b.peripherals.clock b.cpu.pc b.cpu.jam
+
+-- it depends on no record
+last-cleared : (b : Board) → last_line (cleared b) ≡ last_line b
+last-cleared b = refl
 
 -- the frames that ended, the one under way, and the last line
 pub framed-is : (entries : List TapeEntry) (limit : ℕ) (b : Board) → HasNoRecords b
     → framed_text entries limit b
     ≡ frames_text (ended (begun 0 b.peripherals.clock) (run_events entries limit (cleared b)))
     ++ (frame_text (under_way (begun 0 b.peripherals.clock) (run_events entries limit (cleared b)))
-    ++ last_text (cleared (to_boundary entries limit b)) (to_boundary entries limit b).cpu.jam)
+    ++ last_line (cleared (to_boundary entries limit b)))
 unfolding framed_text run_frames frames_text
 framed-is entries limit b none =
     let events = run_events entries limit b in
@@ -39,22 +41,16 @@ framed-is entries limit b none =
     let one : frames_text (under_way first events ∷ []) ≡ frame_text (under_way first events) =
     flat_map-cons frame_text (under_way first events) [] ∙ append-nil (frame_text (under_way first events)) in
     let same : events ≡ run_events entries limit (cleared b) = ap (run_events entries limit) (sym (cleared-empty b none)) in
-    ap (λ l. l ++ last_text last last.cpu.jam) (flat_map-append frame_text (ended first events) (under_way first events ∷ []))
-    ∙ append_assoc (frames_text (ended first events)) (frames_text (under_way first events ∷ [])) (last_text last last.cpu.jam)
-    ∙ ap (λ l. frames_text (ended first events) ++ (l ++ last_text last last.cpu.jam)) one
-    ∙ ap (λ l. frames_text (ended first events) ++ (frame_text (under_way first events) ++ l)) (sym (last-cleared last last.cpu.jam))
-    ∙ ap (λ l. frames_text (ended first l) ++ (frame_text (under_way first l) ++ last_text (cleared last) last.cpu.jam)) same
+    ap (λ l. l ++ last_line last) (flat_map-append frame_text (ended first events) (under_way first events ∷ []))
+    ∙ append_assoc (frames_text (ended first events)) (frames_text (under_way first events ∷ [])) (last_line last)
+    ∙ ap (λ l. frames_text (ended first events) ++ (l ++ last_line last)) one
+    ∙ ap (λ l. frames_text (ended first events) ++ (frame_text (under_way first events) ++ l)) (sym (last-cleared last))
+    ∙ ap (λ l. frames_text (ended first l) ++ (frame_text (under_way first l) ++ last_line (cleared last))) same
 
--- a fault came in a first part of a text
-pub takes-cut : {T E : Type 0} (out0 out1 : Option (List ℕ)) (text : List ℕ) (result : Result T E) → IsErr result
-    → (k : ℕ) × (out1 ≡ grown out0 (take k text)) → Takes out0 out1 text result
-takes-cut out0 out1 text (Ok v) fault cut = cc
-takes-cut out0 out1 text (Err e) fault cut = cut
-
--- the last line, told of the board at the end
+-- the last line, by the board at the end
 pub last-told : (entries : List TapeEntry) (limit : ℕ) (b now : Board) → now ≡ cleared (to_boundary entries limit b)
-    → last_text now now.cpu.jam ≡ last_text (cleared (to_boundary entries limit b)) (to_boundary entries limit b).cpu.jam
-last-told entries limit b now is = ap (λ (c : Board). last_text c c.cpu.jam) is
+    → last_line now ≡ last_line (cleared (to_boundary entries limit b))
+last-told entries limit b now is = ap last_line is
 
 module _ (entries : List TapeEntry) (limit : ℕ) (b : Board) (none : HasNoRecords b) (frames : FrameValue) (is : frames ≡ begun 0 b.peripherals.clock)
     (out0 out1 : Option (List ℕ)) where
@@ -65,7 +61,7 @@ module _ (entries : List TapeEntry) (limit : ℕ) (b : Board) (none : HasNoRecor
   one_line = frame_text (under_way (begun 0 b.peripherals.clock) (run_events entries limit (cleared b)))
 
   abbrev end_line : List ℕ
-  end_line = last_text (cleared (to_boundary entries limit b)) (to_boundary entries limit b).cpu.jam
+  end_line = last_line (cleared (to_boundary entries limit b))
 
   lines-are : frames_text (ended frames (run_events entries limit (cleared b))) ≡ lines
   lines-are = ap (λ (f : FrameValue). frames_text (ended f (run_events entries limit (cleared b)))) is
@@ -92,7 +88,7 @@ module _ (entries : List TapeEntry) (limit : ℕ) (b : Board) (none : HasNoRecor
 
     -- or all was taken up to the last line
     pub framed-all : {T E : Type 0} (out3 : Option (List ℕ)) (now : Board) (result : Result T E) → out2 ≡ grown out1 (frame_text last)
-        → now ≡ cleared (to_boundary entries limit b) → Takes out2 out3 (last_text now now.cpu.jam) result
+        → now ≡ cleared (to_boundary entries limit b) → Takes out2 out3 (last_line now) result
         → Takes out0 out3 (framed_text entries limit b) result
     framed-all out3 now result line board took =
         let there : Takes out2 out3 end_line result = rw (last-told entries limit b now board) at took in
@@ -103,16 +99,16 @@ module _ (entries : List TapeEntry) (limit : ℕ) (b : Board) (none : HasNoRecor
 -- the profile, and the last line
 profiled-is : (entries : List TapeEntry) (limit : ℕ) (b : Board)
     → profiled_text entries limit b
-    ≡ profile_text (run_profile entries limit b) ++ last_text (cleared (to_boundary entries limit b)) (to_boundary entries limit b).cpu.jam
+    ≡ profile_text (run_profile entries limit b) ++ last_line (cleared (to_boundary entries limit b))
 unfolding profiled_text
 profiled-is entries limit b =
     let last = to_boundary entries limit b in
-    ap (λ l. profile_text (run_profile entries limit b) ++ l) (sym (last-cleared last last.cpu.jam))
+    ap (λ l. profile_text (run_profile entries limit b) ++ l) (sym (last-cleared last))
 
 module _ (entries : List TapeEntry) (limit : ℕ) (b : Board) (first p : ProfileValue) (fresh : first ≡ no_profile b.cpu.pc)
     (is : p ≡ told after entries (run_turns entries limit b) first b) (out0 out1 : Option (List ℕ)) (whole : out1 ≡ grown out0 []) (out2 : Option (List ℕ)) where
   abbrev bottom : List ℕ
-  bottom = last_text (cleared (to_boundary entries limit b)) (to_boundary entries limit b).cpu.jam
+  bottom = last_line (cleared (to_boundary entries limit b))
 
   profile-is : p ≡ run_profile entries limit b
   unfolding run_profile
@@ -134,7 +130,7 @@ module _ (entries : List TapeEntry) (limit : ℕ) (b : Board) (first p : Profile
 
   -- or all was taken up to the last line
   pub profiled-all : {T E : Type 0} (out3 : Option (List ℕ)) (now : Board) (result : Result T E) → out2 ≡ grown out1 (profile_text p)
-      → now ≡ cleared (to_boundary entries limit b) → Takes out2 out3 (last_text now now.cpu.jam) result
+      → now ≡ cleared (to_boundary entries limit b) → Takes out2 out3 (last_line now) result
       → Takes out0 out3 (profiled_text entries limit b) result
   profiled-all out3 now result text board took =
       let there : Takes out2 out3 bottom result = rw (last-told entries limit b now board) at took in

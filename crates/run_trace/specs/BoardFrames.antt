@@ -9,7 +9,7 @@ use Rattle.catchup_engine.specs.Trace.{accesses_of}
 use Rattle.frame_list.specs.Events.{Event, by_clock, marks_of}
 use Rattle.frame_list.specs.Frames.{FrameValue, begun, frames_of, frames_text}
 use Rattle.frame_list.specs.InFrames.{frame_at}
-use Rattle.run_log.specs.LastLine.{last_text}
+use Rattle.log_text.specs.LogText.{last_text}
 
 -- the clocks of the writes that start the generator, among all accesses of a run to a boundary
 unfoldable pub run_marks : List TapeEntry → ℕ → Board → List ℕ
@@ -26,7 +26,8 @@ run_frames entries limit b = frames_of (begun 0 b.peripherals.clock) (run_events
 -- their lines, and then the last line of the run
 unfoldable pub framed_text : List TapeEntry → ℕ → Board → List ℕ
 framed_text entries limit b =
-    frames_text (run_frames entries limit b) ++ last_text (to_boundary entries limit b) (to_boundary entries limit b).cpu.jam
+    let last = to_boundary entries limit b in
+    frames_text (run_frames entries limit b) ++ last_text last.peripherals.clock last.cpu.pc last.cpu.jam
 
 -- Each stroke of a run from a board without records is in one of its frames: the numbers of strokes of all frames add up to
 -- the strokes of the run.

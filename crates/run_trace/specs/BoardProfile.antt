@@ -10,7 +10,7 @@ use Rattle.cycle_profile.specs.declared.profile.TheConstants.{ADDRESSES}
 use Rattle.cycle_profile.specs.Counts.{no_counts}
 use Rattle.cycle_profile.specs.Profile.{AddsUp, ProfileValue, after}
 use Rattle.cycle_profile.specs.Text.{profile_text}
-use Rattle.run_log.specs.LastLine.{last_text}
+use Rattle.log_text.specs.LogText.{last_text}
 
 -- the least number of turns after which a run to a boundary is over, looked for among so many
 unfoldable pub turns_until : List TapeEntry → ℕ → ℕ → Board → ℕ
@@ -33,7 +33,8 @@ run_profile entries limit b = told after entries (run_turns entries limit b) (no
 -- its lines, and then the last line of the run
 unfoldable pub profiled_text : List TapeEntry → ℕ → Board → List ℕ
 profiled_text entries limit b =
-    profile_text (run_profile entries limit b) ++ last_text (to_boundary entries limit b) (to_boundary entries limit b).cpu.jam
+    let last = to_boundary entries limit b in
+    profile_text (run_profile entries limit b) ++ last_text last.peripherals.clock last.cpu.pc last.cpu.jam
 
 -- The clocks of the profile of a run are the clocks that the run takes.
 abbrev pub AllClocksAreTold : List TapeEntry → ℕ → Board → Type 0

@@ -11,8 +11,8 @@ use Rattle.board_map.specs.declared.map.Writes.TheVariants as writes
 use Rattle.board_map.specs.Map.{region_by, region_of, row_of, written_region}
 use Rattle.lockstep_board.specs.Budget.{reaches_device, writes_device}
 use Rattle.catchup_engine.specs.Notes.{reaching}
-use Rattle.cpu_core.specs.Course as course
-use Rattle.cpu_core.specs.Course.{read_of, write_of}
+use Rattle.cpu_core.specs.BusCycles as cycles
+use Rattle.cpu_core.specs.BusCycles.{read_of, write_of}
 use Rattle.tape_ports.specs.declared.entry.TapeEntry.{TapeEntry}
 use Rattle.catchup_engine.specs.declared.trace.Access.{Access}
 use Rattle.lockstep_board.specs.Order.{cleared, Recorded, behind, records_of}
@@ -102,7 +102,7 @@ turn-marks entries limit b open_yet =
     ∙ sym (ap (λ (jam : Option ℕ). marks_in (if is_some jam then no_trace else trace_of entries n b)) (over-running limit b open_yet).running)
 
 -- a mark is of the clock of its access
-pub one-mark : (clock : ℕ) (access : Option course.Access) → All (λ mark. mark ≡ clock) (marks_of (accesses_in clock access))
+pub one-mark : (clock : ℕ) (access : Option cycles.Access) → All (λ mark. mark ≡ clock) (marks_of (accesses_in clock access))
 one-mark clock None = subst (All (λ mark. mark ≡ clock)) (sym marks-nothing) (All-nil (λ mark. mark ≡ clock))
 one-mark clock (Some access) = by_start access
   where
@@ -113,7 +113,7 @@ one-mark clock (Some access) = by_start access
     by_test a same false is =
         subst (All (λ mark. mark ≡ clock)) (sym (mark-other a [] is ∙ marks-nothing)) (All-nil (λ mark. mark ≡ clock))
 
-    by_start : (a : course.Access) → All (λ mark. mark ≡ clock) (marks_of (access_at clock a ∷ []))
+    by_start : (a : cycles.Access) → All (λ mark. mark ≡ clock) (marks_of (access_at clock a ∷ []))
     by_start (read_of address value) = by_test (access_at clock (read_of address value)) refl _ refl
     by_start (write_of address value) = by_test (access_at clock (write_of address value)) refl _ refl
 

@@ -9,7 +9,7 @@ use Rattle.board_base.specs.declared.board.TheConstants.{CLOCK_LIMIT}
 use Rattle.board_base.specs.declared.record.Record.{Record}
 use Rattle.board_base.specs.Cpu.{CpuValue, MidValue}
 use Rattle.board_base.specs.Records.{clock_of, MadeBetween}
-use Rattle.cpu_core.specs.Course as course
+use Rattle.cpu_core.specs.BusCycles as cycles
 use Rattle.tape_ports.specs.declared.entry.Port.{Port}
 use Rattle.tape_ports.specs.declared.entry.Port.TheVariants as port
 use Rattle.tape_ports.specs.declared.entry.TapeEntry.{TapeEntry}
@@ -141,7 +141,7 @@ accesses-behind entries (suc n) l b =
     rw (access_in-behind entries l b, rest) refl
 
 -- a clock makes one access at most
-access-few : (clock : ℕ) (access : Option course.Access) → length (accesses_in clock access) ≤ 1
+access-few : (clock : ℕ) (access : Option cycles.Access) → length (accesses_in clock access) ≤ 1
 access-few clock None = omega arith
 access-few clock (Some access) = omega arith
 

@@ -12,11 +12,11 @@ ghost use Rattle.run_trace.specs.FramingLaws.{framed_in_parts, framed_still};
 
 use arrayvec::ArrayVec;
 use board_base::{BoardState, CLOCK_LIMIT, Trails};
-use run_windows::{SyncedMachine, TurnObserver};
 use catchup_engine::{Machine, Tracer, TurnNote};
 use frame_list::{Frames, has_starts, start_clocks};
+use log_text::write_last;
 use outside_io::{Sink, SinkFault};
-use run_log::write_last;
+use run_windows::{SyncedMachine, TurnObserver};
 use std::marker::Model;
 use tape_ports::Tape;
 
@@ -111,5 +111,7 @@ pub fn run_framed<M: Machine, O: Sink>(
         return Err(SinkFault);
     };
     framer.frames.end(out)?;
-    write_last(synced, out)
+    let machine = synced.machine();
+    let cpu = machine.cpu();
+    write_last(machine.clock(), cpu.pc, cpu.jam, out)
 }

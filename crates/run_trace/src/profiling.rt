@@ -10,11 +10,11 @@ ghost use Rattle.run_trace.specs.Profiling.{after_run, profiler_told};
 ghost use Rattle.run_trace.specs.ProfilingLaws.{profiled_in_parts, profiled_still};
 
 use board_base::{CLOCK_LIMIT, Trails};
-use run_windows::{SyncedMachine, TurnObserver};
 use catchup_engine::{Machine, Tracer, TurnNote};
 use cycle_profile::Profile;
+use log_text::write_last;
 use outside_io::{Sink, SinkFault};
-use run_log::write_last;
+use run_windows::{SyncedMachine, TurnObserver};
 use tape_ports::Tape;
 
 /// Counts what the turns of a run take.
@@ -79,5 +79,7 @@ pub fn run_profiled<M: Machine, O: Sink>(
         return Err(SinkFault);
     };
     profiler.profile.write(out)?;
-    write_last(synced, out)
+    let machine = synced.machine();
+    let cpu = machine.cpu();
+    write_last(machine.clock(), cpu.pc, cpu.jam, out)
 }

@@ -1,4 +1,4 @@
-; A number that outlives the power: each press counts, and the EAROM keeps the count.
+; A non-volatile number: each press counts, and the EAROM keeps the count.
 
 in3     = $8000                 ; bit 0 is 0 while the button is pressed
 dog     = $8980                 ; a write clears the watchdog

@@ -3,15 +3,15 @@ use Rattle.std.proofs.lemmas.Grind.{common_steps}
 use Rattle.std.proofs.lemmas.List.{nil_from_length}
 use Rattle.asm_text.specs.Lines.{lines_with_ends}
 use Rattle.asm_text.proofs.Parting.{lines_with_ends-nil}
-use Rattle.asm_core.specs.FirstRound.{known_of}
+use Rattle.asm_core.specs.PassOne.{known_of}
 use Rattle.asm_core.specs.Images.{at_the_start}
-use Rattle.asm_core.specs.Rounds.{first_round}
+use Rattle.asm_core.specs.Passes.{pass_one}
 use Rattle.asm_core.proofs.Looking.{looked-fault, looked-next, looked-none}
 use Rattle.asm_core.proofs.assembly.look_at_lines.Goals as goal
 
 pub returns-in-Err-look_at_text-clause-known : goal.returns-in-Err-look_at_text-clause-known
 returns-in-Err-look_at_text-clause-known g c =
-    looked-fault g.D.Dialect.language c.args.rom c.lines.number (known_of c.lines.round) at_the_start c.split_line.result.0.now (lines_with_ends c.split_line.result.1.now) (lines_with_ends c.lines.rest.now) (lines_with_ends c.args.text.now)
+    looked-fault g.D.Dialect.language c.args.rom c.lines.number (known_of c.lines.pass) at_the_start c.split_line.result.0.now (lines_with_ends c.split_line.result.1.now) (lines_with_ends c.lines.rest.now) (lines_with_ends c.args.text.now)
     c.in-Err-look_at_text.fault c.split_line.ensures.lines c.lines.invariant.known c.in-Err-look_at_text.ensures.exact
 
 pub lines-preserved : goal.lines-preserved
@@ -19,10 +19,10 @@ lines-preserved g c =
     let whole = ap length c.split_line.ensures.whole in
     record {
       known =
-          sym (looked-next g.D.Dialect.language c.args.rom c.lines.number (known_of c.lines.round) (known_of c.look_at_text.new.round) c.split_line.result.0.now (lines_with_ends c.split_line.result.1.now) (lines_with_ends c.lines.rest.now)
+          sym (looked-next g.D.Dialect.language c.args.rom c.lines.number (known_of c.lines.pass) (known_of c.look_at_text.new.pass) c.split_line.result.0.now (lines_with_ends c.split_line.result.1.now) (lines_with_ends c.lines.rest.now)
           c.split_line.ensures.lines c.in_default.ensures.exact)
           ∙ c.lines.invariant.known;
-      round = c.in_default.ensures.round;
+      pass = c.in_default.ensures.pass;
       number = omega (arith, length-append c.split_line.result.0.now c.split_line.result.1.now, whole, c.split_line.ensures.some, c.lines.invariant.number);
     }
 
@@ -30,6 +30,6 @@ pub returns-clause-known : goal.returns-clause-known
 returns-clause-known g c =
     let none : length c.lines.rest.now ≡ 0 = grind (arith, common_steps) in
     sym c.lines.invariant.known
-    ∙ ap (λ rest. first_round g.D.Dialect.language c.args.rom c.lines.number (known_of c.lines.round) (lines_with_ends rest)) (nil_from_length c.lines.rest.now none)
-    ∙ ap (λ lines. first_round g.D.Dialect.language c.args.rom c.lines.number (known_of c.lines.round) lines) lines_with_ends-nil
-    ∙ looked-none g.D.Dialect.language c.args.rom c.lines.number (known_of c.lines.round)
+    ∙ ap (λ rest. pass_one g.D.Dialect.language c.args.rom c.lines.number (known_of c.lines.pass) (lines_with_ends rest)) (nil_from_length c.lines.rest.now none)
+    ∙ ap (λ lines. pass_one g.D.Dialect.language c.args.rom c.lines.number (known_of c.lines.pass) lines) lines_with_ends-nil
+    ∙ looked-none g.D.Dialect.language c.args.rom c.lines.number (known_of c.lines.pass)

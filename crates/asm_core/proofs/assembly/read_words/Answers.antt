@@ -3,7 +3,7 @@ use Rattle.std.proofs.lemmas.Grind.{common_steps}
 use Rattle.std.proofs.lemmas.List.{nil_from_length}
 use Rattle.asm_text.specs.declared.fault.AsmFault.TheVariants.{Line}
 use Rattle.asm_text.specs.Pieces.{kind_of, pieces_of}
-use Rattle.asm_core.specs.Rounds.{words_read}
+use Rattle.asm_core.specs.Passes.{words_read}
 use Rattle.asm_core.specs.Words.{words_in}
 use Rattle.asm_core.proofs.Checking.{checked, checked-bad, checked-good, checked-none, words-checked}
 use Rattle.asm_core.proofs.assembly.read_words.Goals as goal
