@@ -62,9 +62,9 @@ keeps-then s m t first later = record {
 pub passed-keeps : (n : ℕ) (s t : BusValue) → t ≡ passed n s → t.peripherals.divider.irq ≡ s.peripherals.divider.irq → t.peripherals.divider.pending ≡ s.peripherals.divider.pending
     → KeepsLines s t
 unfolding passed later
-passed-keeps n s t told irq pending = record {
-  event = ap (λ (b : BusValue). b.event_at) told;
-  wired = ap (λ (b : BusValue). b.peripherals.wired) told;
+passed-keeps n s t observed irq pending = record {
+  event = ap (λ (b : BusValue). b.event_at) observed;
+  wired = ap (λ (b : BusValue). b.peripherals.wired) observed;
   pending = pending;
   irq = λ e. irq ∙ e;
 }

@@ -22,7 +22,7 @@ use Rattle.catchup_engine.specs.Notes.{NotedStep, NotedValue, note_of, noting}
 use Rattle.catchup_engine.specs.Quiet.{IsCounted, later, passed}
 use Rattle.catchup_engine.specs.Runs.{GoesOn, HasRoomTo, IsInRange, over_bus}
 use Rattle.catchup_engine.specs.Trace.{TraceValue}
-use Rattle.catchup_engine.specs.Traced.{ToldTurns}
+use Rattle.catchup_engine.specs.Traced.{NotedTurns}
 use Rattle.catchup_engine.proofs.HorizonLaws.{runs-keep}
 use Rattle.catchup_engine.proofs.HorizonRuns.{AtHorizon, horizon-goes, horizon-smaller, horizon-starts}
 use Rattle.catchup_engine.proofs.Notes.{noted-turn, opcode_note}
@@ -45,7 +45,7 @@ module _ {T : Type 0} (next : T → TraceValue → ℕ → T) (enough : T → Bo
   -- flags say whether the tracer has enough, and whether the run goes on.
   pub record AtNoted (horizon : Horizon) (c : CpuValue) (s : BusValue) (elapsed : ℕ) (t : BusValue) (e : CpuValue) (w v : T) (full more : Bool) : Type 0 where
     pub at : AtHorizon tape limit [] horizon c s elapsed t e more
-    pub turns : ToldTurns next enough tape.entries limit (over_bus c s) (over_bus e (passed elapsed t)) w v full
+    pub turns : NotedTurns next enough tape.entries limit (over_bus c s) (over_bus e (passed elapsed t)) w v full
     pub open_yet : more ≡ true → full ≡ false
     pub opcode : more ≡ true → is_private e.pc ≡ true
 
@@ -91,7 +91,7 @@ module _ {T : Type 0} (next : T → TraceValue → ℕ → T) (enough : T → Bo
       → then ≡ (not has && ((nat_lt (u.peripherals.clock + n) horizon.until && (is_none f.jam && (horizon.irq_idle || is_masked f.p))) && is_private f.pc))
       → AtNoted horizon c s n u f w new has then
   unfolding passed later
-  noted-goes horizon c e f s t u elapsed n code clocks l w v new full more then has on_yet last at runs boundary counted lines byte time wrap told asked goes_on =
+  noted-goes horizon c e f s t u elapsed n code clocks l w v new full more then has on_yet last at runs boundary counted lines byte time wrap observed asked goes_on =
       let goes = at.at.goes on_yet in
       let reads = (reads-opcode e (passed elapsed t) goes.reads).reads in
       let turn = noted-turn tape e (passed elapsed t) (noting (passed n u) l) f reads at.at.on.run.goes.between at.at.counted.accepts runs boundary in
@@ -103,8 +103,8 @@ module _ {T : Type 0} (next : T → TraceValue → ℕ → T) (enough : T → Bo
             (λ on. and-none _ (parts has before_then (is_private f.pc) (sym goes_on ∙ on)).1);
         turns =
             (turns-more next enough tape.entries limit (over_bus c s) (passed elapsed t) (passed n u) e f w v new turn.trace has last
-            (subst (λ flag. ToldTurns next enough tape.entries limit (over_bus c s) (over_bus e (passed elapsed t)) w v flag) (at.open_yet on_yet) at.turns)
-            (or_parts (is_over limit (over_bus e (passed elapsed t))) (is_at_any [] (over_bus e (passed elapsed t))) goes.open_yet).0 at.at.on.range turn.turned turn.is (told turn.trace note) asked).0;
+            (subst (λ flag. NotedTurns next enough tape.entries limit (over_bus c s) (over_bus e (passed elapsed t)) w v flag) (at.open_yet on_yet) at.turns)
+            (or_parts (is_over limit (over_bus e (passed elapsed t))) (is_at_any [] (over_bus e (passed elapsed t))) goes.open_yet).0 at.at.on.range turn.turned turn.is (observed turn.trace note) asked).0;
         open_yet = λ on. (parts has before_then (is_private f.pc) (sym goes_on ∙ on)).0;
         opcode = λ on. (parts has before_then (is_private f.pc) (sym goes_on ∙ on)).2;
       }

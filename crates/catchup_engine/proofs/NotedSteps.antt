@@ -58,16 +58,16 @@ noted-access tape n x s t l lines is = record {
 pub noted-read : (tape : TapeValue) (n a v : ℕ) (s m t : BusValue) (l : List Access) → IsCounted tape n s → 1 ≤ quiet_room n s → m ≡ passed (n + 1) s → KeepsLines s m
     → Does m t m.peripherals (2 * from_bool (reaches_device (read_of a v))) → v ≡ byte_read a (at_clock (m.peripherals.clock - 1) m.peripherals)
     → lagging_at (row_of a).reads t.lagging ≡ 0 → IsNotedAccess tape n (read_of a v) s t l
-noted-read tape n a v s m t l counted room told lines does is current =
+noted-read tape n a v s m t l counted room observed lines does is current =
     noted-access tape n (read_of a v) s t l (keeps-then s m t lines (read-keeps m t (2 * from_bool (reaches_device (read_of a v))) does))
-    (device-reads tape n 0 a v s m t counted room told refl does is current)
+    (device-reads tape n 0 a v s m t counted room observed refl does is current)
 
 pub noted-written : (tape : TapeValue) (n a v : ℕ) (s m t : BusValue) (l : List Access) → IsCounted tape n s → 1 ≤ quiet_room n s → m ≡ passed (n + 1) s → KeepsLines s m
     → Does m t (at_clock m.peripherals.clock (byte_put a v (at_clock (m.peripherals.clock - 1) m.peripherals))) (2 * from_bool (reaches_device (write_of a v)))
     → length t.peripherals.written ≤ length m.peripherals.written + 1 → IsNotedAccess tape n (write_of a v) s t l
-noted-written tape n a v s m t l counted room told lines does few =
+noted-written tape n a v s m t l counted room observed lines does few =
     noted-access tape n (write_of a v) s t l (keeps-then s m t lines (put-keeps a v m t (2 * from_bool (reaches_device (write_of a v))) does))
-    (device-writes tape n 0 a v s m t counted room told refl does few)
+    (device-writes tape n 0 a v s m t counted room observed refl does few)
 
 -- what is noted grows by one access at most
 pub reached-most : (l : List Access) (a : Access) (n : ℕ) → length l ≤ n → length (with_reached l a) ≤ n + 1

@@ -25,7 +25,7 @@ use Rattle.catchup_engine.specs.Turn.{ReadsOpcode, TurnedBus}
 use Rattle.catchup_engine.proofs.Seen.{moves-seen, runs-seen}
 use Rattle.catchup_engine.proofs.Steps.{moves-length}
 use Rattle.catchup_engine.proofs.TapeLaws.{ticked-quiet}
-use Rattle.catchup_engine.proofs.Traces.{fetch-byte, of_accesses, opcode-told, pushed-is, trace-named}
+use Rattle.catchup_engine.proofs.Traces.{fetch-byte, of_accesses, opcode-observed, pushed-is, trace-named}
 use Rattle.catchup_engine.proofs.Turns.{opcode-turn}
 
 -- they are no more than the accesses
@@ -113,12 +113,12 @@ noted-turn tape c s t e reads between accepts runs boundary =
     let lifted = lift entries r Opcode [] runs.bytes start t [] runs.moves refl few in
     let due : Opcode ≡ sequence_due c (ticked entries s.peripherals) = sym (ap (sequence_due c) (ticked-quiet tape s accepts reads.no_event) ∙ reads.due) in
     let full = traced t.bus (of_accesses lifted.made) in
-    let told = opcode-told entries c s full e reads.boundary between due (record { bytes = runs.bytes; moves = lifted.moves; ends = runs.ends }) in
+    let observed = opcode-observed entries c s full e reads.boundary between due (record { bytes = runs.bytes; moves = lifted.moves; ends = runs.ends }) in
     let o = first_value (seven_of lifted.made) in
-    let byte = fetch-byte entries c s full reads.boundary told in
+    let byte = fetch-byte entries c s full reads.boundary observed in
     let trace : TraceValue = record (of_accesses lifted.made) { sequence = Opcode; opcode = o } in
     let is =
-    trace-named entries (over_bus c s) full Opcode o told (due ∙ sym (ap (λ (mid : Option MidValue). sequence_at mid c (ticked entries s.peripherals)) reads.boundary)) byte in
+    trace-named entries (over_bus c s) full Opcode o observed (due ∙ sym (ap (λ (mid : Option MidValue). sequence_at mid c (ticked entries s.peripherals)) reads.boundary)) byte in
     let clocks : length lifted.made ≡ t.bus.peripherals.clock - s.peripherals.clock = count-of entries (t.bus.peripherals.clock - s.peripherals.clock) c s trace is in
     let turned = opcode-turn tape c s t.bus e reads between accepts bus boundary in
     record {

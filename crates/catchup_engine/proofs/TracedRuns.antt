@@ -10,11 +10,11 @@ use Rattle.lockstep_board.specs.Lockstep.{Board, step}
 use Rattle.lockstep_board.specs.Run.{is_over}
 use Rattle.catchup_engine.specs.Runs.{over_bus, IsInRange, RunsOn, TracedBusRun, TurnsOn}
 use Rattle.catchup_engine.specs.Trace.{TraceValue, step_trace, trace_of}
-use Rattle.catchup_engine.specs.Traced.{ToldTurns, told, told_once}
+use Rattle.catchup_engine.specs.Traced.{NotedTurns, observed, observed_once}
 use Rattle.catchup_engine.specs.Turn.{TurnedBus}
 use Rattle.lockstep_board.proofs.Runs.{through-reached}
 use Rattle.catchup_engine.proofs.RunsOn.{goes_on, runs-join, starts}
-use Rattle.catchup_engine.proofs.Traces.{over-running, trace-ends, trace-told}
+use Rattle.catchup_engine.proofs.Traces.{over-running, trace-ends, trace-observed}
 use Rattle.lockstep_board.proofs.TurnLaws.{turned-add, turned-next}
 
 -- the clocks to a limit, and one for a sequence that is under way
@@ -23,16 +23,16 @@ clocks_left limit c s = (limit - s.peripherals.clock) + (if is_some c.mid then 1
 
 module _ {T : Type 0} (next : T → TraceValue → ℕ → T) where
   -- the tracer gets one turn more
-  told-next : (entries : List TapeEntry) (n : ℕ) (w : T) (b : Board)
-      → told next entries (suc n) w b ≡ told_once next entries (told next entries n w b) (turned entries n b)
-  unfolding told turned
-  told-next entries zero w b = refl
-  told-next entries (suc n) w b = told-next entries n (told_once next entries w b) (turn entries b)
+  observed-next : (entries : List TapeEntry) (n : ℕ) (w : T) (b : Board)
+      → observed next entries (suc n) w b ≡ observed_once next entries (observed next entries n w b) (turned entries n b)
+  unfolding observed turned
+  observed-next entries zero w b = refl
+  observed-next entries (suc n) w b = observed-next entries n (observed_once next entries w b) (turn entries b)
 
   -- none is made yet
   pub turns-none : (enough : T → Bool) (entries : List TapeEntry) (limit : ℕ) (b : Board) (w : T)
-      → (turns : ToldTurns next enough entries limit b b w w false) × (turns.count ≡ 0)
-  unfolding told turned
+      → (turns : NotedTurns next enough entries limit b b w w false) × (turns.count ≡ 0)
+  unfolding observed turned
   turns-none enough entries limit b w = (
     record {
       count = 0;
@@ -48,22 +48,22 @@ module _ {T : Type 0} (next : T → TraceValue → ℕ → T) where
 
   -- one turn more, of a board at which the run isn't over
   pub turns-more : (enough : T → Bool) (entries : List TapeEntry) (limit : ℕ) (b : Board) (t u : BusValue) (e f : CpuValue) (w v new : T) (trace : TraceValue) (flag : Bool)
-      → limit ≤ 2 ^ 48 → ToldTurns next enough entries limit b (over_bus e t) w v false → is_over limit (over_bus e t) ≡ false → IsInRange e t → TurnedBus entries 7 e t u f
+      → limit ≤ 2 ^ 48 → NotedTurns next enough entries limit b (over_bus e t) w v false → is_over limit (over_bus e t) ≡ false → IsInRange e t → TurnedBus entries 7 e t u f
       → trace ≡ trace_of entries (u.peripherals.clock - t.peripherals.clock) (over_bus e t) → new ≡ next v trace f.pc → flag ≡ enough new
-      → (turns : ToldTurns next enough entries limit b (over_bus f u) w new flag) × (1 ≤ turns.count)
+      → (turns : NotedTurns next enough entries limit b (over_bus f u) w new flag) × (1 ≤ turns.count)
   turns-more enough entries limit b t u e f w v new trace flag last at open_yet range turned_bus is told_new asked =
       let n = at.count in
       let open_turn = over-running limit (over_bus e t) open_yet in
       let made = trace-ends entries e t u f open_turn.running range (λ boundary. let h = open_turn.before boundary in omega arith) turned_bus in
-      let traced = trace-told entries e t u f trace open_turn.running turned_bus is in
+      let traced = trace-observed entries e t u f trace open_turn.running turned_bus is in
       let board : over_bus f u ≡ turn entries (turned entries n b) = made.board ∙ ap (turn entries) at.board in
       let pc : f.pc ≡ (turn entries (turned entries n b)).cpu.pc = ap (λ (k : Board). k.cpu.pc) board in
-      let there : new ≡ told next entries (suc n) w b =
+      let there : new ≡ observed next entries (suc n) w b =
       told_new
       ∙ ap (λ (k : T). next k trace f.pc) at.tracer
-      ∙ ap (λ (k : TraceValue). next (told next entries n w b) k f.pc) (traced ∙ ap (step_trace entries) at.board)
-      ∙ ap (λ k. next (told next entries n w b) (step_trace entries (turned entries n b)) k) pc
-      ∙ sym (told-next entries n w b) in (
+      ∙ ap (λ (k : TraceValue). next (observed next entries n w b) k f.pc) (traced ∙ ap (step_trace entries) at.board)
+      ∙ ap (λ k. next (observed next entries n w b) (step_trace entries (turned entries n b)) k) pc
+      ∙ sym (observed-next entries n w b) in (
         record {
           count = suc n;
           board = board ∙ sym (turned-next entries n b);
@@ -76,7 +76,7 @@ module _ {T : Type 0} (next : T → TraceValue → ℕ → T) where
           goes_on = λ k some h. elim (cases_lt k n) [
             | inl less ↦ at.goes_on k some less
             | inr not_less ↦ (let same : k ≡ n = omega (arith, h, not_less) in
-                ap (λ j. enough (told next entries j w b)) same ∙ ap enough (sym at.tracer) ∙ sym (at.later (omega (arith, some, same))))
+                ap (λ j. enough (observed next entries j w b)) same ∙ ap enough (sym at.tracer) ∙ sym (at.later (omega (arith, some, same))))
           ];
           first = λ none. absurd (omega (arith, none));
           later = λ _. asked;
@@ -86,7 +86,7 @@ module _ {T : Type 0} (next : T → TraceValue → ℕ → T) where
 
   -- where the clock is later, there is one at least
   pub turns-some : (enough : T → Bool) (entries : List TapeEntry) (limit : ℕ) (b c : Board) (w v : T) (flag : Bool)
-      → (turns : ToldTurns next enough entries limit b c w v flag) → b.peripherals.clock < c.peripherals.clock → 1 ≤ turns.count
+      → (turns : NotedTurns next enough entries limit b c w v flag) → b.peripherals.clock < c.peripherals.clock → 1 ≤ turns.count
   unfolding turned
   turns-some enough entries limit b c w v flag turns more = by_count turns.count turns.board
     where
@@ -95,23 +95,23 @@ module _ {T : Type 0} (next : T → TraceValue → ℕ → T) where
       by_count (suc m) is = omega arith
 
   -- it gets some turns, and then others
-  told-add : (entries : List TapeEntry) (n m : ℕ) (w : T) (b : Board)
-      → told next entries (n + m) w b ≡ told next entries m (told next entries n w b) (turned entries n b)
-  unfolding told turned
-  told-add entries zero m w b = rw (zero-add m) refl
-  told-add entries (suc n) m w b =
-      let e : suc n + m ≡ suc (n + m) = omega arith in rw e (told-add entries n m (told_once next entries w b) (turn entries b))
+  observed-add : (entries : List TapeEntry) (n m : ℕ) (w : T) (b : Board)
+      → observed next entries (n + m) w b ≡ observed next entries m (observed next entries n w b) (turned entries n b)
+  unfolding observed turned
+  observed-add entries zero m w b = rw (zero-add m) refl
+  observed-add entries (suc n) m w b =
+      let e : suc n + m ≡ suc (n + m) = omega arith in rw e (observed-add entries n m (observed_once next entries w b) (turn entries b))
 
   pub turns-then : (enough : T → Bool) (entries : List TapeEntry) (limit : ℕ) (b c d : Board) (w v x : T) (flag : Bool)
-      → ToldTurns next enough entries limit b c w v false → ToldTurns next enough entries limit c d v x flag → b.peripherals.clock ≤ c.peripherals.clock → c.peripherals.clock < d.peripherals.clock
-      → ToldTurns next enough entries limit b d w x flag
-  unfolding told
+      → NotedTurns next enough entries limit b c w v false → NotedTurns next enough entries limit c d v x flag → b.peripherals.clock ≤ c.peripherals.clock → c.peripherals.clock < d.peripherals.clock
+      → NotedTurns next enough entries limit b d w x flag
+  unfolding observed
   turns-then enough entries limit b c d w v x flag at rest later more =
       let n = at.count in
       let m = rest.count in
       let some : 1 ≤ m = turns-some enough entries limit c d v x flag rest more in
-      let here : (j : ℕ) → told next entries j v c ≡ told next entries (n + j) w b =
-      λ j. ap (λ (k : T). told next entries j k c) at.tracer ∙ ap (told next entries j (told next entries n w b)) at.board ∙ sym (told-add entries n j w b) in
+      let here : (j : ℕ) → observed next entries j v c ≡ observed next entries (n + j) w b =
+      λ j. ap (λ (k : T). observed next entries j k c) at.tracer ∙ ap (observed next entries j (observed next entries n w b)) at.board ∙ sym (observed-add entries n j w b) in
       let there : (j : ℕ) → turned entries j c ≡ turned entries (n + j) b = λ j. ap (turned entries j) at.board ∙ sym (turned-add entries n j b) in
       record {
         count = n + m;
@@ -125,27 +125,27 @@ module _ {T : Type 0} (next : T → TraceValue → ℕ → T) where
         goes_on = λ k first h. elim (cases_lt k n) [
           | inl less ↦ at.goes_on k first less
           | inr not_less ↦ (let same : n + (k - n) ≡ k = omega (arith, not_less) in
-              ap (λ j. enough (told next entries j w b)) (sym same) ∙ ap enough (sym (here (k - n))) ∙ at-or-behind k first (omega (arith, h, not_less)) not_less)
+              ap (λ j. enough (observed next entries j w b)) (sym same) ∙ ap enough (sym (here (k - n))) ∙ at-or-behind k first (omega (arith, h, not_less)) not_less)
         ];
         first = λ none. absurd (omega (arith, none, some));
         later = λ _. rest.later some;
       }
     where
-      at-or-behind : (k : ℕ) → 1 ≤ k → k - at.count < rest.count → at.count ≤ k → enough (told next entries (k - at.count) v c) ≡ false
+      at-or-behind : (k : ℕ) → 1 ≤ k → k - at.count < rest.count → at.count ≤ k → enough (observed next entries (k - at.count) v c) ≡ false
       at-or-behind k first h from = elim (cases_lt (k - at.count) 1) [
         | inl less ↦ (let none : k - at.count ≡ 0 = omega (arith, less) in
-            ap (λ j. enough (told next entries j v c)) none ∙ at-start (omega (arith, first, none, from)))
+            ap (λ j. enough (observed next entries j v c)) none ∙ at-start (omega (arith, first, none, from)))
         | inr not_less ↦ rest.goes_on (k - at.count) (omega (arith, not_less)) h
       ]
         where
-          at-start : 1 ≤ at.count → enough (told next entries 0 v c) ≡ false
+          at-start : 1 ≤ at.count → enough (observed next entries 0 v c) ≡ false
           at-start some = sym (at.later some)
 
   -- From c, s and w some turns have led to e, t and v, and the flag says whether the tracer has
   -- enough.
   pub record AtTraced (enough : T → Bool) (entries : List TapeEntry) (limit : ℕ) (c : CpuValue) (s t : BusValue) (e : CpuValue) (w v : T) (flag : Bool) : Type 0 where
     pub run : RunsOn entries (is_over limit) c s t e
-    pub turns : ToldTurns next enough entries limit (over_bus c s) (over_bus e t) w v flag
+    pub turns : NotedTurns next enough entries limit (over_bus c s) (over_bus e t) w v flag
     pub first : turns.count ≡ 0 → (e ≡ c) × (t ≡ s)
     pub later : 1 ≤ turns.count → e.mid ≡ None
     pub near : (t.peripherals.clock ≤ s.peripherals.clock + 7) ⊎ (t.peripherals.clock ≤ limit + 6)
@@ -199,7 +199,7 @@ module _ {T : Type 0} (next : T → TraceValue → ℕ → T) where
   -- and some turns of it from a boundary on
   pub traced-to-horizon : (enough : T → Bool) (entries : List TapeEntry) (limit : ℕ) (c : CpuValue) (s t u : BusValue) (e f : CpuValue) (w v new : T) (flag : Bool)
       → AtTraced enough entries limit c s t e w v false → TurnsOn entries limit [] e t u f
-      → ToldTurns next enough entries limit (over_bus e t) (over_bus f u) v new flag → t.peripherals.clock < u.peripherals.clock
+      → NotedTurns next enough entries limit (over_bus e t) (over_bus f u) v new flag → t.peripherals.clock < u.peripherals.clock
       → AtTraced enough entries limit c s u f w new flag
   traced-to-horizon enough entries limit c s t u e f w v new flag at on turns more =
       let clock = at.run.clock in
@@ -217,10 +217,10 @@ module _ {T : Type 0} (next : T → TraceValue → ℕ → T) where
       }
 
   -- it has come to its end
-  pub told-ends : (enough : T → Bool) (entries : List TapeEntry) (limit : ℕ) (c : CpuValue) (s t : BusValue) (e : CpuValue) (w v : T) (flag : Bool)
+  pub observed-ends : (enough : T → Bool) (entries : List TapeEntry) (limit : ℕ) (c : CpuValue) (s t : BusValue) (e : CpuValue) (w v : T) (flag : Bool)
       → AtTraced enough entries limit c s t e w v flag → IfSome c.mid (λ _. IsMiddle c) → (flag ≡ true) ⊎ (is_over limit (over_bus e t) ≡ true)
       → TracedBusRun next enough entries limit c s t e w v
-  told-ends enough entries limit c s t e w v flag at place ends =
+  observed-ends enough entries limit c s t e w v flag at place ends =
       let clock = at.run.clock in
       let steps : t.peripherals.clock - s.peripherals.clock ≡ at.run.count = omega arith in
       record {

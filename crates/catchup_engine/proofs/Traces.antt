@@ -109,10 +109,10 @@ pub record IsTold (entries : List TapeEntry) (n : ℕ) (b : Board) (before : Lis
   pub full : length (accesses_of entries n b) ≡ n
 
 -- the accesses of the next clock, and then those of the others
-told-more : (entries : List TapeEntry) (n : ℕ) (b next : Board) (a : Access) (before : List Access) (trace : TraceValue) → step entries b ≡ next
+observed-more : (entries : List TapeEntry) (n : ℕ) (b next : Board) (a : Access) (before : List Access) (trace : TraceValue) → step entries b ≡ next
     → accesses_in b.peripherals.clock (access_in entries b) ≡ a ∷ [] → IsTold entries n next (before ++ a ∷ []) trace → IsTold entries (suc n) b before trace
 unfolding accesses_of
-told-more entries n b next a before trace steps one rest =
+observed-more entries n b next a before trace steps one rest =
     let whole : accesses_of entries (suc n) b ≡ a ∷ accesses_of entries n next =
     ap (λ (k : Board). accesses_in b.peripherals.clock (access_in entries b) ++ accesses_of entries n k) steps
     ∙ ap (λ (l : List Access). l ++ accesses_of entries n next) one in
@@ -125,15 +125,15 @@ told-more entries n b next a before trace steps one rest =
     }
 
 -- what is left of a sequence is traced clock by clock
-moves-told : (entries : List TapeEntry) (r : RegistersValue) (q : Sequence) (bytes more : List ℕ) (s t : TracedValue)
+moves-observed : (entries : List TapeEntry) (r : RegistersValue) (q : Sequence) (bytes more : List ℕ) (s t : TracedValue)
     → Moves (TracedStep entries) r q bytes more s t → s.bus.clock_open ≡ false → (before : List Access) → s.trace ≡ of_accesses before
     → length before + length more ≤ 7 → IsTold entries (length more) (board_after r q bytes s.bus.peripherals) before t.trace
 unfolding accesses_of
-moves-told entries r q bytes [] s t same between before is few = record {
+moves-observed entries r q bytes [] s t same between before is few = record {
   trace_is = ap (λ (k : TracedValue). k.trace) same ∙ is ∙ ap of_accesses (sym (append-nil before));
   full = refl;
 }
-moves-told entries r q bytes (v ∷ more) s t (x, m, is, did, rest) between before at few =
+moves-observed entries r q bytes (v ∷ more) s t (x, m, is, did, rest) between before at few =
     let b = board_after r q bytes s.bus.peripherals in
     let next = step-access entries r q bytes v x s.bus m.bus is did.0 between in
     let clock = step-clock entries b in
@@ -143,20 +143,20 @@ moves-told entries r q bytes (v ∷ more) s t (x, m, is, did, rest) between befo
     let one : accesses_in b.peripherals.clock (access_in entries b) ≡ a ∷ [] =
     ap (accesses_in s.bus.peripherals.clock) (access-inside entries r q bytes v x s.bus m.bus is did.0 between) in
     let longer = length-append before (a ∷ []) in
-    let told : m.trace ≡ of_accesses (before ++ a ∷ []) =
+    let observed : m.trace ≡ of_accesses (before ++ a ∷ []) =
     did.1
     ∙ ap (λ (k : TraceValue). pushed k (access_at (m.bus.peripherals.clock - 1) x)) at
     ∙ ap (λ n. pushed (of_accesses before) (access_at n x)) now
     ∙ pushed-is before a (omega arith) in
-    told-more entries (length more) b (board_after r q (bytes ++ v ∷ []) m.bus.peripherals) a before t.trace next one
-    (moves-told entries r q (bytes ++ v ∷ []) more m t rest (stays-of entries x s.bus m.bus did.0).clock_open (before ++ a ∷ []) told (omega arith))
+    observed-more entries (length more) b (board_after r q (bytes ++ v ∷ []) m.bus.peripherals) a before t.trace next one
+    (moves-observed entries r q (bytes ++ v ∷ []) more m t rest (stays-of entries x s.bus m.bus did.0).clock_open (before ++ a ∷ []) observed (omega arith))
 
 -- a turn that is traced: so many clocks of it are in the trace
 pub record IsTraced (entries : List TapeEntry) (b : Board) (t : TracedValue) : Type 0 where
   pub count : ℕ
   pub clock : t.bus.peripherals.clock ≡ b.peripherals.clock + count
   pub some : 1 ≤ count
-  pub told : IsTold entries count b [] t.trace
+  pub observed : IsTold entries count b [] t.trace
   pub byte : first_value t.trace.accesses ≡ byte_of (access_in entries b)
 
 value-at : (clock : ℕ) (x : cycles.Access) → (access_at clock x).value ≡ byte_of (Some x)
@@ -175,24 +175,24 @@ first-byte entries n b x trace access is =
     ∙ ap byte_of (sym access)
 
 -- the first clock, and then the others
-turn-told : (entries : List TapeEntry) (b : Board) (r : RegistersValue) (q : Sequence) (bytes more : List ℕ) (s : BusValue) (m t : TracedValue) (x : cycles.Access)
+turn-observed : (entries : List TapeEntry) (b : Board) (r : RegistersValue) (q : Sequence) (bytes more : List ℕ) (s : BusValue) (m t : TracedValue) (x : cycles.Access)
     → First entries b r q bytes s m.bus → access_in entries b ≡ Some x → m.trace ≡ of_accesses (access_at (m.bus.peripherals.clock - 1) x ∷ [])
     → Moves (TracedStep entries) r q bytes more m t → length more ≤ 6 → IsTraced entries b t
-turn-told entries b r q bytes more s m t x first access told moves few =
+turn-observed entries b r q bytes more s m t x first access observed moves few =
     let clock = step-clock entries b in
     let clock_then : m.bus.peripherals.clock ≡ (step entries b).peripherals.clock = ap (λ (k : Board). k.peripherals.clock) (sym first.step) in
     let now : m.bus.peripherals.clock - 1 ≡ b.peripherals.clock = omega arith in
     let a = access_at b.peripherals.clock x in
-    let at : m.trace ≡ of_accesses (a ∷ []) = told ∙ ap (λ n. of_accesses (access_at n x ∷ [])) now in
-    let whole = told-more entries (length more) b (board_after r q bytes m.bus.peripherals) a [] t.trace first.step (ap (accesses_in b.peripherals.clock) access)
-    (moves-told entries r q bytes more m t moves first.goes.between (a ∷ []) at (omega arith)) in
+    let at : m.trace ≡ of_accesses (a ∷ []) = observed ∙ ap (λ n. of_accesses (access_at n x ∷ [])) now in
+    let whole = observed-more entries (length more) b (board_after r q bytes m.bus.peripherals) a [] t.trace first.step (ap (accesses_in b.peripherals.clock) access)
+    (moves-observed entries r q bytes more m t moves first.goes.between (a ∷ []) at (omega arith)) in
     record {
       count = suc (length more);
       clock =
           turned-clock entries b r q bytes more s m.bus t.bus first
           (moves-went entries r q bytes more m.bus t.bus (bus-moves entries r q bytes more m t moves) first.goes.between);
       some = omega arith;
-      told = whole;
+      observed = whole;
       byte = first-byte entries (length more) b x t.trace access whole.trace_is;
     }
 
@@ -202,10 +202,10 @@ bus-runs entries r q s t e runs =
     (runs-seen (BusStep entries) (λ (k : TracedValue). k.bus) (λ k. 0) (λ x a b h. (refl, h.0)) r q s t e runs).1
 
 -- a whole instruction or interrupt
-pub whole-told : (entries : List TapeEntry) (c : CpuValue) (q : Sequence) (s b : BusValue) (t : TracedValue) (e : CpuValue) → c.mid ≡ None
+pub whole-observed : (entries : List TapeEntry) (c : CpuValue) (q : Sequence) (s b : BusValue) (t : TracedValue) (e : CpuValue) → c.mid ≡ None
     → Begins entries s b → q ≡ sequence_due c b.peripherals → q ≢ Reset → Runs (TracedStep entries) (start_of q c) q (traced b no_trace) t e
     → IsTraced entries (over_bus c s) t
-whole-told entries c q s b t e boundary begins due other runs = by_bytes runs.bytes runs.moves runs.ends
+whole-observed entries c q s b t e boundary begins due other runs = by_bytes runs.bytes runs.moves runs.ends
   where
     r : RegistersValue
     r = start_of q c
@@ -214,7 +214,7 @@ whole-told entries c q s b t e boundary begins due other runs = by_bytes runs.by
     by_bytes [] moves ends = absurd (next-first r q (rw ends tt))
     by_bytes (v ∷ more) (x, m, is, did, rest) ends =
         let few = moves-length entries r q (v ∷ []) more m.bus t.bus (bus-moves entries r q (v ∷ []) more m t rest) (omega arith) in
-        turn-told entries (over_bus c s) r q (v ∷ []) more s m t x (fetch-first entries c q s b m.bus v x boundary begins due other is did.0)
+        turn-observed entries (over_bus c s) r q (v ∷ []) more s m t x (fetch-first entries c q s b m.bus v x boundary begins due other is did.0)
         (access-fetched entries c q v x s b m.bus boundary begins due is did.0)
         (did.1 ∙ pushed-is [] (access_at (m.bus.peripherals.clock - 1) x) (omega arith)) rest (omega arith)
 
@@ -230,10 +230,10 @@ access-opcode entries c v x s t boundary between due is did =
     ∙ ap (made_by (next_of (start_of Opcode c) Opcode [])) (sym (in_clock-between entries s between))
     ∙ made_by-is entries (next_of (start_of Opcode c) Opcode []) v x s t is did
 
-pub opcode-told : (entries : List TapeEntry) (c : CpuValue) (s : BusValue) (t : TracedValue) (e : CpuValue) → c.mid ≡ None → s.clock_open ≡ false
+pub opcode-observed : (entries : List TapeEntry) (c : CpuValue) (s : BusValue) (t : TracedValue) (e : CpuValue) → c.mid ≡ None → s.clock_open ≡ false
     → Opcode ≡ sequence_due c (ticked entries s.peripherals) → Runs (TracedStep entries) (registers_of c) Opcode (traced s no_trace) t e
     → IsTraced entries (over_bus c s) t
-opcode-told entries c s t e boundary between due runs = by_bytes runs.bytes runs.moves runs.ends
+opcode-observed entries c s t e boundary between due runs = by_bytes runs.bytes runs.moves runs.ends
   where
     r : RegistersValue
     r = registers_of c
@@ -242,15 +242,15 @@ opcode-told entries c s t e boundary between due runs = by_bytes runs.bytes runs
     by_bytes [] moves ends = absurd (next-first r Opcode (rw ends tt))
     by_bytes (v ∷ more) (x, m, is, did, rest) ends =
         let few = moves-length entries r Opcode (v ∷ []) more m.bus t.bus (bus-moves entries r Opcode (v ∷ []) more m t rest) (omega arith) in
-        turn-told entries (over_bus c s) r Opcode (v ∷ []) more s m t x (opcode-first entries c s m.bus v x boundary between due is did.0)
+        turn-observed entries (over_bus c s) r Opcode (v ∷ []) more s m t x (opcode-first entries c s m.bus v x boundary between due is did.0)
         (access-opcode entries c v x s m.bus boundary between due is did.0)
         (did.1 ∙ pushed-is [] (access_at (m.bus.peripherals.clock - 1) x) (omega arith)) rest (omega arith)
 
 -- what is left of a sequence
-pub rest-told : (entries : List TapeEntry) (c : CpuValue) (m : MidValue) (made : ℕ) (s : BusValue) (t : TracedValue) (e : CpuValue) → c.mid ≡ Some m
+pub rest-observed : (entries : List TapeEntry) (c : CpuValue) (m : MidValue) (made : ℕ) (s : BusValue) (t : TracedValue) (e : CpuValue) → c.mid ≡ Some m
     → IfSome c.mid (λ _. IsMiddle c) → length m.bytes ≡ 6 → s.clock_open ≡ false
     → Advances (TracedStep entries) (registers_of c) m.sequence (given_by m) 7 made (traced s no_trace) t e → IsTraced entries (over_bus c s) t
-rest-told entries c m made s t e inside middle six between a = by_more a.more a.moves a.count a.full
+rest-observed entries c m made s t e inside middle six between a = by_more a.more a.moves a.count a.full
   where
     r : RegistersValue
     r = registers_of c
@@ -269,7 +269,7 @@ rest-told entries c m made s t e inside middle six between a = by_more a.more a.
         let longer : length (given_by m ++ v ∷ []) ≡ length (given_by m) + 1 = length-append (given_by m) (v ∷ []) in
         let few = moves-length entries r m.sequence (given_by m ++ v ∷ []) more k.bus t.bus
         (bus-moves entries r m.sequence (given_by m ++ v ∷ []) more k t rest) (omega arith) in
-        turn-told entries (over_bus c s) r m.sequence (given_by m ++ v ∷ []) more s k t x (resume-first entries c m s k.bus v x inside between is did.0)
+        turn-observed entries (over_bus c s) r m.sequence (given_by m ++ v ∷ []) more s k t x (resume-first entries c m s k.bus v x inside between is did.0)
         (access-resumed entries c m v x s k.bus inside between is did.0)
         (did.1 ∙ pushed-is [] (access_at (k.bus.peripherals.clock - 1) x) (omega arith)) rest (omega arith)
 
@@ -279,11 +279,11 @@ pub record IsRest (entries : List TapeEntry) (c : CpuValue) (m : MidValue) (s : 
   pub traced : IsTraced entries (over_bus c s) t
   pub inside : c.mid ≡ Some m
 
-pub middle-told : (entries : List TapeEntry) (c : CpuValue) (m : MidValue) (s : BusValue) (t : TracedValue) (e : CpuValue) → c.mid ≡ Some m
+pub middle-observed : (entries : List TapeEntry) (c : CpuValue) (m : MidValue) (s : BusValue) (t : TracedValue) (e : CpuValue) → c.mid ≡ Some m
     → IfSome c.mid (λ _. IsMiddle c) → length m.bytes ≡ 6 → s.clock_open ≡ false
     → IfSome c.mid (λ p. (made : ℕ) × Advances (TracedStep entries) (registers_of c) p.sequence (given_by p) 7 made (traced s no_trace) t e)
     → IsRest entries c m s t e
-middle-told entries c m s t e inside middle six between advances =
+middle-observed entries c m s t e inside middle six between advances =
     let a : (made : ℕ) × Advances (TracedStep entries) (registers_of c) m.sequence (given_by m) 7 made (traced s no_trace) t e =
     subst (λ (mid : Option MidValue). IfSome mid (λ p. (made : ℕ) × Advances (TracedStep entries) (registers_of c) p.sequence (given_by p) 7 made (traced s no_trace) t e)) inside advances in
     record {
@@ -291,7 +291,7 @@ middle-told entries c m s t e inside middle six between advances =
           resume-turn entries c m 7 a.0 s t.bus e inside middle six between (omega arith)
           (subst (λ (mid : Option MidValue). IfSome mid (λ p. Advances (BusStep entries) (registers_of c) p.sequence (given_by p) 7 a.0 s t.bus e)) (sym inside)
           (bus-advances entries (registers_of c) m.sequence (given_by m) 7 a.0 (traced s no_trace) t e a.1));
-      traced = rest-told entries c m a.0 s t e inside middle six between a.1;
+      traced = rest-observed entries c m a.0 s t e inside middle six between a.1;
       inside = inside;
     }
 
@@ -344,16 +344,16 @@ reset-of entries c s b m t k e v x boundary begins due is did stands taken effec
           (subst (λ (j : CpuValue). IfSome j.mid (λ p. Advances (BusStep entries) (registers_of j) p.sequence (given_by p) 6 a.0 taken t.bus e)) (sym stands)
           (bus-advances entries r Reset (v ∷ []) 6 a.0 (traced taken m.trace) t e a.1)));
       traced =
-          turn-told entries (over_bus c s) r Reset (v ∷ []) a.1.more s (traced taken m.trace) t x
+          turn-observed entries (over_bus c s) r Reset (v ∷ []) a.1.more s (traced taken m.trace) t x
           (reset-first entries c s b m.bus taken v x boundary begins due is did.0 effects.peripherals effects.calls goes)
           (access-fetched entries c Reset v x s b m.bus boundary begins due is did.0)
           (did.1 ∙ pushed-is [] (access_at (m.bus.peripherals.clock - 1) x) (omega arith) ∙ ap (λ n. of_accesses (access_at (n - 1) x ∷ [])) (sym same))
           a.1.moves (omega arith);
     }
 
-pub reset-told : (entries : List TapeEntry) (c : CpuValue) (s b : BusValue) (t : TracedValue) (e : CpuValue) → c.mid ≡ None
+pub reset-observed : (entries : List TapeEntry) (c : CpuValue) (s b : BusValue) (t : TracedValue) (e : CpuValue) → c.mid ≡ None
     → Begins entries s b → Reset ≡ sequence_due c b.peripherals → TracedReset entries c b t e → IsReset entries c s t e
-reset-told entries c s b t e boundary begins due reset = by_more one.more one.moves one.count one.full one.stands
+reset-observed entries c s b t e boundary begins due reset = by_more one.more one.moves one.count one.full one.stands
   where
     r : RegistersValue
     r = start_of Reset c
@@ -424,10 +424,10 @@ trace-named entries b t q o at is opcode =
     let whole = λ (p : Sequence) (code k : ℕ) (l : List Access). (let r : TraceValue = record { sequence = p; opcode = code; count = k; accesses = l } in r) in
     let made = accesses_of entries n b in
     let there = sequence_at b.cpu.mid b.cpu (ticked entries b.peripherals) in
-    ap (λ (k : TraceValue). let r : TraceValue = record k { sequence = q; opcode = o } in r) at.told.trace_is
+    ap (λ (k : TraceValue). let r : TraceValue = record k { sequence = q; opcode = o } in r) at.observed.trace_is
     ∙ ap (λ code. whole q code (length made) (seven_of made)) opcode
     ∙ ap (λ (p : Sequence). whole p (opcode_by p (first_byte b.cpu.mid (access_in entries b))) (length made) (seven_of made)) is
-    ∙ ap (λ k. whole there (opcode_by there (first_byte b.cpu.mid (access_in entries b))) k (seven_of made)) at.told.full
+    ∙ ap (λ k. whole there (opcode_by there (first_byte b.cpu.mid (access_in entries b))) k (seven_of made)) at.observed.full
     ∙ ap (λ k. whole there (opcode_by there (first_byte b.cpu.mid (access_in entries b))) k (seven_of (accesses_of entries k b))) (sym same)
 
 -- a reset has no opcode
@@ -511,10 +511,10 @@ turn-steps entries c s t e running turned =
     (turn-over entries c s t e turned) (omega arith)
     ∙ sym count
 
-pub trace-told : (entries : List TapeEntry) (c : CpuValue) (s t : BusValue) (e : CpuValue) (trace : TraceValue) → c.jam ≡ None → TurnedBus entries 7 c s t e
+pub trace-observed : (entries : List TapeEntry) (c : CpuValue) (s t : BusValue) (e : CpuValue) (trace : TraceValue) → c.jam ≡ None → TurnedBus entries 7 c s t e
     → trace ≡ trace_of entries (t.peripherals.clock - s.peripherals.clock) (over_bus c s) → trace ≡ step_trace entries (over_bus c s)
 unfolding step_trace
-trace-told entries c s t e trace running turned is =
+trace-observed entries c s t e trace running turned is =
     is
     ∙ ap (λ n. trace_of entries n (over_bus c s)) (sym (turn-steps entries c s t e running turned))
     ∙ sym (ap (λ (jam : Option ℕ). if is_some jam then no_trace else trace_of entries (boundary_steps entries (s.peripherals.clock + 1) (over_bus c s)) (over_bus c s)) running)
@@ -576,6 +576,6 @@ jammed-run entries c s between jammed middle range =
     let over : is_over limit (over_bus c s) ≡ true = rw jammed refl in
     boundary-ends entries limit c s s c (boundary-starts entries limit c s between (jammed-boundary c jammed middle) range) over
 
-pub jammed-told : (entries : List TapeEntry) (c : CpuValue) (s : BusValue) → is_some c.jam ≡ true → no_trace ≡ step_trace entries (over_bus c s)
+pub jammed-observed : (entries : List TapeEntry) (c : CpuValue) (s : BusValue) → is_some c.jam ≡ true → no_trace ≡ step_trace entries (over_bus c s)
 unfolding step_trace
-jammed-told entries c s jammed = rw jammed refl
+jammed-observed entries c s jammed = rw jammed refl

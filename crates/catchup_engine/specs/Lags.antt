@@ -39,8 +39,8 @@ abbrev pub lag_left : Bool → ℕ → ℕ
 lag_left reached lag = if reached then 0 else lag
 
 -- these devices synced, and the others as they were
-abbrev pub with_brought : DeviceSet → DeviceLags → DeviceLags
-with_brought devices l = record {
+abbrev pub with_synced : DeviceSet → DeviceLags → DeviceLags
+with_synced devices l = record {
   vector = lag_left devices.vector l.vector;
   sound1 = lag_left devices.sound1 l.sound1;
   sound2 = lag_left devices.sound2 l.sound2;

@@ -9,7 +9,7 @@ ghost use Rattle.catchup_engine.specs.Horizon.{KeepsLines};
 ghost use Rattle.catchup_engine.specs.Notes.{NotedStep, noting};
 ghost use Rattle.catchup_engine.specs.Quiet.{passed, IsCounted, quiet_room};
 ghost use Rattle.catchup_engine.specs.Runs.{over_bus, CanTakeTurns, GoesOn, TurnsOn};
-ghost use Rattle.catchup_engine.specs.Traced.{ToldTurns};
+ghost use Rattle.catchup_engine.specs.Traced.{NotedTurns};
 
 use crate::bus::{BoardBus, PROGRAM_START, is_private};
 use crate::horizon::{Horizon, horizon_from};
@@ -206,7 +206,7 @@ pub(crate) fn trace_to_horizon<V: VectorUnit, P: SoundUnit, C: CellUnit, D: Divi
     requires goes_on { GoesOn limit [] cpu bus.old }
     requires opcode { is_private cpu.pc ≡ true }
     ensures on { TurnsOn tape.now.entries limit [] cpu bus.old bus.new result.cpu }
-    ensures turns { ToldTurns T.next T.has_enough tape.now.entries limit (over_bus cpu bus.old) (over_bus result.cpu bus.new) tracer.old tracer.new result.enough }
+    ensures turns { NotedTurns T.next T.has_enough tape.now.entries limit (over_bus cpu bus.old) (over_bus result.cpu bus.new) tracer.old tracer.new result.enough }
     ensures later { bus.old.peripherals.clock < bus.new.peripherals.clock }
     ensures accepts { Accepts tape.now bus.new }
 {

@@ -18,7 +18,7 @@ use Rattle.lockstep_board.specs.Lockstep.{Board}
 use Rattle.lockstep_board.specs.Ranges.{IsBoardInRange}
 use Rattle.lockstep_board.specs.Run.{boundary_steps, is_over, to_boundary, IsPlaced}
 use Rattle.catchup_engine.specs.Trace.{TraceValue, no_trace, step_trace, trace_of}
-use Rattle.catchup_engine.specs.Traced.{told, told_once}
+use Rattle.catchup_engine.specs.Traced.{observed, observed_once}
 use Rattle.lockstep_board.proofs.BoardRange.{stepped-in_range}
 use Rattle.lockstep_board.proofs.Clocks.{stepped-clock}
 use Rattle.lockstep_board.proofs.Ends.{boundary_steps-few, to_boundary-clock, to_boundary-over}
@@ -52,15 +52,15 @@ trace-count entries limit b open_yet =
     let n = boundary_steps entries (b.peripherals.clock + 1) b in
     ap (λ (jam : Option ℕ). (if is_some jam then no_trace else trace_of entries n b).count) (over-running limit b open_yet).running
 
-told-clocks : (entries : List TapeEntry) (limit n : ℕ) (p : ProfileValue) (b : Board)
+observed-clocks : (entries : List TapeEntry) (limit n : ℕ) (p : ProfileValue) (b : Board)
     → ((k : ℕ) → k < n → is_over limit (turned entries k b) ≡ false) → p.clocks + turns_steps entries n b < 2 ^ 64
-    → (told after entries n p b).clocks ≡ p.clocks + turns_steps entries n b
-unfolding told turns_steps
-told-clocks entries limit zero p b open_yet room = omega arith
-told-clocks entries limit (suc n) p b open_yet room =
+    → (observed after entries n p b).clocks ≡ p.clocks + turns_steps entries n b
+unfolding observed turns_steps
+observed-clocks entries limit zero p b open_yet room = omega arith
+observed-clocks entries limit (suc n) p b open_yet room =
     let count = trace-count entries limit b (first-turn (λ c. is_over limit c ≡ false) entries n b open_yet) in
     let one = after-clocks p (step_trace entries b) (turn entries b).cpu.pc (omega arith) in
-    let rest = told-clocks entries limit n (told_once after entries p b) (turn entries b)
+    let rest = observed-clocks entries limit n (observed_once after entries p b) (turn entries b)
     (later-turns (λ c. is_over limit c ≡ false) entries n b open_yet) (omega arith) in
     omega arith
 
@@ -109,7 +109,7 @@ unfolding run_profile
 all_told entries limit b low placed =
     let run = run-turns entries limit b placed in
     let small = run-small entries limit b low placed in
-    let clocks = told-clocks entries limit (run_turns entries limit b) (no_profile b.cpu.pc) b run.open_yet (omega arith) in
+    let clocks = observed-clocks entries limit (run_turns entries limit b) (no_profile b.cpu.pc) b run.open_yet (omega arith) in
     let all = run.clocks in
     omega arith
 
@@ -220,17 +220,17 @@ turn-in_range : (entries : List TapeEntry) (b : Board) → All (λ entry. IsByte
 unfolding to_boundary
 turn-in_range entries b bytes range = stepped-in_range entries (boundary_steps entries (b.peripherals.clock + 1) b) b bytes range
 
-told-adds : (entries : List TapeEntry) (limit n : ℕ) (p : ProfileValue) (b : Board) → All (λ entry. IsByte entry.value) entries → IsBoardInRange b
+observed-adds : (entries : List TapeEntry) (limit n : ℕ) (p : ProfileValue) (b : Board) → All (λ entry. IsByte entry.value) entries → IsBoardInRange b
     → ((k : ℕ) → k < n → is_over limit (turned entries k b) ≡ false) → p.clocks + turns_steps entries n b < 2 ^ 64
-    → Fits p → AddsUp p → AddsUp (told after entries n p b)
-unfolding told turns_steps
-told-adds entries limit zero p b bytes range open_yet room fits adds = adds
-told-adds entries limit (suc n) p b bytes range open_yet room fits adds =
+    → Fits p → AddsUp p → AddsUp (observed after entries n p b)
+unfolding observed turns_steps
+observed-adds entries limit zero p b bytes range open_yet room fits adds = adds
+observed-adds entries limit (suc n) p b bytes range open_yet room fits adds =
     let next = turn-in_range entries b bytes range in
     let pc = next.cpu.registers.pc in
     let count = trace-count entries limit b (first-turn (λ c. is_over limit c ≡ false) entries n b open_yet) in
     let one = after-clocks p (step_trace entries b) (turn entries b).cpu.pc (omega arith) in
-    told-adds entries limit n (told_once after entries p b) (turn entries b) bytes next
+    observed-adds entries limit n (observed_once after entries p b) (turn entries b) bytes next
     (later-turns (λ c. is_over limit c ≡ false) entries n b open_yet) (omega arith)
     (after-fits p (step_trace entries b) (turn entries b).cpu.pc pc fits)
     (keeps_the_sum p (step_trace entries b) (turn entries b).cpu.pc fits.is (last-fits p fits) pc adds (omega arith))
@@ -242,7 +242,7 @@ addresses_told entries limit b bytes range first counts low placed =
     let run = run-turns entries limit b placed in
     let small = run-small entries limit b low placed in
     let pc = range.cpu.registers.pc in
-    told-adds entries limit (run_turns entries limit b) (no_profile b.cpu.pc) b bytes range run.open_yet (omega arith)
+    observed-adds entries limit (run_turns entries limit b) (no_profile b.cpu.pc) b bytes range run.open_yet (omega arith)
     (record {
       is = record { some = (alone b.cpu.pc pc).some; few = (alone b.cpu.pc pc).few; counts = counts };
       each = (alone b.cpu.pc pc).each;

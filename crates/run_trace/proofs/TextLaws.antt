@@ -11,7 +11,7 @@ use Rattle.lockstep_board.specs.Order.{HasNoRecords, cleared}
 use Rattle.lockstep_board.specs.Lockstep.{Board}
 use Rattle.lockstep_board.specs.Run.{to_boundary}
 use Rattle.lockstep_board.proofs.Ended.{cleared-empty}
-use Rattle.catchup_engine.specs.Traced.{told}
+use Rattle.catchup_engine.specs.Traced.{observed}
 use Rattle.cycle_profile.specs.Profile.{ProfileValue, after}
 use Rattle.cycle_profile.specs.Text.{profile_text}
 use Rattle.frame_list.specs.Frames.{FrameValue, begun, ended, frame_text, frames_text, under_way}
@@ -106,13 +106,13 @@ profiled-is entries limit b =
     ap (λ l. profile_text (run_profile entries limit b) ++ l) (sym (last-cleared last))
 
 module _ (entries : List TapeEntry) (limit : ℕ) (b : Board) (first p : ProfileValue) (fresh : first ≡ no_profile b.cpu.pc)
-    (is : p ≡ told after entries (run_turns entries limit b) first b) (out0 out1 : Option (List ℕ)) (whole : out1 ≡ grown out0 []) (out2 : Option (List ℕ)) where
+    (is : p ≡ observed after entries (run_turns entries limit b) first b) (out0 out1 : Option (List ℕ)) (whole : out1 ≡ grown out0 []) (out2 : Option (List ℕ)) where
   abbrev bottom : List ℕ
   bottom = last_line (cleared (to_boundary entries limit b))
 
   profile-is : p ≡ run_profile entries limit b
   unfolding run_profile
-  profile-is = is ∙ ap (λ (q : ProfileValue). told after entries (run_turns entries limit b) q b) fresh
+  profile-is = is ∙ ap (λ (q : ProfileValue). observed after entries (run_turns entries limit b) q b) fresh
 
   start : out1 ≡ out0
   start = whole ∙ grown-nothing out0

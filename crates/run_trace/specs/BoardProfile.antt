@@ -5,7 +5,7 @@ use Rattle.tape_ports.specs.declared.entry.TapeEntry.{TapeEntry}
 use Rattle.lockstep_board.specs.Breaks.{turn}
 use Rattle.lockstep_board.specs.Lockstep.{Board}
 use Rattle.lockstep_board.specs.Run.{is_over, to_boundary, IsPlaced}
-use Rattle.catchup_engine.specs.Traced.{told}
+use Rattle.catchup_engine.specs.Traced.{observed}
 use Rattle.cycle_profile.specs.declared.profile.TheConstants.{ADDRESSES}
 use Rattle.cycle_profile.specs.Counts.{no_counts}
 use Rattle.cycle_profile.specs.Profile.{AddsUp, ProfileValue, after}
@@ -29,7 +29,7 @@ no_profile pc = record { routines = pc ∷ []; counts = replicate ADDRESSES no_c
 
 -- the profile of the turns of a run
 unfoldable pub run_profile : List TapeEntry → ℕ → Board → ProfileValue
-run_profile entries limit b = told after entries (run_turns entries limit b) (no_profile b.cpu.pc) b
+run_profile entries limit b = observed after entries (run_turns entries limit b) (no_profile b.cpu.pc) b
 
 -- its lines, and then the last line of the run
 unfoldable pub profiled_text : List TapeEntry → ℕ → Board → List ℕ

@@ -11,7 +11,7 @@ use Rattle.lockstep_board.specs.Order.{HasNoRecords, cleared}
 use Rattle.lockstep_board.specs.Lockstep.{Board}
 use Rattle.lockstep_board.specs.Run.{boundary_steps, is_over, stepped, to_boundary, IsPlaced}
 use Rattle.catchup_engine.specs.Trace.{accesses_of, step_trace}
-use Rattle.catchup_engine.specs.Traced.{told, told_once}
+use Rattle.catchup_engine.specs.Traced.{observed, observed_once}
 use Rattle.lockstep_board.proofs.Clocks.{stepped-clock}
 use Rattle.lockstep_board.proofs.Ended.{cleared-empty}
 use Rattle.lockstep_board.proofs.Ends.{to_boundary-clock}
@@ -38,16 +38,16 @@ record KeptOne (entries : List TapeEntry) (w v : FramerValue) (b : Board) : Type
   frames : v.frames ≡ w.frames
   marks : marks_in (step_trace entries b) ≡ v.marks
 
-kept-one : (entries : List TapeEntry) (w : FramerValue) (b : Board) → w.marks ≡ [] → KeptOne entries w (told_once framer_after_turn entries w b) b
+kept-one : (entries : List TapeEntry) (w : FramerValue) (b : Board) → w.marks ≡ [] → KeptOne entries w (observed_once framer_after_turn entries w b) b
 kept-one entries w b none = by_trace (has_marks (step_trace entries b)) refl
   where
-    by_trace : (t : Bool) → has_marks (step_trace entries b) ≡ t → KeptOne entries w (told_once framer_after_turn entries w b) b
+    by_trace : (t : Bool) → has_marks (step_trace entries b) ≡ t → KeptOne entries w (observed_once framer_after_turn entries w b) b
     by_trace true is =
-        let kept : told_once framer_after_turn entries w b ≡ (let f : FramerValue = record w { marks = marks_in (step_trace entries b) } in f) =
+        let kept : observed_once framer_after_turn entries w b ≡ (let f : FramerValue = record w { marks = marks_in (step_trace entries b) } in f) =
         ap (λ t. let f : FramerValue = if t then record w { marks = marks_in (step_trace entries b) } else w in f) is in
         record { frames = ap (λ (f : FramerValue). f.frames) kept; marks = ap (λ (f : FramerValue). f.marks) (sym kept) }
     by_trace false is =
-        let same : told_once framer_after_turn entries w b ≡ w =
+        let same : observed_once framer_after_turn entries w b ≡ w =
         ap (λ t. let f : FramerValue = if t then record w { marks = marks_in (step_trace entries b) } else w in f) is in
         record {
           frames = ap (λ (f : FramerValue). f.frames) same;
@@ -65,9 +65,9 @@ empty-marks (mark ∷ marks) is = absurd (some-mark (length marks) is)
 -- no turn but the last gave it a mark
 kept-turns : (entries : List TapeEntry) (limit n : ℕ) (w : FramerValue) (b : Board) → w.marks ≡ []
     → ((k : ℕ) → k < n → is_over limit (turned entries k b) ≡ false)
-    → ((k : ℕ) → 1 ≤ k → k < n → keeps_marks (told framer_after_turn entries k w b) ≡ false)
-    → Kept entries n w (told framer_after_turn entries n w b) b
-unfolding told turned accesses_of turns_steps marks_of stepped to_boundary
+    → ((k : ℕ) → 1 ≤ k → k < n → keeps_marks (observed framer_after_turn entries k w b) ≡ false)
+    → Kept entries n w (observed framer_after_turn entries n w b) b
+unfolding observed turned accesses_of turns_steps marks_of stepped to_boundary
 kept-turns entries limit zero w b none open_yet goes = record { frames = refl; marks = sym none }
 kept-turns entries limit (suc zero) w b none open_yet goes =
     let one = kept-one entries w b none in
@@ -81,11 +81,11 @@ kept-turns entries limit (suc zero) w b none open_yet goes =
     }
 kept-turns entries limit (suc (suc m)) w b none open_yet goes =
     let one = kept-one entries w b none in
-    let v = told_once framer_after_turn entries w b in
+    let v = observed_once framer_after_turn entries w b in
     let n = boundary_steps entries (b.peripherals.clock + 1) b in
     let next = turn entries b in
     let still : v.marks ≡ [] = empty-marks v.marks (goes 1 (omega arith) (omega arith)) in
-    let rest : Kept entries (suc m) v (told framer_after_turn entries (suc m) v next) next =
+    let rest : Kept entries (suc m) v (observed framer_after_turn entries (suc m) v next) next =
     kept-turns entries limit (suc m) v next still (λ k few. open_yet (suc k) (omega (arith, few)))
     (λ k some few. goes (suc k) (omega (arith, some)) (omega (arith, few))) in
     let first : marks_of (accesses_of entries n b) ≡ [] =
@@ -225,12 +225,12 @@ numbers-small w limit b may =
 -- to frame a first part of a run, and then the rest, is to frame the whole
 part-framed-so : (w : FramerValue) (entries : List TapeEntry) (limit part n : ℕ) (b : Board) → part ≤ limit → IsPlaced b → HasNoRecords b
     → CanFrame w limit b → ((k : ℕ) → k < n → is_over part (turned entries k b) ≡ false)
-    → ((k : ℕ) → 1 ≤ k → k < n → keeps_marks (told framer_after_turn entries k w b) ≡ false)
+    → ((k : ℕ) → 1 ≤ k → k < n → keeps_marks (observed framer_after_turn entries k w b) ≡ false)
     → IsFollowedInParts framer_after_turn keeps_marks (λ f _ limit b. CanFrame f limit b) run_framed_text after_run (λ f _. HasNumbers f) part_framed after_part
-    w (told framer_after_turn entries n w b) entries limit b (turned entries n b)
+    w (observed framer_after_turn entries n w b) entries limit b (turned entries n b)
 unfolding run_events
 part-framed-so w entries limit part n b low placed none may open_part goes =
-    let v = told framer_after_turn entries n w b in
+    let v = observed framer_after_turn entries n w b in
     let c = turned entries n b in
     let last = to_boundary entries limit (cleared c) in
     let made = marks_of (accesses_of entries (turns_steps entries n b) b) in
@@ -289,7 +289,7 @@ framed_in_parts w v entries limit part b c low placed none may run =
     subst (λ (f : FramerValue). IsFollowedInParts framer_after_turn keeps_marks (λ f _ limit b. CanFrame f limit b) run_framed_text after_run (λ f _. HasNumbers f) part_framed after_part
     w f entries limit b c) (sym run.tracer)
     (subst (λ (d : Board). IsFollowedInParts framer_after_turn keeps_marks (λ f _ limit b. CanFrame f limit b) run_framed_text after_run (λ f _. HasNumbers f) part_framed after_part
-    w (told framer_after_turn entries run.count w b) entries limit b d) (sym run.board)
+    w (observed framer_after_turn entries run.count w b) entries limit b d) (sym run.board)
     (part-framed-so w entries limit part run.count b low placed none may run.over run.goes_on))
 
 -- a run that is over has no events

@@ -258,6 +258,6 @@ trace-behind entries l b =
     let sequence : sequence_at b.cpu.mid b.cpu (ticked entries (front l b.peripherals)) ≡ sequence_at b.cpu.mid b.cpu (ticked entries b.peripherals) =
     sequence-behind entries b.cpu.mid b.cpu l b.peripherals in
     let accesses : accesses_of entries n (behind l b) ≡ accesses_of entries n b = accesses-behind entries n l b in
-    let told : trace_of entries (boundary_steps entries (b.peripherals.clock + 1) (behind l b)) (behind l b) ≡ trace_of entries n b =
+    let observed : trace_of entries (boundary_steps entries (b.peripherals.clock + 1) (behind l b)) (behind l b) ≡ trace_of entries n b =
     ap (λ k. trace_of entries k (behind l b)) steps ∙ rw (sequence, access, accesses) refl in
-    ap (λ (t : TraceValue). if is_jammed b then no_trace else t) told
+    ap (λ (t : TraceValue). if is_jammed b then no_trace else t) observed

@@ -3,7 +3,7 @@ use Rattle.std.specs.Prelude.{ℕ, List}
 use Rattle.tape_ports.specs.declared.entry.TapeEntry.{TapeEntry}
 use Rattle.lockstep_board.specs.Lockstep.{Board}
 use Rattle.catchup_engine.specs.Trace.{TraceValue}
-use Rattle.catchup_engine.specs.Traced.{told}
+use Rattle.catchup_engine.specs.Traced.{observed}
 use Rattle.cycle_profile.specs.Profile.{after}
 use Rattle.run_trace.specs.declared.profiling.Profiler.{Profiler}
 use Rattle.run_trace.specs.BoardProfile.{run_turns}
@@ -14,4 +14,4 @@ profiler_after_turn p trace pc = record { profile = after p.profile trace pc }
 
 -- and of all turns of a run
 abbrev pub after_run : Profiler → List TapeEntry → ℕ → Board → Profiler
-after_run p entries limit b = record { profile = told after entries (run_turns entries limit b) p.profile b }
+after_run p entries limit b = record { profile = observed after entries (run_turns entries limit b) p.profile b }

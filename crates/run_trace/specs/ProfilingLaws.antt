@@ -9,7 +9,7 @@ use Rattle.lockstep_board.specs.Order.{cleared, Recorded, behind, records_of}
 use Rattle.lockstep_board.specs.Lockstep.{Board}
 use Rattle.lockstep_board.specs.Run.{is_over, IsPlaced}
 use Rattle.catchup_engine.specs.Trace.{TraceValue, step_trace}
-use Rattle.catchup_engine.specs.Traced.{told, told_once}
+use Rattle.catchup_engine.specs.Traced.{observed, observed_once}
 use Rattle.lockstep_board.proofs.Behind.{behind-cleared}
 use Rattle.catchup_engine.proofs.Traces.{over-running}
 use Rattle.lockstep_board.proofs.TurnLaws.{turn-behind, turn-boundary, turn-later, turn-placed}
@@ -102,54 +102,54 @@ run_turns-cleared entries limit b =
     sym (turns-behind entries limit ((limit - b.peripherals.clock) + 1) (records_of b) (cleared b)) ∙ ap (run_turns entries limit) (behind-cleared b)
 
 -- nor does one that gets them
-told-behind : {T : Type 0} (next : T → TraceValue → ℕ → T) (entries : List TapeEntry) (n : ℕ) (w : T) (l : Recorded) (b : Board)
-    → told next entries n w (behind l b) ≡ told next entries n w b
-unfolding told
-told-behind next entries zero w l b = refl
-told-behind next entries (suc n) w l b =
-    let one : told_once next entries w (behind l b) ≡ told_once next entries w b =
+observed-behind : {T : Type 0} (next : T → TraceValue → ℕ → T) (entries : List TapeEntry) (n : ℕ) (w : T) (l : Recorded) (b : Board)
+    → observed next entries n w (behind l b) ≡ observed next entries n w b
+unfolding observed
+observed-behind next entries zero w l b = refl
+observed-behind next entries (suc n) w l b =
+    let one : observed_once next entries w (behind l b) ≡ observed_once next entries w b =
     ap (λ (t : TraceValue). next w t (turn entries (behind l b)).cpu.pc) (trace-behind entries l b)
     ∙ ap (λ (c : Board). next w (step_trace entries b) c.cpu.pc) (turn-behind entries l b) in
-    ap (λ v. told next entries n v (turn entries (behind l b))) one
-    ∙ ap (told next entries n (told_once next entries w b)) (turn-behind entries l b)
-    ∙ told-behind next entries n (told_once next entries w b) l (turn entries b)
+    ap (λ v. observed next entries n v (turn entries (behind l b))) one
+    ∙ ap (observed next entries n (observed_once next entries w b)) (turn-behind entries l b)
+    ∙ observed-behind next entries n (observed_once next entries w b) l (turn entries b)
 
-told-cleared : {T : Type 0} (next : T → TraceValue → ℕ → T) (entries : List TapeEntry) (n : ℕ) (w : T) (b : Board)
-    → told next entries n w (cleared b) ≡ told next entries n w b
-told-cleared next entries n w b =
-    sym (told-behind next entries n w (records_of b) (cleared b)) ∙ ap (told next entries n w) (behind-cleared b)
+observed-cleared : {T : Type 0} (next : T → TraceValue → ℕ → T) (entries : List TapeEntry) (n : ℕ) (w : T) (b : Board)
+    → observed next entries n w (cleared b) ≡ observed next entries n w b
+observed-cleared next entries n w b =
+    sym (observed-behind next entries n w (records_of b) (cleared b)) ∙ ap (observed next entries n w) (behind-cleared b)
 
 -- the profiler gets what its profile gets
 profiler-is : (entries : List TapeEntry) (n : ℕ) (w : Profiler) (b : Board)
-    → told profiler_after_turn entries n w b ≡ (let p : Profiler = record { profile = told after entries n w.profile b } in p)
-unfolding told
+    → observed profiler_after_turn entries n w b ≡ (let p : Profiler = record { profile = observed after entries n w.profile b } in p)
+unfolding observed
 profiler-is entries zero w b = refl
-profiler-is entries (suc n) w b = profiler-is entries n (told_once profiler_after_turn entries w b) (turn entries b)
+profiler-is entries (suc n) w b = profiler-is entries n (observed_once profiler_after_turn entries w b) (turn entries b)
 
 -- some turns, and then those of the rest of the run
 profile-split : (entries : List TapeEntry) (limit n : ℕ) (p : ProfileValue) (b : Board) → IsPlaced b
     → ((k : ℕ) → k < n → is_over limit (turned entries k b) ≡ false)
-    → told after entries (run_turns entries limit b) p b
-    ≡ told after entries (run_turns entries limit (turned entries n b)) (told after entries n p b) (turned entries n b)
-unfolding told turned
+    → observed after entries (run_turns entries limit b) p b
+    ≡ observed after entries (run_turns entries limit (turned entries n b)) (observed after entries n p b) (turned entries n b)
+unfolding observed turned
 profile-split entries limit zero p b placed open_yet = refl
 profile-split entries limit (suc n) p b placed open_yet =
-    ap (λ k. told after entries k p b) (run_turns-open entries limit b placed (first-turn (λ c. is_over limit c ≡ false) entries n b open_yet))
-    ∙ profile-split entries limit n (told_once after entries p b) (turn entries b) (turn-placed entries b placed)
+    ap (λ k. observed after entries k p b) (run_turns-open entries limit b placed (first-turn (λ c. is_over limit c ≡ false) entries n b open_yet))
+    ∙ profile-split entries limit n (observed_once after entries p b) (turn entries b) (turn-placed entries b placed)
     (later-turns (λ c. is_over limit c ≡ false) entries n b open_yet)
 
 profiled-so : (w : Profiler) (entries : List TapeEntry) (limit part n : ℕ) (b : Board) → part ≤ limit → IsPlaced b
     → ((k : ℕ) → k < n → is_over part (turned entries k b) ≡ false)
-    → after_run w entries limit b ≡ after_run (told profiler_after_turn entries n w b) entries limit (cleared (turned entries n b))
+    → after_run w entries limit b ≡ after_run (observed profiler_after_turn entries n w b) entries limit (cleared (turned entries n b))
 profiled-so w entries limit part n b low placed open_part =
     let c = turned entries n b in
-    let p = told after entries n w.profile b in
-    let same : (told profiler_after_turn entries n w b).profile ≡ p = ap (λ (v : Profiler). v.profile) (profiler-is entries n w b) in
+    let p = observed after entries n w.profile b in
+    let same : (observed profiler_after_turn entries n w b).profile ≡ p = ap (λ (v : Profiler). v.profile) (profiler-is entries n w b) in
     ap (λ (q : ProfileValue). let v : Profiler = record { profile = q } in v)
     (profile-split entries limit n w.profile b placed (λ k few. open-later part limit (turned entries k b) low (open_part k few))
-    ∙ sym (told-cleared after entries (run_turns entries limit c) p c)
-    ∙ ap (λ k. told after entries k p (cleared c)) (sym (run_turns-cleared entries limit c))
-    ∙ ap (λ (q : ProfileValue). told after entries (run_turns entries limit (cleared c)) q (cleared c)) (sym same))
+    ∙ sym (observed-cleared after entries (run_turns entries limit c) p c)
+    ∙ ap (λ k. observed after entries k p (cleared c)) (sym (run_turns-cleared entries limit c))
+    ∙ ap (λ (q : ProfileValue). observed after entries (run_turns entries limit (cleared c)) q (cleared c)) (sym same))
 
 pub profiled_in_parts : FollowsInParts profiler_after_turn (λ _. false) (λ _ _ _ _. Unit {0}) (λ _ _ _ _. []) after_run (λ _ _. Unit {0}) (λ _ _. []) (λ p _. p)
 profiled_in_parts w v entries limit part b c low placed none may run = record {
@@ -158,13 +158,13 @@ profiled_in_parts w v entries limit part b c low placed none may run = record {
   text = refl;
   state =
       profiled-so w entries limit part run.count b low placed run.over
-      ∙ ap (λ (d : Board). after_run (told profiler_after_turn entries run.count w b) entries limit (cleared d)) (sym run.board)
+      ∙ ap (λ (d : Board). after_run (observed profiler_after_turn entries run.count w b) entries limit (cleared d)) (sym run.board)
       ∙ ap (λ (f : Profiler). after_run f entries limit (cleared c)) (sym run.tracer);
 }
 
 pub profiled_still : StandsStill {F = Profiler} (λ _ _ _ _. []) after_run
-unfolding told
+unfolding observed
 profiled_still w entries limit b over = record {
   text = refl;
-  state = ap (λ n. let p : Profiler = record { profile = told after entries n w.profile b } in p) (run_turns-over entries limit b over);
+  state = ap (λ n. let p : Profiler = record { profile = observed after entries n w.profile b } in p) (run_turns-over entries limit b over);
 }

@@ -1,6 +1,6 @@
 //! The board with its devices synced: its state, and its records.
 ghost use Rattle.std.specs.Prelude.{◌≡◌, ◌+◌, ◌≤◌, ◌<◌, ◌==◌, All, IsSome, []};
-ghost use Rattle.catchup_engine.specs.Lags.{all_lag, lagging_among, lagging_of, none_lags, with_brought};
+ghost use Rattle.catchup_engine.specs.Lags.{all_lag, lagging_among, lagging_of, none_lags, with_synced};
 ghost use Rattle.lockstep_board.specs.Peripherals.{board_of};
 
 use crate::bus::clocking::catch_up_divider;
@@ -85,7 +85,7 @@ impl<V: VectorUnit, P: SoundUnit, C: CellUnit, D: DividerUnit> BoardBus<V, P, C,
     /// Moves these devices to the present clock. One that doesn't lag isn't called.
     #[inline(always)]
     pub(super) fn sync(&mut self, devices: DeviceSet)
-        ensures value { self.new ≡ record self.old { lagging = with_brought devices self.old.lagging; until = self.new.until; calls = self.new.calls } }
+        ensures value { self.new ≡ record self.old { lagging = with_synced devices self.old.lagging; until = self.new.until; calls = self.new.calls } }
         ensures until { self.old.until ≤ self.new.until }
         ensures calls { self.new.calls ≤ self.old.calls + lagging_among devices self.old.lagging }
         ensures more { self.old.calls ≤ self.new.calls }
