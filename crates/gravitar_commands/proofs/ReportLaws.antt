@@ -103,28 +103,28 @@ pub pcm-reported : (known : Option Files) (holds : Outcome → Type 0) (pcm : Pc
     → ComesOver (pcm_of pcm) known holds
 unfolding command_outcome
 pcm-reported None holds pcm comes = tt
-pcm-reported (Some files) holds pcm comes = λ reading is. record { calls = 0; fits = tt; of_outcome = comes reading is }
+pcm-reported (Some files) holds pcm comes = λ reading is. record { calls = 0; within_budget = tt; of_outcome = comes reading is }
 
 pub frames-reported : (known : Option Files) (holds : Outcome → Type 0) (run : RunValue)
     → IfSome known (λ files. ForReading run.settings.state files (λ reading. holds (finished (run_files files run reading) (report_outcome run.settings (report_text Frames)))))
     → ComesOver (frames_of run) known holds
 unfolding command_outcome
 frames-reported None holds run comes = tt
-frames-reported (Some files) holds run comes = λ reading is. record { calls = 0; fits = tt; of_outcome = comes reading is }
+frames-reported (Some files) holds run comes = λ reading is. record { calls = 0; within_budget = tt; of_outcome = comes reading is }
 
 pub profile-reported : (known : Option Files) (holds : Outcome → Type 0) (run : RunValue)
     → IfSome known (λ files. ForReading run.settings.state files (λ reading. holds (finished (run_files files run reading) (report_outcome run.settings (report_text Profile)))))
     → ComesOver (profile_of run) known holds
 unfolding command_outcome
 profile-reported None holds run comes = tt
-profile-reported (Some files) holds run comes = λ reading is. record { calls = 0; fits = tt; of_outcome = comes reading is }
+profile-reported (Some files) holds run comes = λ reading is. record { calls = 0; within_budget = tt; of_outcome = comes reading is }
 
 pub seek-reported : (known : Option Files) (holds : Outcome → Type 0) (seek : SeekValue)
     → IfSome known (λ files. ForReading seek.run.settings.state files (λ reading. holds (finished (run_files files seek.run reading) (report_outcome seek.run.settings (sought_text seek.clocks)))))
     → ComesOver (seek_of seek) known holds
 unfolding command_outcome
 seek-reported None holds seek comes = tt
-seek-reported (Some files) holds seek comes = λ reading is. record { calls = 0; fits = tt; of_outcome = comes reading is }
+seek-reported (Some files) holds seek comes = λ reading is. record { calls = 0; within_budget = tt; of_outcome = comes reading is }
 
 -- a new engine has the board that was kept first
 pub start-is : (image : List ℕ) (wired : Bool) (state : BoardValue) (e s : Board) → IsBoard state → e ≡ (let b : Board = record { cpu = state.cpu; peripherals = peripherals_of image wired state } in b)

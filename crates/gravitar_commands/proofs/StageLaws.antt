@@ -39,11 +39,11 @@ use Rattle.gravitar_commands.specs.declared.failure.Failure.TheVariants.{Bad, Ab
 use Rattle.outside_io.specs.Events.{Did, DidFirst, Event, sending, stored, storing, text_of, stores_of}
 use Rattle.outside_io.specs.Seen.{Seen, SameLoans, HostDid, HostDidFirst, HostDidNothing, HostStores, HostWrites, NoFault}
 use Rattle.gravitar_commands.specs.Endings.{ending_by, status_of_ending}
-use Rattle.gravitar_commands.specs.Outcome.{Comes, ComesOf, ComesOver, asm_files, asm_outcome, FitsRun, ForReading, Outcome, and_then, command_outcome, debug_files, debug_outcome, outside_text, finished, first_board, limit_of, memory_text, refused, read_as, run_files, run_outcome, script_file, script_read, show_outcome, soak_outcome, state_file, usage_text, wanted_by, note_text, workload_of}
-use Rattle.run_log.specs.Slices.{FitsCalls, StopsIn, Wanted, last_board, run_events}
+use Rattle.gravitar_commands.specs.Outcome.{Comes, ComesOf, ComesOver, asm_files, asm_outcome, RunWithinBudget, ForReading, Outcome, and_then, command_outcome, debug_files, debug_outcome, outside_text, finished, first_board, limit_of, memory_text, refused, read_as, run_files, run_outcome, script_file, script_read, show_outcome, soak_outcome, state_file, usage_text, wanted_by, note_text, workload_of}
+use Rattle.run_log.specs.Slices.{WithinBudget, StopsIn, Wanted, last_board, run_events}
 use Rattle.gravitar_commands.specs.Sources.{both_listings}
 use Rattle.gravitar_commands.specs.Stages.{status_of, note_of, HostEnds, HostFaults, WroteNothing, IsBadOrMemory, Keeps, Noted, Performs, Refuses, RunEnds, StageAbsences, session_outcome}
-use Rattle.run_log.proofs.CutLaws.{fits-least}
+use Rattle.run_log.proofs.CutLaws.{budget-least}
 use Rattle.outside_io.proofs.EventLaws.{did-first-of, did-first-sending, did-nothing, did-sending, did-then, did-then-first}
 
 -- one write of a note
@@ -70,7 +70,7 @@ comes-over : (first second : Outcome → Type 0) (command : CommandValue) (known
     → ComesOver command known first → ComesOver command known second
 comes-over first second command None so comes = tt
 comes-over first second command (Some files) so comes = λ reading is.
-    (let c = comes reading is in record { calls = c.calls; fits = c.fits; of_outcome = so (command_outcome command files reading c.calls) c.of_outcome })
+    (let c = comes reading is in record { calls = c.calls; within_budget = c.within_budget; of_outcome = so (command_outcome command files reading c.calls) c.of_outcome })
 
 pub comes-map : (first second : Outcome → Type 0) (command : Option CommandValue) (known : Option Files)
     → ((outcome : Outcome) → first outcome → second outcome) → ComesOf command known first → ComesOf command known second
@@ -241,12 +241,12 @@ jam-failure (Absent note) status is three = omega arith
 jam-failure Outside status is three = omega arith
 jam-failure NoMemory status is three = omega arith
 
--- some number fits a run that isn't begun
-some-calls : (said : SettingsValue) (files : Result Parts Outcome) → (calls : ℕ) × IfOk files (λ parts. FitsRun said parts calls)
+-- some number is within the budget of a run that hasn't begun
+some-calls : (said : SettingsValue) (files : Result Parts Outcome) → (calls : ℕ) × IfOk files (λ parts. RunWithinBudget said parts calls)
 some-calls said (Ok parts) =
     let limit = limit_of said.until parts.tape.end in (
       counted_on 5 (5 * length said.cuts),
-      fits-least parts.tape.entries limit (length said.cuts) (first_board said.timers parts) 5,
+      budget-least parts.tape.entries limit (length said.cuts) (first_board said.timers parts) 5,
     )
 some-calls said (Err refusal) = (0, tt)
 
@@ -340,9 +340,9 @@ run-stopped run failure before now nothing refuses = of before.files refuses
         → ComesOver (run_of run) known (λ outcome. HostEnds outcome before now (Err failure))
     of None refuses = tt
     of (Some files) refuses = λ reading is.
-        (let (calls, fits) = some-calls run.settings (run_files files run reading) in record {
+        (let (calls, within_budget) = some-calls run.settings (run_files files run reading) in record {
           calls = calls;
-          fits = fits;
+          within_budget = within_budget;
           of_outcome = failure-ends (run_files files run reading) (λ parts. run_outcome run.settings parts calls) failure before now nothing (refuses reading is);
         })
 
@@ -359,7 +359,7 @@ run-comes run said parts before read now result same nothing good comes = of bef
     of None good = tt
     of (Some files) good = λ reading is. record {
       calls = comes.calls;
-      fits = rw (good reading is, sym same) comes.fits;
+      within_budget = rw (good reading is, sym same) comes.within_budget;
       of_outcome = rw (good reading is, sym same) (ends-after (run_outcome said parts comes.calls) before read now result nothing comes.ends);
     }
 
@@ -379,7 +379,7 @@ unfolding command_outcome
 asm-stopped None words failure before now nothing refuses = tt
 asm-stopped (Some files) words failure before now nothing refuses = λ reading is. record {
   calls = 0;
-  fits = tt;
+  within_budget = tt;
   of_outcome = failure-ends (asm_files files words) (asm_outcome words.image) failure before now nothing refuses;
 }
 
@@ -388,7 +388,7 @@ pub asm-comes : (known : Option Files) (words : AsmValue) (made : Assembled) (ho
     → IfSome known (λ files. asm_files files words ≡ Ok made) → holds (asm_outcome words.image made) → ComesOver (asm_of words) known holds
 unfolding command_outcome
 asm-comes None words made holds good comes = tt
-asm-comes (Some files) words made holds good comes = λ reading is. record { calls = 0; fits = tt; of_outcome = rw good comes }
+asm-comes (Some files) words made holds good comes = λ reading is. record { calls = 0; within_budget = tt; of_outcome = rw good comes }
 
 -- what was done of good sources: both listings and the store, the listings alone, or a first part
 -- of them
@@ -443,7 +443,7 @@ unfolding command_outcome
 debug-refused None words failure before now nothing refuses = tt
 debug-refused (Some files) words failure before now nothing refuses = λ reading is. record {
   calls = 0;
-  fits = tt;
+  within_budget = tt;
   of_outcome =
       failure-ends (debug_files files words reading) (λ session. debug_outcome words.run.settings.timers session.0 session.1) failure before now nothing
       (refuses reading is);
@@ -513,7 +513,7 @@ session-reported : (known : Option Files) (words : DebugValue) (bytes : List ℕ
 session-reported None words bytes parts holds good read comes = tt
 session-reported (Some files) words bytes parts holds good read comes = λ reading is. record {
   calls = 0;
-  fits = tt;
+  within_budget = tt;
   of_outcome = subst holds (sym (session-outcome files reading words bytes parts (good reading is) read)) comes;
 }
 
@@ -585,7 +585,7 @@ unfolding command_outcome
 show-stopped None name failure before now nothing refuses = tt
 show-stopped (Some files) name failure before now nothing refuses = λ reading is. record {
   calls = 0;
-  fits = tt;
+  within_budget = tt;
   of_outcome = failure-ends (state_file files name reading) show_outcome failure before now nothing (refuses reading is);
 }
 
@@ -595,7 +595,7 @@ pub show-comes : (known : Option Files) (name : List ℕ) (board : BoardValue) (
     → ComesOver (show_of name) known holds
 unfolding command_outcome
 show-comes None name board holds good comes = tt
-show-comes (Some files) name board holds good comes = λ reading is. record { calls = 0; fits = tt; of_outcome = rw (good reading is) comes }
+show-comes (Some files) name board holds good comes = λ reading is. record { calls = 0; within_budget = tt; of_outcome = rw (good reading is) comes }
 
 -- what a large run comes to, over the engine that was made for its workload
 module _ (seed : ℕ) (image : List ℕ) (tape : TapeValue) (end : ℕ) (start : BoardValue) (first : Board) (is_image : image ≡ image_of seed)
@@ -642,15 +642,15 @@ made-for kept said parts end limit cuts unused before first same last is listed 
 module _ (said : SettingsValue) (parts : Parts) (limit : ℕ) (wanted : Wanted) (cuts : List ℕ) (calls0 : ℕ) (first : Board)
     (made : IsMadeFor said parts limit wanted cuts calls0 first) (before now : Seen) where
   pub run-done : (calls : ℕ) (ending : Ending) (cpu : CpuValue) (last : Board) → HostDid (run_events parts.tape.entries limit wanted calls cuts first) before now
-      → FitsCalls parts.tape.entries limit (length cuts) first calls0 calls
+      → WithinBudget parts.tape.entries limit (length cuts) first calls0 calls
       → ending ≡ ending_by cpu.jam → cpu ≡ last.cpu → last ≡ cleared (last_board parts.tape.entries limit cuts first)
       → RunEnds said parts before now (Ok ending)
   unfolding run_outcome
-  run-done calls ending cpu last did fits by here there =
+  run-done calls ending cpu last did within_budget by here there =
       let is = by ∙ ap (λ (c : CpuValue). ending_by c.jam) here ∙ ap (λ (b : Board). ending_by b.cpu.jam) there in
       record {
         calls = calls;
-        fits = rw (sym made.same_limit, sym made.same_cuts, sym made.same_first, sym made.five) fits;
+        within_budget = rw (sym made.same_limit, sym made.same_cuts, sym made.same_first, sym made.five) within_budget;
         ends =
             rw (sym made.same_limit, sym made.same_cuts, sym made.same_first, sym made.same_wanted)
             (record { done = (sym (ap status_of_ending is), refl, did); failed = tt });
@@ -661,11 +661,11 @@ module _ (said : SettingsValue) (parts : Parts) (limit : ℕ) (wanted : Wanted) 
   unfolding run_outcome
   run-cut stopped = record {
     calls = stopped.calls;
-    fits = rw (sym made.same_limit, sym made.same_cuts, sym made.same_first, sym made.five) stopped.fits;
+    within_budget = rw (sym made.same_limit, sym made.same_cuts, sym made.same_first, sym made.five) stopped.within_budget;
     ends = rw (sym made.same_limit, sym made.same_cuts, sym made.same_first, sym made.same_wanted) (record { done = tt; failed = stopped.did });
   }
 
 -- a run that has no memory
 pub run-unbegun : (said : SettingsValue) (parts : Parts) (before now : Seen) → RunEnds said parts before now (Err NoMemory)
 run-unbegun said parts before now =
-    let some = some-calls said (Ok parts) in record { calls = some.0; fits = some.1; ends = record { done = tt; failed = tt } }
+    let some = some-calls said (Ok parts) in record { calls = some.0; within_budget = some.1; ends = record { done = tt; failed = tt } }

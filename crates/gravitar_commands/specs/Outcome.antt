@@ -41,7 +41,7 @@ use Rattle.gravitar_commands.specs.declared.run_report.RunReport.TheVariants.{Sa
 use Rattle.gravitar_commands.specs.Causes.{cause_text}
 use Rattle.outside_io.specs.Events.{Event, sending, storing}
 use Rattle.gravitar_commands.specs.Endings.{ending_by, status_of_ending}
-use Rattle.run_log.specs.Slices.{FitsCalls, Wanted, last_board, run_events}
+use Rattle.run_log.specs.Slices.{WithinBudget, Wanted, last_board, run_events}
 use Rattle.gravitar_commands.specs.Sources.{assembled_in, both_listings, source_read}
 use Rattle.gravitar_commands.specs.RunReport.{sought_text, report_text}
 
@@ -271,12 +271,12 @@ IsReading name files reading = IfSome name (λ n. IfSome (files n) (λ bytes. Re
 
 -- the number of device calls is one that a run of these parts may have: from five for each slice up
 -- to its budget, the first five being those of taking up the first board
-abbrev pub FitsRun : SettingsValue → Parts → ℕ → Type 0
-FitsRun said parts calls =
-    FitsCalls parts.tape.entries (limit_of said.until parts.tape.end) (length said.cuts) (first_board said.timers parts) 5 calls
+abbrev pub RunWithinBudget : SettingsValue → Parts → ℕ → Type 0
+RunWithinBudget said parts calls =
+    WithinBudget parts.tape.entries (limit_of said.until parts.tape.end) (length said.cuts) (first_board said.timers parts) 5 calls
 
 abbrev pub IsNumber : CommandValue → Files → Result BoardValue StateFault → ℕ → Type 0
-IsNumber (run_of run) files reading calls = IfOk (run_files files run reading) (λ parts. FitsRun run.settings parts calls)
+IsNumber (run_of run) files reading calls = IfOk (run_files files run reading) (λ parts. RunWithinBudget run.settings parts calls)
 IsNumber (asm_of asm) files reading calls = Unit {0}
 IsNumber (debug_of debug) files reading calls = Unit {0}
 IsNumber (show_of name) files reading calls = Unit {0}
@@ -287,10 +287,10 @@ IsNumber (seek_of seek) files reading calls = Unit {0}
 IsNumber (profile_of run) files reading calls = Unit {0}
 
 -- this holds of the outcome of a command. Words and files fix it but for the number of device
--- calls, which is one that fits.
+-- calls, which is within the budget.
 pub record CommandComes (command : CommandValue) (files : Files) (reading : Result BoardValue StateFault) (holds : Outcome → Type 0) : Type 0 where
   pub calls : ℕ
-  pub fits : IsNumber command files reading calls
+  pub within_budget : IsNumber command files reading calls
   pub of_outcome : holds (command_outcome command files reading calls)
 
 -- this holds of the reading of a state file

@@ -15,7 +15,7 @@ use Rattle.gravitar_commands.specs.declared.failure.Failure.TheVariants.{Bad, Ab
 use Rattle.gravitar_commands.specs.declared.failure.Ending.{Ending}
 use Rattle.gravitar_commands.specs.declared.failure.Ending.TheVariants.{Done}
 use Rattle.gravitar_commands.specs.Endings.{status_of_ending}
-use Rattle.gravitar_commands.specs.Outcome.{ComesOf, ForReading, Outcome, FitsRun, debug_outcome, outside_text, finished, memory_text, read_as, refused, run_files, run_outcome, script_file, script_read, report_outcome}
+use Rattle.gravitar_commands.specs.Outcome.{ComesOf, ForReading, Outcome, RunWithinBudget, debug_outcome, outside_text, finished, memory_text, read_as, refused, run_files, run_outcome, script_file, script_read, report_outcome}
 
 -- the status of a command that stopped
 abbrev pub status_of : Failure → ℕ
@@ -133,8 +133,8 @@ IsBadOrMemory text (Bad note) = string_bytes note ≡ text
 IsBadOrMemory text NoMemory = Unit {0}
 IsBadOrMemory text _ = ⊥
 
--- what comes of a run of these parts, with some number of device calls that fits
+-- what comes of a run of these parts, with some number of device calls within the budget
 pub record RunEnds (said : SettingsValue) (parts : Parts) (before now : Seen) (result : Result Ending Failure) : Type 0 where
   pub calls : ℕ
-  pub fits : FitsRun said parts calls
+  pub within_budget : RunWithinBudget said parts calls
   pub ends : HostEnds (run_outcome said parts calls) before now result

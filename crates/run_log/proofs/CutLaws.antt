@@ -18,7 +18,7 @@ use Rattle.outside_io.specs.Seen.{HostDid, HostDidFirst, NoFault, SameLoans, See
 use Rattle.run_windows.specs.Synced.{IsSynced}
 use Rattle.run_windows.specs.Windows.{steps_to, window_price}
 use Rattle.run_log.specs.Slice.{slice_text, text_of_steps}
-use Rattle.run_log.specs.Slices.{FitsCalls, StopsIn, Wanted, cut_events, ending_text, last_board, last_events, run_budget, run_events, saved_bytes}
+use Rattle.run_log.specs.Slices.{WithinBudget, StopsIn, Wanted, cut_events, ending_text, last_board, last_events, run_budget, run_events, saved_bytes}
 use Rattle.outside_io.proofs.EventLaws.{did-none, did-first-of, did-then, did-then-first}
 use Rattle.run_windows.proofs.WatchLaws.{from-behind, price-add, price-cleared, steps-cleared}
 use Rattle.run_log.proofs.SliceLaws.{same-of, text-cleared}
@@ -110,9 +110,9 @@ budget-is entries limit slices b =
     let parts = budget-parts entries (boundary_steps entries limit b) b in
     omega arith
 
--- the least number of device calls fits
-pub fits-least : (entries : List TapeEntry) (limit cuts : ℕ) (b : Board) (before : ℕ) → FitsCalls entries limit cuts b before (counted_on before (5 * cuts))
-fits-least entries limit cuts b before =
+-- the least number of device calls is within the budget
+pub budget-least : (entries : List TapeEntry) (limit cuts : ℕ) (b : Board) (before : ℕ) → WithinBudget entries limit cuts b before (counted_on before (5 * cuts))
+budget-least entries limit cuts b before =
     let budget = budget-is entries limit (cuts + 1) b in
     record { least = omega arith; most = omega arith }
 
@@ -206,7 +206,7 @@ module _ (entries : List TapeEntry) (limit : ℕ) (wanted : Wanted) (cuts : List
         let calls = counted_on start.calls (5 * length cuts) in
         record {
           calls = calls;
-          fits = fits-least entries limit (length cuts) start.board start.calls;
+          within_budget = budget-least entries limit (length cuts) start.board start.calls;
           did =
               rw (events-left calls)
               (did-then-first u.done _ _ _ _ _ _ _ u.did (did-first-of (cut_events entries lowered wanted.save now.board) _ _ _ _ _ part));
@@ -238,7 +238,7 @@ module _ (entries : List TapeEntry) (limit : ℕ) (wanted : Wanted) (cuts : List
         ∙ ap cleared (sym (u.last ∙ ap (λ rest. last_board entries limit rest reached) none-left))
 
     pub cuts-calls : (next : EngineValue) → next.calls ≤ now.calls + window_price entries (boundary_steps entries limit now.board) now.board + 5
-        → now.calls ≤ next.calls → FitsCalls entries limit (length cuts) start.board start.calls next.calls
+        → now.calls ≤ next.calls → WithinBudget entries limit (length cuts) start.board start.calls next.calls
     cuts-calls next most least =
         let more = boundary_steps entries limit reached in
         let own : window_price entries (boundary_steps entries limit now.board) now.board ≡ window_price entries more reached =
@@ -259,7 +259,7 @@ module _ (entries : List TapeEntry) (limit : ℕ) (wanted : Wanted) (cuts : List
         → StopsIn entries limit wanted start.calls cuts start.board before.taken later.taken before.stores later.stores
     cuts-cut next later most least part = record {
       calls = next.calls;
-      fits = cuts-calls next most least;
+      within_budget = cuts-calls next most least;
       did =
           rw (events-last next.calls)
           (did-then-first u.done (last_events entries limit wanted next.calls now.board) _ _ _ _ _ _ u.did part);

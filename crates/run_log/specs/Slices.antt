@@ -74,14 +74,14 @@ run_budget entries limit slices b =
 
 -- the device calls after a run with so many cuts, where there were some before it: five for each
 -- load at least, or the greatest number of 64 bits, and the budget less five at most
-pub record FitsCalls (entries : List TapeEntry) (limit : ℕ) (cuts : ℕ) (b : Board) (before calls : ℕ) : Type 0 where
+pub record WithinBudget (entries : List TapeEntry) (limit : ℕ) (cuts : ℕ) (b : Board) (before calls : ℕ) : Type 0 where
   pub least : counted_on before (5 * cuts) ≤ calls
   pub most : calls + 5 ≤ before + run_budget entries limit (cuts + 1) b
 
 -- a run that stopped at a fault: the first part of its events was done, with some number of device
--- calls that fits
+-- calls within the budget
 pub record StopsIn (entries : List TapeEntry) (limit : ℕ) (wanted : Wanted) (before : ℕ) (cuts : List ℕ) (b : Board) (out0 out1 : Option (List ℕ))
     (stores0 stores1 : Option (List Kept)) : Type 0 where
   pub calls : ℕ
-  pub fits : FitsCalls entries limit (length cuts) b before calls
+  pub within_budget : WithinBudget entries limit (length cuts) b before calls
   pub did : DidFirst (run_events entries limit wanted calls cuts b) out0 out1 stores0 stores1

@@ -10,7 +10,7 @@ ghost use Rattle.outside_io.specs.Events.{Did, DidFirst};
 ghost use Rattle.outside_io.specs.Hosts.{seen};
 ghost use Rattle.outside_io.specs.Seen.{HostDid, HostDidFirst};
 ghost use Rattle.run_windows.specs.Windows.{window_price};
-ghost use Rattle.run_log.specs.Slices.{FitsCalls, StopsIn, cost_line, cut_events, ending_text, last_board, last_events, run_events, wanted_of};
+ghost use Rattle.run_log.specs.Slices.{WithinBudget, StopsIn, cost_line, cut_events, ending_text, last_board, last_events, run_events, wanted_of};
 ghost use Rattle.run_log.specs.Faults.{KeepsHost, SliceFaults};
 
 use crate::board_bytes::{Saved, load_saved};
@@ -139,7 +139,7 @@ fn run_synced<M: Machine, S: Shelf, O: Sink>(
         (seen host.old).taken (seen host.new).taken (seen host.old).stores (seen host.new).stores) }
     ensures keeps { KeepsHost (seen host.old) (seen host.new) result }
     ensures board { OnOk result ((value_of synced.new).board ≡ cleared (last_board tape.now.entries limit cuts.now (value_of synced.old).board)) }
-    ensures calls { OnOk result (FitsCalls tape.now.entries limit (length cuts.now) (value_of synced.old).board (value_of synced.old).calls (value_of synced.new).calls) }
+    ensures calls { OnOk result (WithinBudget tape.now.entries limit (length cuts.now) (value_of synced.old).board (value_of synced.old).calls (value_of synced.new).calls) }
 {
     let mut saved = Saved::of(synced);
     for cut in cuts {
@@ -179,7 +179,7 @@ pub fn run_slices<V: VectorUnit, P: SoundUnit, C: CellUnit, D: DividerUnit, S: S
     ensures absences { S.absences shelf.old ≤ S.absences shelf.new }
     ensures board { OnOk result (engine.new.board ≡ cleared (last_board tape.now.entries limit cuts.now engine.old.board)) }
     ensures settled { OnOk result (engine.new.lagging ≡ 0) }
-    ensures calls { OnOk result (FitsCalls tape.now.entries limit (length cuts.now) engine.old.board engine.old.calls engine.new.calls) }
+    ensures calls { OnOk result (WithinBudget tape.now.entries limit (length cuts.now) engine.old.board engine.old.calls engine.new.calls) }
 {
     let mut host = Host::of(shelf, out);
     let mut synced = SyncedMachine::of(engine);

@@ -23,20 +23,20 @@ pub data Range : Type 0 where
 
 -- bytes are in a range, in a file of this processor; numbers stand low byte first, signed ones in
 -- two's complement
-abbrev pub Fits : CpuValue → Range → List ℕ → Type 0
-Fits cpu anything piece = Unit {0}
-Fits cpu (byte_at_most greatest) piece = slice_index piece 0 ≤ greatest
-Fits cpu (byte_from_1 greatest) piece = (1 ≤ slice_index piece 0) × (slice_index piece 0 ≤ greatest)
-Fits cpu (number_at_most w greatest) piece = from_le_bytes w piece ≤ greatest
-Fits cpu (number_from_1 w greatest) piece = (1 ≤ from_le_bytes w piece) × (from_le_bytes w piece ≤ greatest)
-Fits cpu (signed_within n) piece = IsWithin n (cast_signed w32 (from_le_bytes w32 piece))
-Fits cpu letters piece = (slice_index piece 0 ≡ 0x47) × (slice_index piece 1 ≡ 0x56) × (slice_index piece 2 ≡ 0x53)
-Fits cpu six_zeros piece =
+abbrev pub IsWithin : CpuValue → Range → List ℕ → Type 0
+IsWithin cpu anything piece = Unit {0}
+IsWithin cpu (byte_at_most greatest) piece = slice_index piece 0 ≤ greatest
+IsWithin cpu (byte_from_1 greatest) piece = (1 ≤ slice_index piece 0) × (slice_index piece 0 ≤ greatest)
+IsWithin cpu (number_at_most w greatest) piece = from_le_bytes w piece ≤ greatest
+IsWithin cpu (number_from_1 w greatest) piece = (1 ≤ from_le_bytes w piece) × (from_le_bytes w piece ≤ greatest)
+IsWithin cpu (signed_within n) piece = IsWithin n (cast_signed w32 (from_le_bytes w32 piece))
+IsWithin cpu letters piece = (slice_index piece 0 ≡ 0x47) × (slice_index piece 1 ≡ 0x56) × (slice_index piece 2 ≡ 0x53)
+IsWithin cpu six_zeros piece =
     (slice_index piece 0 ≡ 0) × (slice_index piece 1 ≡ 0) × (slice_index piece 2 ≡ 0) ×
     (slice_index piece 3 ≡ 0) × (slice_index piece 4 ≡ 0) × (slice_index piece 5 ≡ 0)
-Fits cpu flags piece = slice_index piece 0 / 16 % 4 ≡ 0
-Fits cpu undocumented_opcode piece = row_of (slice_index piece 0) ≡ None
-Fits cpu place piece = IsMiddle cpu
+IsWithin cpu flags piece = slice_index piece 0 / 16 % 4 ≡ 0
+IsWithin cpu undocumented_opcode piece = row_of (slice_index piece 0) ≡ None
+IsWithin cpu place piece = IsMiddle cpu
 
 -- a field has so many bytes, and they have a range
 pub record Field : Type 0 where
