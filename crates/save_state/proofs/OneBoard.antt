@@ -2,7 +2,7 @@
 use Rattle.std.proofs.Common.{zero, suc, ◌≢◌, ◌≡◌, ℕ, ℤ, ◌≤◌, ◌^◌, sym, subst, arith, ◌+◌, ◌==◌, ◌<◌, Bool, true, false, cond, List, [], ◌∷◌, ◌++◌, All, length, Option, Some, None, refl, ◌&&◌, take, drop, map, ap, ◌∙◌, append_assoc, get_or, inl, inr, ◌⊎◌, w32, w16, w64, IfSome, IsSome, unwrap_or, is_some, slice_index, eqb-true, length-take-le, length-drop, take_at, drop_at, take-append-drop, drop-drop, length-append, append-nil}
 use Rattle.std.specs.Int.{cast_signed, cast_unsigned, from_le_bytes, from_bool}
 use Rattle.std.proofs.lemmas.Int.{to_z-of_z, ints}
-use Rattle.board_base.specs.Ranges.{IsIn}
+use Rattle.board_base.specs.Ranges.{IsWithin}
 use Rattle.std.specs.List.{concat}
 use Rattle.std.proofs.lemmas.List.Elements.{All-get_or, All-cons, All-nil, All-head, All-tail}
 use Rattle.std.proofs.lemmas.Bool.Decides.{Decides-eqb, not_from_Decides}
@@ -19,7 +19,7 @@ use Rattle.board_base.specs.declared.divider.Pending.{Pending}
 use Rattle.board_base.specs.declared.divider.Pending.TheVariants.{Nothing, Power, Watchdog}
 use Rattle.cpu_table.specs.Opcodes.{row_of}
 use Rattle.cpu_core.specs.Places.{IsMiddle}
-use Rattle.save_state.specs.Fields.{Facts, IsIn, Row, u16_bytes, u32_bytes, u64_bytes, i32_bytes, pieces_of, rows_of, letters}
+use Rattle.save_state.specs.Fields.{Facts, IsInFieldRange, Row, u16_bytes, u32_bytes, u64_bytes, i32_bytes, pieces_of, rows_of, letters}
 use Rattle.save_state.specs.StateBytes.{opcode_of, head_rows, clock_rows, register_rows, jam_rows, port_rows, divider_rows, sequence_rows, place_rows, zero_rows, eight_rows, vg_rows, pokey_rows, earom_rows, left_range, number_of, sequence_number, table, front_rows, middle_rows, back_rows, processor_of, facts_of, sequence_of, last_clock, middle_at, state_bytes, first_state_bytes, count_range, bytes_range}
 use Rattle.std.proofs.lemmas.List.{drop_all}
 use Rattle.save_state.specs.Reading.{Holds, HasFields, IsWhole, Spells}
@@ -29,22 +29,22 @@ use Rattle.std.proofs.Math.Seq.{get_or-append_seam}
 use Rattle.save_state.proofs.Tables.{no_row, byte_is, not_equal, Rows, generator_rows, first_rows, second_rows, end_rows}
 
 -- signed numbers that are written and read
-pub signed_back : (n : ℕ) (z : ℤ) → n ≤ 2 ^ 30 → IsIn n z → cast_signed w32 (cast_unsigned w32 z) ≡ z
+pub signed_back : (n : ℕ) (z : ℤ) → n ≤ 2 ^ 30 → IsWithin n z → cast_signed w32 (cast_unsigned w32 z) ≡ z
 signed_back n z small h = to_z-of_z w32 z (omega (arith, ints, h.above, h.below))
 
-pub within_back : (n : ℕ) (z : ℤ) → n ≤ 2 ^ 30 → IsIn n z → IsIn n (cast_signed w32 (cast_unsigned w32 z))
-within_back n z small h = subst (IsIn n) (sym (signed_back n z small h)) h
+pub within_back : (n : ℕ) (z : ℤ) → n ≤ 2 ^ 30 → IsWithin n z → IsWithin n (cast_signed w32 (cast_unsigned w32 z))
+within_back n z small h = subst (IsWithin n) (sym (signed_back n z small h)) h
 
-signed_again : (n : ℕ) (z : ℤ) → n ≤ 2 ^ 30 → IsIn n z → cast_signed w32 (from_le_bytes w32 (i32_bytes z)) ≡ z
+signed_again : (n : ℕ) (z : ℤ) → n ≤ 2 ^ 30 → IsWithin n z → cast_signed w32 (from_le_bytes w32 (i32_bytes z)) ≡ z
 signed_again n z small h = ap (λ (m : ℕ). cast_signed w32 m) (from_le_bytes-to_le_bytes_4 (cast_unsigned w32 z) (omega (arith, ints))) ∙ signed_back n z small h
 
-signed_fits : (n : ℕ) (z : ℤ) → n ≤ 2 ^ 30 → IsIn n z → IsIn n (cast_signed w32 (from_le_bytes w32 (i32_bytes z)))
-signed_fits n z small h = subst (IsIn n) (sym (signed_again n z small h)) h
+signed_fits : (n : ℕ) (z : ℤ) → n ≤ 2 ^ 30 → IsWithin n z → IsWithin n (cast_signed w32 (from_le_bytes w32 (i32_bytes z)))
+signed_fits n z small h = subst (IsWithin n) (sym (signed_again n z small h)) h
 
 -- each field of a table has its length, and is in its range, as a value has it
 abbrev pub AreSpelled : {V : Type 0} → CpuValue → Facts → List (Row V) → V → Type 0
 AreSpelled cpu facts [] v = Unit {0}
-AreSpelled cpu facts (r ∷ rs) v = ((length (r.spelled v) ≡ r.width) × IsIn cpu (r.range facts) (r.spelled v)) × AreSpelled cpu facts rs v
+AreSpelled cpu facts (r ∷ rs) v = ((length (r.spelled v) ≡ r.width) × IsInFieldRange cpu (r.range facts) (r.spelled v)) × AreSpelled cpu facts rs v
 
 -- numbers in range
 flag_most : (b : Bool) → from_bool b ≤ 1
@@ -77,17 +77,17 @@ to_at stack i len h small = All-get_or (λ to. to < 8192) stack i 0 (omega arith
 pokey_spelled : (cpu : CpuValue) (facts : Facts) (p : PokeyValue) → IsPokey p → AreSpelled cpu facts pokey_rows p
 pokey_spelled cpu facts p h = search (arith, u16_most, u32_most, u32_least, pulse_at, level_at, h)
 
-left_by : (cpu : CpuValue) (b : Bool) (n : ℕ) → (b ≡ true → 1 ≤ n) → n ≤ 8192 → (b ≡ false → n ≡ 0) → IsIn cpu (left_range b) (u16_bytes n)
+left_by : (cpu : CpuValue) (b : Bool) (n : ℕ) → (b ≡ true → 1 ≤ n) → n ≤ 8192 → (b ≡ false → n ≡ 0) → IsInFieldRange cpu (left_range b) (u16_bytes n)
 left_by cpu true n least most none = (u16_least n (omega arith) (least refl), u16_most n 8192 (omega arith) most)
 left_by cpu false n least most none = u16_most n 0 (omega arith) (omega (arith, none refl))
 
 vg_spelled : (cpu : CpuValue) (facts : Facts) (v : VgValue) → IsVg v → facts.drawing ≡ (v.phase == 5) → AreSpelled cpu facts vg_rows v
 vg_spelled cpu facts v h e =
-    let left : IsIn cpu (left_range facts.drawing) (u16_bytes v.left) = rw e (left_by cpu (v.phase == 5) v.left (λ e. h.drawing (eqb-true _ _ e)) h.longest (λ e. h.resting (not_from_Decides (v.phase == 5) (Decides-eqb v.phase 5) e))) in
-    let x : IsIn 1073741824 (cast_signed w32 (from_le_bytes w32 (i32_bytes v.x))) = signed_fits (2 ^ 30) v.x (omega arith) h.x in
-    let y : IsIn 1073741824 (cast_signed w32 (from_le_bytes w32 (i32_bytes v.y))) = signed_fits (2 ^ 30) v.y (omega arith) h.y in
-    let dx : IsIn 134217728 (cast_signed w32 (from_le_bytes w32 (i32_bytes v.dx))) = signed_fits (2 ^ 27) v.dx (omega arith) h.dx in
-    let dy : IsIn 134217728 (cast_signed w32 (from_le_bytes w32 (i32_bytes v.dy))) = signed_fits (2 ^ 27) v.dy (omega arith) h.dy in
+    let left : IsInFieldRange cpu (left_range facts.drawing) (u16_bytes v.left) = rw e (left_by cpu (v.phase == 5) v.left (λ e. h.drawing (eqb-true _ _ e)) h.longest (λ e. h.resting (not_from_Decides (v.phase == 5) (Decides-eqb v.phase 5) e))) in
+    let x : IsWithin 1073741824 (cast_signed w32 (from_le_bytes w32 (i32_bytes v.x))) = signed_fits (2 ^ 30) v.x (omega arith) h.x in
+    let y : IsWithin 1073741824 (cast_signed w32 (from_le_bytes w32 (i32_bytes v.y))) = signed_fits (2 ^ 30) v.y (omega arith) h.y in
+    let dx : IsWithin 134217728 (cast_signed w32 (from_le_bytes w32 (i32_bytes v.dx))) = signed_fits (2 ^ 27) v.dx (omega arith) h.dx in
+    let dy : IsWithin 134217728 (cast_signed w32 (from_le_bytes w32 (i32_bytes v.dy))) = signed_fits (2 ^ 27) v.dy (omega arith) h.dy in
     search (arith, flag_most, u16_most, to_at, h, left, x, y, dx, dy)
 
 pending_most : (p : Pending) → reset_number p ≤ 2
@@ -432,7 +432,7 @@ most_three : (jammed : Bool) (n : ℕ) → n ≤ cond jammed 0 3 → n ≤ 3
 most_three true n h = omega (arith, h)
 most_three false n h = h
 
-place_by : (file : List ℕ) (mid : Option MidValue) (jammed idle : Bool) → length file ≡ 4356 → (slice_index file 30 == 0) ≡ idle → slice_index (take 1 (drop 30 file)) 0 ≤ cond jammed 0 3 → IsIn (processor_of file) (count_range idle) (take 1 (drop 31 file)) → IsIn (processor_of file) (bytes_range idle) (take 6 (drop 32 file))
+place_by : (file : List ℕ) (mid : Option MidValue) (jammed idle : Bool) → length file ≡ 4356 → (slice_index file 30 == 0) ≡ idle → slice_index (take 1 (drop 30 file)) 0 ≤ cond jammed 0 3 → IsInFieldRange (processor_of file) (count_range idle) (take 1 (drop 31 file)) → IsInFieldRange (processor_of file) (bytes_range idle) (take 6 (drop 32 file))
     → (slice_index file 30 ≡ 0 → mid ≡ None) → (slice_index file 30 ≢ 0 → mid ≡ Some (middle_at file)) → pieces_of (sequence_rows ++ place_rows) mid ≡ pieces_in 0 file (sequence_rows ++ place_rows)
 place_by file mid jammed true len e number count six outside inside =
     let zero : slice_index file 30 ≡ 0 = eqb-true (slice_index file 30) 0 e in
@@ -445,7 +445,7 @@ place_by file mid jammed false len e number count six outside inside =
     (three_same (sequence_number (sequence_of (slice_index file 30)) ∷ []) (slice_index file 31 ∷ []) (take 6 (drop 32 file)) _ _ _
     (byte_piece file 30 (sequence_number (sequence_of (slice_index file 30))) (omega (arith, len)) (byte_is file 30 ∙ sym (sequence_at (slice_index file 30) other most))) (byte_piece file 31 (slice_index file 31) (omega (arith, len)) (byte_is file 31)) refl)
 
-head_told : (version : ℕ) (file : List ℕ) → length file ≡ 4356 → slice_index file 0 ≡ version → IsIn (processor_of file) letters (take 3 (drop 1 file)) → pieces_of head_rows version ≡ pieces_in 0 file head_rows
+head_told : (version : ℕ) (file : List ℕ) → length file ≡ 4356 → slice_index file 0 ≡ version → IsInFieldRange (processor_of file) letters (take 3 (drop 1 file)) → pieces_of head_rows version ≡ pieces_in 0 file head_rows
 head_told version file len first h =
     let one : version ∷ [] ≡ take 1 (drop 0 file) = byte_piece file 0 version (omega (arith, len)) (byte_is file 0 ∙ first) in
     let three : take 3 (drop 1 file) ≡ 0x47 ∷ 0x56 ∷ 0x53 ∷ [] = sym (items_all 3 [] (take 3 (drop 1 file)) (piece_length file 1 3 (omega (arith, len)))) ∙ rw (h.0, h.1, h.2) refl in
@@ -500,7 +500,7 @@ decoded_place file b (Some m) e (inl one) held d =
 decoded_place file b (Some m) e (inr two) held d =
     let all : All (Holds 2 file) (table 2) = subst (λ (v : ℕ). All (Holds v file) (table v)) two held in
     let other : slice_index file 30 ≢ 0 = λ zero. let none : b.cpu.mid ≡ None = d.outside zero in absurd cc in
-    subst (λ (c : CpuValue). IsMiddle c) (sym (d.inside other)) (subst (λ (idle : Bool). IsIn (processor_of file) (bytes_range idle) (take 6 (drop 32 file))) (not_equal (slice_index file 30) 0 other) (all 21 no_row (omega arith)))
+    subst (λ (c : CpuValue). IsMiddle c) (sym (d.inside other)) (subst (λ (idle : Bool). IsInFieldRange (processor_of file) (bytes_range idle) (take 6 (drop 32 file))) (not_equal (slice_index file 30) 0 other) (all 21 no_row (omega arith)))
 
 -- one of the two versions, as the code's tests leave them
 pub one_of_two : (version : ℕ) → ((version ≡ 1 → ⊥) × (version ≡ 2)) ⊎ (version ≡ 1) → (version ≡ 1) ⊎ (version ≡ 2)

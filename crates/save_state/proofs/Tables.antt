@@ -5,7 +5,7 @@ use Rattle.std.specs.Int.{from_le_bytes}
 use Rattle.std.proofs.lemmas.List.Elements.{All-map, All-cons, All-nil, All-head, All-tail, All-append, All-from_recursion, recursion_from_All}
 use Rattle.board_base.specs.Board.{BoardValue}
 use Rattle.board_base.specs.Cpu.{CpuValue, MidValue}
-use Rattle.save_state.specs.Fields.{Row, IsIn, flag, pieces_of, anything, Facts, Range, rows_of, rows_at}
+use Rattle.save_state.specs.Fields.{Row, IsInFieldRange, flag, pieces_of, anything, Facts, Range, rows_of, rows_at}
 use Rattle.save_state.specs.StateBytes.{count_range, left_range, opcode_range, jam_rows, processor_of, facts_of, table, front_rows, middle_rows, zero_rows, vg_rows, pokey_rows, earom_rows, memory_rows, back_rows, last_clock}
 use Rattle.save_state.specs.Check.{width_of, range_of, IsInRange, AreInRange, BreaksIn}
 use Rattle.cpu_table.specs.Opcodes.{row_of}
@@ -30,16 +30,16 @@ pub not_equal : (m n : ℕ) → m ≢ n → (m == n) ≡ false
 not_equal m n h = elim (m == n) as (λ (b : Bool). (m == n) ≡ b → b ≡ false) [ true ↦ λ e. absurd (h (eqb-true m n e)) | false ↦ λ e. refl ] refl
 
 -- the clocks done of a sequence
-pub done_most : (cpu : CpuValue) (idle : Bool) (file : List ℕ) → IsIn cpu (count_range idle) (take 1 (drop 31 file)) → slice_index file 31 ≤ 6
+pub done_most : (cpu : CpuValue) (idle : Bool) (file : List ℕ) → IsInFieldRange cpu (count_range idle) (take 1 (drop 31 file)) → slice_index file 31 ≤ 6
 done_most cpu true file h = omega (arith, h, byte_is file 31)
 done_most cpu false file h = omega (arith, h.1, byte_is file 31)
 
 -- the clocks that are left of a vector, by whether one is drawn
-left_by : (cpu : CpuValue) (b : Bool) (piece : List ℕ) → IsIn cpu (left_range b) piece → (b ≡ true → 1 ≤ from_le_bytes w16 piece) × (from_le_bytes w16 piece ≤ 8192) × (b ≡ false → from_le_bytes w16 piece ≡ 0)
+left_by : (cpu : CpuValue) (b : Bool) (piece : List ℕ) → IsInFieldRange cpu (left_range b) piece → (b ≡ true → 1 ≤ from_le_bytes w16 piece) × (from_le_bytes w16 piece ≤ 8192) × (b ≡ false → from_le_bytes w16 piece ≡ 0)
 left_by cpu true piece h = ((λ e. h.0), h.1, (λ (e : true ≡ false). absurd cc))
 left_by cpu false piece h = ((λ (e : false ≡ true). absurd cc), omega (arith, h), (λ e. omega (arith, h)))
 
-pub left_told : (file : List ℕ) (phase left : ℕ) → phase ≡ slice_index (take 1 (drop 45 file)) 0 → left ≡ from_le_bytes w16 (take 2 (drop 82 file)) → IsIn (processor_of file) (left_range (slice_index file 45 == 5)) (take 2 (drop 82 file)) → (phase ≡ 5 → 1 ≤ left) × (left ≤ 8192) × (phase ≢ 5 → left ≡ 0)
+pub left_told : (file : List ℕ) (phase left : ℕ) → phase ≡ slice_index (take 1 (drop 45 file)) 0 → left ≡ from_le_bytes w16 (take 2 (drop 82 file)) → IsInFieldRange (processor_of file) (left_range (slice_index file 45 == 5)) (take 2 (drop 82 file)) → (phase ≡ 5 → 1 ≤ left) × (left ≤ 8192) × (phase ≢ 5 → left ≡ 0)
 left_told file phase left e f h =
     let told = left_by (processor_of file) (slice_index file 45 == 5) (take 2 (drop 82 file)) h in
     let here : phase ≡ slice_index file 45 = e ∙ byte_is file 45 in (
@@ -63,7 +63,7 @@ flag_told (suc zero) piece e h = e
 flag_told (suc (suc n)) piece e h =
     let most : suc (suc n) ≤ 1 = subst (λ (p : List ℕ). slice_index p 0 ≤ 1) (sym e) h in absurd (omega (arith, most))
 
-pub jam_told : (cpu : CpuValue) (flag opcode : ℕ) (p q : List ℕ) → flag ∷ [] ≡ p → opcode ∷ [] ≡ q → flag ≤ 1 → IsIn cpu (opcode_range (flag == 1)) q → (pieces_of jam_rows (then_some (flag == 1) opcode) ≡ p ∷ q ∷ []) × IfSome (then_some (flag == 1) opcode) (λ o. row_of o ≡ None)
+pub jam_told : (cpu : CpuValue) (flag opcode : ℕ) (p q : List ℕ) → flag ∷ [] ≡ p → opcode ∷ [] ≡ q → flag ≤ 1 → IsInFieldRange cpu (opcode_range (flag == 1)) q → (pieces_of jam_rows (then_some (flag == 1) opcode) ≡ p ∷ q ∷ []) × IfSome (then_some (flag == 1) opcode) (λ o. row_of o ≡ None)
 jam_told cpu zero opcode p q e f h fit =
     let none : slice_index (opcode ∷ []) 0 ≤ 0 = subst (λ (x : List ℕ). slice_index x 0 ≤ 0) (sym f) fit in
     let zero : opcode ≡ 0 = omega (arith, none) in
@@ -86,7 +86,7 @@ abbrev spot_of : Facts → Row BoardValue → Spot
 spot_of facts r = (r.at, r.width, r.range facts)
 
 abbrev SpotHolds : ℕ → List ℕ → Spot → Type 0
-SpotHolds version file s = IsIn (processor_of file) s.2 (take s.1 (drop s.0 file))
+SpotHolds version file s = IsInFieldRange (processor_of file) s.2 (take s.1 (drop s.0 file))
 
 -- a table of the code has the fields of these rows
 abbrev pub AreSame : Facts → ℕ → List Field → Rows → Type 0

@@ -5,7 +5,7 @@ use Rattle.board_base.specs.Board.{BoardValue}
 use Rattle.save_state.specs.declared.table.Kind.{Kind}
 use Rattle.save_state.specs.declared.table.Kind.TheVariants.{Any, Byte, Word, Long, Count, Signed, Letters, Flags, Clock, JamOpcode, SequenceNumber, ClocksDone, ClocksLeft}
 use Rattle.save_state.specs.declared.table.Field.{Field}
-use Rattle.save_state.specs.Fields.{Range, anything, byte_at_most, number_at_most, number_from_1, signed_within, letters, flags, IsIn, Facts, Row, pieces_of}
+use Rattle.save_state.specs.Fields.{Range, anything, byte_at_most, number_at_most, number_from_1, signed_within, letters, flags, IsInFieldRange, Facts, Row, pieces_of}
 use Rattle.save_state.specs.StateBytes.{opcode_range, count_range, left_range, processor_of, facts_of, clock_rows, register_rows, jam_rows, port_rows, divider_rows, vg_rows, pokey_rows, earom_rows, memory_rows}
 
 -- the number of bytes of a field
@@ -43,7 +43,7 @@ range_of facts ClocksLeft = left_range facts.drawing
 -- the bytes at an offset are such a field, in a file of this version
 abbrev pub IsInRange : ℕ → List ℕ → ℕ → Kind → Type 0
 IsInRange version file at kind =
-    IsIn (processor_of file) (range_of (facts_of version file) kind) (take (width_of kind) (drop at file))
+    IsInFieldRange (processor_of file) (range_of (facts_of version file) kind) (take (width_of kind) (drop at file))
 
 -- the fields of a table that begins at this offset are in their ranges
 abbrev pub AreInRange : ℕ → List ℕ → ℕ → List Field → Type 0

@@ -3,7 +3,7 @@
 use Rattle.std.specs.Prelude.{◌≡◌, ◌≤◌, ℕ, ◌/◌, ◌%◌, ℤ, Bool, List, [], ◌∷◌, ◌+◌, map, slice_index, None}
 use Rattle.std.specs.Int.{Width, w16, w32, w64, byte_len, from_le_bytes, to_le_bytes, cast_signed, cast_unsigned, from_bool}
 use Rattle.board_base.specs.Cpu.{CpuValue}
-use Rattle.board_base.specs.Ranges.{IsIn}
+use Rattle.board_base.specs.Ranges.{IsWithin}
 use Rattle.cpu_table.specs.Opcodes.{row_of}
 use Rattle.cpu_core.specs.Places.{IsMiddle}
 
@@ -23,20 +23,20 @@ pub data Range : Type 0 where
 
 -- bytes are in a range, in a file of this processor; numbers stand low byte first, signed ones in
 -- two's complement
-abbrev pub IsIn : CpuValue → Range → List ℕ → Type 0
-IsIn cpu anything piece = Unit {0}
-IsIn cpu (byte_at_most greatest) piece = slice_index piece 0 ≤ greatest
-IsIn cpu (byte_from_1 greatest) piece = (1 ≤ slice_index piece 0) × (slice_index piece 0 ≤ greatest)
-IsIn cpu (number_at_most w greatest) piece = from_le_bytes w piece ≤ greatest
-IsIn cpu (number_from_1 w greatest) piece = (1 ≤ from_le_bytes w piece) × (from_le_bytes w piece ≤ greatest)
-IsIn cpu (signed_within n) piece = IsIn n (cast_signed w32 (from_le_bytes w32 piece))
-IsIn cpu letters piece = (slice_index piece 0 ≡ 0x47) × (slice_index piece 1 ≡ 0x56) × (slice_index piece 2 ≡ 0x53)
-IsIn cpu six_zeros piece =
+abbrev pub IsInFieldRange : CpuValue → Range → List ℕ → Type 0
+IsInFieldRange cpu anything piece = Unit {0}
+IsInFieldRange cpu (byte_at_most greatest) piece = slice_index piece 0 ≤ greatest
+IsInFieldRange cpu (byte_from_1 greatest) piece = (1 ≤ slice_index piece 0) × (slice_index piece 0 ≤ greatest)
+IsInFieldRange cpu (number_at_most w greatest) piece = from_le_bytes w piece ≤ greatest
+IsInFieldRange cpu (number_from_1 w greatest) piece = (1 ≤ from_le_bytes w piece) × (from_le_bytes w piece ≤ greatest)
+IsInFieldRange cpu (signed_within n) piece = IsWithin n (cast_signed w32 (from_le_bytes w32 piece))
+IsInFieldRange cpu letters piece = (slice_index piece 0 ≡ 0x47) × (slice_index piece 1 ≡ 0x56) × (slice_index piece 2 ≡ 0x53)
+IsInFieldRange cpu six_zeros piece =
     (slice_index piece 0 ≡ 0) × (slice_index piece 1 ≡ 0) × (slice_index piece 2 ≡ 0) ×
     (slice_index piece 3 ≡ 0) × (slice_index piece 4 ≡ 0) × (slice_index piece 5 ≡ 0)
-IsIn cpu flags piece = slice_index piece 0 / 16 % 4 ≡ 0
-IsIn cpu undocumented_opcode piece = row_of (slice_index piece 0) ≡ None
-IsIn cpu place piece = IsMiddle cpu
+IsInFieldRange cpu flags piece = slice_index piece 0 / 16 % 4 ≡ 0
+IsInFieldRange cpu undocumented_opcode piece = row_of (slice_index piece 0) ≡ None
+IsInFieldRange cpu place piece = IsMiddle cpu
 
 -- a field has so many bytes, and they have a range
 pub record Field : Type 0 where

@@ -10,7 +10,7 @@ use Rattle.board_base.specs.Earom.{IsEarom}
 use Rattle.board_base.specs.Pokey.{IsPokey}
 use Rattle.board_base.specs.Vg.{IsVg}
 use Rattle.cpu_core.specs.Places.{IsProcessor}
-use Rattle.save_state.specs.Fields.{Row, IsIn}
+use Rattle.save_state.specs.Fields.{Row, IsInFieldRange}
 use Rattle.save_state.specs.StateBytes.{table, facts_of, processor_of, state_bytes, first_state_bytes}
 
 -- a processor in range: pc is a number of 16 bits, and all else is as its type and the processor's
@@ -38,7 +38,7 @@ Spells file b = (file ≡ state_bytes b) ⊎ ((file ≡ first_state_bytes b) × 
 
 -- the bytes of a row's field are in its range, in a file of this version
 abbrev pub Holds : ℕ → List ℕ → Row BoardValue → Type 0
-Holds version file r = IsIn (processor_of file) (r.range (facts_of version file)) (take r.width (drop r.at file))
+Holds version file r = IsInFieldRange (processor_of file) (r.range (facts_of version file)) (take r.width (drop r.at file))
 
 -- of these rows the first whose field is out of its range has this offset, in a file of this
 -- version

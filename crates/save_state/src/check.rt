@@ -1,5 +1,5 @@
 ghost use Rattle.std.specs.Prelude.{◌+◌, ◌≤◌, ◌↔◌, ◌==◌, IsTrue, ℕ, MatchResult, All, take, drop, slice_index};
-ghost use Rattle.save_state.specs.Fields.{IsIn};
+ghost use Rattle.save_state.specs.Fields.{IsInFieldRange};
 ghost use Rattle.save_state.specs.StateBytes.{processor_of, bytes_range, front_rows, middle_rows, table};
 ghost use Rattle.save_state.specs.Reading.{Holds, IsFirstBroken, BreaksFirst};
 ghost use Rattle.save_state.specs.Check.{width_of, IsInRange, AreInRange, BreaksIn};
@@ -58,7 +58,7 @@ fn check(version: u8, file: &[u8; STATE_LEN], base: usize, fields: &[Field]) -> 
 fn is_place(file: &[u8; STATE_LEN]) -> bool
     requires front { (version : ℕ) × All (Holds version file.now) (front_rows version) }
     requires count { slice_index file.now 31 ≤ 6 }
-    ensures { IsTrue result ↔ IsIn (processor_of file.now) (bytes_range (slice_index file.now 30 == 0)) (take 6 (drop 32 file.now)) }
+    ensures { IsTrue result ↔ IsInFieldRange (processor_of file.now) (bytes_range (slice_index file.now 30 == 0)) (take 6 (drop 32 file.now)) }
 {
     if file[30] == 0 {
         array_at(file, 32) == [0; 6]
