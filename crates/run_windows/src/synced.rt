@@ -151,9 +151,7 @@ impl<'a, M: Machine> SyncedMachine<'a, M> {
         let upto = self.machine.clock();
         let taken = observer.take(&self.machine.trails(), upto, out);
         forget_records(self.machine);
-        let Ok(()) = taken else {
-            return Err(SinkFault);
-        };
+        taken?;
         Ok(stop)
     }
 
@@ -184,12 +182,9 @@ impl<'a, M: Machine> SyncedMachine<'a, M> {
             ≤ (value_of self.old).done + (value_of self.new).board.peripherals.clock }
     {
         'windows: loop {
-            let Ok(stop) = self.window(tape, until, observer, out) else {
-                return Err(SinkFault);
-            };
-            match stop {
+            match self.window(tape, until, observer, out)? {
                 Stop::Window => {}
-                _ => return Ok(stop),
+                stop => return Ok(stop),
             }
         }
     }
@@ -218,9 +213,7 @@ impl<'a, M: Machine> SyncedMachine<'a, M> {
         self.machine.settle();
         let handed = observer.take_part(&self.machine.trails(), out);
         forget_records(self.machine);
-        let Ok(()) = handed else {
-            return Err(SinkFault);
-        };
+        handed?;
         Ok(stop)
     }
 
@@ -243,12 +236,10 @@ impl<'a, M: Machine> SyncedMachine<'a, M> {
         ensures stop { IfOk result (λ stop. stop ≡ cause_of limit (value_of self.new).board) }
     {
         'parts: loop {
-            let Ok(stop) = self.part(tape, limit, observer, out) else {
-                return Err(SinkFault);
-            };
-            let Stop::Window = stop else {
-                return Ok(stop);
-            };
+            match self.part(tape, limit, observer, out)? {
+                Stop::Window => {}
+                stop => return Ok(stop),
+            }
         }
     }
 
