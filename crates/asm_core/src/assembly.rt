@@ -44,10 +44,7 @@ fn read_text<'a, D: Dialect>(
     ensures line { Answers (λ line. line) result (line_read D.language number (known_of pass.now) text.now) }
     ensures cells { IfOk result (λ line. IsBody line.body) }
 {
-    let words = match read_words(text, number) {
-        Ok(words) => words,
-        Err(fault) => return Err(fault),
-    };
+    let words = read_words(text, number)?;
     match read_line(alloc, dialect, &words, &pass.names, pass.at) {
         Ok(Some(line)) => Ok(line),
         Ok(None) => Err(at_line(number, AsmCause::NoSuchForm)),
@@ -70,10 +67,8 @@ fn look_at_text<'a, D: Dialect>(
     ensures exact { Answers (λ _. known_of pass.new) result (text_looked_at D.language rom number (known_of pass.old) text.now) }
     ensures pass { OnOk result (IsPassOne rom pass.new) }
 {
-    match read_text(alloc, dialect, number, pass, text) {
-        Ok(line) => look_at(pass, rom, number, line),
-        Err(fault) => Err(fault),
-    }
+    let line = read_text(alloc, dialect, number, pass, text)?;
+    look_at(pass, rom, number, line)
 }
 
 /// Before the first line nothing is known, and the address is 0.
@@ -106,17 +101,12 @@ fn look_at_lines<'a, D: Dialect>(
     ensures known { Answers known_of result (pass_one D.language rom 1 at_the_start (lines_with_ends text.now)) }
     ensures pass { IfOk result (λ pass. IsPassOne rom pass) }
 {
-    let mut pass = match start(alloc, rom) {
-        Ok(pass) => pass,
-        Err(fault) => return Err(fault),
-    };
+    let mut pass = start(alloc, rom)?;
     let mut rest = text;
     let mut number = 1;
     'lines: while !rest.is_empty() {
         let (line, after) = asm_text::split_line(rest);
-        if let Err(fault) = look_at_text(alloc, dialect, rom, number, &mut pass, line) {
-            return Err(fault);
-        }
+        look_at_text(alloc, dialect, rom, number, &mut pass, line)?;
         number += 1;
         rest = after;
     }
@@ -141,8 +131,6 @@ pub fn assemble<D: Dialect>(
     if text.len() > TEXT_LIMIT {
         return Err(AsmFault::TooLong);
     }
-    match look_at_lines(alloc, dialect, text, rom) {
-        Ok(pass) => write_lines(alloc, &pass.names, rom, pass.placed.items(), image),
-        Err(fault) => Err(fault),
-    }
+    let pass = look_at_lines(alloc, dialect, text, rom)?;
+    write_lines(alloc, &pass.names, rom, pass.placed.items(), image)
 }

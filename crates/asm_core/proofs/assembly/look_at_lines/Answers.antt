@@ -1,6 +1,7 @@
 use Rattle.std.proofs.Common.{◌≡◌, ◌∙◌, length, ap, sym, arith, length-append}
 use Rattle.std.proofs.lemmas.Grind.{common_steps}
 use Rattle.std.proofs.lemmas.List.{nil_from_length}
+use Rattle.std.proofs.lemmas.Result.{err_from_is_err_and}
 use Rattle.asm_text.specs.Lines.{lines_with_ends}
 use Rattle.asm_text.proofs.Parting.{lines_with_ends-nil}
 use Rattle.asm_core.specs.PassOne.{known_of}
@@ -9,10 +10,12 @@ use Rattle.asm_core.specs.Passes.{pass_one}
 use Rattle.asm_core.proofs.Looking.{looked-fault, looked-next, looked-none}
 use Rattle.asm_core.proofs.assembly.look_at_lines.Goals as goal
 
-pub returns-in-Err-look_at_text-clause-known : goal.returns-in-Err-look_at_text-clause-known
-returns-in-Err-look_at_text-clause-known g c =
-    looked-fault g.D.Dialect.language c.args.rom c.lines.number (known_of c.lines.pass) at_the_start c.split_line.result.0.now (lines_with_ends c.split_line.result.1.now) (lines_with_ends c.lines.rest.now) (lines_with_ends c.args.text.now)
-    c.in-Err-look_at_text.fault c.split_line.ensures.lines c.lines.invariant.known c.in-Err-look_at_text.ensures.exact
+pub returns-in_err-look_at_text-clause-known : goal.returns-in_err-look_at_text-clause-known
+returns-in_err-look_at_text-clause-known g c =
+    let p = err_from_is_err_and c.from_residual-in_err-look_at_text.result c.from_residual-in_err-look_at_text.ensures.1 in
+    rw (p.1, p.2)
+    (looked-fault g.D.Dialect.language c.args.rom c.lines.number (known_of c.lines.pass) at_the_start c.split_line.result.0.now (lines_with_ends c.split_line.result.1.now) (lines_with_ends c.lines.rest.now) (lines_with_ends c.args.text.now)
+    c.in_err-look_at_text.field-0.0 c.split_line.ensures.lines c.lines.invariant.known c.in_err-look_at_text.ensures.exact)
 
 pub lines-preserved : goal.lines-preserved
 lines-preserved g c =
@@ -20,9 +23,9 @@ lines-preserved g c =
     record {
       known =
           sym (looked-next g.D.Dialect.language c.args.rom c.lines.number (known_of c.lines.pass) (known_of c.look_at_text.new.pass) c.split_line.result.0.now (lines_with_ends c.split_line.result.1.now) (lines_with_ends c.lines.rest.now)
-          c.split_line.ensures.lines c.in_default.ensures.exact)
+          c.split_line.ensures.lines c.in_ok-look_at_text.ensures.exact)
           ∙ c.lines.invariant.known;
-      pass = c.in_default.ensures.pass;
+      pass = c.in_ok-look_at_text.ensures.pass;
       number = omega (arith, length-append c.split_line.result.0.now c.split_line.result.1.now, whole, c.split_line.ensures.some, c.lines.invariant.number);
     }
 
