@@ -52,8 +52,6 @@ pub(crate) fn run_slice<M: Machine, O: Sink>(
     ensures calls { (value_of synced.new).calls ≤ (value_of synced.old).calls + price_to tape.now.entries until (value_of synced.old).board + 5 }
     ensures more { (value_of synced.old).calls ≤ (value_of synced.new).calls }
 {
-    match synced.watch(tape, until, &mut LogWriter, out) {
-        Ok(_) => Ok(()),
-        Err(_) => Err(SinkFault),
-    }
+    synced.watch(tape, until, &mut LogWriter, out)?;
+    Ok(())
 }

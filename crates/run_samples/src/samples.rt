@@ -103,8 +103,6 @@ pub fn run_sampled<M: Machine, O: Sink>(
     ensures board { OnOk result ((value_of synced.new).board ≡ cleared (to_boundary tape.now.entries limit (value_of synced.old).board)) }
 {
     let mut sampler = Sampler::of(synced, per);
-    match synced.watch(tape, Until::Boundary(limit), &mut sampler, out) {
-        Ok(_) => Ok(()),
-        Err(_) => Err(SinkFault),
-    }
+    synced.watch(tape, Until::Boundary(limit), &mut sampler, out)?;
+    Ok(())
 }

@@ -1,3 +1,4 @@
+use Rattle.outside_io.proofs.GatherLaws.{takes-cut}
 use Rattle.lockstep_board.specs.Run.{to_boundary}
 use Rattle.run_samples.proofs.SampleLaws.{run-room, run-sampled}
 use Rattle.run_samples.proofs.samples.run_sampled.Goals as goal
@@ -8,18 +9,19 @@ watch-requires-clause-room g c =
     run-room c.args.tape.now.entries (g.M.Machine.value c.args.synced.now.machine.now).board c.args.synced.now.is_synced.empty c.args.limit c.args.per c.of-sampler.result.mixer
     c.requires.limit c.of-sampler.ensures.clock c.of-sampler.ensures.begins
 
-pub returns-in-Ok-clause-taken : goal.returns-in-Ok-clause-taken
+pub returns-clause-taken : goal.returns-clause-taken
 unfolding to_boundary
-returns-in-Ok-clause-taken g c =
+returns-clause-taken g c =
     rw (run-sampled c.args.tape.now.entries (g.M.Machine.value c.args.synced.now.machine.now).board c.args.synced.now.is_synced.empty c.args.limit c.args.per c.of-sampler.result.mixer
-    c.requires.some c.of-sampler.ensures.begins) at c.in-Ok.ensures.taken
+    c.requires.some c.of-sampler.ensures.begins) at c.in_ok-watch.ensures.taken
 
-pub returns-in-Ok-clause-board : goal.returns-in-Ok-clause-board
+pub returns-clause-board : goal.returns-clause-board
 unfolding to_boundary
-returns-in-Ok-clause-board g c = c.in-Ok.ensures.board
+returns-clause-board g c = c.in_ok-watch.ensures.board
 
-pub returns-in-Err-clause-taken : goal.returns-in-Err-clause-taken
+pub returns-in_err-watch-clause-taken : goal.returns-in_err-watch-clause-taken
 unfolding to_boundary
-returns-in-Err-clause-taken g c =
-    rw (run-sampled c.args.tape.now.entries (g.M.Machine.value c.args.synced.now.machine.now).board c.args.synced.now.is_synced.empty c.args.limit c.args.per c.of-sampler.result.mixer
-    c.requires.some c.of-sampler.ensures.begins) at c.in-Err.ensures.taken
+returns-in_err-watch-clause-taken g c =
+    takes-cut _ _ _ c.from_residual.result c.from_residual.ensures.0
+    (rw (run-sampled c.args.tape.now.entries (g.M.Machine.value c.args.synced.now.machine.now).board c.args.synced.now.is_synced.empty c.args.limit c.args.per c.of-sampler.result.mixer
+    c.requires.some c.of-sampler.ensures.begins) at c.in_err-watch.ensures.taken)
