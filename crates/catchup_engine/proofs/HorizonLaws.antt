@@ -15,7 +15,7 @@ use Rattle.cpu_alu.specs.Flags.{is_masked}
 use Rattle.cpu_core.specs.BusCycles.{Access}
 use Rattle.cpu_core.specs.Registers.{RegistersValue}
 use Rattle.cpu_core.specs.Sequences.{Moves, Runs}
-use Rattle.catchup_engine.specs.declared.horizon.Horizon.{Horizon}
+use Rattle.catchup_engine.specs.declared.quiet.Horizon.{Horizon}
 use Rattle.catchup_engine.specs.declared.bus.TheConstants.{MAX_SEQUENCE_CLOCKS}
 use Rattle.lockstep_board.specs.Breaks.{is_at_any}
 use Rattle.catchup_engine.specs.Bus.{BusValue, Does, at_clock}

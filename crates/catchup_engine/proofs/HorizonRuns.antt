@@ -12,7 +12,7 @@ use Rattle.tape_ports.specs.Tape.{TapeValue}
 use Rattle.lockstep_board.specs.Breaks.{is_at_any}
 use Rattle.lockstep_board.specs.Run.{is_over}
 use Rattle.catchup_engine.specs.declared.bus.TheConstants.{MAX_SEQUENCE_CLOCKS}
-use Rattle.catchup_engine.specs.declared.horizon.Horizon.{Horizon}
+use Rattle.catchup_engine.specs.declared.quiet.Horizon.{Horizon}
 use Rattle.catchup_engine.specs.Bus.{Accepts, BusStep, BusValue, room_of}
 use Rattle.catchup_engine.specs.Horizon.{IsHorizon, KeepsLines, NothingDue}
 use Rattle.catchup_engine.specs.Quiet.{IsCounted, later, passed, quiet_room}

@@ -15,7 +15,7 @@ use Rattle.lockstep_board.specs.Breaks.{is_at_any}
 use Rattle.lockstep_board.specs.Run.{is_over}
 use Rattle.lockstep_board.specs.Peripherals.{Peripherals, byte_read, devices_ticked, ticked}
 use Rattle.catchup_engine.specs.declared.trace.Access.{Access}
-use Rattle.catchup_engine.specs.declared.horizon.Horizon.{Horizon}
+use Rattle.catchup_engine.specs.declared.quiet.Horizon.{Horizon}
 use Rattle.catchup_engine.specs.Bus.{Accepts, BusStep, BusValue, is_private}
 use Rattle.catchup_engine.specs.Horizon.{IsHorizon, KeepsLines}
 use Rattle.catchup_engine.specs.Notes.{NotedStep, NotedValue, note_of, noting}

@@ -1,7 +1,7 @@
 -- Boundaries at which only the clock has to be looked at.
 use Rattle.std.specs.Prelude.{◌≡◌, ℕ, ◌+◌, ◌≤◌, ◌<◌, true, false}
 use Rattle.board_base.specs.declared.divider.Pending.TheVariants.{Nothing}
-use Rattle.catchup_engine.specs.declared.horizon.Horizon.{Horizon}
+use Rattle.catchup_engine.specs.declared.quiet.Horizon.{Horizon}
 use Rattle.catchup_engine.specs.Bus.{BusValue}
 use Rattle.lockstep_board.specs.Peripherals.{Peripherals, devices_ticked}
 

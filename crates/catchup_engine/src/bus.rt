@@ -6,7 +6,6 @@ mod clocking;
 mod construction;
 mod events;
 mod lines;
-mod ports;
 mod regions;
 mod state;
 

@@ -5,7 +5,6 @@ mod breaks;
 mod bus;
 pub mod devices;
 pub mod engine;
-mod horizon;
 mod laws;
 pub mod machine;
 mod note;

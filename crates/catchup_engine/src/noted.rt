@@ -12,9 +12,8 @@ ghost use Rattle.catchup_engine.specs.Runs.{over_bus, CanTakeTurns, GoesOn, Turn
 ghost use Rattle.catchup_engine.specs.Traced.{NotedTurns};
 
 use crate::bus::{BoardBus, PROGRAM_START, is_private};
-use crate::horizon::{Horizon, horizon_from};
 use crate::note::{Reached, TurnNote};
-use crate::quiet::QuietBus;
+use crate::quiet::{Horizon, QuietBus, horizon_from};
 use crate::trace::Access;
 use crate::tracer::Tracer;
 use avg_device::VectorUnit;

@@ -1,15 +1,16 @@
 //! Instructions in whose clocks no event is due.
-ghost use Rattle.std.specs.Prelude.{◌≡◌, ◌+◌, ◌-◌, ◌≤◌, ◌<◌, ◌&&◌, ◌||◌, false, is_none, nat_lt};
+ghost use Rattle.std.specs.Prelude.{◌≡◌, ◌+◌, ◌-◌, ◌≤◌, ◌<◌, ◌&&◌, ◌||◌, false, is_none, min, nat_lt};
+ghost use Rattle.board_base.specs.declared.divider.Pending.TheVariants.{Nothing};
 ghost use Rattle.board_base.specs.declared.divider.TheConstants.{DIVIDER_PERIOD};
 ghost use Rattle.cpu_alu.specs.Flags.{is_masked};
 ghost use Rattle.catchup_engine.specs.Bus.{Accepts};
-ghost use Rattle.catchup_engine.specs.Horizon.{KeepsLines};
+ghost use Rattle.catchup_engine.specs.Horizon.{IsHorizon, KeepsLines};
+ghost use Rattle.lockstep_board.specs.Peripherals.{devices_ticked};
 ghost use Rattle.catchup_engine.specs.Quiet.{passed};
 ghost use Rattle.catchup_engine.specs.Runs.{CanTakeTurns, GoesOn, TurnsOn};
 
 use crate::breaks::Breaks;
 use crate::bus::{BoardBus, PROGRAM_START};
-use crate::horizon::{Horizon, horizon_from};
 use avg_device::VectorUnit;
 use board_base::{CLOCK_END, RAM_LEN};
 use cpu_alu::Flags;
@@ -19,6 +20,34 @@ use irq_watchdog::DividerUnit;
 use pokey_chip::SoundUnit;
 use std::marker::PhantomData;
 use tape_ports::Tape;
+
+/// What is known of the boundaries up to a clock: no run ends at them, no event is due in the
+/// clocks of a sequence that begins there, and no reset is pending.
+#[derive(Clone, Copy)]
+pub(crate) struct Horizon {
+    /// A boundary before this clock is one of them.
+    pub until: u64,
+    /// Whether the interrupt line is deasserted at them all.
+    pub irq_idle: bool,
+}
+
+/// The boundaries from one on whose fetch reads an opcode. It is called once between two events.
+#[inline(never)]
+#[tactic(auto, using(crate::proofs::HorizonLaws::horizon))]
+pub(crate) fn horizon_from<V: VectorUnit, P: SoundUnit, C: CellUnit, D: DividerUnit>(
+    bus: &BoardBus<V, P, C, D>,
+    limit: u64,
+) -> Horizon
+    requires no_event { bus.now.peripherals.clock < bus.now.event_at }
+    requires pending { (devices_ticked bus.now.peripherals).divider.pending ≡ Nothing }
+    ensures horizon { IsHorizon limit result bus.now }
+    ensures until { result.until ≡ min limit (bus.now.event_at - 6) }
+{
+    Horizon {
+        until: limit.min(bus.quiet_until()),
+        irq_idle: bus.irq_idle(),
+    }
+}
 
 /// The bus in clocks in which no entry of the tape is due and the divider doesn't wrap. They are
 /// counted here, and the board gets them where a device is reached, and at the end.

@@ -1,4 +1,5 @@
-//! The scheduled events: the entries of the tape, and the next wrap of the divider.
+//! The scheduled events: the entries of the tape, which set the ports and the pots of the POKEYs,
+//! and the next wrap of the divider.
 ghost use Rattle.std.specs.Prelude.{◌≡◌, ◌+◌, ◌*◌, ◌≤◌, ◌<◌, false, length, drop, All};
 ghost use Rattle.tape_ports.specs.Due.{due_at};
 ghost use Rattle.tape_ports.specs.Ports.{IsPort};
@@ -6,7 +7,7 @@ ghost use Rattle.tape_ports.specs.Tape.{IsTape};
 ghost use Rattle.lockstep_board.specs.Budget.{ticks_price};
 ghost use Rattle.catchup_engine.specs.Events.{deadlines_of, next_event_of};
 ghost use Rattle.catchup_engine.specs.Bus.{Accepts, ComesNext, Does, IsTapePlace, done_clock};
-ghost use Rattle.lockstep_board.specs.Peripherals.{applied, ticked};
+ghost use Rattle.lockstep_board.specs.Peripherals.{applied, port_set, ticked};
 
 use crate::bus::BoardBus;
 use avg_device::VectorUnit;
@@ -15,9 +16,31 @@ use earom_cells::CellUnit;
 use event_queue::Deadlines;
 use irq_watchdog::DividerUnit;
 use pokey_chip::SoundUnit;
-use tape_ports::{Tape, TapeEntry};
+use tape_ports::{Port, Tape, TapeEntry};
 
 impl<V: VectorUnit, P: SoundUnit, C: CellUnit, D: DividerUnit> BoardBus<V, P, C, D> {
+    /// Sets the port of an entry of the tape, or the target of its pot.
+    #[tactic(auto, using(board_base::proofs::TickLaws::level, crate::proofs::SettledLaws::settled))]
+    fn set_port(&mut self, entry: TapeEntry)
+        requires port { IsPort entry.port }
+        ensures does { Does self.old self.new (port_set entry.port entry.value self.old.peripherals) 2 }
+    {
+        let value = entry.value;
+        match entry.port {
+            Port::In0 => self.in0 = value % 64,
+            Port::In3 => self.in3 = value,
+            Port::In4 => self.in4 = value,
+            Port::Pot1(which) => {
+                self.sync_sound1();
+                self.sound1.set_pot(which, value);
+            }
+            Port::Pot2(which) => {
+                self.sync_sound2();
+                self.sound2.set_pot(which, value);
+            }
+        }
+    }
+
     /// Applies entries of the tape, in their order.
     fn apply(&mut self, entries: &[TapeEntry])
         requires ports { All (λ entry. IsPort entry.port) entries.now }

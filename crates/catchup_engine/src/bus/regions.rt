@@ -1,15 +1,16 @@
-//! What reads and writes of the address map do.
+//! What reads and writes of the address map do. The devices that one reaches are synced first.
 ghost use Rattle.std.specs.Prelude.{◌≡◌, ◌+◌, ◌-◌, ◌*◌, ◌≤◌, ◌<◌, true, length, slice_index, slice_set, ◌++◌, ◌∷◌, []};
 ghost use Rattle.std.specs.Int.{from_bool};
 ghost use Rattle.cpu_core.specs.BusCycles.{read_of, write_of};
 ghost use Rattle.lockstep_board.specs.Budget.{reaches_device};
 ghost use Rattle.board_map.specs.Map.{IsWithin, row_of};
-ghost use Rattle.catchup_engine.specs.Lags.{lagging_at};
+ghost use Rattle.catchup_engine.specs.Lags.{all_lag, lagging_among, lagging_at, with_synced};
 ghost use Rattle.catchup_engine.specs.Bus.{Does, at_clock, is_private};
 ghost use Rattle.lockstep_board.specs.Memory.{memory_byte};
 ghost use Rattle.avg_device.specs.Tick.{vg_reset};
 ghost use Rattle.lockstep_board.specs.Peripherals.{Peripherals, byte_put, byte_read, in0_byte};
 
+use crate::bus::clocking::catch_up_divider;
 use crate::bus::{BoardBus, PROGRAM_START};
 use avg_device::VectorUnit;
 use board_base::{RAM_LEN, Record, VECTOR_RAM_LEN};
@@ -21,6 +22,93 @@ use pokey_chip::SoundUnit;
 use rom_image::PROGRAM_ROM_LEN;
 
 impl<V: VectorUnit, P: SoundUnit, C: CellUnit, D: DividerUnit> BoardBus<V, P, C, D> {
+    /// Moves the generator to the present clock: one call where it lags, and none where it doesn't.
+    #[tactic(auto, using(board_base::proofs::TickLaws::level, crate::proofs::SettledLaws::synced))]
+    pub(super) fn sync_vector(&mut self)
+        ensures value { self.new ≡ record self.old { lagging = record self.old.lagging { vector = 0 }; until = self.new.until; calls = self.new.calls } }
+        ensures until { self.old.until ≤ self.new.until }
+        ensures calls { self.new.calls ≤ self.old.calls + self.old.lagging.vector }
+        ensures more { self.old.calls ≤ self.new.calls }
+        ensures few { self.old.lagging.vector ≤ 1 }
+    {
+        self.vector.catch_up(&self.memory, self.clock);
+    }
+
+    /// Moves POKEY 1 to the present clock: one call where it lags, and none where it doesn't.
+    #[tactic(auto, using(board_base::proofs::TickLaws::level, crate::proofs::SettledLaws::synced))]
+    pub(super) fn sync_sound1(&mut self)
+        ensures value { self.new ≡ record self.old { lagging = record self.old.lagging { sound1 = 0 }; until = self.new.until; calls = self.new.calls } }
+        ensures until { self.old.until ≤ self.new.until }
+        ensures calls { self.new.calls ≤ self.old.calls + self.old.lagging.sound1 }
+        ensures more { self.old.calls ≤ self.new.calls }
+        ensures few { self.old.lagging.sound1 ≤ 1 }
+    {
+        self.sound1.catch_up(self.clock);
+    }
+
+    /// Moves POKEY 2 to the present clock: one call where it lags, and none where it doesn't.
+    #[tactic(auto, using(board_base::proofs::TickLaws::level, crate::proofs::SettledLaws::synced))]
+    pub(super) fn sync_sound2(&mut self)
+        ensures value { self.new ≡ record self.old { lagging = record self.old.lagging { sound2 = 0 }; until = self.new.until; calls = self.new.calls } }
+        ensures until { self.old.until ≤ self.new.until }
+        ensures calls { self.new.calls ≤ self.old.calls + self.old.lagging.sound2 }
+        ensures more { self.old.calls ≤ self.new.calls }
+        ensures few { self.old.lagging.sound2 ≤ 1 }
+    {
+        self.sound2.catch_up(self.clock);
+    }
+
+    /// Moves the EAROM to the present clock: one call where it lags, and none where it doesn't.
+    #[tactic(auto, using(board_base::proofs::TickLaws::level, crate::proofs::SettledLaws::synced))]
+    pub(super) fn sync_cells(&mut self)
+        ensures value { self.new ≡ record self.old { lagging = record self.old.lagging { cells = 0 }; until = self.new.until; calls = self.new.calls } }
+        ensures until { self.old.until ≤ self.new.until }
+        ensures calls { self.new.calls ≤ self.old.calls + self.old.lagging.cells }
+        ensures more { self.old.calls ≤ self.new.calls }
+        ensures few { self.old.lagging.cells ≤ 1 }
+    {
+        self.cells
+            .catch_up(self.clock, |cells, clocks| cells.advance(clocks));
+    }
+
+    /// Moves the divider to the present clock: one call where it lags, and none where it doesn't.
+    #[tactic(auto, using(board_base::proofs::TickLaws::level, crate::proofs::DividerLaws::lines, crate::proofs::SettledLaws::synced))]
+    pub(super) fn sync_divider(&mut self)
+        ensures value { self.new ≡ record self.old { lagging = record self.old.lagging { divider = 0 }; until = self.new.until; calls = self.new.calls } }
+        ensures until { self.old.until ≤ self.new.until }
+        ensures calls { self.new.calls ≤ self.old.calls + self.old.lagging.divider }
+        ensures more { self.old.calls ≤ self.new.calls }
+        ensures few { self.old.lagging.divider ≤ 1 }
+    {
+        catch_up_divider(&mut self.divider, self.clock);
+    }
+
+    /// Moves these devices to the present clock. One that doesn't lag isn't called.
+    #[inline(always)]
+    pub(super) fn sync(&mut self, devices: DeviceSet)
+        ensures value { self.new ≡ record self.old { lagging = with_synced devices self.old.lagging; until = self.new.until; calls = self.new.calls } }
+        ensures until { self.old.until ≤ self.new.until }
+        ensures calls { self.new.calls ≤ self.old.calls + lagging_among devices self.old.lagging }
+        ensures more { self.old.calls ≤ self.new.calls }
+        ensures few { lagging_among devices self.old.lagging ≤ lagging_among devices all_lag }
+    {
+        if devices.vector {
+            self.sync_vector();
+        }
+        if devices.sound1 {
+            self.sync_sound1();
+        }
+        if devices.sound2 {
+            self.sync_sound2();
+        }
+        if devices.cells {
+            self.sync_cells();
+        }
+        if devices.divider {
+            self.sync_divider();
+        }
+    }
+
     /// Port IN0, with the generator's halt and the 3 kHz line.
     #[tactic(auto, using(board_base::proofs::TickLaws::level, crate::proofs::SettledLaws::settled))]
     fn read_in0(&self) -> u8

@@ -1,15 +1,14 @@
 //! The board with its devices synced: its state, and its records.
 ghost use Rattle.std.specs.Prelude.{◌≡◌, ◌+◌, ◌≤◌, ◌<◌, ◌==◌, All, IsSome, []};
-ghost use Rattle.catchup_engine.specs.Lags.{all_lag, lagging_among, lagging_of, none_lags, with_synced};
+ghost use Rattle.catchup_engine.specs.Lags.{lagging_of, none_lags};
 ghost use Rattle.lockstep_board.specs.Peripherals.{board_of};
 
-use crate::bus::clocking::catch_up_divider;
 use crate::bus::{BoardBus, TRAIL_ROOM};
 use avg_device::VectorUnit;
 use board_base::{BoardState, CLOCK_LIMIT, CpuState, DIVIDER_PERIOD, PokeyState, Trails};
 use earom_cells::CellUnit;
 use irq_watchdog::DividerUnit;
-use lockstep_board::{ALL_DEVICES, DeviceSet};
+use lockstep_board::ALL_DEVICES;
 use pokey_chip::SoundUnit;
 
 /// The levels of the four channels of a POKEY.
@@ -21,93 +20,6 @@ fn levels_of(sound: &PokeyState) -> [u8; 4]
 }
 
 impl<V: VectorUnit, P: SoundUnit, C: CellUnit, D: DividerUnit> BoardBus<V, P, C, D> {
-    /// Moves the generator to the present clock: one call where it lags, and none where it doesn't.
-    #[tactic(auto, using(board_base::proofs::TickLaws::level, crate::proofs::SettledLaws::synced))]
-    pub(super) fn sync_vector(&mut self)
-        ensures value { self.new ≡ record self.old { lagging = record self.old.lagging { vector = 0 }; until = self.new.until; calls = self.new.calls } }
-        ensures until { self.old.until ≤ self.new.until }
-        ensures calls { self.new.calls ≤ self.old.calls + self.old.lagging.vector }
-        ensures more { self.old.calls ≤ self.new.calls }
-        ensures few { self.old.lagging.vector ≤ 1 }
-    {
-        self.vector.catch_up(&self.memory, self.clock);
-    }
-
-    /// Moves POKEY 1 to the present clock: one call where it lags, and none where it doesn't.
-    #[tactic(auto, using(board_base::proofs::TickLaws::level, crate::proofs::SettledLaws::synced))]
-    pub(super) fn sync_sound1(&mut self)
-        ensures value { self.new ≡ record self.old { lagging = record self.old.lagging { sound1 = 0 }; until = self.new.until; calls = self.new.calls } }
-        ensures until { self.old.until ≤ self.new.until }
-        ensures calls { self.new.calls ≤ self.old.calls + self.old.lagging.sound1 }
-        ensures more { self.old.calls ≤ self.new.calls }
-        ensures few { self.old.lagging.sound1 ≤ 1 }
-    {
-        self.sound1.catch_up(self.clock);
-    }
-
-    /// Moves POKEY 2 to the present clock: one call where it lags, and none where it doesn't.
-    #[tactic(auto, using(board_base::proofs::TickLaws::level, crate::proofs::SettledLaws::synced))]
-    pub(super) fn sync_sound2(&mut self)
-        ensures value { self.new ≡ record self.old { lagging = record self.old.lagging { sound2 = 0 }; until = self.new.until; calls = self.new.calls } }
-        ensures until { self.old.until ≤ self.new.until }
-        ensures calls { self.new.calls ≤ self.old.calls + self.old.lagging.sound2 }
-        ensures more { self.old.calls ≤ self.new.calls }
-        ensures few { self.old.lagging.sound2 ≤ 1 }
-    {
-        self.sound2.catch_up(self.clock);
-    }
-
-    /// Moves the EAROM to the present clock: one call where it lags, and none where it doesn't.
-    #[tactic(auto, using(board_base::proofs::TickLaws::level, crate::proofs::SettledLaws::synced))]
-    pub(super) fn sync_cells(&mut self)
-        ensures value { self.new ≡ record self.old { lagging = record self.old.lagging { cells = 0 }; until = self.new.until; calls = self.new.calls } }
-        ensures until { self.old.until ≤ self.new.until }
-        ensures calls { self.new.calls ≤ self.old.calls + self.old.lagging.cells }
-        ensures more { self.old.calls ≤ self.new.calls }
-        ensures few { self.old.lagging.cells ≤ 1 }
-    {
-        self.cells
-            .catch_up(self.clock, |cells, clocks| cells.advance(clocks));
-    }
-
-    /// Moves the divider to the present clock: one call where it lags, and none where it doesn't.
-    #[tactic(auto, using(board_base::proofs::TickLaws::level, crate::proofs::DividerLaws::lines, crate::proofs::SettledLaws::synced))]
-    pub(super) fn sync_divider(&mut self)
-        ensures value { self.new ≡ record self.old { lagging = record self.old.lagging { divider = 0 }; until = self.new.until; calls = self.new.calls } }
-        ensures until { self.old.until ≤ self.new.until }
-        ensures calls { self.new.calls ≤ self.old.calls + self.old.lagging.divider }
-        ensures more { self.old.calls ≤ self.new.calls }
-        ensures few { self.old.lagging.divider ≤ 1 }
-    {
-        catch_up_divider(&mut self.divider, self.clock);
-    }
-
-    /// Moves these devices to the present clock. One that doesn't lag isn't called.
-    #[inline(always)]
-    pub(super) fn sync(&mut self, devices: DeviceSet)
-        ensures value { self.new ≡ record self.old { lagging = with_synced devices self.old.lagging; until = self.new.until; calls = self.new.calls } }
-        ensures until { self.old.until ≤ self.new.until }
-        ensures calls { self.new.calls ≤ self.old.calls + lagging_among devices self.old.lagging }
-        ensures more { self.old.calls ≤ self.new.calls }
-        ensures few { lagging_among devices self.old.lagging ≤ lagging_among devices all_lag }
-    {
-        if devices.vector {
-            self.sync_vector();
-        }
-        if devices.sound1 {
-            self.sync_sound1();
-        }
-        if devices.sound2 {
-            self.sync_sound2();
-        }
-        if devices.cells {
-            self.sync_cells();
-        }
-        if devices.divider {
-            self.sync_divider();
-        }
-    }
-
     /// Moves each device to the present clock. One that doesn't lag isn't called.
     pub fn settle(&mut self)
         ensures value { self.new ≡ record self.old { lagging = none_lags; until = self.new.until; calls = self.new.calls } }
