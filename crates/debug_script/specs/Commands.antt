@@ -5,7 +5,7 @@ use Rattle.plain_text.specs.Numbers.{value_of}
 use Rattle.debug_script.specs.declared.command.Command.{Command}
 use Rattle.debug_script.specs.declared.command.Command.TheVariants.{Break, Watch, StopVg, Clear, Go, Step, Until, Regs, Dev, Mem, Dis, Vdis}
 use Rattle.debug_script.specs.declared.command.Span.{Span}
-use Rattle.debug_script.specs.declared.line.TheConstants.{MOST_TURNS, MOST_BYTES, MOST_INSTRUCTIONS}
+use Rattle.debug_script.specs.declared.script.TheConstants.{MOST_TURNS, MOST_BYTES, MOST_INSTRUCTIONS}
 
 -- an address is four hexadecimal digits of either case
 abbrev pub address_of : List ℕ → Option ℕ

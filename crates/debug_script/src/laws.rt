@@ -1,8 +1,7 @@
 //! The limits of a script as plain numbers, by the contract of a function that does nothing.
 ghost use Rattle.std.specs.Prelude.{◌≡◌};
 
-use crate::line::{MOST_BYTES, MOST_INSTRUCTIONS, MOST_TURNS};
-use crate::script::SCRIPT_LIMIT;
+use crate::script::{MOST_BYTES, MOST_INSTRUCTIONS, MOST_TURNS, SCRIPT_LIMIT};
 use crate::stops::STOPS;
 
 /// The most bytes of a script, the most breaks and watches at one time, and the most turns, bytes

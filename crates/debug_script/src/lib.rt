@@ -4,7 +4,6 @@
 pub mod command;
 pub mod fault;
 pub mod laws;
-mod line;
 pub mod script;
 pub mod stops;
 

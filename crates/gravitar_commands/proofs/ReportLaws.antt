@@ -24,7 +24,7 @@ use Rattle.gravitar_commands.specs.declared.failure.Failure.TheVariants.{Absent,
 use Rattle.gravitar_commands.specs.declared.failure.Ending.{Ending}
 use Rattle.gravitar_commands.specs.declared.failure.Ending.TheVariants.{Done}
 use Rattle.gravitar_commands.specs.declared.parts.Parts.{Parts}
-use Rattle.gravitar_commands.specs.declared.run_report.RunReport.TheVariants.{Frames, Profile, Samples}
+use Rattle.gravitar_commands.specs.declared.reporting.RunReport.TheVariants.{Frames, Profile, Samples}
 use Rattle.gravitar_commands.specs.Endings.{status_of_ending}
 use Rattle.gravitar_commands.specs.Outcome.{ComesOver, ForReading, Outcome, command_outcome, finished, first_board, limit_of, run_files, report_outcome, text_outcome}
 use Rattle.gravitar_commands.specs.Stages.{HostEnds, Keeps, Refuses, Reports, StageFaults, Wrote, written_as}

@@ -37,7 +37,7 @@ use Rattle.gravitar_commands.specs.declared.assembled.Language.TheVariants.{Proc
 use Rattle.gravitar_commands.specs.declared.parts.Parts.{Parts}
 use Rattle.gravitar_commands.specs.declared.cause.Cause.{Cause}
 use Rattle.gravitar_commands.specs.declared.cause.Cause.TheVariants.{Absent, Image, Tape, State, Cells, Script}
-use Rattle.gravitar_commands.specs.declared.run_report.RunReport.TheVariants.{Samples, Frames, Profile}
+use Rattle.gravitar_commands.specs.declared.reporting.RunReport.TheVariants.{Samples, Frames, Profile}
 use Rattle.gravitar_commands.specs.Causes.{cause_text}
 use Rattle.outside_io.specs.Events.{Event, sending, storing}
 use Rattle.gravitar_commands.specs.Endings.{ending_by, status_of_ending}

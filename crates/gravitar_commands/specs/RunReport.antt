@@ -7,8 +7,8 @@ use Rattle.board_debug.specs.BoardsText.{boards_text}
 use Rattle.run_samples.specs.BoardSamples.{sampled_bytes}
 use Rattle.run_trace.specs.BoardFrames.{framed_text}
 use Rattle.run_trace.specs.BoardProfile.{profiled_text}
-use Rattle.gravitar_commands.specs.declared.run_report.RunReport.{RunReport}
-use Rattle.gravitar_commands.specs.declared.run_report.RunReport.TheVariants.{Samples, Frames, Profile}
+use Rattle.gravitar_commands.specs.declared.reporting.RunReport.{RunReport}
+use Rattle.gravitar_commands.specs.declared.reporting.RunReport.TheVariants.{Samples, Frames, Profile}
 
 -- a sample has 1 to 65,535 clocks
 abbrev pub CanReport : RunReport → Type 0

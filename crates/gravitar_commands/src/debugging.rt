@@ -7,9 +7,9 @@ ghost use Rattle.gravitar_commands.specs.Stages.{GivesScript, HostEnds, Keeps, P
 
 use crate::cause::Cause;
 use crate::failure::{Ending, Failure};
-use crate::limit::has_timers;
 use crate::load::{bad, fetch, load_run};
 use crate::parts::Parts;
+use crate::program::has_timers;
 use board_debug::{DebugFault, run_script};
 use catchup_engine::{Devices, Engine};
 use command_line::{DebugWords, RunWords};

@@ -7,18 +7,16 @@ ghost use Rattle.outside_io.specs.Causes.{Rose};
 ghost use Rattle.outside_io.specs.Events.{Did, DidFirst};
 ghost use Rattle.outside_io.specs.Hosts.{seen};
 ghost use Rattle.gravitar_commands.specs.Endings.{ending_by};
-ghost use Rattle.gravitar_commands.specs.Outcome.{Comes, IsRun, usage_text, outside_text, memory_text};
+ghost use Rattle.gravitar_commands.specs.Outcome.{Comes, IsRun, usage_text, outside_text, memory_text, limit_of};
 ghost use Rattle.gravitar_commands.specs.Stages.{Keeps, Noted, Performs, RunEnds};
 
 use crate::answer::{ending_status, note, status};
 use crate::assembling::perform_asm;
 use crate::debugging::perform_debug;
 use crate::failure::{Ending, Failure};
-use crate::limit::run_limit;
 use crate::load::{load_run, load_state};
 use crate::parts::Parts;
-use crate::reporting::perform_report;
-use crate::run_report::RunReport;
+use crate::reporting::{RunReport, perform_report};
 use crate::seeking::Boards;
 use crate::soaking::perform_soak;
 use crate::words::Words;
@@ -188,4 +186,30 @@ pub fn gravitar<S: Shelf, O: Sink, N: Sink>(
             status(&failure)
         }
     }
+}
+
+/// The clock that a run ends at: the tape's END, or that of `--until` where it is smaller.
+pub fn run_limit(until: Option<u64>, end: u64) -> u64
+    ensures limit { result ≡ limit_of until end }
+    ensures most { result ≤ end }
+{
+    match until {
+        Some(until) => until.min(end),
+        None => end,
+    }
+}
+
+/// The clock that a run with these settings ends at.
+pub fn limit_by(settings: &Settings<'_>, end: u64) -> u64
+    ensures limit { result ≡ limit_of settings.now.until end }
+    ensures most { result ≤ end }
+{
+    run_limit(settings.until, end)
+}
+
+/// Whether the timer requests of the POKEYs reach the interrupt line.
+pub fn has_timers(settings: &Settings<'_>) -> bool
+    ensures { result ≡ settings.now.timers }
+{
+    settings.timers
 }

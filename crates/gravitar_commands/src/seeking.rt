@@ -6,8 +6,7 @@ ghost use Rattle.gravitar_commands.specs.RunReport.{sought_text};
 
 use crate::failure::{Ending, Failure};
 use crate::parts::Parts;
-use crate::reporting::Report;
-use crate::run_report::written;
+use crate::reporting::{Report, written};
 use arrayvec::ArrayVec;
 use board_base::BoardState;
 use board_debug::write_boards;

@@ -2,7 +2,6 @@
 #![tactic(auto)]
 
 mod last;
-mod merge;
 mod merged;
 mod record_bytes;
 mod record_line;

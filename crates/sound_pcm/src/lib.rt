@@ -5,7 +5,6 @@
 mod group;
 mod laws;
 mod mixer;
-mod sooner;
 
 pub use laws::{in_parts, mixer_numbers, samples_fit, whole_groups};
 pub use mixer::{MAX_LEVEL, MAX_PER, Mixer};

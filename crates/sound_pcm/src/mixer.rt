@@ -6,9 +6,9 @@ ghost use Rattle.outside_io.specs.Gathering.{Gathers};
 ghost use Rattle.outside_io.specs.Sink.{Takes};
 ghost use Rattle.sound_pcm.specs.Mixing.{AreLevels, samples_of, mixed, held, changed};
 ghost use Rattle.sound_pcm.specs.Samples.{bytes_of, samples};
+ghost use Rattle.sound_pcm.specs.Sooner.{TakesSooner};
 
 use crate::group::Group;
-use crate::sooner::take_sooner;
 use board_base::{Part, Record, Trails};
 use outside_io::{BlockWriter, Sink, SinkFault};
 use std::marker::Model;
@@ -139,5 +139,30 @@ impl Mixer {
             Part::Pokey2 => self.sound2 = [l1, l2, l3, l4],
             Part::Generator | Part::Board => {}
         }
+    }
+}
+
+/// Takes the first record of the list whose first one came sooner, and says whose it is.
+pub(crate) fn take_sooner(sound1: &mut &[Record], sound2: &mut &[Record]) -> Option<(Part, Record)>
+    ensures { TakesSooner sound1.old.now sound2.old.now sound1.new.now sound2.new.now result }
+{
+    match (sound1.split_first(), sound2.split_first()) {
+        (Some((made, others)), None) => {
+            *sound1 = others;
+            Some((Part::Pokey1, *made))
+        }
+        (None, Some((made, others))) => {
+            *sound2 = others;
+            Some((Part::Pokey2, *made))
+        }
+        (Some((first, others1)), Some((second, others2))) => {
+            if first.clock() <= second.clock() {
+                *sound1 = others1;
+                return Some((Part::Pokey1, *first));
+            }
+            *sound2 = others2;
+            Some((Part::Pokey2, *second))
+        }
+        (None, None) => None,
     }
 }

@@ -1,5 +1,5 @@
 use Rattle.log_text.proofs.NextLaws.{next_generator, next_pokey1, next_pokey2, next_board, next_none, one_less}
-use Rattle.log_text.proofs.merge.MergeIterator.next.Goals as goal
+use Rattle.log_text.proofs.merged.MergeIterator.next.Goals as goal
 
 pub returns-in_default-clause-steps : goal.returns-in_default-clause-steps
 returns-in_default-clause-steps c = let none = next_none _ _ _ _ c.in_default.ensures in (none, none)
