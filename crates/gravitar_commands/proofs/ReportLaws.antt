@@ -159,16 +159,16 @@ lowered-few limit most (clock ∷ clocks) low =
 pub pcm-reported-as : (known : Option Files) (holds : Outcome → Type 0) (pcm inner : PcmValue) → inner ≡ pcm
     → IfSome known (λ files. ForReading inner.run.settings.state files (λ reading. holds (finished (run_files files inner.run reading) (report_outcome inner.run.settings (report_text (Samples inner.per))))))
     → ComesOver (pcm_of pcm) known holds
-pcm-reported-as wrote holds pcm inner is comes =
+pcm-reported-as known holds pcm inner is comes =
     subst (λ (w : PcmValue). ComesOver (pcm_of w) known holds) is
-    (pcm-reported wrote holds inner comes)
+    (pcm-reported known holds inner comes)
 
 pub seek-reported-as : (known : Option Files) (holds : Outcome → Type 0) (seek inner : SeekValue) → inner ≡ seek
     → IfSome known (λ files. ForReading inner.run.settings.state files (λ reading. holds (finished (run_files files inner.run reading) (report_outcome inner.run.settings (sought_text inner.clocks)))))
     → ComesOver (seek_of seek) known holds
-seek-reported-as wrote holds seek inner is comes =
+seek-reported-as known holds seek inner is comes =
     subst (λ (w : SeekValue). ComesOver (seek_of w) known holds) is
-    (seek-reported wrote holds inner comes)
+    (seek-reported known holds inner comes)
 
 -- the boards were written, or a part of them, of a run that begins at the engine's board
 pub sought-reported : (entries : List TapeEntry) (limit : ℕ) (clocks asked : List ℕ) (e s : Board) (out0 out1 : Option (List ℕ)) (took : Result (Unit {0}) SinkFault) (result : Result Ending Failure)
