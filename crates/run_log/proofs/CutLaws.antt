@@ -55,9 +55,9 @@ module _ (entries : List TapeEntry) where
       let again = to_boundary entries limit (cleared b) in
       let text : slice_text entries (Boundary limit) (cleared b) ≡ slice_text entries (Boundary limit) b =
       text-cleared entries (steps_to entries (Boundary limit) (cleared b)) b ∙ ap (λ n. text_of_steps entries n b) (steps-cleared entries (Boundary limit) b) in
-      let ending : ending_text wanted.cost calls again ≡ ending_text wanted.cost calls last =
-      from-behind (λ b. ending_text wanted.cost calls (to_boundary entries limit b))
-      (λ l c. ap (ending_text wanted.cost calls) (to_boundary-behind entries limit l c) ∙ ending-behind wanted.cost calls l (to_boundary entries limit c)) b in
+      let ending : ending_text wanted calls again ≡ ending_text wanted calls last =
+      from-behind (λ b. ending_text wanted calls (to_boundary entries limit b))
+      (λ l c. ap (ending_text wanted calls) (to_boundary-behind entries limit l c) ∙ ending-behind wanted calls l (to_boundary entries limit c)) b in
       let saved = from-behind (λ b. saved_bytes (to_boundary entries limit b)) (saved-end-behind limit) b in
       let cells = from-behind (λ b. (to_boundary entries limit b).peripherals.earom.cells) (λ l c. ap (λ (d : Board). d.peripherals.earom.cells) (to_boundary-behind entries limit l c)) b in
       rw (text, ending, saved, cells) refl

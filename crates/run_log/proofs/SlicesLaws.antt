@@ -1,5 +1,5 @@
 -- Laws of a run in slices.
-use Rattle.std.proofs.Common.{◌≡◌, ℕ, Bool, Option, List, ◌++◌, take-append-drop, refl, ap, ◌∙◌}
+use Rattle.std.proofs.Common.{◌≡◌, ℕ, List, take-append-drop, refl, ap, ◌∙◌}
 use Rattle.board_base.specs.declared.vector_memory.TheConstants.{VECTOR_RAM_LEN}
 use Rattle.tape_ports.specs.declared.entry.TapeEntry.{TapeEntry}
 use Rattle.board_base.specs.Board.{BoardValue}
@@ -10,8 +10,7 @@ use Rattle.lockstep_board.specs.Run.{to_clock, to_boundary}
 use Rattle.lockstep_board.specs.Peripherals.{board_of, reloaded}
 use Rattle.run_windows.specs.declared.until.Until.TheVariants.{Clock, Boundary}
 use Rattle.run_windows.specs.Windows.{end_of}
-use Rattle.log_text.specs.LogText.{last_text}
-use Rattle.run_log.specs.Slices.{saved_bytes, cost_line, ending_text}
+use Rattle.run_log.specs.Slices.{Wanted, ending_text, saved_bytes}
 use Rattle.lockstep_board.proofs.Ended.{cleared-empty}
 use Rattle.run_windows.proofs.WatchLaws.{from-behind}
 
@@ -54,15 +53,12 @@ pub at-end : (entries : List TapeEntry) (limit : ℕ) (b now : Board) → now �
     → now ≡ cleared (to_boundary entries limit b)
 at-end entries limit b now is = is ∙ ap cleared (boundary-end entries limit b)
 
--- the last line depends on no record
-last_text-behind : (l : Recorded) (b : Board) (jam : Option ℕ) → last_text (behind l b).peripherals.clock (behind l b).cpu.pc jam ≡ last_text b.peripherals.clock b.cpu.pc jam
-last_text-behind l b jam = refl
+-- the ending depends on no record
+pub ending-behind : (wanted : Wanted) (calls : ℕ) (l : Recorded) (b : Board) → ending_text wanted calls (behind l b) ≡ ending_text wanted calls b
+ending-behind wanted calls l b = refl
 
-pub ending-behind : (cost : Bool) (calls : ℕ) (l : Recorded) (b : Board) → ending_text cost calls (behind l b) ≡ ending_text cost calls b
-ending-behind cost calls l b = ap (λ text. text ++ cost_line cost calls) (last_text-behind l b b.cpu.jam)
-
-pub ending-cleared : (cost : Bool) (calls : ℕ) (b now : Board) → now ≡ cleared b → ending_text cost calls now ≡ ending_text cost calls b
-ending-cleared cost calls b now is = ap (ending_text cost calls) is ∙ from-behind (ending_text cost calls) (ending-behind cost calls) b
+pub ending-cleared : (wanted : Wanted) (calls : ℕ) (b now : Board) → now ≡ cleared b → ending_text wanted calls now ≡ ending_text wanted calls b
+ending-cleared wanted calls b now is = ap (ending_text wanted calls) is ∙ from-behind (ending_text wanted calls) (ending-behind wanted calls) b
 
 pub cells-cleared : (b now : Board) (held : List ℕ) → now ≡ cleared b → held ≡ now.peripherals.earom.cells → held ≡ b.peripherals.earom.cells
 cells-cleared b now held is kept = kept ∙ ap (λ (n : Board). n.peripherals.earom.cells) is

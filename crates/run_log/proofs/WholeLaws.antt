@@ -21,12 +21,12 @@ text_of-storing (Some name) bytes = refl
 module _ (entries : List TapeEntry) (limit : ℕ) (wanted : Wanted) (calls : ℕ) where
   -- the text of the last slice
   last-text : (b : Board) → text_of (last_events entries limit wanted calls b)
-      ≡ slice_text entries (Boundary limit) b ++ ending_text wanted.cost calls (to_boundary entries limit b)
+      ≡ slice_text entries (Boundary limit) b ++ ending_text wanted calls (to_boundary entries limit b)
   unfolding last_events
   last-text b =
       let last = to_boundary entries limit b in
       let first = sending (slice_text entries (Boundary limit) b) in
-      let ending = sending (ending_text wanted.cost calls last) in
+      let ending = sending (ending_text wanted calls last) in
       let board = storing wanted.save (saved_bytes last) in
       let cells = storing wanted.earom last.peripherals.earom.cells in
       rw (
@@ -36,8 +36,8 @@ module _ (entries : List TapeEntry) (limit : ℕ) (wanted : Wanted) (calls : ℕ
         text_of-storing wanted.save (saved_bytes last),
         text_of-storing wanted.earom last.peripherals.earom.cells,
         text_of-sending (slice_text entries (Boundary limit) b),
-        text_of-sending (ending_text wanted.cost calls last),
-      ) (ap (λ text. slice_text entries (Boundary limit) b ++ text) (append-nil (ending_text wanted.cost calls last)))
+        text_of-sending (ending_text wanted calls last),
+      ) (ap (λ text. slice_text entries (Boundary limit) b ++ text) (append-nil (ending_text wanted calls last)))
 
   cut-text : (cut : ℕ) (b : Board) → text_of (cut_events entries cut wanted.save b) ≡ slice_text entries (Clock cut) b
   unfolding cut_events
@@ -56,15 +56,15 @@ module _ (entries : List TapeEntry) (limit : ℕ) (wanted : Wanted) (calls : ℕ
       let later = to_clock entries cut b in
       let first = slice_text entries (Clock cut) b in
       let rest = slice_text entries (Boundary limit) later in
-      let ending = ending_text wanted.cost calls (to_boundary entries limit later) in
+      let ending = ending_text wanted calls (to_boundary entries limit later) in
       let whole : slice_text entries (Boundary limit) b ≡ first ++ rest =
       ap (λ n. text_of_steps entries n b) (boundary-clock-steps entries cut limit b h placed)
       ∙ text-add entries (clock_steps entries cut b) (boundary_steps entries limit later) b in
-      let same : ending_text wanted.cost calls (to_boundary entries limit b) ≡ ending =
-      ap (ending_text wanted.cost calls) (boundary-clock entries cut limit b h placed) in
+      let same : ending_text wanted calls (to_boundary entries limit b) ≡ ending =
+      ap (ending_text wanted calls) (boundary-clock entries cut limit b h placed) in
       ap (λ text. first ++ text) (last-text later)
       ∙ sym (append_assoc first rest ending)
-      ∙ sym (last-text b ∙ ap (λ text. text ++ ending_text wanted.cost calls (to_boundary entries limit b)) whole ∙ ap (λ text. (first ++ rest) ++ text) same)
+      ∙ sym (last-text b ∙ ap (λ text. text ++ ending_text wanted calls (to_boundary entries limit b)) whole ∙ ap (λ text. (first ++ rest) ++ text) same)
 
   -- the text of a run is the same, wherever it is cut
   pub text-cut : (cuts : List ℕ) (b : Board) → IsPlaced b

@@ -14,6 +14,7 @@ use Rattle.lockstep_board.specs.Peripherals.{board_of}
 use Rattle.run_windows.specs.declared.until.Until.TheVariants.{Clock, Boundary}
 use Rattle.outside_io.specs.Shelf.{Kept}
 use Rattle.outside_io.specs.Events.{Event, DidFirst, sending, storing}
+use Rattle.run_log.specs.declared.slices.Wanted as code
 use Rattle.run_log.specs.Slice.{slice_text}
 
 -- the bytes of a board, saved
@@ -30,6 +31,10 @@ pub record Wanted : Type 0 where
 abbrev pub wanted_of : Option (Bor (List ℕ)) → Option (Bor (List ℕ)) → Bool → Wanted
 wanted_of save earom cost = record { save = option_map (λ name. name.now) save; earom = option_map (λ name. name.now) earom; cost = cost }
 
+-- the same, of the value that the code has
+abbrev pub wanted_in : code.Wanted → Wanted
+wanted_in wanted = wanted_of wanted.save wanted.earom wanted.cost
+
 -- a slice up to a cut: its lines, and then its board
 unfoldable pub cut_events : List TapeEntry → ℕ → Option (List ℕ) → Board → List Event
 cut_events entries cut save b = sending (slice_text entries (Clock cut) b) ++ storing save (saved_bytes (to_clock entries cut b))
@@ -39,15 +44,15 @@ abbrev pub cost_line : Bool → ℕ → List ℕ
 cost_line cost calls = if cost then cost_text calls else []
 
 -- the last line of a run, and that of its device calls
-abbrev pub ending_text : Bool → ℕ → Board → List ℕ
-ending_text cost calls last = last_text last.peripherals.clock last.cpu.pc last.cpu.jam ++ cost_line cost calls
+abbrev pub ending_text : Wanted → ℕ → Board → List ℕ
+ending_text wanted calls last = last_text last.peripherals.clock last.cpu.pc last.cpu.jam ++ cost_line wanted.cost calls
 
 -- the last slice: its lines, the ending of the text, then the board, and then the cells
 unfoldable pub last_events : List TapeEntry → ℕ → Wanted → ℕ → Board → List Event
 last_events entries limit wanted calls b =
     let last = to_boundary entries limit b in
     sending (slice_text entries (Boundary limit) b)
-    ++ (sending (ending_text wanted.cost calls last)
+    ++ (sending (ending_text wanted calls last)
     ++ (storing wanted.save (saved_bytes last) ++ storing wanted.earom last.peripherals.earom.cells))
 
 -- all slices: a cut above the limit falls on it

@@ -1,5 +1,4 @@
 ghost use Rattle.std.specs.Prelude.{◌≡◌, ◌+◌, ◌≤◌, OnOk, OnErr, length};
-ghost use Rattle.std.specs.Option.{option_map};
 ghost use Rattle.outside_io.specs.Causes.{HasCause};
 ghost use Rattle.outside_io.specs.Sink.{Takes};
 ghost use Rattle.catchup_engine.specs.EngineValue.{counted_on};
@@ -9,12 +8,13 @@ ghost use Rattle.run_windows.specs.SyncedMachine.{loan_of, value_of};
 ghost use Rattle.outside_io.specs.Events.{Did, DidFirst};
 ghost use Rattle.outside_io.specs.Hosts.{seen};
 ghost use Rattle.outside_io.specs.Seen.{HostDid, HostDidFirst};
-ghost use Rattle.run_windows.specs.Windows.{window_price};
-ghost use Rattle.run_log.specs.Slices.{WithinBudget, StopsIn, cost_line, cut_events, ending_text, last_board, last_events, run_events, wanted_of};
+ghost use Rattle.run_windows.specs.Windows.{clock_in, end_of, price_to, window_price};
+ghost use Rattle.run_log.specs.Slice.{slice_text};
+ghost use Rattle.run_log.specs.Slices.{WithinBudget, StopsIn, cost_line, cut_events, ending_text, last_board, last_events, run_events, wanted_in, wanted_of};
 ghost use Rattle.run_log.specs.Faults.{KeepsHost, SliceFaults};
 
 use crate::board_bytes::{Saved, load_saved};
-use crate::log_writer::run_slice;
+use crate::log_writer::LogWriter;
 use crate::outside_fault::OutsideFault;
 use avg_device::VectorUnit;
 use board_base::CLOCK_LIMIT;
@@ -27,21 +27,51 @@ use pokey_chip::SoundUnit;
 use run_windows::{SyncedMachine, Until};
 use tape_ports::Tape;
 
+/// What a run is asked to store and to write besides its log.
+#[derive(Clone, Copy)]
+struct Wanted<'a> {
+    /// The name of its boards.
+    save: Option<&'a str>,
+    /// The name of the cells of the EAROM.
+    earom: Option<&'a str>,
+    /// Whether its device calls are written.
+    cost: bool,
+}
+
+/// Runs the board to the end of a slice, and writes its lines. It takes no memory.
+fn run_slice<M: Machine, O: Sink>(
+    synced: &mut SyncedMachine<'_, M>,
+    tape: &Tape,
+    until: Until,
+    out: &mut O,
+) -> Result<(), SinkFault>
+    requires limit { clock_in until ≤ CLOCK_LIMIT }
+    ensures same { loan_of synced.new ≡ loan_of synced.old }
+    ensures taken { Takes (O.taken out.old) (O.taken out.new) (slice_text tape.now.entries until (value_of synced.old).board) result }
+    ensures cause { HasCause (O.faults out.old) (O.faults out.new) result }
+    ensures board { OnOk result ((value_of synced.new).board ≡ cleared (end_of tape.now.entries until (value_of synced.old).board)) }
+    ensures calls { (value_of synced.new).calls ≤ (value_of synced.old).calls + price_to tape.now.entries until (value_of synced.old).board + 5 }
+    ensures more { (value_of synced.old).calls ≤ (value_of synced.new).calls }
+{
+    synced.watch(tape, until, &mut LogWriter, out)?;
+    Ok(())
+}
+
 /// Runs to a cut, writes its lines, stores its board under a name where one is given, and goes on
 /// from the board that is read back. `saved` had the board of the cut before.
 fn cut_slice<M: Machine, S: Shelf, O: Sink>(
     synced: &mut SyncedMachine<'_, M>,
     tape: &Tape,
     cut: u64,
-    save: Option<&str>,
+    wanted: Wanted<'_>,
     saved: &mut Saved,
     host: &mut Host<'_, S, O>,
 ) -> Result<(), OutsideFault>
     requires limit { cut ≤ CLOCK_LIMIT }
     ensures same { loan_of synced.new ≡ loan_of synced.old }
-    ensures done { OnOk result (HostDid (cut_events tape.now.entries cut (option_map (λ name. name.now) save.entry) (value_of synced.old).board)
+    ensures done { OnOk result (HostDid (cut_events tape.now.entries cut (wanted_in wanted.entry).save (value_of synced.old).board)
         (seen host.old) (seen host.new)) }
-    ensures stopped { OnErr result (HostDidFirst (cut_events tape.now.entries cut (option_map (λ name. name.now) save.entry) (value_of synced.old).board)
+    ensures stopped { OnErr result (HostDidFirst (cut_events tape.now.entries cut (wanted_in wanted.entry).save (value_of synced.old).board)
         (seen host.old) (seen host.new)) }
     ensures keeps { KeepsHost (seen host.old) (seen host.new) result }
     ensures board { OnOk result ((value_of synced.new).board ≡ cleared (to_clock tape.now.entries cut (value_of synced.old).board)) }
@@ -51,7 +81,7 @@ fn cut_slice<M: Machine, S: Shelf, O: Sink>(
 {
     run_slice(synced, tape, Until::Clock(cut), host.out)?;
     saved.save(synced);
-    store_under(save, &saved.bytes, host.shelf)?;
+    store_under(wanted.save, &saved.bytes, host.shelf)?;
     load_saved(synced, &saved.bytes);
     Ok(())
 }
@@ -71,16 +101,16 @@ fn write_calls<O: Sink>(cost: bool, calls: u64, out: &mut O) -> Result<(), SinkF
 /// for.
 fn write_ending<M: Machine, O: Sink>(
     synced: &SyncedMachine<'_, M>,
-    cost: bool,
+    wanted: Wanted<'_>,
     out: &mut O,
 ) -> Result<(), SinkFault>
-    ensures taken { Takes (O.taken out.old) (O.taken out.new) (ending_text cost (value_of synced.now).calls (value_of synced.now).board) result }
+    ensures taken { Takes (O.taken out.old) (O.taken out.new) (ending_text (wanted_in wanted.entry) (value_of synced.now).calls (value_of synced.now).board) result }
     ensures cause { HasCause (O.faults out.old) (O.faults out.new) result }
 {
     let machine = synced.machine();
     let cpu = machine.cpu();
     write_last(machine.clock(), cpu.pc, cpu.jam, out)?;
-    write_calls(cost, machine.calls(), out)
+    write_calls(wanted.cost, machine.calls(), out)
 }
 
 /// The cells of the EAROM.
@@ -96,16 +126,14 @@ fn end_slice<M: Machine, S: Shelf, O: Sink>(
     synced: &mut SyncedMachine<'_, M>,
     tape: &Tape,
     limit: u64,
-    save: Option<&str>,
-    earom: Option<&str>,
-    cost: bool,
+    wanted: Wanted<'_>,
     host: &mut Host<'_, S, O>,
 ) -> Result<(), OutsideFault>
     requires limit { limit ≤ CLOCK_LIMIT }
     ensures same { loan_of synced.new ≡ loan_of synced.old }
-    ensures done { OnOk result (HostDid (last_events tape.now.entries limit (wanted_of save.entry earom.entry cost) (value_of synced.new).calls (value_of synced.old).board)
+    ensures done { OnOk result (HostDid (last_events tape.now.entries limit (wanted_in wanted.entry) (value_of synced.new).calls (value_of synced.old).board)
         (seen host.old) (seen host.new)) }
-    ensures stopped { OnErr result (HostDidFirst (last_events tape.now.entries limit (wanted_of save.entry earom.entry cost) (value_of synced.new).calls (value_of synced.old).board)
+    ensures stopped { OnErr result (HostDidFirst (last_events tape.now.entries limit (wanted_in wanted.entry) (value_of synced.new).calls (value_of synced.old).board)
         (seen host.old) (seen host.new)) }
     ensures keeps { KeepsHost (seen host.old) (seen host.new) result }
     ensures board { OnOk result ((value_of synced.new).board ≡ cleared (to_boundary tape.now.entries limit (value_of synced.old).board)) }
@@ -114,9 +142,9 @@ fn end_slice<M: Machine, S: Shelf, O: Sink>(
     ensures more { (value_of synced.old).calls ≤ (value_of synced.new).calls }
 {
     run_slice(synced, tape, Until::Boundary(limit), host.out)?;
-    write_ending(synced, cost, host.out)?;
-    store_under(save, &Saved::of(synced).bytes, host.shelf)?;
-    store_under(earom, &cells_of(synced), host.shelf)?;
+    write_ending(synced, wanted, host.out)?;
+    store_under(wanted.save, &Saved::of(synced).bytes, host.shelf)?;
+    store_under(wanted.earom, &cells_of(synced), host.shelf)?;
     Ok(())
 }
 
@@ -126,16 +154,14 @@ fn run_synced<M: Machine, S: Shelf, O: Sink>(
     tape: &Tape,
     cuts: &[u64],
     limit: u64,
-    save: Option<&str>,
-    earom: Option<&str>,
-    cost: bool,
+    wanted: Wanted<'_>,
     host: &mut Host<'_, S, O>,
 ) -> Result<(), OutsideFault>
     requires limit { limit ≤ CLOCK_LIMIT }
     ensures same { loan_of synced.new ≡ loan_of synced.old }
-    ensures done { OnOk result (HostDid (run_events tape.now.entries limit (wanted_of save.entry earom.entry cost) (value_of synced.new).calls cuts.now (value_of synced.old).board)
+    ensures done { OnOk result (HostDid (run_events tape.now.entries limit (wanted_in wanted.entry) (value_of synced.new).calls cuts.now (value_of synced.old).board)
         (seen host.old) (seen host.new)) }
-    ensures stopped { OnErr result (StopsIn tape.now.entries limit (wanted_of save.entry earom.entry cost) (value_of synced.old).calls cuts.now (value_of synced.old).board
+    ensures stopped { OnErr result (StopsIn tape.now.entries limit (wanted_in wanted.entry) (value_of synced.old).calls cuts.now (value_of synced.old).board
         (seen host.old).taken (seen host.new).taken (seen host.old).stores (seen host.new).stores) }
     ensures keeps { KeepsHost (seen host.old) (seen host.new) result }
     ensures board { OnOk result ((value_of synced.new).board ≡ cleared (last_board tape.now.entries limit cuts.now (value_of synced.old).board)) }
@@ -143,9 +169,9 @@ fn run_synced<M: Machine, S: Shelf, O: Sink>(
 {
     let mut saved = Saved::of(synced);
     for cut in cuts {
-        cut_slice(synced, tape, (*cut).min(limit), save, &mut saved, host)?;
+        cut_slice(synced, tape, (*cut).min(limit), wanted, &mut saved, host)?;
     }
-    end_slice(synced, tape, limit, save, earom, cost, host)
+    end_slice(synced, tape, limit, wanted, host)
 }
 
 /// Runs the board over a tape, in slices, to the first boundary that isn't before the limit or to
@@ -183,5 +209,6 @@ pub fn run_slices<V: VectorUnit, P: SoundUnit, C: CellUnit, D: DividerUnit, S: S
 {
     let mut host = Host::of(shelf, out);
     let mut synced = SyncedMachine::of(engine);
-    run_synced(&mut synced, tape, cuts, limit, save, earom, cost, &mut host)
+    let wanted = Wanted { save, earom, cost };
+    run_synced(&mut synced, tape, cuts, limit, wanted, &mut host)
 }

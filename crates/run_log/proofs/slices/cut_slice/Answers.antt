@@ -1,12 +1,11 @@
 use Rattle.std.proofs.Common.{refl, ap, ◌∙◌}
 use Rattle.std.proofs.lemmas.Result.{err_from_is_err_and}
-use Rattle.std.specs.Option.{option_map}
 use Rattle.catchup_engine.specs.EngineValue.{EngineValue}
 use Rattle.lockstep_board.specs.Run.{to_clock}
 use Rattle.run_windows.specs.declared.until.Until.TheVariants.{Clock}
 use Rattle.outside_io.specs.Events.{sending, storing}
 use Rattle.run_log.specs.Slice.{slice_text}
-use Rattle.run_log.specs.Slices.{cut_events, saved_bytes}
+use Rattle.run_log.specs.Slices.{cut_events, saved_bytes, wanted_in}
 use Rattle.outside_io.proofs.EventLaws.{did-sending, did-first-sending, did-first-of, did-nothing, did-storing, did-then, did-then-first}
 use Rattle.run_log.proofs.SlicesLaws.{at-cut, saved-cleared}
 use Rattle.run_log.proofs.slices.cut_slice.Goals as goal
@@ -15,7 +14,7 @@ pub returns-in_err-run_slice-clause-stopped : goal.returns-in_err-run_slice-clau
 unfolding cut_events
 returns-in_err-run_slice-clause-stopped g c =
     let lines = slice_text c.args.tape.now.entries (Clock c.args.cut) (g.M.Machine.value c.args.synced.now.machine.now).board in
-    let store = storing (option_map (λ name. name.now) c.args.save) (saved_bytes (to_clock c.args.tape.now.entries c.args.cut (g.M.Machine.value c.args.synced.now.machine.now).board)) in
+    let store = storing (wanted_in c.args.wanted).save (saved_bytes (to_clock c.args.tape.now.entries c.args.cut (g.M.Machine.value c.args.synced.now.machine.now).board)) in
     let out0 = g.O.Sink.taken c.args.host.now.out.now in
     let out1 = g.O.Sink.taken c.run_slice.new.out in
     let stores = g.S.Shelf.stores c.args.host.now.shelf.now in
@@ -26,7 +25,7 @@ pub returns-in_err-store_under-clause-stopped : goal.returns-in_err-store_under-
 unfolding cut_events
 returns-in_err-store_under-clause-stopped g c =
     let lines = slice_text c.args.tape.now.entries (Clock c.args.cut) (g.M.Machine.value c.args.synced.now.machine.now).board in
-    let store = storing (option_map (λ name. name.now) c.args.save) (saved_bytes (to_clock c.args.tape.now.entries c.args.cut (g.M.Machine.value c.args.synced.now.machine.now).board)) in
+    let store = storing (wanted_in c.args.wanted).save (saved_bytes (to_clock c.args.tape.now.entries c.args.cut (g.M.Machine.value c.args.synced.now.machine.now).board)) in
     let out0 = g.O.Sink.taken c.args.host.now.out.now in
     let out1 = g.O.Sink.taken c.run_slice.new.out in
     let stores0 = g.S.Shelf.stores c.args.host.now.shelf.now in
@@ -42,7 +41,7 @@ unfolding cut_events
 returns-clause-done g c =
     let last = to_clock c.args.tape.now.entries c.args.cut (g.M.Machine.value c.args.synced.now.machine.now).board in
     let lines = slice_text c.args.tape.now.entries (Clock c.args.cut) (g.M.Machine.value c.args.synced.now.machine.now).board in
-    let name = option_map (λ name. name.now) c.args.save in
+    let name = (wanted_in c.args.wanted).save in
     let out0 = g.O.Sink.taken c.args.host.now.out.now in
     let out1 = g.O.Sink.taken c.run_slice.new.out in
     let stores0 = g.S.Shelf.stores c.args.host.now.shelf.now in

@@ -15,6 +15,6 @@ returns-in_err-write_last-clause-taken g c =
 pub returns-clause-taken : goal.returns-clause-taken
 returns-clause-taken g c =
     let cpu = c.cpu.view_is ∙ c.cpu-cpu.ensures in
-    takes-then _ _ _ _ (cost_line c.args.cost (g.M.Machine.value c.args.synced.now.machine.now).calls) c.write_calls.result
+    takes-then _ _ _ _ (cost_line c.args.wanted.cost (g.M.Machine.value c.args.synced.now.machine.now).calls) c.write_calls.result
     (rw (c.clock.ensures, ap (λ (r : CpuValue). r.pc) cpu, ap (λ (r : CpuValue). r.jam) cpu, c.machine-machine.ensures.value) at c.in_ok-write_last.ensures.taken)
     (rw (c.calls.ensures, c.machine-machine.ensures.value) at c.write_calls.ensures.taken)

@@ -1,6 +1,6 @@
 use Rattle.outside_io.proofs.GatherLaws.{takes-cut}
 use Rattle.run_log.proofs.SliceLaws.{run-text, run-trails}
-use Rattle.run_log.proofs.log_writer.run_slice.Goals as goal
+use Rattle.run_log.proofs.slices.run_slice.Goals as goal
 
 pub watch-requires-clause-room : goal.watch-requires-clause-room
 watch-requires-clause-room g c =
