@@ -1,7 +1,7 @@
 ghost use Rattle.std.specs.Prelude.{◌≡◌};
 ghost use Rattle.asm_cpu.specs.Operands.{closes_x, indexed_shape, indirect_shape, is_letter, is_register, shape_of, whole_shape};
 
-use asm_core::{Word, Words, before_close, after_mark, split_item};
+use asm_core::{Word, Words, after_mark, before_close, split_item};
 
 /// How an operand with an expression `e` is written.
 #[derive(Clone, Copy, Debug, PartialEq, Eq)]
