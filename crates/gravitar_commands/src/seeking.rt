@@ -29,14 +29,6 @@ pub fn seek_numbers()
     ensures frames { SEEK_FRAMES ≡ 1001 }
 {}
 
-/// States that a state is a board, and does nothing.
-fn look_at(state: &BoardState)
-    ensures { IsBoard state.now }
-{
-    // opens the model
-    let _clock = state.clock;
-}
-
 /// These clocks, each lowered to a limit.
 fn lowered(clocks: &[u64], limit: u64) -> Cuts
     requires few { length clocks.now ≤ CUTS }
@@ -74,9 +66,17 @@ impl Report for Boards<'_> {
     ) -> Result<Ending, Failure> {
         let mut keys = Keyframes::new(alloc, SEEK_PAGES, SEEK_FRAMES)?;
         let mut engine = Engine::new(alloc, &parts.image, &parts.board, Devices::fast(), wired)?;
-        look_at(&parts.board);
+        lemma_board(&parts.board);
         keep_start(&mut keys, &parts.board);
         let clocks = lowered(self.clocks, limit);
         written(write_boards(&mut engine, &mut keys, &parts.tape, clocks.as_slice(), out))
     }
+}
+
+/// States that a state is a board, and does nothing.
+fn lemma_board(state: &BoardState)
+    ensures { IsBoard state.now }
+{
+    // opens the model
+    let _clock = state.clock;
 }

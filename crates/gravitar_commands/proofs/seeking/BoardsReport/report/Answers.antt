@@ -15,7 +15,7 @@ pub returns-clause-taken : goal.returns-clause-taken
 returns-clause-taken g c =
     let e = c.in_ok-engine.engine.board in
     let s = run_start c.keep_start.new.keys.kept e in
-    let start = start-is c.args.parts.now.image c.args.wired c.args.parts.now.board e s c.look_at.ensures c.in_ok-engine.ensures.board (c.keep_start.ensures.start e) in
+    let start = start-is c.args.parts.now.image c.args.wired c.args.parts.now.board e s c.lemma_board.ensures c.in_ok-engine.ensures.board (c.keep_start.ensures.start e) in
     let wrote = sought-reported c.args.parts.now.tape.entries c.args.limit c.args.self.now.clocks.now c.as_slice.result.now e s (g.O.Sink.taken c.args.out.now) (g.O.Sink.taken c.write_boards.new.out)
     c.write_boards.result c.written.result (c.as_slice.ensures.value ∙ c.lowered-clocks.ensures.clocks) start c.write_boards.ensures.taken c.written.ensures in
     rw c.in_ok-engine.ensures.board at wrote
