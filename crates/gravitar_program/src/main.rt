@@ -3,7 +3,7 @@
 
 use gravitar_commands::{NO_MEMORY, USAGE};
 pub use gravitar_commands::{OutsideFault, Words, gravitar, run_slices};
-use outside_io::{FileShelf, Sink, TextSink};
+use outside_io::{FileShelf, OutputShelf, Sink, TextSink};
 use std::alloc::Global;
 use std::process::ExitCode;
 use std::{env, io, process};
@@ -41,7 +41,8 @@ fn main(rt: HostRuntime) -> ExitCode {
     let mut notes = TextSink::new(rt.stderr());
     match process_words(&rt, rt.alloc()) {
         Ok(words) => {
-            let mut shelf = FileShelf::with_process(&rt, process::id(rt.process()));
+            let files = FileShelf::with_process(&rt, process::id(rt.process()));
+            let mut shelf = OutputShelf::new(files, rt.stdout());
             let mut out = TextSink::new(rt.stdout());
             ExitCode::from(gravitar(rt.alloc(), &words, &mut shelf, &mut out, &mut notes))
         }

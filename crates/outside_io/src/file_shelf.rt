@@ -55,6 +55,26 @@ impl<'a, R: Files> FileShelf<'a, R> {
             absences: 0,
         }
     }
+
+    /// The runtime whose files they are.
+    pub(crate) fn runtime(&self) -> &'a R {
+        self.rt
+    }
+
+    /// Counts a store that failed.
+    pub(crate) fn count(&mut self, stored: Result<(), Failed>) -> Result<(), Failed>
+        ensures same { result ≡ stored }
+        ensures cause { HasCause self.old.faults self.new.faults result }
+        ensures after { self.new ≡ after_file_store self.old result }
+    {
+        match stored {
+            Ok(()) => Ok(()),
+            Err(Failed) => {
+                self.faults = self.faults.saturating_add(1);
+                Err(Failed)
+            }
+        }
+    }
 }
 
 impl<'a, R: Files> Shelf for FileShelf<'a, R> {
@@ -91,7 +111,8 @@ impl<'a, R: Files> Shelf for FileShelf<'a, R> {
     /// A regular file, or a name that no file has, is replaced as a whole: after a signal at any
     /// moment the name has the old bytes or the new ones. A link, a pipe, a device, a file with
     /// other hard links or of another owner, and one in a folder that takes no new file, is written
-    /// in place. It doesn't wait for the disk.
+    /// in place. A new file or a rename that fails for another reason, such as a full disk, leaves
+    /// the old bytes. It doesn't wait for the disk.
     fn store(&mut self, name: &str, bytes: &[u8]) -> Result<(), Failed>
         ensures stored { OnOk result (unknown_stores ≡ grown unknown_stores ((name.now, bytes.now) ∷ [])) }
         ensures not_stored { OnErr result (unknown_stores ≡ unknown_stores) }
@@ -101,13 +122,8 @@ impl<'a, R: Files> Shelf for FileShelf<'a, R> {
         ensures absences { self.old.absences ≤ self.new.absences }
         ensures after { self.new ≡ after_file_store self.old result }
     {
-        match write_file(self.rt, self.process, &mut self.path, name, bytes) {
-            Ok(()) => Ok(()),
-            Err(_) => {
-                self.faults = self.faults.saturating_add(1);
-                Err(Failed)
-            }
-        }
+        let stored = write_file(self.rt, self.process, &mut self.path, name, bytes);
+        self.count(stored)
     }
 }
 

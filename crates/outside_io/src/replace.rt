@@ -6,7 +6,7 @@ use crate::pieces::write_whole;
 use arrayvec::ArrayString;
 use std::fmt::Write as _;
 use std::fs::{Metadata, OpenFile, OpenOptions};
-use std::io::ErrorKind;
+use std::io::{self, ErrorKind};
 use std::os::unix::fs::{MetadataExt, OpenOptionsExt};
 use std::rt::Files;
 use std::{fmt, fs};
@@ -52,7 +52,7 @@ pub(crate) fn replace<R: Files>(
     bytes: &[u8],
 ) -> Result<Replaced, Failed> {
     let target = look(rt, name);
-    let Some(mut file) = create_new(rt, process, path, name, &target) else {
+    let Some(mut file) = create_new(rt, process, path, name, &target)? else {
         return Ok(Replaced::NotPossible);
     };
     if !is_like(&file, &target) {
@@ -63,11 +63,27 @@ pub(crate) fn replace<R: Files>(
         let _ = fs::remove_file(rt, path.as_str());
         return Err(Failed);
     }
-    if fs::rename(rt, path.as_str(), name).is_err() {
+    if let Err(error) = fs::rename(rt, path.as_str(), name) {
         let _ = fs::remove_file(rt, path.as_str());
-        return Ok(Replaced::NotPossible);
+        return if is_refusal(&error) {
+            Ok(Replaced::NotPossible)
+        } else {
+            Err(Failed)
+        };
     }
     Ok(Replaced::Renamed)
+}
+
+/// Whether an error says that a name may not be used, and not that a step failed, as on a full
+/// disk.
+fn is_refusal(error: &io::Error) -> bool {
+    matches!(
+        error.kind(),
+        ErrorKind::PermissionDenied
+            | ErrorKind::ReadOnlyFilesystem
+            | ErrorKind::ResourceBusy
+            | ErrorKind::InvalidFilename
+    )
 }
 
 /// Looks at a name without following a link. A regular file is opened for writing, so that one
@@ -86,33 +102,36 @@ fn look<R: Files>(rt: &R, name: &str) -> Target {
 }
 
 /// Creates a file under the first name beside `name` that is free, with no more permissions than
-/// `target`.
+/// `target`. `None` where no such name may be used.
 fn create_new<R: Files>(
     rt: &R,
     process: u32,
     path: &mut Path,
     name: &str,
     target: &Target,
-) -> Option<R::File> {
+) -> Result<Option<R::File>, Failed> {
     let mode = match target {
         Target::Absent => 0o666,
         Target::Regular(found) => found.mode() & 0o777,
-        Target::Other => return None,
+        Target::Other => return Ok(None),
     };
     for number in 0..NAMES {
-        write_path(path, name, process, number).ok()?;
+        if write_path(path, name, process, number).is_err() {
+            return Ok(None);
+        }
         let made = OpenOptions::new()
             .write(true)
             .create_new(true)
             .mode(mode)
             .open(rt, path.as_str());
         match made {
-            Ok(file) => return Some(file),
+            Ok(file) => return Ok(Some(file)),
             Err(error) if error.kind() == ErrorKind::AlreadyExists => {}
-            Err(_) => return None,
+            Err(error) if is_refusal(&error) => return Ok(None),
+            Err(_) => return Err(Failed),
         }
     }
-    None
+    Ok(None)
 }
 
 /// Gives a new file the permissions of `target`. `false` where their owners or groups differ.
