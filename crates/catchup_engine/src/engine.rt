@@ -405,6 +405,20 @@ impl<V: VectorUnit, P: SoundUnit, C: CellUnit, D: DividerUnit> Engine<V, P, C, D
         self.bus.calls()
     }
 
+    /// Gives the devices back, which have made its calls. Where none lags they are at the board.
+    pub fn into_devices(self) -> Devices<V, P, C, D>
+        ensures calls { self.calls ≡ counted_on (V.calls result.vector + P.calls result.sound1 + P.calls result.sound2
+            + C.calls result.cells + D.calls result.divider) 0 }
+        ensures vector { self.lagging ≡ 0 → V.device result.vector ≡ self.board.peripherals.vg }
+        ensures sound1 { self.lagging ≡ 0 → P.device result.sound1 ≡ self.board.peripherals.sound1 }
+        ensures sound2 { self.lagging ≡ 0 → P.device result.sound2 ≡ self.board.peripherals.sound2 }
+        ensures cells { self.lagging ≡ 0 → C.device result.cells ≡ self.board.peripherals.earom }
+        ensures divider { self.lagging ≡ 0 → D.device result.divider ≡ self.board.peripherals.divider }
+    {
+        let bus = self.bus;
+        bus.into_devices()
+    }
+
     /// The clocks that this engine has done since it was made, or the greatest number of 64 bits.
     pub fn done(&self) -> u64
         ensures { result ≡ self.now.done }

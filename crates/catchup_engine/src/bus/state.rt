@@ -1,9 +1,10 @@
 //! The board with its devices synced: its state, and its records.
-ghost use Rattle.std.specs.Prelude.{◌≡◌, ◌+◌, ◌≤◌, ◌<◌, ◌==◌, All, IsSome, []};
+ghost use Rattle.std.specs.Prelude.{◌≡◌, ◌+◌, ◌-◌, ◌^◌, ◌≤◌, ◌<◌, ◌==◌, All, IsSome, min, []};
 ghost use Rattle.catchup_engine.specs.Lags.{lagging_of, none_lags};
 ghost use Rattle.lockstep_board.specs.Peripherals.{board_of};
 
 use crate::bus::{BoardBus, TRAIL_ROOM};
+use crate::devices::Devices;
 use avg_device::VectorUnit;
 use board_base::{BoardState, CLOCK_LIMIT, CpuState, DIVIDER_PERIOD, PokeyState, Trails};
 use earom_cells::CellUnit;
@@ -62,6 +63,33 @@ impl<V: VectorUnit, P: SoundUnit, C: CellUnit, D: DividerUnit> BoardBus<V, P, C,
             .saturating_add(self.sound2.unit.calls())
             .saturating_add(self.cells.unit.calls())
             .saturating_add(self.divider.unit.calls())
+    }
+
+    /// Gives the devices back.
+    #[tactic(auto, using(board_base::proofs::TickLaws::level, crate::proofs::SettledLaws::settled))]
+    pub fn into_devices(self) -> Devices<V, P, C, D>
+        ensures calls { self.calls ≡ min (V.calls result.vector + P.calls result.sound1 + P.calls result.sound2 + C.calls result.cells + D.calls result.divider) (2 ^ 64 - 1) }
+        ensures vector { lagging_of self.lagging ≡ 0 → V.device result.vector ≡ self.peripherals.vg }
+        ensures sound1 { lagging_of self.lagging ≡ 0 → P.device result.sound1 ≡ self.peripherals.sound1 }
+        ensures sound2 { lagging_of self.lagging ≡ 0 → P.device result.sound2 ≡ self.peripherals.sound2 }
+        ensures cells { lagging_of self.lagging ≡ 0 → C.device result.cells ≡ self.peripherals.earom }
+        ensures divider { lagging_of self.lagging ≡ 0 → D.device result.divider ≡ self.peripherals.divider }
+    {
+        let BoardBus {
+            vector,
+            sound1,
+            sound2,
+            cells,
+            divider,
+            ..
+        } = self;
+        Devices {
+            vector: vector.unit,
+            sound1: sound1.unit,
+            sound2: sound2.unit,
+            cells: cells.unit,
+            divider: divider.unit,
+        }
     }
 
     /// Copies the board with this processor.
