@@ -236,21 +236,21 @@ module _ (kept : List Keyframe) (clock index : ℕ) (rising : HaveRisingClocks k
   pub not-before-first : (d : Keyframe) → (get_or kept 0 d).board.clock ≤ (get_or kept index d).board.clock
   not-before-first d = rises 0 index d (omega arith) within
 
-  -- from there the run comes to the same board as from its beginning
-  pub seek-board : (entries : List TapeEntry) (e now : Board) → Along kept entries (run_start kept e)
+  -- from there the run comes to the same board as from its beginning, at any later clock too
+  pub seek-board : (to : ℕ) → clock ≤ to → (entries : List TapeEntry) (e now : Board) → Along kept entries (run_start kept e)
       → ((d : Keyframe) → now ≡ over_image e (get_or kept index d).board)
-      → cleared (to_clock entries clock now) ≡ cleared (to_clock entries clock (run_start kept e))
-  seek-board entries e now along loads =
+      → cleared (to_clock entries to now) ≡ cleared (to_clock entries to (run_start kept e))
+  seek-board to low entries e now along loads =
       let d : Keyframe = record { board = state_of e; pages = [] } in
       let b = run_start kept e in
       let at = (get_or kept index d).board.clock in
       let there = to_clock entries at b in
       let loaded =
-      ap (λ (c : Board). cleared (to_clock entries clock c)) (loads d ∙ loaded-board kept entries e along index d within) ∙ clock-cleared entries clock there in
+      ap (λ (c : Board). cleared (to_clock entries to c)) (loads d ∙ loaded-board kept entries e along index d within) ∙ clock-cleared entries to there in
       elim (cases_lt clock at) [
         | inl above ↦
             let at_first : at ≡ b.peripherals.clock =
             ap (λ n. (get_or kept n d).board.clock) (first d above) ∙ ap (λ (s : BoardValue). s.clock) (along.first d) in
-            loaded ∙ ap (λ (c : Board). cleared (to_clock entries clock c)) (clock-past entries at b (omega (arith, at_first)))
-        | inr below ↦ loaded ∙ sym (ap cleared (to_clock-split entries at clock b below))
+            loaded ∙ ap (λ (c : Board). cleared (to_clock entries to c)) (clock-past entries at b (omega (arith, at_first)))
+        | inr below ↦ loaded ∙ sym (ap cleared (to_clock-split entries at to b (omega (arith, below, low))))
       ]

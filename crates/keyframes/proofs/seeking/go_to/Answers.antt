@@ -9,8 +9,8 @@ pub returns-clause-board : goal.returns-clause-board
 returns-clause-board g c =
     let found = c.start_index-nearest.ensures in
     c.run_on.ensures.board
-    ∙ seek-board c.args.keys.now.kept c.args.clock c.start_index-nearest.result found.rising found.within found.nearest found.first
-    c.args.tape.now.entries (g.M.Machine.value c.args.synced.now.machine.now).board (g.M.Machine.value c.load_kept.new.synced.machine.now).board c.requires.along c.load_kept.ensures.board
+    ∙ seek-board c.args.keys.now.kept _ c.start_index-nearest.result found.rising found.within found.nearest found.first
+    c.args.clock (omega arith) c.args.tape.now.entries (g.M.Machine.value c.args.synced.now.machine.now).board (g.M.Machine.value c.load_kept.new.synced.machine.now).board c.requires.along c.load_kept.ensures.board
 
 pub returns-clause-on_run : goal.returns-clause-on_run
 returns-clause-on_run g c =
@@ -45,7 +45,7 @@ returns-clause-before g c = λ before.
     let kept = c.args.keys.now.kept in
     let d : Keyframe = record { board = state_of e; pages = [] } in
     let found = c.start_index-nearest.ensures in
-    let later = not-before-first kept c.args.clock c.start_index-nearest.result found.rising found.within found.nearest found.first d in
+    let later = not-before-first kept _ c.start_index-nearest.result found.rising found.within found.nearest found.first d in
     let stays = before-first kept c.args.tape.now.entries (run_start kept e) (g.M.Machine.value c.run_on.new.synced.machine.now).board c.args.clock d c.requires.along
     (returns-clause-board g c) before in
     let from = ap (λ (b : Board). b.peripherals.clock) (c.load_kept.ensures.board d) in
