@@ -158,6 +158,7 @@ fn part(words: &[String]) -> (&[String], &[String])
 }
 
 /// The settings of a command's options.
+#[inline(never)]
 fn read_settings<'a>(verb: Verb, words: &'a [String]) -> Option<Settings<'a>>
     ensures settings { result ≡ settings_of verb (map string_bytes words.now) }
     ensures clocks { IfSome result AreClocks }
@@ -185,6 +186,7 @@ fn read_settings<'a>(verb: Verb, words: &'a [String]) -> Option<Settings<'a>>
 }
 
 /// A command with its arguments and what its options say.
+#[inline(never)]
 fn build<'a>(verb: Verb, arguments: &'a [String], settings: Settings<'a>) -> Option<Command<'a>>
     requires { AreClocks settings }
     ensures command { option_map command_value result ≡ built verb (map string_bytes arguments.now) settings.entry }
@@ -221,7 +223,9 @@ fn build<'a>(verb: Verb, arguments: &'a [String], settings: Settings<'a>) -> Opt
     }
 }
 
-/// The command of the words of a command line, without the program's name.
+/// The command of the words of a command line, without the program's name. No caller takes it in:
+/// its copies of a command, of 16 KB each, are off the stack when it returns.
+#[inline(never)]
 pub fn read_command<'a>(words: &'a [String]) -> Option<Command<'a>>
     ensures command { option_map command_value result ≡ command_of (map string_bytes words.now) }
     ensures clocks { IfSome result (λ command. HasClocks (command_value command)) }

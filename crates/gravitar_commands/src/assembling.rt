@@ -107,6 +107,7 @@ fn list_both(alloc: Global, made: &Assembled) -> Result<Text, OutOfMemory>
 
 /// Assembles two sources into an image, writes their listings, and stores the image. All memory is
 /// taken before anything is written.
+#[inline(never)]
 pub fn perform_asm<S: Shelf, O: Sink>(
     alloc: Global,
     words: &AsmWords<'_>,

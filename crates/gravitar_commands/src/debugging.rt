@@ -79,6 +79,7 @@ fn debug_run<S: Shelf, O: Sink>(
 }
 
 /// Debugs an image with a tape by a script.
+#[inline(never)]
 pub fn perform_debug<S: Shelf, O: Sink>(
     alloc: Global,
     words: &DebugWords<'_>,

@@ -78,6 +78,7 @@ fn run_parts<S: Shelf, O: Sink>(
 }
 
 /// Runs an image with a tape.
+#[inline(never)]
 fn perform_run<S: Shelf, O: Sink>(
     alloc: Global,
     words: &RunWords<'_>,
@@ -91,6 +92,7 @@ fn perform_run<S: Shelf, O: Sink>(
 }
 
 /// Writes the text of a saved board.
+#[inline(never)]
 fn perform_show<S: Shelf, O: Sink>(
     alloc: Global,
     name: &str,
@@ -105,7 +107,7 @@ fn perform_show<S: Shelf, O: Sink>(
     Ok(Ending::Done)
 }
 
-/// Does a command.
+/// Does a command. Each is a function of its own, so that the stack holds the board of one alone.
 fn perform<S: Shelf, O: Sink>(
     alloc: Global,
     command: &Command<'_>,
@@ -175,11 +177,12 @@ pub fn gravitar<S: Shelf, O: Sink, N: Sink>(
         Noted (N.taken notes.old) (N.taken notes.new) (N.faults notes.old) (N.faults notes.new) outcome.note) }
     ensures no_note { Contains (0 ∷ 3 ∷ []) result → notes.new ≡ notes.old }
 {
-    let Some(command) = words.command() else {
+    let command = words.command();
+    let Some(command) = &command else {
         let _ = notes.write(USAGE);
         return 2;
     };
-    match perform(alloc, &command, &mut Host::of(shelf, out)) {
+    match perform(alloc, command, &mut Host::of(shelf, out)) {
         Ok(ending) => ending_status(ending),
         Err(failure) => {
             let _ = notes.write(note(&failure));

@@ -52,6 +52,7 @@ pub trait Report {
 
 /// Runs an image with a tape, and reports the run. Nothing is stored, and a board that jams ends it
 /// as any other end does. All memory is taken before the first clock.
+#[inline(never)]
 pub fn perform_report<R: Report, S: Shelf, O: Sink>(
     alloc: Global,
     run: &RunWords<'_>,

@@ -14,6 +14,7 @@ use workload_gen::make;
 
 /// Makes the workload of a number, runs it to the end of its tape, and writes its summary. All
 /// memory is taken before the first clock.
+#[inline(never)]
 pub fn perform_soak<S: Shelf, O: Sink>(
     alloc: Global,
     seed: u64,
