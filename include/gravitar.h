@@ -34,7 +34,7 @@
 extern "C" {
 #endif
 
-#define GRAVITAR_VERSION 2
+#define GRAVITAR_VERSION 3
 #define GRAVITAR_BOARD_LEN 4356
 #define GRAVITAR_IMAGE_LEN 43008
 #define GRAVITAR_CLOCK_LIMIT (UINT64_C(1) << 48)
@@ -52,7 +52,8 @@ enum gravitar_status {
     GRAVITAR_BAD_PROCESSOR_SOURCE = 8, /* place: the line, from 1; 0 where it is too long */
     GRAVITAR_BAD_GENERATOR_SOURCE = 9, /* place: the line, from 1; 0 where it is too long */
     GRAVITAR_BAD_BOARD_LENGTH = 10,    /* place: how many bytes the board has */
-    GRAVITAR_BAD_BOARD_VERSION = 11    /* place: the board's version */
+    GRAVITAR_BAD_BOARD_VERSION = 11,   /* place: the board's version */
+    GRAVITAR_BAD_REQUEST = 12          /* place: the offset at which the request isn't well formed */
 };
 
 /* Numbers of an answer. Each call that takes one sets all three. */
@@ -127,10 +128,54 @@ uint32_t gravitar_pcm(const uint8_t *image, size_t image_len, uint8_t *board, si
  * or with GRAVITAR_NO_ROOM are wanted. Where a source is refused, note gets the words of it, as many as
  * there is room for, used tells their bytes, and the image stays as it was.
  *
- * GRAVITAR_DONE, BAD_PROCESSOR_SOURCE, BAD_GENERATOR_SOURCE, NO_ROOM or NO_MEMORY. */
+ * GRAVITAR_DONE, BAD_PROCESSOR_SOURCE, BAD_GENERATOR_SOURCE, NO_ROOM or NO_MEMORY. The listing of both
+ * sources comes from gravitar_command with the words `asm`, two names and a third. */
 uint32_t gravitar_assemble(const uint8_t *processor, size_t processor_len, const uint8_t *generator,
                            size_t generator_len, uint8_t *image, size_t image_len, uint8_t *note,
                            size_t note_len, struct gravitar_report *report);
+
+/* Does a command line of the program `gravitar` over files in memory (docs/COMMANDS.md): each of its nine
+ * commands, with the same text, note, stores and status. docs/FORMATS.md, "A command line as bytes", has the
+ * bytes of both buffers; gravitar_put and gravitar_next below write and read them.
+ *
+ * request: the number of words and the number of files, each in 8 bytes, the lowest first; each word behind
+ * its length in 8 bytes, without the program's name; each file as a name and its bytes, both behind their
+ * lengths; nothing more. Words and names are UTF-8. Of two files with one name the later one is there.
+ *
+ * answer gets the status of the command, 0 to 5, and the lengths of its text, its note and its stores, each in
+ * 8 bytes; the text (standard output), the note (standard error), and the stores in their order, each a name and
+ * its bytes like a file. used is the length of all of it. Where that is too long for the buffer, nothing is put
+ * there, and used says what is wanted: the call is to be made again with more room.
+ *
+ * It takes twice answer_len, the files twice, and 8 MB at most beside them, and 120 KB of stack.
+ *
+ * GRAVITAR_DONE, BAD_REQUEST, NO_ROOM or NO_MEMORY. */
+uint32_t gravitar_command(const uint8_t *request, size_t request_len, uint8_t *answer, size_t answer_len,
+                          struct gravitar_report *report);
+
+/* Writes a number of a request in 8 bytes, or reads one of an answer. */
+static inline void gravitar_put_number(uint8_t *at, uint64_t number) {
+    for (int i = 0; i < 8; i++) at[i] = (uint8_t)(number >> (8 * i));
+}
+static inline uint64_t gravitar_number(const uint8_t *at) {
+    uint64_t number = 0;
+    for (int i = 0; i < 8; i++) number |= (uint64_t)at[i] << (8 * i);
+    return number;
+}
+
+/* Writes a piece of a request behind its length, 8 + len bytes, and returns where the next one goes. */
+static inline uint8_t *gravitar_put(uint8_t *at, const void *bytes, size_t len) {
+    gravitar_put_number(at, len);
+    for (size_t i = 0; i < len; i++) at[8 + i] = ((const uint8_t *)bytes)[i];
+    return at + 8 + len;
+}
+
+/* Reads a piece of an answer's stores: sets its bytes and its length, and returns where the next one is. */
+static inline const uint8_t *gravitar_next(const uint8_t *at, const uint8_t **bytes, size_t *len) {
+    *len = (size_t)gravitar_number(at);
+    *bytes = at + 8;
+    return at + 8 + *len;
+}
 
 #ifdef __cplusplus
 }

@@ -1,9 +1,9 @@
 #!/bin/sh
-# FOLDER: changes a copy of the crates so that gravitar_c is the program with the library's calls in it.
+# FOLDER: changes a copy of the crates so that gravitar_c is the program with the library's calls.
 # `rt try` runs no static library, so quick.sh tries this in its place.
 set -eu
 cd "$1"
-sed -i 's/^gravitar_c staticlib:/gravitar_c: outside_io gravitar_commands/' crates.txt
+sed -i 's/^gravitar_c staticlib:/gravitar_c:/' crates.txt
 main=crates/gravitar_program/src/main.rt
 cd crates/gravitar_c/src
 sed -e '/^\/\/!/d' -e '/^#!\[tactic/d' lib.rt >exports.rt
@@ -18,7 +18,10 @@ sed -e '/^\/\/!/d' -e '/^#!\[tactic/d' lib.rt >exports.rt
     cat <<'END'
 
 use board_calls::GravitarReport;
-use exports::{gravitar_advance, gravitar_assemble, gravitar_pcm, gravitar_power_on, gravitar_records, gravitar_version};
+use exports::{
+    gravitar_advance, gravitar_assemble, gravitar_command, gravitar_pcm, gravitar_power_on,
+    gravitar_records, gravitar_version,
+};
 
 fn calls(alloc: Global) -> u8 {
     let mut board = [0u8; 8];
@@ -31,6 +34,7 @@ fn calls(alloc: Global) -> u8 {
         || gravitar_records(alloc, &image, &mut board, &image, 1, 0, 0, &mut text, &mut report) == 0
         || gravitar_pcm(alloc, &image, &mut board, &image, 1, 1, 0, &mut text, &mut report) == 0
         || gravitar_assemble(alloc, &image, &image, &mut board, &mut text, &mut report) == 0
+        || gravitar_command(alloc, &image, &mut text, &mut report) == 0
     {
         return 0;
     }

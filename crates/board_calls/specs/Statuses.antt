@@ -6,7 +6,7 @@ use Rattle.run_stretch.specs.declared.assembling.AssemblyFault.TheVariants as so
 use Rattle.run_stretch.specs.declared.fault.StretchFault.{StretchFault}
 use Rattle.run_stretch.specs.declared.fault.StretchFault.TheVariants as stretch
 use Rattle.board_calls.specs.declared.report.Status.{Status}
-use Rattle.board_calls.specs.declared.report.Status.TheVariants.{Done, Jammed, BadImage, BadBoard, BadTape, BadNumber, NoRoom, NoMemory, BadProcessorSource, BadGeneratorSource, BadBoardLength, BadBoardVersion}
+use Rattle.board_calls.specs.declared.report.Status.TheVariants.{Done, Jammed, BadImage, BadBoard, BadTape, BadNumber, NoRoom, NoMemory, BadProcessorSource, BadGeneratorSource, BadBoardLength, BadBoardVersion, BadRequest}
 
 abbrev pub number_of : Status → ℕ
 number_of Done = 0
@@ -21,6 +21,7 @@ number_of BadProcessorSource = 8
 number_of BadGeneratorSource = 9
 number_of BadBoardLength = 10
 number_of BadBoardVersion = 11
+number_of BadRequest = 12
 
 abbrev pub status_of_stretch : StretchFault → Status
 status_of_stretch (stretch.Image fault) = BadImage

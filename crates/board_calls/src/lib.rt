@@ -7,6 +7,7 @@ mod report;
 mod sources;
 mod stretches;
 
+pub use answer::report_number;
 pub use report::{GravitarReport, Status};
 pub use sources::{assemble, power_on, version};
 pub use stretches::{advance, pcm, records};

@@ -36,6 +36,8 @@ pub enum Status {
     BadBoardLength,
     /// The board's bytes are of no version that is read.
     BadBoardVersion,
+    /// The bytes of a request aren't well formed.
+    BadRequest,
 }
 
 impl Status {
@@ -56,6 +58,7 @@ impl Status {
             Status::BadGeneratorSource => 9,
             Status::BadBoardLength => 10,
             Status::BadBoardVersion => 11,
+            Status::BadRequest => 12,
         }
     }
 }

@@ -2,7 +2,7 @@
 //! `include/gravitar.h` at the top has them for C.
 #![tactic(auto)]
 
-ghost use Rattle.std.specs.Prelude.{◌≡◌, ◌≤◌, ◌<◌, ◌⊎◌, length};
+ghost use Rattle.std.specs.Prelude.{◌≡◌, ◌≢◌, ◌-◌, ◌≤◌, ◌<◌, ◌⊎◌, ℕ, [], Err, Ok, Some, length};
 ghost use Rattle.board_base.specs.Board.{board_at_power_on};
 ghost use Rattle.board_base.specs.declared.board.TheConstants.{CLOCK_LIMIT};
 ghost use Rattle.rom_image.specs.declared.image.TheConstants.{IMAGE_LEN};
@@ -12,7 +12,11 @@ ghost use Rattle.sound_pcm.specs.declared.mixer.TheConstants.{MAX_PER};
 ghost use Rattle.run_stretch.specs.Stretches.{IsAdvanced, IsRecorded, IsSampled};
 ghost use Rattle.board_calls.specs.Answers.{AnswersOver, AnswersSources, Refuses, call_of, end_asked, is_asked, put_in, report_of};
 ghost use Rattle.board_calls.specs.Statuses.{number_of};
-ghost use Rattle.board_calls.specs.declared.report.Status.TheVariants.{BadNumber, Done, NoRoom};
+ghost use Rattle.board_calls.specs.declared.report.Status.TheVariants.{BadNumber, BadRequest, Done, NoMemory, NoRoom};
+ghost use Rattle.command_calls.specs.Answers.{AnswersCommand};
+ghost use Rattle.command_calls.specs.Requests.{Request, request_read};
+ghost use Rattle.gravitar_commands.specs.Outcome.{Comes};
+ghost use Rattle.outside_io.specs.Content.{content_of};
 
 use board_calls::GravitarReport;
 use std::alloc::Global;
@@ -20,7 +24,7 @@ use std::alloc::Global;
 /// The version of these calls: another number where one of them changes.
 #[unsafe(no_mangle)]
 pub extern "C" fn gravitar_version() -> u32
-    ensures { result ≡ 2 }
+    ensures { result ≡ 3 }
 {
     board_calls::version()
 }
@@ -119,4 +123,22 @@ pub extern "C" fn gravitar_pcm(
     board_calls::pcm(
         alloc, image, board, tape, clock, per, timers, samples, report,
     )
+}
+
+/// Does the command line of a request over its files, as `gravitar` does it over real ones
+/// (`command_calls::command`).
+#[unsafe(no_mangle)]
+pub extern "C" fn gravitar_command(
+    alloc: Global,
+    request: &[u8],
+    answer: &mut [u8],
+    report: &mut GravitarReport,
+) -> u32
+    ensures answers { (asked : Request) → request_read request.now ≡ Ok asked → result ≢ number_of NoMemory
+        → Comes asked.words (Some (content_of asked.files)) (λ outcome. AnswersCommand outcome (call_of [] [] answer.old answer.new report.new result)) }
+    ensures malformed { (left : ℕ) → request_read request.now ≡ Err left → result ≢ number_of NoMemory
+        → Refuses BadRequest (report_of 0 0 (length request.now - left)) (call_of [] [] answer.old answer.new report.new result) }
+    ensures no_memory { result ≡ number_of NoMemory → Refuses NoMemory (report_of 0 0 0) (call_of [] [] answer.old answer.new report.new result) }
+{
+    command_calls::command(alloc, request, answer, report)
 }

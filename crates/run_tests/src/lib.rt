@@ -7,6 +7,8 @@ mod board_calls_tests;
 #[cfg(test)]
 mod catchup_engine_tests;
 #[cfg(test)]
+mod command_calls_tests;
+#[cfg(test)]
 mod gravitar_commands_tests;
 #[cfg(test)]
 mod keyframes_tests;
