@@ -1,9 +1,10 @@
-"""Takes the checks of `rt try` out of a module's text, and gives each function the hint of its source.
+"""Takes the checks of `rt try` out of a module's text, and gives each function its source's hint.
 
     strip_checks.py [--lib] MODULE.ll REPOSITORY > OUT.ll
 
-`#[inline]` in the sources of REPOSITORY becomes LLVM's inlinehint, alwaysinline or noinline. With --lib
-the calls of include/gravitar.h get the names that C gives them, and nothing else has a name outside.
+`#[inline]` in the sources of REPOSITORY becomes LLVM's inlinehint, alwaysinline or noinline. With
+--lib the calls of include/gravitar.h get the names that C gives them, and nothing else has a name
+outside.
 """
 
 import pathlib
