@@ -10,12 +10,15 @@ import sys
 import gravitar
 
 
+# What a picture shows, from the middle to its right and upper edge (docs/BOARD.md).
+X, Y = 9_830_400, 7_372_800
+
+
 def picture(strokes):
     """An SVG picture of the strokes, y upwards. The bits of a colour are red, green and blue here."""
-    edge = 4_500_000
     lines = [
-        f'<svg xmlns="http://www.w3.org/2000/svg" viewBox="{-edge} {-edge} {2 * edge} {2 * edge}" stroke-width="40000">',
-        f'<rect x="{-edge}" y="{-edge}" width="{2 * edge}" height="{2 * edge}"/>',
+        f'<svg xmlns="http://www.w3.org/2000/svg" viewBox="{-X} {-Y} {2 * X} {2 * Y}" stroke-width="40000">',
+        f'<rect x="{-X}" y="{-Y}" width="{2 * X}" height="{2 * Y}"/>',
     ]
     for it in strokes:
         rgb = ",".join(str(17 * it.intensity * (it.colour >> bit & 1)) for bit in (2, 1, 0))

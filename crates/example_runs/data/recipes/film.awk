@@ -1,5 +1,6 @@
 # A film as an animated SVG:  awk -v every=4 -f film.awk FRAMES LOG > FILM.svg
 # It shows each 4th picture (every=1: each) at its time, and begins again at the end. A browser shows it.
+# The range is the standard one (docs/BOARD.md), and with -v fit=1 that of all frames.
 # The status is 1 where nothing is drawn.
 BEGIN { hz = 1512000; width = 420; k = 0; if (!every) every = 1 }
 FNR == NR {
@@ -31,7 +32,8 @@ function flush(  t0, t1) {                        # the picture that was gathere
 }
 !boxes { exit }
 !begun++ {
-    edge = (x1 - x0 + y1 - y0) / 50 + 1
+    edge = fit ? (x1 - x0 + y1 - y0) / 50 + 1 : 0
+    if (!fit) { x0 = -9830400; y0 = -7372800; x1 = 9830400; y1 = 7372800 }
     w = x1 - x0 + 2 * edge; h = y1 - y0 + 2 * edge; s = 1000 / w
     printf "<svg xmlns=\"http://www.w3.org/2000/svg\" width=\"%d\" height=\"%d\" viewBox=\"%d %d %d %d\">\n",
         width, width * h / w, (x0 - edge) * s, (-y1 - edge) * s, 1000, h * s

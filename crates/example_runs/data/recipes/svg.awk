@@ -1,6 +1,7 @@
 # A picture as SVG:  awk -f svg.awk FRAMES LOG > PICTURE.svg
-# It has all strokes of LOG. For one picture, take the LOG that frame.awk makes. The range is that of all
-# frames, so that pictures of one run fit each other. Bits 2, 1 and 0 of a colour are red, green and blue.
+# It has all strokes of LOG. For one picture, take the LOG that frame.awk makes. The range is the standard
+# one (docs/BOARD.md, "What a picture shows"); with -v fit=1 it is that of all frames, so that pictures of
+# one run fit each other. Bits 2, 1 and 0 of a colour are red, green and blue.
 # The status is 1 where nothing is drawn.
 BEGIN { width = 420 }
 FNR == NR {
@@ -14,7 +15,8 @@ FNR == NR {
 }
 !boxes { exit }
 !begun++ {
-    edge = (x1 - x0 + y1 - y0) / 50 + 1
+    edge = fit ? (x1 - x0 + y1 - y0) / 50 + 1 : 0
+    if (!fit) { x0 = -9830400; y0 = -7372800; x1 = 9830400; y1 = 7372800 }
     w = x1 - x0 + 2 * edge; h = y1 - y0 + 2 * edge
     printf "<svg xmlns=\"http://www.w3.org/2000/svg\" width=\"%d\" height=\"%d\" viewBox=\"%d %d %d %d\">\n",
         width, width * h / w, x0 - edge, -y1 - edge, w, h
