@@ -14,7 +14,8 @@ is written after 2, 4, 5 and 7 and no file changed after these and 6, the form o
 peak of memory (64 MB, and the limits of the files that the command reads). A share of the cases that were done, P of `--again`, is
 run two or three times more over the same files and held against the first run (broken/again.py): the same again, with other cuts, into
 an output that takes nothing, the cells against those given and those of the board, and the log against samples, frames and boards.
-It prints each wrong case with its number, words and causes, and then the counts by verb and status; the status is 1 where one was wrong.
+It prints each wrong case with its number, words and causes, then the counts by verb and status, and last `N passed, M failed`. The status
+is 1 where one was wrong, and 2 where nothing was tried: no program, one that makes no images of the rows and the examples, no case.
 A command that has more than 2,000,000 clocks to run is given one second, and is counted as unfinished where that doesn't do.
 """
 import sys
@@ -220,7 +221,7 @@ def share(maker, options):
         with os.fdopen(reader, "rb") as file:
             part = file.read()
         if not part:
-            sys.exit("broken_files.py: a process of its own has failed")
+            nothing("a process of its own has failed")
         total.add(pickle.loads(part))
     return total
 
@@ -249,27 +250,65 @@ def report(counts, options, seconds):
     print("wrong %d, unfinished %d" % (counts.wrong, counts.unfinished))
 
 
-def read_options():
+def at_least(least: int):
+    """What reads a number that isn't below this one."""
+    def number(word: str) -> int:
+        if int(word) < least:
+            raise argparse.ArgumentTypeError("below %d: %s" % (least, word))
+        return int(word)
+    return number
+
+
+def seconds(word: str) -> float:
+    """Reads a time above 0."""
+    if not 0 < float(word) < 1e6:
+        raise argparse.ArgumentTypeError("no time: %s" % word)
+    return float(word)
+
+
+def read_options() -> argparse.Namespace:
+    """The options; words that are none end with status 2."""
     parser = argparse.ArgumentParser(description=__doc__, formatter_class=argparse.RawDescriptionHelpFormatter)
     parser.add_argument("program")
-    parser.add_argument("--cases", type=int, default=2000)
+    parser.add_argument("--cases", type=at_least(1), default=2000)
     parser.add_argument("--seed", type=int, default=1)
-    parser.add_argument("--jobs", type=int, default=1)
-    parser.add_argument("--first", type=int, default=0)
-    parser.add_argument("--only", type=int)
-    parser.add_argument("--seconds", type=float, default=10)
+    parser.add_argument("--jobs", type=at_least(1), default=1)
+    parser.add_argument("--first", type=at_least(0), default=0)
+    parser.add_argument("--only", type=at_least(0))
+    parser.add_argument("--seconds", type=seconds, default=10)
     parser.add_argument("--again", type=float, default=1)
     return parser.parse_args()
 
 
+def nothing(why: str):
+    """Ends where nothing was tried."""
+    print("broken_files.py: %s" % why, file=sys.stderr)
+    sys.exit(2)
+
+
+def program_of(word: str) -> str:
+    """The whole path of a program."""
+    found = shutil.which(word)
+    if not found:
+        nothing("no program %s" % word)
+    return os.path.abspath(found)
+
+
 def main():
     options = read_options()
-    options.program = os.path.abspath(options.program)
-    maker = cases.Maker(corpus.Corpus(options.program, TOP), options.seed)
+    options.program = program_of(options.program)
+    try:
+        maker = cases.Maker(corpus.Corpus(options.program, TOP), options.seed)
+    except (corpus.NoFiles, OSError) as error:
+        nothing("this program makes no files to break: %s" % error)
     begin = time.monotonic()
     counts = only(maker, options) if options.only is not None else share(maker, options)
     if options.only is None:
         report(counts, options, time.monotonic() - begin)
+    tried = sum(counts.came.values())
+    print("%d passed, %d failed" % (tried - counts.wrong, counts.wrong))
+    if not tried:
+        nothing("no case was tried")
     sys.exit(1 if counts.wrong else 0)
 
 

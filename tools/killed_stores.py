@@ -11,7 +11,9 @@ Kills: N by each signal and way (100), at a random moment of the run. Runs that 
 Readers: one beside runs without a pause, S seconds a way (2). It reads as the program does.
 
 `renamed` ways may leave the old board or a new one, and one file more. The ways `in place` may also leave a file that is
-refused by its length. The status is 1 where anything else came. A reader beside a store in place may see a tear: it is only counted.
+refused by its length. A reader beside a store in place may see a tear: it is only counted. The last line is `N passed, M failed`, which are
+lines of the tables. The status is 1 where anything else came, and 2 where nothing was tried: no program, one that doesn't store the boards
+within 60 seconds, runs of which each ends before its signal, a number of kills or seconds that isn't above 0.
 Root gives the way `no leave`, a folder that takes no new file, to the user 65534; without root and setpriv the own user does it.
 """
 import sys
@@ -45,8 +47,33 @@ SIGNALS = (signal.SIGKILL, signal.SIGINT, signal.SIGTERM)
 RENAMED = ("nothing", "a board")
 IN_PLACE = ("a link", "a hard link", "no leave")
 NOBODY = 65534
+LIMIT = 60  # seconds of a run that isn't killed.
+ENDED = 500  # runs one after another that end before the signal.
 LONGEST = 0.06  # seconds of a run in which the signal comes.
 FORMS = ("old", "new", "absent", "length", "refused", "torn")
+
+
+def nothing(why: str):
+    """Ends where nothing was tried."""
+    print("killed_stores.py: %s" % why, file=sys.stderr)
+    sys.exit(2)
+
+
+def ended(child: int) -> int:
+    """Waits for a process, kills it where that takes too long, and gives its wait status."""
+    until = time.monotonic() + LIMIT
+    while time.monotonic() < until:
+        pid, status = os.waitpid(child, os.WNOHANG)
+        if pid:
+            return status
+        time.sleep(0.0005)
+    os.kill(child, signal.SIGKILL)
+    os.waitpid(child, 0)
+    raise Late
+
+
+class Late(Exception):
+    """A run that doesn't end."""
 
 
 class Stores:
@@ -63,7 +90,11 @@ class Stores:
         with open("t", "w") as file:
             file.write("100100 END\n")
         open("v", "w").close()
-        self.do("asm", "c", "v", "i")
+        try:
+            self.do("asm", "c", "v", "i")
+        except (subprocess.SubprocessError, OSError) as error:
+            self.close()
+            nothing("no image: %s" % error)
         self.boards = self.all_boards()
         self.old = self.boards[0][:-RAM] + b"\xa5" * RAM
         self.whole = frozenset(self.boards)
@@ -73,7 +104,8 @@ class Stores:
 
     def do(self, *words):
         """A command that has to succeed."""
-        subprocess.run([self.program, *words], stdout=subprocess.DEVNULL, check=True)
+        subprocess.run([self.program, *words], stdin=subprocess.DEVNULL, stdout=subprocess.DEVNULL, stderr=subprocess.DEVNULL, check=True,
+                       timeout=LIMIT)
 
     def all_boards(self):
         """The boards of the run, through a pipe."""
@@ -81,14 +113,19 @@ class Stores:
         with open("all", "wb") as file:
             reader = subprocess.Popen(["cat", "pipe"], stdout=file)
         hold = os.open("pipe", os.O_WRONLY)
-        self.do("run", "i", "t", "--cuts", CUTS, "--save", "pipe")
+        why = None
+        try:
+            self.do("run", "i", "t", "--cuts", CUTS, "--save", "pipe")
+        except (subprocess.SubprocessError, OSError) as error:
+            why = error
         os.close(hold)
         reader.wait()
         with open("all", "rb") as file:
             data = file.read()
         boards = [data[at : at + BOARD] for at in range(0, len(data), BOARD)]
         if len(boards) != 1001 or len(set(boards)) != 1001 or len(data) % BOARD:
-            sys.exit("killed_stores.py: %d bytes of boards" % len(data))
+            self.close()
+            nothing("%d bytes of boards%s" % (len(data), ": %s" % why if why else ""))
         return boards
 
     def prefix(self):
@@ -176,7 +213,7 @@ def span_of(stores, way):
     for _ in range(7):
         stores.lay(way)
         begin = time.monotonic()
-        os.waitpid(stores.start(way), 0)
+        ended(stores.start(way))
         took.append(time.monotonic() - begin)
     return min(LONGEST, statistics.median(took))
 
@@ -187,7 +224,7 @@ def kill(stores, way, number, span):
     child = stores.start(way)
     time.sleep(random.uniform(0, span))
     os.kill(child, number)
-    if not os.WIFSIGNALED(os.waitpid(child, 0)[1]):
+    if not os.WIFSIGNALED(ended(child)):
         return None
     form = stores.form(read(os.path.join(way, "s")))
     if form not in ("old", "new", "absent"):
@@ -204,11 +241,15 @@ def allowed(way, form):
 
 def kills(stores, way, number, count, span):
     """A line of the table; whether all came as they may."""
-    came, left, good, done = collections.Counter(), 0, True, 0
+    came, left, good, done, missed = collections.Counter(), 0, True, 0, 0
     while done < count:
         result = kill(stores, way, number, span)
         if result is None:
+            missed += 1
+            if missed == ENDED:
+                nothing("%d runs one after another ended before %s came" % (ENDED, number.name))
             continue
+        missed = 0
         form, others = result
         done += 1
         came[form] += 1
@@ -238,13 +279,30 @@ def reader(stores, way, seconds):
     return good
 
 
-def read_options():
+def above_zero(kind: type):
+    """What reads a number above 0."""
+    def number(word: str):
+        if not 0 < kind(word) < 1e9:
+            raise argparse.ArgumentTypeError("not above 0: %s" % word)
+        return kind(word)
+    return number
+
+
+def read_options() -> argparse.Namespace:
+    """The options; words that are none end with status 2."""
     parser = argparse.ArgumentParser(description=__doc__, formatter_class=argparse.RawDescriptionHelpFormatter)
     parser.add_argument("program")
-    parser.add_argument("--kills", type=int, default=100)
-    parser.add_argument("--seconds", type=float, default=2)
+    parser.add_argument("--kills", type=above_zero(int), default=100)
+    parser.add_argument("--seconds", type=above_zero(float), default=2)
     parser.add_argument("--folder")
-    return parser.parse_args()
+    options = parser.parse_args()
+    found = shutil.which(options.program)
+    if not found:
+        nothing("no program %s" % options.program)
+    if options.folder and not os.path.isdir(options.folder):
+        nothing("no folder %s" % options.folder)
+    options.program = os.path.abspath(found)
+    return options
 
 
 def stop(*_):
@@ -256,21 +314,25 @@ def main():
     # A handler, so that the program has these signals as the system gives them, though this script's starter ignores them.
     signal.signal(signal.SIGINT, stop)
     signal.signal(signal.SIGTERM, stop)
-    stores, good = Stores(os.path.abspath(options.program), options.folder), True
+    stores, lines = Stores(options.program, options.folder), []
     try:
         print("%-9s %-12s%7s%s%7s%8s" % ("signal", "way", "kills", "".join("%9s" % f for f in FORMS), "left", "ms"))
         for way in stores.ways():
             span = span_of(stores, way)
             for number in SIGNALS:
-                good = kills(stores, way, number, options.kills, span) and good
+                lines.append(kills(stores, way, number, options.kills, span))
         print("%-12s%7s%9s%s" % ("read beside", "runs", "reads", "".join("%9s" % f for f in FORMS if f != "refused")))
         for way in stores.ways():
-            good = reader(stores, way, options.seconds) and good
+            lines.append(reader(stores, way, options.seconds))
         if stores.as_nobody is None:
             print("skipped the way `no leave`: no other user can run the program")
+    except Late:
+        print("wrong: a run has not ended within %d seconds" % LIMIT)
+        lines.append(False)
     finally:
         stores.close()
-    sys.exit(0 if good else 1)
+    print("%d passed, %d failed" % (sum(lines), len(lines) - sum(lines)))
+    sys.exit(0 if all(lines) else 1)
 
 
 main()

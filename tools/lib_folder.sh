@@ -8,10 +8,10 @@ set -eu
 proved=
 [ "${1-}" != --proved ] || { proved=1; shift; }
 [ $# = 1 ] || { sed -n 's/^# *//; 2,6p' "$0" >&2; exit 2; }
-root=$(cd "$(dirname "$0")/.." && pwd -P)
-mkdir -p "$1"
-cd "$1"
-work=$(mktemp -d)
+root=$(CDPATH= cd -- "$(dirname -- "$0")" && pwd -P)/..
+mkdir -p -- "$1"
+CDPATH= cd -- "$1"
+work=$(mktemp -d) || exit 2
 trap 'rm -rf "$work"' EXIT
 trap 'exit 1' INT TERM HUP
 

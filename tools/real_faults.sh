@@ -4,39 +4,60 @@
 # KILLS is how many runs with 1,000 stores each signal kills in each way of a store (tools/killed_stores.py): 50. With 700 it is 10,500 a folder.
 # A line a case: `ok` or `differs`, the case, and what came: the status, the note, how many bytes of text, and how many bytes stand under
 # the names that are looked at (- where there is none). Behind `differs` stands what had to come. `skipped` is what this system doesn't
-# allow: mounting, another user (setpriv), stopping at a call (strace), a pipe that doesn't wait (perl). The status is 1 where one differs.
-# A status above 128 is a signal's: 137 SIGKILL, 139 SIGSEGV, 143 SIGTERM, 152 SIGXCPU, 153 SIGXFSZ.
-set -u
-program=$(command -v "$1") || { echo "real_faults.sh: no program $1" >&2; exit 2; }
-case $program in /*) ;; *) program=$(pwd)/$program ;; esac
+# allow: mounting, another user (setpriv), stopping at a call (strace), a pipe that doesn't wait (perl), attributes of files (chattr).
+# The last line is `N passed, M failed, K skipped`. The status is 1 where one differs, and 2 where nothing was tried: no program, one that
+# makes no image, a number of kills that isn't above 0.
+# A command has 20 seconds. A status above 128 is a signal's: 137 SIGKILL, also where they are over, 139 SIGSEGV, 143 SIGTERM,
+# 152 SIGXCPU, 153 SIGXFSZ.
+set -eu
+stop() { printf 'real_faults.sh: %s\n' "$1" >&2; exit 2; }
+case $#:${2-1} in 1:* | 2:[1-9]*) ;; *) sed -n 's/^# *//; 3p' "$0" >&2; exit 2 ;; esac
 kills=${2:-50}
-tools=$(cd "$(dirname "$0")" && pwd)
-examples=$(cd "$tools/../examples" && pwd)
-work=$(mktemp -d)
-trap 'umount "$work"/folder/disk 2>/dev/null; rm -rf "$work"' EXIT
+case $kills in *[!0-9]*) stop "no number of kills: $kills" ;; esac
+program=$(command -v "$1") && [ -f "$program" ] && [ -x "$program" ] || stop "no program $1"
+case $program in /*) ;; *) program=$PWD/$program ;; esac
+for tool in cmp cp head mkfifo mktemp sed seq stat timeout wc yes; do command -v "$tool" >/dev/null || stop "no $tool on the path"; done
+tools=$(CDPATH= cd -- "$(dirname -- "$0")" && pwd)
+examples=$tools/../examples
+work=$(mktemp -d) || exit 2
+trap 'umount "$work/folder/disk" 2>/dev/null || true; chattr -R -a "$work" 2>/dev/null || true; rm -rf "$work"' EXIT
+trap 'exit 1' INT TERM HUP
 chmod 755 "$work"
-differs=0 status=0
-usage=$("$program" 2>&1)
+ulimit -c 0
+passed=0 failed=0 skipped=0 status=0
 outside='gravitar: outside fault'
+
+# A command for 20 seconds at most.
+limited() { timeout -s KILL 20 "$@"; }
+usage=$(limited "$program" 2>&1 </dev/null) || true
 
 # A fresh folder with an image, its sources, a tape to clock 10,000, one of two million clocks, cells, a board, and scripts.
 fresh() {
-    cd "$work" && rm -rf folder && mkdir folder && cd folder || exit 2
-    cp "$examples/score/score.s" c && cp "$examples/score/score.v" v && cp "$examples/score/blank.cells" e && printf '9000 END\n' >t
+    cd "$work"
+    rm -rf folder
+    mkdir folder
+    cd folder
+    cp "$examples/score/score.s" c && cp "$examples/score/score.v" v && cp "$examples/score/blank.cells" e
+    printf '9000 END\n' >t
     printf '2000000 END\n' >long
     printf 'regs\ngo\n' >d
     : >none.d
-    [ -f "$work/i" ] || { "$program" asm c v "$work/i" && "$program" run "$work/i" t --until 300 --save "$work/b"; } >"$work/whole" || exit 2
-    cp "$work/i" i && cp "$work/b" b && : >"$work/text" && : >"$work/note"
+    [ -f "$work/i" ] || {
+        limited "$program" asm c v "$work/i" && limited "$program" run "$work/i" t --until 300 --save "$work/b"
+    } >"$work/whole" </dev/null && [ "$(size_of "$work/i")" = 43008 ] && [ "$(size_of "$work/b")" = 4356 ] || stop "no image and board of $program"
+    cp "$work/i" i && cp "$work/b" b
+    : >"$work/text"
+    : >"$work/note"
 }
 
 # Does a command: its text and its note stand beside the folder.
-does() { "$program" "$@" >"$work/text" 2>"$work/note"; status=$?; }
+does() { status=0; limited "$program" "$@" >"$work/text" 2>"$work/note" || status=$?; }
 # The same in a shell that has done $1 first, such as a limit; quietly, as a shell tells of signals.
 after() {
     before=$1
     shift
-    { (eval "$before" && exec "$program" "$@") >"$work/text" 2>"$work/note"; status=$?; } 2>/dev/null
+    status=0
+    { (exec timeout -s KILL 20 sh -c "$before"' && exec "$0" "$@"' "$program" "$@") >"$work/text" 2>"$work/note" || status=$?; } 2>/dev/null
 }
 
 size_of() { [ -e "$1" ] && wc -c <"$1" | tr -d ' ' || echo -; }
@@ -50,53 +71,58 @@ holds() {
     word=ok wanted=
     [ "$status" = "$want_status" ] && [ "$note" = "$want_note" ] || word=differs
     case $sizes in $want_sizes) ;; *) word=differs ;; esac
-    [ $word = ok ] || { differs=1 wanted=" (wanted: status $want_status, $want_note, $want_sizes)"; }
+    if [ $word = ok ]; then
+        passed=$((passed + 1))
+    else
+        failed=$((failed + 1)) wanted=" (wanted: status $want_status, $want_note, $want_sizes)"
+    fi
     told=$(printf '%s' "$note" | tr '\n' ' ' | cut -c1-60)
     printf '%s %s: status %s, %s%s%s\n' $word "$title" "$status" "${told:+$told, }" "$(printf '%s' "$sizes" | sed 's/0\{200\}/0../')" "$wanted"
-    : >"$work/text" && : >"$work/note"
+    : >"$work/text"
+    : >"$work/note"
 }
 # The new file that a store left beside a name, under a name of its own.
-left() { mv "$1".*-0.new left 2>/dev/null; }
+left() { mv "$1".*-0.new left 2>/dev/null || true; }
 # A fact of another form.
-fact() { if eval "$2"; then echo "ok $1: $3"; else echo "differs $1: $3"; differs=1; fi; }
-skip() { echo "skipped $1"; }
+fact() { if eval "$2"; then echo "ok $1: $3"; passed=$((passed + 1)); else echo "differs $1: $3"; failed=$((failed + 1)); fi; }
+skip() { echo "skipped $1"; skipped=$((skipped + 1)); }
 has() { command -v "$1" >/dev/null; }
 
 output_faults() {
     fresh
-    "$program" run i t --save s >/dev/full 2>"$work/note"; status=$?
+    status=0; limited "$program" run i t --save s >/dev/full 2>"$work/note" || status=$?
     holds "the output is /dev/full" 6 "$outside" "text 0, s -" s
-    "$program" run i t --save s >&- 2>"$work/note"; status=$?
+    status=0; limited "$program" run i t --save s >&- 2>"$work/note" || status=$?
     holds "no output at all" 6 "$outside" "text 0, s -" s
-    "$program" run i t --cuts 0 --save s >&- 2>"$work/note"; status=$?
+    status=0; limited "$program" run i t --cuts 0 --save s >&- 2>"$work/note" || status=$?
     holds "no output, and a store in front of the first text" 6 "$outside" "text 0, s 4356" s
-    "$program" debug i t none.d >&- 2>"$work/note"; status=$?
+    status=0; limited "$program" debug i t none.d >&- 2>"$work/note" || status=$?
     holds "no output, and no text" 0 "" "text 0"
     rm -f s
-    "$program" run i t --save s <&- >&- 2>&-; status=$?
+    status=0; limited "$program" run i t --save s <&- >&- 2>&- || status=$?
     holds "none of the three streams" 6 "" "text 0, s -, i 43008, t 9" s i t
-    { "$program" pcm i long 1 2>"$work/note"; echo $? >"$work/status"; } | head -c 100 >"$work/text"
+    { code=0; limited "$program" pcm i long 1 2>"$work/note" || code=$?; echo $code >"$work/status"; } | head -c 100 >"$work/text"
     status=$(cat "$work/status")
     holds "a pipe that closes after 100 bytes" 6 "$outside" "text 100"
-    { sleep 0.3; "$program" run i t 2>"$work/note"; echo $? >"$work/status"; } | :
+    { sleep 0.3; code=0; limited "$program" run i t 2>"$work/note" || code=$?; echo $code >"$work/status"; } | :
     status=$(cat "$work/status")
     holds "a pipe that is closed" 6 "$outside" "text 0"
-    has perl || { skip "a full pipe that doesn't wait"; return; }
-    perl -e 'use Fcntl; pipe(R, W); fcntl(W, F_SETFL, O_NONBLOCK); if (!fork) { open(STDOUT, ">&W"); exec(@ARGV) } wait; close(W);
-        open(S, ">", "../status"); print S $? >> 8; close(S); print while sysread(R, $_, 65536)' "$program" pcm i long 1 >"$work/text" 2>"$work/note"
+    has perl || { skip "a full pipe that doesn't wait"; return 0; }
+    limited perl -e 'use Fcntl; pipe(R, W); fcntl(W, F_SETFL, O_NONBLOCK); if (!fork) { open(STDOUT, ">&W"); exec(@ARGV) } wait; close(W);
+        open(S, ">", "../status"); print S $? >> 8; close(S); print while sysread(R, $_, 65536)' "$program" pcm i long 1 >"$work/text" 2>"$work/note" || true
     status=$(cat "$work/status")
     holds "a full pipe that doesn't wait" 6 "$outside" "text [1-9]*"
 }
 
 note_faults() {
     fresh
-    "$program" run none t 2>&-; status=$?
+    status=0; limited "$program" run none t 2>&- || status=$?
     holds "no standard error, an absent file" 5 "" "text 0"
-    "$program" run i t --until 1 >"$work/text" 2>&-; status=$?
+    status=0; limited "$program" run i t --until 1 >"$work/text" 2>&- || status=$?
     holds "no standard error, a good run" 0 "" "text 4"
-    "$program" run t i 2>/dev/full; status=$?
+    status=0; limited "$program" run t i 2>/dev/full || status=$?
     holds "the standard error is /dev/full, a bad file" 4 "" "text 0"
-    "$program" run i t --save s <&- >"$work/text" 2>"$work/note"; status=$?
+    status=0; limited "$program" run i t --save s <&- >"$work/text" 2>"$work/note" || status=$?
     holds "no standard input" 0 "" "text *, s 4356" s
 }
 
@@ -168,20 +194,20 @@ permissions() {
     fresh
     as=
     if [ "$(id -u)" = 0 ]; then
-        has setpriv || { skip "permissions"; return; }
+        has setpriv || { skip "permissions"; return 0; }
         as="setpriv --reuid=65534 --regid=65534 --clear-groups"
         chmod 755 .
-        $as "$program" show b >/dev/null 2>&1 || { skip "permissions: the program can't be run by another user"; return; }
+        limited $as "$program" show b >/dev/null 2>&1 || { skip "permissions: the program can't be run by another user"; return 0; }
     fi
     cp i secret && chmod 0 secret && mkdir closed && cp i closed && chmod 0 closed && mkdir fixed && cp e fixed && chmod 444 fixed/e && chmod 555 fixed
     chmod 444 e
-    $as "$program" run secret t >"$work/text" 2>"$work/note"; status=$?
+    status=0; limited $as "$program" run secret t >"$work/text" 2>"$work/note" || status=$?
     holds "a file that may not be read" 6 "$outside" "text 0"
-    $as "$program" run closed/i t >"$work/text" 2>"$work/note"; status=$?
+    status=0; limited $as "$program" run closed/i t >"$work/text" 2>"$work/note" || status=$?
     holds "a file in a folder that may not be searched" 6 "$outside" "text 0"
-    $as "$program" run i t --until 1 --save fixed/s >"$work/text" 2>"$work/note"; status=$?
+    status=0; limited $as "$program" run i t --until 1 --save fixed/s >"$work/text" 2>"$work/note" || status=$?
     holds "a store in a folder that may not be written" 6 "$outside" "text 4, fixed/s -" fixed/s
-    $as "$program" run i t --until 1 --earom e >"$work/text" 2>"$work/note"; status=$?
+    status=0; limited $as "$program" run i t --until 1 --earom e >"$work/text" 2>"$work/note" || status=$?
     holds "a store over a file that may not be written" 6 "$outside" "text 4, e 64" e
     chmod 755 closed fixed
 }
@@ -189,11 +215,14 @@ permissions() {
 # Each file at its limit and one byte longer, in 128 MiB of addresses.
 limits() {
     fresh
-    yes '0 P0 00' | head -n 2097151 >full.t && printf '000 END\n' >>full.t
+    yes '0 P0 00' | head -n 2097151 >full.t
+    printf '000 END\n' >>full.t
     for kind in i:43008 b:4356 e:64; do { cat "${kind%:*}"; printf x; } >"${kind%:*}.long"; done
     { cat full.t; printf x; } >t.long
-    yes ';' | head -n 524288 >full.s && { cat full.s; printf x; } >s.long
-    yes '' | head -n 65536 >full.d && { cat full.d; printf x; } >d.long
+    yes ';' | head -n 524288 >full.s
+    { cat full.s; printf x; } >s.long
+    yes '' | head -n 65536 >full.d
+    { cat full.d; printf x; } >d.long
     less="ulimit -v 131072"
     after "$less" run i full.t --until 1; holds "a tape of 16 MiB" 0 "" "text 4"
     after "$less" run i t.long; holds "a tape of one byte more" 4 "gravitar: t.long: too long" "text 0"
@@ -255,13 +284,13 @@ stack_steps() {
 
 system_limits() {
     fresh
-    "$program" run i t --save s >"$work/whole"
-    unit=$({ (ulimit -f 4; exec head -c 8192 /dev/zero >big); size_of big; } 2>/dev/null)
+    limited "$program" run i t --save s >"$work/whole"
+    unit=$({ (ulimit -f 4; exec head -c 8192 /dev/zero >big) || true; size_of big; } 2>/dev/null)
     part=$((unit / 4))
     rm -f s big
     after "ulimit -f 1" run i t --until 1 --save s; left s
     holds "a limit of a file's size, in a store" 153 "" "text 4, s -, left $part" s left
-    rm left
+    rm -f left
     after "ulimit -f 1; trap '' XFSZ" run i t --until 1 --save s; left s
     holds "the same with SIGXFSZ ignored" 6 "$outside" "text 4, s -, left -" s left
     head -c 9000 /dev/zero >s
@@ -285,18 +314,19 @@ system_limits() {
 }
 
 # Mounts a small disk in the folder, where that is allowed.
-disk() { mkdir -p disk && mount -t tmpfs -o "size=$1" none disk 2>/dev/null; }
+disk() { mkdir -p disk; mount -t tmpfs -o "size=$1" none disk 2>/dev/null; }
 full_disks() {
     fresh
-    disk 8k || { skip "a full disk"; return; }
-    "$program" pcm i t 1 >disk/text 2>"$work/note"; status=$?
+    disk 8k || { skip "a full disk"; return 0; }
+    status=0; limited "$program" pcm i t 1 >disk/text 2>"$work/note" || status=$?
     holds "a full disk for the text" 6 "$outside" "text 0, disk/text 8192" disk/text
-    "$program" pcm i t 1 2>/dev/null | head -c 8192 | cmp -s - disk/text
-    fact "a full disk for the text" "[ $? = 0 ]" "it is the first part of the whole text"
-    rm disk/text && head -c 4096 /dev/zero >disk/other
+    fact "a full disk for the text" 'limited "$program" pcm i t 1 2>/dev/null | head -c 8192 | cmp -s - disk/text' "it is the first part of the whole text"
+    rm -f disk/text
+    head -c 4096 /dev/zero >disk/other
     does run i t --until 1 --save disk/s
     holds "a full disk for a board" 6 "$outside" "text 4, disk/s -" disk/s
-    rm disk/* && cp b disk/s
+    rm -f disk/*
+    cp b disk/s
     does run i t --until 1 --save disk/s
     cmp -s b disk/s || : >disk/s
     holds "a board over a board, on a disk that is full with it: it stays" 6 "$outside" "text 4, disk/s 4356" disk/s
@@ -306,10 +336,12 @@ full_disks() {
     head -c 8192 /dev/zero >disk/s
     does run i t --until 1 --earom e --save disk/s
     holds "a board over a longer file, on a disk that is full with that: it stays" 6 "$outside" "text 4, disk/s 8192" disk/s
-    cp e disk/e 2>/dev/null
+    cp e disk/e 2>/dev/null || true
     does run i t --until 1 --earom disk/e
     holds "cells that were cut by a full disk before" 4 "gravitar: disk/e: length 0" "text 0, disk/e 0" disk/e
-    umount disk && disk 4k && cp e disk/e
+    umount disk
+    disk 4k
+    cp e disk/e
     does asm c v disk/o
     holds "a full disk for an image" 6 "$outside" "text [1-9]*, disk/o -" disk/o
     mount -o remount,ro disk
@@ -340,10 +372,10 @@ pipes() {
 
 # Kills in stores and readers beside them, in the folder of temporary files and in memory.
 killed_stores() {
-    has python3 || { skip "kills and readers"; return; }
+    has python3 || { skip "kills and readers"; return 0; }
     for folder in "$(dirname "$work")" /dev/shm; do
         [ -d "$folder" ] || continue
-        python3 "$tools/killed_stores.py" "$program" --kills "$kills" --folder "$folder" >"$work/table"; status=$?
+        status=0; python3 "$tools/killed_stores.py" "$program" --kills "$kills" --folder "$folder" >"$work/table" || status=$?
         sed "s/^/    /" "$work/table"
         fact "kills and readers in $folder" "[ $status = 0 ]" "the table above"
     done
@@ -351,9 +383,12 @@ killed_stores() {
 
 stopped() {
     fresh
-    "$program" soak 1 >"$work/whole"
+    limited "$program" soak 1 >"$work/whole"
     "$program" soak 1 >"$work/text" &
-    sleep 0.01; kill -STOP $!; sleep 0.3; kill -CONT $!; wait $!; status=$?
+    sleep 0.01; kill -STOP $!; sleep 0.3; kill -CONT $!
+    for _ in $(seq 600); do kill -0 $! 2>/dev/null && sleep 0.1 || break; done
+    kill -KILL $! 2>/dev/null || true
+    wait $! || true
     fact "a run that is stopped and goes on" 'cmp -s "$work/text" "$work/whole"' "the same text"
 }
 
@@ -361,19 +396,23 @@ stopped() {
 place_of() {
     call=$1 pattern=$2
     shift 2
-    strace -qq -o "$work/calls" -e "trace=$call" "$program" "$@" >/dev/null
+    limited strace -qq -o "$work/calls" -e "trace=$call" "$program" "$@" >/dev/null || true
     grep -n -e "$pattern" "$work/calls" | head -n 1 | cut -d: -f1
 }
 # The calls of a store over 9,000 bytes that open, write, cut or rename, and the program killed in front of each: what stands under the name and beside it.
 calls_of_a_store() {
     fresh
-    has strace || { skip "a kill at a call"; return; }
+    has strace && strace -qq -o /dev/null true 2>/dev/null || { skip "kills and faults at a call"; return 0; }
     ln -s s link
     while read -r name call pattern sizes; do
         rm -f left && head -c 9000 /dev/zero >s
         place=$(place_of "$call" "$pattern" run i t --cuts 0,5 --save "$name")
         head -c 9000 /dev/zero >s
-        { strace -qq -o /dev/null -e "inject=$call:signal=KILL:when=$place" "$program" run i t --cuts 0,5 --save "$name" >"$work/text"; status=$?; } 2>/dev/null
+        status="no such call"
+        [ -z "$place" ] || {
+            status=0
+            limited strace -qq -o /dev/null -e "inject=$call:signal=KILL:when=$place" "$program" run i t --cuts 0,5 --save "$name" >"$work/text" || status=$?
+        } 2>/dev/null
         left s
         holds "a store under $name, killed in front of its $call ($pattern)" 137 "" "$sizes" s left
     done <<END
@@ -388,17 +427,129 @@ link write GVS text 0, s 4357, left -
 link ftruncate 4356 text 0, s 4357, left -
 link exit_group . text 15, s 4356, left -
 END
-    for fault in write:ENOSPC:6 write:EIO:6 openat:EACCES:0 rename:EBUSY:0; do
+}
+
+# A store of cells over cells, and one under a name that no file has, whose calls the system refuses: want of room and faults of the disk
+# leave the old file, or none, and are a fault; a refusal of permission is stored in place.
+refused_calls() {
+    fresh
+    has strace && strace -qq -o /dev/null true 2>/dev/null || { skip "calls that are refused"; return 0; }
+    for fault in write:ENOSPC:6 write:EDQUOT:6 write:EIO:6 openat:ENOSPC:6 openat:EDQUOT:6 openat:EIO:6 rename:ENOSPC:6 rename:EDQUOT:6 rename:EIO:6 \
+        openat:EACCES:0 openat:EPERM:0 openat:EROFS:0 openat:ENAMETOOLONG:0 rename:EACCES:0 rename:EPERM:0 rename:EROFS:0 rename:EBUSY:0; do
         call=${fault%%:*} want=${fault##*:} error=${fault#*:} && error=${error%:*}
-        cp e cells && place=$(place_of "$call" '\.new\|\\377' run i t --until 1 --earom cells) && cp e cells
-        strace -qq -o /dev/null -e "inject=$call:error=$error:when=$place" "$program" run i t --until 1 --earom cells >"$work/text" 2>"$work/note"; status=$?
+        says= made=4356
+        [ "$want" = 0 ] || says=$outside made=-
+        cp e cells
+        place=$(place_of "$call" '\.new\|\\377' run i t --until 1 --earom cells)
+        cp e cells
+        refusing --earom cells
         cmp -s e cells || : >cells
         left cells
-        note=
-        [ "$want" = 0 ] || note=$outside
-        holds "a store of cells whose $call is refused by $error" "$want" "$note" "text 4, cells 64, left -" cells left
+        holds "a store of cells whose $call is refused by $error" "$want" "$says" "text 4, cells 64, left -" cells left
+        rm -f s
+        place=$(place_of "$call" '\.new\|GVS' run i t --until 1 --save s)
+        rm -f s
+        refusing --save s
+        left s
+        holds "a board under a new name whose $call is refused by $error" "$want" "$says" "text 4, s $made, left -" s left
+        rm -f left
+    done
+}
+# A run to clock 1 with these options and the refused call.
+refusing() {
+    status="no such call"
+    [ -n "$place" ] || return 0
+    status=0
+    limited strace -qq -o /dev/null -e "inject=$call:error=$error:when=$place" "$program" run i t --until 1 "$@" >"$work/text" 2>"$work/note" || status=$?
+}
+
+# What COMMANDS promises of a file that is replaced, or isn't: its permissions stay, a new file goes by the umask, nothing that stands under
+# the name of the new file beside it is opened, and a file of another owner or group is written in place.
+promises() {
+    fresh
+    for mask in 022 077; do
+        for mode in 600 640 664 666; do
+            head -c 9000 /dev/zero >s
+            chmod $mode s
+            after "umask $mask" run i t --until 1 --save s
+            came=$(stat -c %a s)
+            fact "permissions stay: $mode under umask $mask" '[ $status = 0 ] && [ "$came" = $mode ] && [ "$(size_of s)" = 4356 ]' "status $status, $came"
+        done
+    done
+    for mask in 000:666 002:664 022:644 027:640 077:600; do
+        rm -f s
+        after "umask ${mask%:*}" run i t --until 1 --save s
+        came=$(stat -c %a s) || came=none
+        fact "a new file's permissions under umask ${mask%:*}" '[ $status = 0 ] && [ "$came" = ${mask#*:} ]' "status $status, $came"
+    done
+    # The number of the process is in the name of the new file, and stays with exec.
+    for kind in "a link to nothing" "a link to a file" "a file" "a pipe"; do
+        rm -f s s.* bait
+        case $kind in
+            "a link to nothing") put='ln -s bait "s.$$-0.new"' ;;
+            "a link to a file") put='ln -s bait "s.$$-0.new"'; cp t bait ;;
+            "a file") put='cp t "s.$$-0.new"' ;;
+            "a pipe") put='mkfifo "s.$$-0.new"' ;;
+        esac
+        for way in "under a new name" "over a file"; do
+            rm -f s s.*
+            [ "$way" != "over a file" ] || head -c 9000 /dev/zero >s
+            after "$put" run i t --until 1 --save s
+            found=
+            case $kind in
+                "a link to nothing") [ -L s.*-0.new ] && [ ! -e bait ] || found=changed ;;
+                "a link to a file") [ -L s.*-0.new ] && cmp -s t bait || found=changed ;;
+                "a file") cmp -s t s.*-0.new || found=changed ;;
+                "a pipe") [ -p s.*-0.new ] || found=changed ;;
+            esac
+            fact "$kind under the name of the new file, a store $way" \
+                '[ $status = 0 ] && [ -z "$found" ] && [ -f s ] && [ ! -L s ] && [ "$(size_of s)" = 4356 ]' "status $status, $(size_of s) bytes${found:+, the other $found}"
+        done
+    done
+    [ "$(id -u)" = 0 ] || { skip "files of another owner and group"; return 0; }
+    for owner in 65534:0 0:65534 65534:65534; do
+        rm -f s s.*
+        head -c 9000 /dev/zero >s
+        chown $owner s
+        was=$(stat -c '%u:%g %i %a' s)
+        does run i t --until 1 --save s
+        came=$(stat -c '%u:%g %i %a' s)
+        fact "a file of owner and group $owner is written in place" '[ $status = 0 ] && [ "$came" = "$was" ] && [ "$(size_of s)" = 4356 ] && [ ! -e "$(echo s.*)" ]' "status $status, $came"
+    done
+    chown 0:0 s
+    was=$(stat -c %i s)
+    does run i t --until 1 --save s
+    fact "a file of the own user is replaced" '[ $status = 0 ] && [ "$(stat -c %i s)" != "$was" ]' "status $status"
+}
+
+# The output's own file as a store: the log is kept, with the board behind it, or the store is refused.
+stores_in_the_output() {
+    fresh
+    limited "$program" run i t --cuts 100 >log
+    limited "$program" run i t --cuts 100 --save /dev/stdout | cat >piped
+    fact "--save /dev/stdout into a pipe" '[ "$(size_of piped)" = $(($(size_of log) + 8712)) ]' "$(size_of piped) bytes"
+    for name in /dev/stdout out; do
+        for how in '>' '>>' '1<>'; do
+            rm -f out
+            status=0; eval "limited \"\$program\" run i t --cuts 100 --save $name $how out 2>/dev/null" || status=$?
+            fact "--save $name $how out" '{ [ $status = 0 ] && cmp -s piped out; } || { [ $status = 6 ] && [ -s out ] && head -c "$(size_of out)" log | cmp -s - out; }' \
+                "status $status, $(size_of out) bytes"
+        done
     done
 }
 
-output_faults; note_faults; folders; links; names; permissions; limits; memory_steps; stack_steps; system_limits; full_disks; pipes; stopped; calls_of_a_store; killed_stores
-exit $differs
+# A folder that takes new files and gives none up.
+only_appended() {
+    fresh
+    mkdir add && cp b add/s
+    has chattr && chattr +a add 2>/dev/null || { skip "a folder that can only be appended to"; return 0; }
+    does run i t --cuts 5,9 --save add/s
+    count=$(ls add | grep -c '\.new$') || true
+    fact "a folder that can only be appended to" '[ $status = 0 ] && [ "$(size_of add/s)" = 4356 ] && [ $count -le 3 ]' "status $status, three stores left $count files"
+    chattr -a add
+}
+
+output_faults; note_faults; folders; links; names; permissions; limits; memory_steps; stack_steps; system_limits; full_disks; pipes; stopped; promises; stores_in_the_output; only_appended; calls_of_a_store; refused_calls; killed_stores
+cd /
+echo "$passed passed, $failed failed, $skipped skipped"
+[ $failed -eq 0 ]

@@ -4,15 +4,20 @@
 # A library that is loaded before the C library's answers the Nth call of malloc, calloc or realloc with null, for each N from 1 up to
 # the number of calls and three more. Where one was refused, the status has to be 7, the note `gravitar: no memory`, no byte of text
 # written, and no file made or changed; where none was, all is as without the library. It needs sh, cc, cmp and diff.
-# It prints a line for each refusal that differs, and then a table: calls, refused, wrong, the status with none refused, the command.
-# The status is 1 where one is wrong.
-set -u
-program=$(command -v "$1") || { echo "refuse_memory.sh: no program $1" >&2; exit 2; }
-case $program in /*) ;; *) program=$(pwd)/$program ;; esac
-examples=$(cd "$(dirname "$0")/../examples" && pwd)
-work=$(mktemp -d)
+# It prints a line for each run that differs, and then a table: calls, refused, wrong, the status with none refused, the command.
+# A command has 60 seconds. The last line is `N passed, M failed`, which are runs. The status is 1 where one is wrong, and 2 where
+# nothing was tried: no program or compiler, a program that makes no files, that the library isn't loaded into, or that makes no call.
+set -euf
+stop() { printf 'refuse_memory.sh: %s\n' "$1" >&2; exit 2; }
+[ $# = 1 ] || { sed -n 's/^# *//; 3p' "$0" >&2; exit 2; }
+program=$(command -v "$1") && [ -f "$program" ] && [ -x "$program" ] || stop "no program $1"
+case $program in /*) ;; *) program=$PWD/$program ;; esac
+for tool in cc cmp cp diff env mktemp timeout wc; do command -v "$tool" >/dev/null || stop "no $tool on the path"; done
+examples=$(CDPATH= cd -- "$(dirname -- "$0")" && pwd)/../examples
+work=$(mktemp -d) || exit 2
 trap 'rm -rf "$work"' EXIT
-wrong=0
+trap 'exit 1' INT TERM HUP
+passed=0 wrong=0
 
 # The library: it counts the calls, refuses one, and writes their number to a file at the program's end.
 source_of_it() {
@@ -60,7 +65,8 @@ library() { source_of_it >"$work/refuse.c" && cc -O1 -fno-builtin -shared -fPIC 
 
 # The files of all commands, in the folder `given`.
 files() {
-    mkdir "$work/given" && cd "$work/given" || exit 2
+    mkdir "$work/given"
+    cd "$work/given"
     cp "$examples/score/score.s" c && cp "$examples/score/score.v" v
     cp "$examples/score/first.tape" t && cp "$examples/score/blank.cells" e
     printf '        .org $9000\nstart:  .byte 2\n        .org $FFFC\n        .word start\n' >jam.s
@@ -69,8 +75,9 @@ files() {
     printf '5 IN0 3F\n20 XX 00\n' >bad.t
     printf 'break 9005\nwatch 0010\nstopvg\nstep 20\nregs\ngo\ngo\ndev\nmem 0000 64\ndis 9000 8\nvdis 2800 4\nclear\nuntil 9000\ngo\n' >d
     printf 'regs\nbreak 90\n' >bad.d
-    "$program" asm c v i >/dev/null && "$program" asm jam.s empty.v jam >/dev/null &&
-        "$program" run i t --until 300 --save b >/dev/null || { echo "refuse_memory.sh: no files" >&2; exit 2; }
+    limited "$program" asm c v i >/dev/null && limited "$program" asm jam.s empty.v jam >/dev/null &&
+        limited "$program" run i t --until 300 --save b >/dev/null || return 1
+    [ "$(cat i jam | wc -c)" -eq 86016 ] && [ "$(wc -c <b)" -eq 4356 ]
 }
 
 # The commands. The last ones end with another status without a refusal, too.
@@ -100,11 +107,16 @@ debug i t bad.d
 END
 }
 
+# Does a command for 60 seconds at most: 137 is its status then.
+limited() { timeout -s KILL 60 "$@" </dev/null; }
+
 # Does a command in a fresh folder: its text, note and status stand beside that.
 perform() {
-    rm -rf "$work/folder" && cp -R "$work/given" "$work/folder" && cd "$work/folder" || exit 2
-    "$@" >"$work/text" 2>"$work/note"
-    status=$?
+    rm -rf "$work/folder"
+    cp -R "$work/given" "$work/folder"
+    cd "$work/folder"
+    status=0
+    limited "$@" >"$work/text" 2>"$work/note" || status=$?
 }
 refusing() {
     rm -f "$work/told"
@@ -114,7 +126,8 @@ refusing() {
 
 # Whether the last command was refused memory and nothing else; whether it did what the whole does.
 is_refused() {
-    [ "$status" = 7 ] && [ "$(cat "$work/note")" = "gravitar: no memory" ] && [ ! -s "$work/text" ] && diff -r "$work/given" "$work/folder" >/dev/null
+    [ "$status" = 7 ] && printf 'gravitar: no memory\n' | cmp -s - "$work/note" && [ ! -s "$work/text" ] &&
+        diff -r "$work/given" "$work/folder" >/dev/null
 }
 is_whole() {
     [ "$status" = "$whole" ] && cmp -s "$work/note" "$work/whole.note" && cmp -s "$work/text" "$work/whole.text" && diff -r "$work/whole" "$work/folder" >/dev/null
@@ -124,28 +137,42 @@ is_whole() {
 command_line() {
     perform "$program" $words
     whole=$status
-    rm -rf "$work/whole" && mv "$work/folder" "$work/whole" && mv "$work/text" "$work/whole.text" && mv "$work/note" "$work/whole.note"
-    n=0 refused=0 differ=0 beyond=0
+    [ "$whole" -lt 124 ] || stop "status $whole without a refusal: $words"
+    rm -rf "$work/whole"
+    mv "$work/folder" "$work/whole"
+    mv "$work/text" "$work/whole.text"
+    mv "$work/note" "$work/whole.note"
+    n=0 refused=0 differ=0 beyond=0 made=
     while [ $beyond -lt 4 ]; do
         refusing $n
+        if [ $n = 0 ]; then
+            [ -n "$calls" ] || stop "the library isn't loaded into this program: $words"
+            [ "$calls" -gt 0 ] || stop "no call was counted: $words"
+        fi
         if [ $n -gt 0 ] && [ "${calls:-$n}" -ge $n ]; then
             refused=$((refused + 1))
             good=is_refused
         else
-            [ $n -gt 0 ] && [ "$calls" != "$made" ] && differ=$((differ + 1))
+            [ $n = 0 ] || [ "$calls" = "$made" ] || differ=$((differ + 1))
             beyond=$((beyond + 1)) made=$calls good=is_whole
         fi
-        $good || { differ=$((differ + 1)); echo "wrong: call $n of $words: status $status, $(wc -c <"$work/text") bytes of text, $(head -c 200 "$work/note")"; }
+        if $good; then
+            passed=$((passed + 1))
+        else
+            differ=$((differ + 1))
+            echo "wrong: call $n of $words: status $status, $(wc -c <"$work/text") bytes of text, $(head -c 200 "$work/note")"
+        fi
         n=$((n + 1))
     done
     wrong=$((wrong + differ))
     printf '%5s %8s %6s %7s  %s\n' "${made:-died}" $refused $differ "$whole" "$words" >>"$work/table"
 }
 
-library || { echo "refuse_memory.sh: no library" >&2; exit 2; }
-(files) || exit 2
+library || stop "the compiler makes no library"
+(files) || stop "this program makes no files to try: $program"
 commands >"$work/commands"
-while read -r words; do command_line </dev/null; done <"$work/commands"
+while read -r words <&3; do command_line; done 3<"$work/commands"
 printf '%5s %8s %6s %7s  %s\n' calls refused wrong status command
 cat "$work/table"
+echo "$passed passed, $wrong failed"
 [ $wrong -eq 0 ]

@@ -28,8 +28,13 @@ run score.img score/second.tape --earom score/blank.cells --timers
 debug score.img score/first.tape score/score.script --earom score/blank.cells
 show score.board
 """
+SECONDS = 60  # that a command has.
 PIPE = 1 << 20  # bytes that a pipe holds: all boards of a run.
 CUTS = b"3,8,9,10,11,30,57,1001,6150,12345"
+
+
+class NoFiles(Exception):
+    """The program doesn't make the files that are to be broken."""
 
 
 class Corpus:
@@ -47,6 +52,9 @@ class Corpus:
             self.take_boards()
         finally:
             shutil.rmtree(self.folder)
+        missing = [kind for kind in ("image", "board", "cells") if not self.kinds[kind]]
+        if missing or not self.assembled:
+            raise NoFiles(", ".join("no " + kind for kind in missing) or "no listing")
 
     def take_rows(self, suite):
         """Does the steps of all rows, and takes on each command with its files."""
@@ -127,5 +135,10 @@ class Corpus:
             file.write(data)
 
     def call(self, words):
-        came = subprocess.run([self.program] + words, cwd=self.folder, stdout=subprocess.PIPE, stderr=subprocess.DEVNULL, check=False)
+        command = [self.program] + words
+        try:
+            came = subprocess.run(command, cwd=self.folder, stdin=subprocess.DEVNULL, stdout=subprocess.PIPE, stderr=subprocess.DEVNULL,
+                                  check=False, timeout=SECONDS)
+        except subprocess.TimeoutExpired as error:
+            raise NoFiles("a good command took more than %d seconds" % SECONDS) from error
         return came.stdout

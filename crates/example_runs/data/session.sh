@@ -1,4 +1,5 @@
-# The examples, one after another: `sh -e session.sh` in this folder, with `gravitar` on the path.
+# The examples, one after another: `sh session.sh` in this folder, with `gravitar` on the path.
+set -eu
 
 # The smallest program.
 gravitar asm latch/latch.s latch/latch.v latch.img

@@ -35,8 +35,8 @@ fn perform_into<S: Shelf, N: Sink>(
     shelf.store(name, text.bytes()).map_err(|_| Stopped::File)
 }
 
-/// Does a line: a comment, a command of the program with or without a file for its text, `cp` or
-/// `cmp`. Words are parted by blanks.
+/// Does a line: a comment or `set -eu`, as which a session is done anyway, a command of the program
+/// with or without a file for its text, `cp` or `cmp`. Words are parted by blanks.
 fn perform_line<S: Shelf, O: Sink, N: Sink>(
     alloc: Global,
     line: &str,
@@ -49,7 +49,7 @@ fn perform_line<S: Shelf, O: Sink, N: Sink>(
         .collect(alloc)
         .map_err(|_| Stopped::NoMemory)?;
     match words.as_slice() {
-        [] | ["#", ..] => Ok(()),
+        [] | ["#", ..] | ["set", "-eu"] => Ok(()),
         ["gravitar", args @ .., ">", name] => perform_into(alloc, args, name, shelf, notes),
         ["gravitar", args @ ..] => perform(alloc, args, shelf, out, notes),
         ["cp", from, to] => copy(alloc, from, to, shelf),

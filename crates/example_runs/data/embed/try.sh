@@ -6,21 +6,33 @@
 #                         default what GRAVITAR_LIB names; else the library is proved and built
 # The program is GRAVITAR of the environment, else FOLDER/gravitar, else that of crates/gravitar_program/out. It
 # needs gcc. What else a machine lacks (clang, a sanitizer, python3, pip, cargo) is said and passed over.
+# It ends at the first that fails. The last line is `N passed, M failed, K skipped`; the status isn't 0 where one
+# failed, and 2 where nothing was tried.
 set -eu
-here=$(cd "$(dirname "$0")" && pwd -P)
-root=$(cd "$here/../../../.." && pwd)
-work=$(mktemp -d)
-trap 'rm -rf "$work"' EXIT
+passed=0 skipped=0 whole=
+here=$(CDPATH= cd -- "$(dirname -- "$0")" && pwd -P)
+root=$here/../../../..
+work=$(mktemp -d) || exit 2
+ends() {
+    code=$?
+    cd /
+    rm -rf "$work"
+    [ "$code" = 0 ] || [ "$code" = 2 ] || [ "$whole" ] || echo "$passed passed, 1 failed, $skipped skipped"
+}
+trap ends EXIT
 trap 'exit 1' INT TERM HUP
+stop() { echo "try.sh: $1" >&2; exit 2; }
+for tool in awk cmp gcc sed; do command -v $tool >/dev/null || stop "no $tool on the path"; done
 lib=${1-${GRAVITAR_LIB-}}
 if [ "$lib" ]; then
-    lib=$(cd "$lib" && pwd -P)
+    lib=$(CDPATH= cd -- "$lib" && pwd -P) && [ -f "$lib/libgravitar.a" ] || stop "no libgravitar.a in ${1-${GRAVITAR_LIB-}}"
 else
     lib=$work/lib
     "$root/tools/lib_folder.sh" --proved "$lib"
 fi
 gravitar=${GRAVITAR-$lib/gravitar}
 [ -x "$gravitar" ] || gravitar=$root/crates/gravitar_program/out/gravitar_program
+[ -x "$gravitar" ] || stop "no program $gravitar"
 cp -R "$here/../square" "$here/../ship" "$work"
 cd "$work"
 
@@ -31,11 +43,17 @@ cd "$work"
 words='square/square.s square/square.v square/square.tape 160000'
 
 skip() {
+    skipped=$((skipped + 1))
     echo "$1: passed over, since $2"
 }
+tell() {
+    passed=$((passed + 1))
+    echo "$*"
+}
 say_log() { # NAME FILE
+    [ -s want ]
     cmp want "$2"
-    echo "$1: the log of gravitar run, $(wc -l <want) lines"
+    tell "$1: the log of gravitar run, $(wc -l <want) lines"
 }
 
 # Whether a compiler makes programs with these options that run.
@@ -57,14 +75,14 @@ try_c() { # NAME COMPILER OPTIONS..
     ./game ship/ship.s ship/ship.v 100 game.log game.tape game.pcm >game.txt
     "$gravitar" run ship.img game.tape | sed '$d' | cmp - game.log
     "$gravitar" pcm ship.img game.tape 34 | cmp - game.pcm
-    echo "$say: game: $(cat game.txt)"
+    tell "$say: game: $(cat game.txt)"
     ./records "$here/kinds.s" "$here/kinds.v" ship/ship.tape 1000000 >records.txt
     ./records ship/ship.s ship/ship.v ship/ship.tape 13600000 >records.txt
-    echo "$say: records: $(cat records.txt)"
+    tell "$say: records: $(cat records.txt)"
     "$@" -std=c11 -Wall -Wextra -Werror -I "$lib" -o limits "$root/bindings/c/limits.c" "$lib/libgravitar.a" \
         -Wl,--wrap=malloc,--wrap=realloc,--wrap=free -pthread
     ./limits ship/ship.s ship/ship.v ship/ship.tape >limits.txt
-    echo "$say: limits: at most $(awk '$2 ~ /^[0-9]+$/ && most < $2 { most = $2 } END { print most }' limits.txt)" \
+    tell "$say: limits: at most $(awk '$2 ~ /^[0-9]+$/ && most < $2 { most = $2 } END { print most }' limits.txt)" \
         "bytes of stack"
 }
 try_both() { # NAME COMPILER OPTIONS..
@@ -93,10 +111,11 @@ fi
 if command -v g++ >/dev/null; then
     { echo '#include "gravitar.h"'; echo 'int main() { return gravitar_version() - GRAVITAR_VERSION; }'; } >c.cc
     g++ -Wall -Wextra -Werror -pedantic -I "$lib" -o cc c.cc "$lib/libgravitar.a" && ./cc
-    echo "g++: the header"
+    tell "g++: the header"
 fi
 if command -v pkg-config >/dev/null; then
-    gcc -O2 -o shared "$here/frames.c" $(PKG_CONFIG_PATH=$lib pkg-config --cflags --libs gravitar)
+    # Its words are quoted for a shell.
+    eval "gcc -O2 -o shared \"\$here/frames.c\" $(PKG_CONFIG_PATH=$lib pkg-config --cflags --libs gravitar)"
     LD_LIBRARY_PATH=$lib ./shared $words >shared.log 2>frames.txt
     say_log pkg-config shared.log
 else
@@ -109,7 +128,7 @@ try_python() { # NAME, and the settings of the environment
     shift
     env "$@" PYTHONPATH="$work/site" python3 "$root/bindings/python/tests/test_gravitar.py" >python.txt 2>&1 ||
         { cat python.txt; exit 1; }
-    echo "$say: $(sed -n 's/^Ran \([0-9]*\) .*/\1 tests/p' python.txt)"
+    tell "$say: $(sed -n 's/^Ran \([0-9]*\) .*/\1 tests/p' python.txt)"
     env "$@" PYTHONPATH="$work/site" python3 "$here/picture.py" $words picture.svg >python.log
     say_log "$say" python.log
 }
@@ -137,13 +156,13 @@ if command -v cargo >/dev/null; then
     export GRAVITAR_LIB="$lib" CARGO_TARGET_DIR="$work/target"
     manifest=$root/bindings/rust/Cargo.toml
     cargo test -q --offline --manifest-path "$manifest" >cargo.txt 2>&1 || { cat cargo.txt; exit 1; }
-    echo "cargo test: $(awk '/^test result: ok/ { sum += $4 } END { print sum }' cargo.txt) tests"
+    tell "cargo test: $(awk '/^test result: ok/ { sum += $4 } END { print sum }' cargo.txt) tests"
     cargo run -q --offline --release --manifest-path "$manifest" --example frames -- $words >rust.log
     say_log cargo rust.log
     target=$(rustc -vV | sed -n 's/^host: //p')
     if RUSTUP_AUTO_INSTALL=0 RUSTFLAGS=-Zsanitizer=address cargo +nightly test -q --offline --tests --manifest-path "$manifest" \
         --target "$target" >cargo.txt 2>&1; then
-        echo "cargo +nightly with the address sanitizer: the tests"
+        tell "cargo +nightly with the address sanitizer: the tests"
     elif grep -q '^test result: FAILED\|AddressSanitizer' cargo.txt; then
         cat cargo.txt
         exit 1
@@ -153,3 +172,6 @@ if command -v cargo >/dev/null; then
 else
     skip cargo "it isn't there"
 fi
+[ "$passed" -gt 0 ] || stop "nothing was tried"
+whole=1
+echo "$passed passed, 0 failed, $skipped skipped"

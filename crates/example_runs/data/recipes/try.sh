@@ -1,37 +1,91 @@
 #!/bin/sh
 # Tries every recipe over the ship, in a folder of its own, and prints what each made:  try.sh
-# It needs gravitar, gnuplot and sox on the path. The status is 1 where a recipe fails, or where one that
-# has to fail doesn't.
+# It needs gravitar, gnuplot and sox on the path. The last line is `N passed, M failed`; the status is 1 where a
+# recipe fails or one that has to fail doesn't, and 2 where nothing was tried.
 set -eu
-here=$(cd "$(dirname "$0")" && pwd)
-ship=$(dirname "$here")/ship
-work=$(mktemp -d)
+here=$(CDPATH= cd -- "$(dirname -- "$0")" && pwd)
+ship=$here/../ship
+for tool in awk cmp gnuplot gravitar sox; do
+    command -v $tool >/dev/null || { echo "try.sh: no $tool on the path" >&2; exit 2; }
+done
+work=$(mktemp -d) || exit 2
 trap 'rm -rf "$work"' EXIT
+trap 'exit 1' INT TERM HUP
 cd "$work"
+passed=0 failed=0 said=$work/said
 
-made() { [ -s "$1" ] && echo "$1: $(wc -c <"$1") bytes"; }
-refused() { if "$@" >/dev/null 2>&1; then echo "not refused: $*" >&2; exit 1; fi; }
+pass() { passed=$((passed + 1)); }
+fail() { failed=$((failed + 1)); echo "failed: $*"; cat "$said" 2>/dev/null || true; }
+# Does a recipe, which has to make a file of some bytes.
+makes() {
+    made=$1
+    shift
+    if "$@" >"$said" 2>&1 && [ -s "$made" ]; then
+        pass
+        echo "$made: $(($(wc -c <"$made"))) bytes"
+    else
+        fail "$*"
+    fi
+}
+# The same for a recipe that writes to its output.
+writes() {
+    made=$1
+    shift
+    if "$@" >"$made" 2>"$said" && [ -s "$made" ]; then
+        pass
+        echo "$made: $(($(wc -c <"$made"))) bytes"
+    else
+        fail "$*"
+    fi
+}
+# A recipe that has to fail, with a word on why, which stays in the file `why`.
+refused() {
+    if "$@" >"$said" 2>&1 || [ ! -s "$said" ]; then fail "not refused, or without a word: $*"; else pass; fi
+    cp "$said" why
+}
+differ() { if cmp -s "$1" "$2"; then fail "$1 and $2 are the same"; else pass; fi; }
+has() { if "$@" >"$said" 2>&1; then pass; else fail "$*"; fi; }
 
-awk -f "$here/keys.awk" "$ship/ship.keys" >ship.tape
-cmp ship.tape "$ship/ship.tape"
-gravitar asm "$ship/ship.s" "$ship/ship.v" ship.img >ship.listing
-gravitar run ship.img ship.tape >ship.log
-gravitar frames ship.img ship.tape >ship.frames
-gravitar profile ship.img ship.tape >ship.profile
-awk -v k=60 -f "$here/frame.awk" ship.frames ship.log >one.log && made one.log
-awk -f "$here/svg.awk" ship.frames one.log >one.svg && made one.svg
-awk -v every=4 -f "$here/film.awk" ship.frames ship.log >film.svg && made film.svg
-sh "$here/picture.sh" ship.frames one.log gnuplot.svg && made gnuplot.svg
-sh "$here/picture.sh" ship.frames ship.log pictures && made pictures/1.png && made pictures/554.png
-sh "$here/film.sh" ship.frames ship.log ship.gif 2>said && made ship.gif
-sh "$here/wav.sh" ship.img ship.tape ship.wav && made ship.wav
-sh "$here/stereo.sh" ship.log stereo.wav && made stereo.wav
-sh "$here/trace.sh" ship.img ship.tape 325630 40 >ship.trace && made ship.trace
-awk -f "$here/names.awk" "$ship/ship.s" ship.listing ship.trace >named.trace && made named.trace
-grep -q '^thrust:$' named.trace
-awk -f "$here/names.awk" "$ship/ship.s" ship.listing ship.profile >named.profile && made named.profile
-grep -q ' thrust$' named.profile
-sh "$here/who.sh" ship.img ship.tape pk1 audc 300000 400000
+writes ship.tape awk -f "$here/keys.awk" "$ship/ship.keys"
+has cmp ship.tape "$ship/ship.tape"
+writes ship.listing gravitar asm "$ship/ship.s" "$ship/ship.v" ship.img
+writes ship.log gravitar run ship.img ship.tape
+writes ship.frames gravitar frames ship.img ship.tape
+writes ship.profile gravitar profile ship.img ship.tape
+writes one.log awk -v k=60 -f "$here/frame.awk" ship.frames ship.log
+writes one.svg awk -f "$here/svg.awk" ship.frames one.log
+writes fit.svg awk -v fit=1 -f "$here/svg.awk" ship.frames one.log
+has grep -q 'viewBox="-9830400 -7372800 19660800 14745600"' one.svg
+differ one.svg fit.svg
+writes film.svg awk -v every=4 -f "$here/film.awk" ship.frames ship.log
+makes gnuplot.svg sh "$here/picture.sh" ship.frames one.log gnuplot.svg
+makes fitted.svg sh "$here/picture.sh" --fit ship.frames one.log fitted.svg
+differ gnuplot.svg fitted.svg
+makes pictures/554.png sh "$here/picture.sh" ship.frames ship.log pictures
+has test -s pictures/1.png
+makes ship.gif sh "$here/film.sh" ship.frames ship.log ship.gif 40
+makes fitted.gif sh "$here/film.sh" --fit ship.frames ship.log fitted.gif 40
+makes ship.wav sh "$here/wav.sh" ship.img ship.tape ship.wav
+makes stereo.wav sh "$here/stereo.sh" ship.log stereo.wav
+writes ship.trace sh "$here/trace.sh" ship.img ship.tape 325630 40
+has test "$(wc -l <ship.trace)" -eq 40
+writes named.trace awk -f "$here/names.awk" "$ship/ship.s" ship.listing ship.trace
+has grep '^thrust:$' named.trace
+writes named.profile awk -f "$here/names.awk" "$ship/ship.s" ship.listing ship.profile
+has grep ' thrust$' named.profile
+writes who sh "$here/who.sh" ship.img ship.tape pk1 audc 300000 400000
+has grep 'sta \$6001$' who
+writes longest.trace sh "$here/trace.sh" ship.img ship.tape 325630 2500
+
+# Names that a shell, awk or gnuplot would take as something else.
+name=$(printf "it's=\140touch ran\140 \$(touch ran)\na")
+cp ship.frames "$name.frames"
+cp one.log "$name.log"
+makes "$name.svg" sh "$here/picture.sh" "$name.frames" "$name.log" "$name.svg"
+makes "$name.gif" sh "$here/film.sh" "$name.frames" "$name.log" "$name.gif"
+makes "$name.png/1.png" sh "$here/picture.sh" "$name.frames" "$name.log" "$name.png"
+makes "$name.wav" sh "$here/stereo.sh" ship.log "$name.wav"
+has test ! -e ran
 
 printf '1 left\n' >bad.keys
 refused awk -f "$here/keys.awk" bad.keys
@@ -40,8 +94,23 @@ refused awk -f "$here/svg.awk" /dev/null ship.log
 refused awk -f "$here/film.awk" /dev/null ship.log
 refused sh "$here/picture.sh" /dev/null ship.log x.svg
 refused sh "$here/film.sh" /dev/null ship.log x.gif
+refused sh "$here/film.sh" ship.frames ship.log x.gif 0
 refused sh "$here/wav.sh" none.img ship.tape x.wav
 refused sh "$here/stereo.sh" /dev/null x.wav
 refused sh "$here/trace.sh" none.img ship.tape 0 10
+refused sh "$here/trace.sh" ship.img ship.tape 0 2501
 refused sh "$here/who.sh" ship.img ship.tape pk1 audf 300000 400000
-echo "each recipe did what it is for"
+for recipe in film picture range stereo trace wav who; do
+    refused sh "$here/$recipe.sh"
+    has grep '^usage: ' why
+done
+# A path on which nothing is but what a shell script needs anyway.
+mkdir bare
+for tool in awk cat dirname grep mktemp rm sed sh; do ln -s "$(command -v $tool)" bare; done
+for recipe in "trace.sh ship.img ship.tape 0 10" "who.sh ship.img ship.tape pk1 audc 300000 400000" "wav.sh ship.img ship.tape x.wav"; do
+    refused env PATH="$work/bare" sh "$here/"$recipe
+    has grep 'no gravitar on the path' why
+done
+has test ! -e x.svg -a ! -e x.gif -a ! -e x.wav
+echo "$passed passed, $failed failed"
+[ $failed -eq 0 ]

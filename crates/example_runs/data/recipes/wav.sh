@@ -2,7 +2,13 @@
 # The sound of a run as a wav file, one channel:  wav.sh IMAGE TAPE OUT.wav
 # It needs gravitar and sox. The high-pass takes away the mean level; `norm` makes the sound as loud as it can be.
 set -eu
-pcm=$(mktemp)
-trap 'rm -f "$pcm"' EXIT
-gravitar pcm "$1" "$2" 34 > "$pcm"
-sox -t raw -e signed-integer -b 32 -L -r 44471 -c 1 "$pcm" -b 16 "$3" highpass 20 norm -3
+[ $# = 3 ] || { echo "usage: wav.sh IMAGE TAPE OUT.wav" >&2; exit 2; }
+for tool in gravitar sox; do
+    command -v $tool > /dev/null || { echo "wav.sh: no $tool on the path" >&2; exit 1; }
+done
+work=$(mktemp -d) || exit 2
+trap 'rm -rf "$work"' EXIT
+trap 'exit 1' INT TERM HUP
+gravitar pcm "$1" "$2" 34 > "$work/pcm"
+sox -t raw -e signed-integer -b 32 -L -r 44471 -c 1 "$work/pcm" -b 16 "$work/sound.wav" highpass 20 norm -3
+cat "$work/sound.wav" > "$3"
