@@ -107,14 +107,14 @@ static void unfence(const char *call, struct fenced it)
     munmap(it.pages - PAGE, it.pages_len + 2 * PAGE);
 }
 
-enum kind { EMPTY, POWER_ON, ADVANCE, RECORDS, PCM, ASSEMBLE };
+enum kind { EMPTY, POWER_ON, ADVANCE, RECORDS, PCM, ASSEMBLE, COMMAND };
 
 /* A call, and what it is to answer. */
 struct call {
     const char *name;
     enum kind kind;
     uint32_t answer;
-    const uint8_t *first, *second; /* image and tape, or both sources */
+    const uint8_t *first, *second; /* image and tape, both sources, or a request and nothing */
     size_t first_len, second_len;
     uint64_t clock;
     size_t output_len;
@@ -148,6 +148,10 @@ static void *run(void *given)
     case ASSEMBLE:
         it->status = gravitar_assemble(in[0].at, in[0].len, in[1].at, in[1].len, it->output.at, it->output.len,
                                        it->board.at, it->board.len, report);
+        break;
+    case COMMAND:
+        it->status =
+            gravitar_command(in[0].at, in[0].len, it->output.at, it->output.len, report);
         break;
     }
     return NULL;
@@ -220,7 +224,7 @@ static void measure(struct call it)
         if (it.status != GRAVITAR_NO_MEMORY)
             fail(it.name, "did without memory that it asked for");
     }
-    printf("%-32s %7zu bytes of stack, %8zu of memory at most in %ld allocations\n", it.name,
+    printf("%-54s %7zu bytes of stack, %8zu of memory at most in %ld allocations\n", it.name,
            second > stack ? second : stack, peak, asked);
 }
 
@@ -236,6 +240,25 @@ static uint8_t *load(const char *name, size_t *len)
     *len = fread(at, 1, 1 << 20, in);
     fclose(in);
     return at;
+}
+
+/* The request of a command line over an image, a tape, a script, a board and both sources. */
+static size_t request_of(uint8_t *request, const char *line, const uint8_t *const files[],
+                         const size_t *lens)
+{
+    static const char *const names[] = {"i", "t", "d", "b", "c", "v"};
+    uint8_t *at = request + 16;
+    uint64_t words = 0;
+    for (; *line; words++) {
+        size_t len = strcspn(line, " ");
+        at = gravitar_put(at, line, len);
+        line += len + (line[len] == ' ');
+    }
+    gravitar_put_number(request, words);
+    gravitar_put_number(request + 8, 6);
+    for (int i = 0; i < 6; i++)
+        at = gravitar_put(gravitar_put(at, names[i], 1), files[i], lens[i]);
+    return (size_t)(at - request);
 }
 
 int main(int argc, char **argv)
@@ -277,6 +300,26 @@ int main(int argc, char **argv)
     it = assemble, it.name = "  BAD_PROCESSOR_SOURCE", it.answer = GRAVITAR_BAD_PROCESSOR_SOURCE, it.first = (uint8_t *)"?", it.first_len = 1;
     measure(it);
     it = assemble, it.name = "  BAD_GENERATOR_SOURCE", it.answer = GRAVITAR_BAD_GENERATOR_SOURCE, it.second = (uint8_t *)"?", it.second_len = 1;
+    measure(it);
+    static uint8_t request[1 << 20], board[GRAVITAR_BOARD_LEN];
+    static const char script[] = "until 20000\nregs\ndev\ndis 9000 9\n";
+    const uint8_t *files[] = {image, source[2], (const uint8_t *)script, board, source[0], source[1]};
+    size_t lens[] = {sizeof image, len[2], sizeof script - 1, sizeof board, len[0], len[1]};
+    gravitar_power_on(board, sizeof board);
+    static const char *const lines[] = {
+        "run i t --until 20000 --save b --cuts 5,7000 --state b", "asm c v i", "debug i t d", "show b",
+        "pcm i t 34 --until 20000", "frames i t --until 20000", "seek i t 20000,3,9000",
+        "profile i t --until 20000", "run i", "run i x", "run t t",
+    };
+    for (size_t i = 0; i < sizeof lines / sizeof *lines; i++) {
+        it = (struct call){lines[i], COMMAND, GRAVITAR_DONE, request, request,
+                           .output_len = TEXT_LEN};
+        it.first_len = request_of(request, lines[i], files, lens);
+        measure(it);
+    }
+    it.name = "  NO_ROOM", it.answer = GRAVITAR_NO_ROOM, it.output_len = 0;
+    measure(it);
+    it.name = "  BAD_REQUEST", it.answer = GRAVITAR_BAD_REQUEST, it.first_len--;
     measure(it);
     for (int i = 0; i < 3; i++)
         __real_free(source[i]);

@@ -19,6 +19,11 @@ def _project():
     return dict(re.findall(r'^([a-z-]+) = "(.*)"$', text, re.MULTILINE))
 
 
+def _version():
+    """The package's version, which is that of the calls."""
+    return re.search(r"^_VERSION = (\d+)$", (HERE / "gravitar" / "_calls.py").read_text(), re.MULTILINE)[1]
+
+
 def _library():
     library = pathlib.Path(os.environ.get("GRAVITAR_LIB") or HERE) / "libgravitar.so"
     if not library.is_file():
@@ -34,7 +39,7 @@ def _row(name, content):
 
 def build_wheel(wheel_directory, config_settings=None, metadata_directory=None):
     project = _project()
-    name, version = project["name"], project["version"]
+    name, version = project["name"], _version()
     tag = "py3-none-" + re.sub(r"[-.]", "_", sysconfig.get_platform())
     info = f"{name}-{version}.dist-info"
     files = {f"{name}/{path.name}": path.read_bytes() for path in (HERE / name).glob("*.py")}

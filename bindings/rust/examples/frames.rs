@@ -6,7 +6,7 @@ use std::fs::read;
 use std::io::Write;
 
 fn main() -> Result<(), Box<dyn Error>> {
-    assert_eq!(version(), 2);
+    assert_eq!(version(), 3);
     let words: Vec<String> = std::env::args().collect();
     let [_, processor, generator, tape, last] = words.as_slice() else {
         return Err("frames PROCESSOR.s GENERATOR.v TAPE CLOCK".into());

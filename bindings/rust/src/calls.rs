@@ -80,4 +80,11 @@ unsafe extern "C" {
         note_len: usize,
         report: *mut Report,
     ) -> u32;
+    pub fn gravitar_command(
+        request: *const u8,
+        request_len: usize,
+        answer: *mut u8,
+        answer_len: usize,
+        report: *mut Report,
+    ) -> u32;
 }

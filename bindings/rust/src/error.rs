@@ -1,4 +1,5 @@
 //! What the library refuses.
+use crate::Done;
 use std::fmt;
 
 /// Where bytes are wrong, as `include/gravitar.h` has it for the status, and the words of it.
@@ -20,6 +21,11 @@ pub enum Error {
     Tape(Fault),
     /// A clock above 2^48, or a sample of no clock or of more than 65,535.
     Number(u64),
+    /// A request isn't well formed at this offset. `command` makes no such request.
+    Request(u64),
+    /// A command that a `Machine` did by the program's command line ended with another status than
+    /// 0.
+    Command(Done),
     NoMemory,
     ProcessorSource(Fault),
     GeneratorSource(Fault),
@@ -43,6 +49,7 @@ impl Error {
             9 => Self::GeneratorSource(fault),
             10 => Self::BoardLength(fault),
             11 => Self::BoardVersion(fault),
+            12 => Self::Request(place),
             _ => Self::Status(status),
         }
     }
@@ -57,6 +64,11 @@ impl fmt::Display for Error {
             }
             Self::Tape(fault) => write!(f, "tape: {}", fault.words),
             Self::Number(number) => write!(f, "{number} is out of range"),
+            Self::Request(place) => write!(f, "request: byte {place}"),
+            Self::Command(done) => {
+                let note = String::from_utf8_lossy(&done.note);
+                write!(f, "status {}: {}", done.status, note.trim_end())
+            }
             Self::NoMemory => write!(f, "no memory"),
             Self::ProcessorSource(fault) => write!(f, "processor source: {}", fault.words),
             Self::GeneratorSource(fault) => write!(f, "generator source: {}", fault.words),

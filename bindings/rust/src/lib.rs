@@ -1,6 +1,7 @@
-//! Safe calls of the board. Boards, images, tapes and logs are bytes, and a run that is done in stretches
-//! is the run that is done at once. `include/gravitar.h` says it call by call, and these functions keep
-//! its rules: a slice has as many bytes as it says, and nothing that is written overlaps anything else.
+//! Safe calls of the board. Boards, images, tapes and logs are bytes, and a run that is done in
+//! stretches is the run that is done at once. `include/gravitar.h` says it call by call, and these
+//! functions keep its rules: a slice has as many bytes as it says, and nothing that is written
+//! overlaps anything else.
 //!
 //! ```no_run
 //! # fn main() -> Result<(), Box<dyn std::error::Error>> {
@@ -15,13 +16,18 @@
 //! # }
 //! ```
 mod calls;
+mod command;
 mod error;
+mod labels;
 mod machine;
 
+pub use command::{Done, command};
 pub use error::{Error, Fault};
-pub use machine::Machine;
+pub use labels::labels;
+pub use machine::{Machine, PORTS, Routine};
 
 use calls::{Report, StretchCall};
+use std::cell::Cell;
 
 /// The bytes of a board, and of an image.
 pub const BOARD_LEN: usize = 4356;
@@ -163,8 +169,8 @@ pub fn advance(run: Run<'_>, board: &[u8], end: End) -> Result<Stretch, Error> {
     stretch(calls::gravitar_advance, run, board, clock, boundary)
 }
 
-/// Runs from a board as `advance` does, and gives the records on the way, 40 bytes each: `record_list`
-/// reads them.
+/// Runs from a board as `advance` does, and gives the records on the way, 40 bytes each:
+/// `record_list` reads them.
 pub fn records(run: Run<'_>, board: &[u8], end: End) -> Result<Stretch, Error> {
     let (clock, boundary) = end.numbers();
     stretch(calls::gravitar_records, run, board, clock, boundary)
@@ -203,8 +209,8 @@ fn record(bytes: &[u8]) -> Option<Record> {
     })
 }
 
-/// Runs from a board to the first boundary that isn't before a clock, and gives a sample for each `per`
-/// clocks, four bytes with the lowest first.
+/// Runs from a board to the first boundary that isn't before a clock, and gives a sample for each
+/// `per` clocks, four bytes with the lowest first.
 pub fn pcm(run: Run<'_>, board: &[u8], clock: u64, per: u16) -> Result<Stretch, Error> {
     stretch(calls::gravitar_pcm, run, board, clock, per.into())
 }
@@ -231,7 +237,7 @@ fn stroke(line: &[u8]) -> Option<Stroke> {
     })
 }
 
-/// Makes a call, and where its buffer was too short makes it again.
+/// Makes a call that runs.
 fn stretch(
     call: StretchCall,
     run: Run<'_>,
@@ -239,11 +245,10 @@ fn stretch(
     clock: u64,
     number: u32,
 ) -> Result<Stretch, Error> {
-    let (mut board, mut output) = (board.to_vec(), vec![0; 65_536]);
-    loop {
-        let mut report = Report::default();
+    let mut board = board.to_vec();
+    let (status, report, output) = answer(&STRETCH_ROOM, |output, report| {
         // SAFETY: as in `assemble`.
-        let status = unsafe {
+        unsafe {
             call(
                 run.image.as_ptr(),
                 run.image.len(),
@@ -256,22 +261,50 @@ fn stretch(
                 run.timers.into(),
                 output.as_mut_ptr(),
                 output.len(),
-                &mut report,
+                report,
             )
-        };
-        match status {
-            NO_ROOM => output.resize(report.used as usize, 0),
-            DONE | JAMMED => {
-                output.truncate(report.used as usize);
-                return Ok(Stretch {
-                    board,
-                    output,
-                    clock: report.clock,
-                    jammed: status == JAMMED,
-                });
-            }
-            _ => return Err(refusal(status, &report, &output)),
         }
+    });
+    match status {
+        DONE | JAMMED => Ok(Stretch {
+            board,
+            output,
+            clock: report.clock,
+            jammed: status == JAMMED,
+        }),
+        _ => Err(refusal(status, &report, &output)),
+    }
+}
+
+thread_local! {
+    /// The room that this thread's last call of a run had, and that of its last command line.
+    static STRETCH_ROOM: Cell<usize> = const { Cell::new(1 << 16) };
+    static COMMAND_ROOM: Cell<usize> = const { Cell::new(1 << 20) };
+}
+
+/// No more room than this is kept for the next call.
+const KEPT_ROOM: usize = 1 << 26;
+
+/// The status of a call that writes to a buffer, its report, and what it wrote. A buffer that is
+/// too short is at least doubled, the call is made again, and the thread's next call begins with as
+/// much room.
+fn answer(
+    kept: &'static std::thread::LocalKey<Cell<usize>>,
+    mut call: impl FnMut(&mut [u8], &mut Report) -> u32,
+) -> (u32, Report, Vec<u8>) {
+    let mut room = kept.get();
+    loop {
+        let (mut output, mut report) = (vec![0; room], Report::default());
+        let status = call(&mut output, &mut report);
+        let used = usize::try_from(report.used).unwrap_or(usize::MAX);
+        if status == NO_ROOM {
+            room = used.max(2 * room);
+            continue;
+        }
+        output.truncate(used);
+        output.shrink_to_fit();
+        kept.set(room.min(KEPT_ROOM));
+        return (status, report, output);
     }
 }
 

@@ -1,7 +1,7 @@
 //! Tests over the examples' sources.
 use gravitar::{
-    BOARD_LEN, CLOCK_LIMIT, End, Error, FRAME, Machine, Record, Run, advance, assemble, pcm,
-    power_on, strokes, version,
+    BOARD_LEN, CLOCK_LIMIT, End, Error, FRAME, Machine, PORTS, Record, Run, advance, assemble,
+    command, pcm, power_on, record_list, records, strokes, version,
 };
 
 const TAPE: &[u8] = b"2000000 END\n";
@@ -53,6 +53,83 @@ fn the_version_is_the_headers() {
     let header = include_str!("../../../include/gravitar.h");
     assert!(header.contains(&format!("#define GRAVITAR_VERSION {}\n", version())));
     assert_eq!(power_on().len(), BOARD_LEN);
+    let package = env!("CARGO_PKG_VERSION_MAJOR");
+    assert_eq!(package, version().to_string());
+}
+
+#[test]
+fn timers_interrupt_where_they_are_wired() {
+    let image = assemble(source!("embed/timers.s"), source!("embed/kinds.v")).unwrap();
+    let tape = b"300000 END\n";
+    let files: [(&str, &[u8]); 2] = [("i", &image), ("t", tape)];
+    let run = Run {
+        image: &image,
+        tape,
+        timers: true,
+    };
+    let done = command(&["run", "i", "t", "--timers", "--save", "b"], &files).unwrap();
+    let heard = command(&["pcm", "i", "t", "34", "--timers"], &files).unwrap();
+    let end = End::Boundary(300_000);
+    let whole = advance(run, &power_on(), end).unwrap();
+    let log = String::from_utf8(whole.output).unwrap();
+    assert_eq!(format!("{log}E {}\n", whole.clock).into_bytes(), done.out);
+    assert_eq!(done.file("b"), Some(&whole.board[..]));
+    let with = records(run, &power_on(), end).unwrap();
+    assert_eq!(record_list(&with.output).map(line).collect::<String>(), log);
+    assert_eq!(with.board, whole.board);
+    let samples = pcm(run, &power_on(), 300_000, 34).unwrap();
+    assert_eq!((samples.output, &samples.board), (heard.out, &whole.board));
+    // Each interrupt writes the latch and counts in the last byte of the vector RAM, the last of a
+    // board.
+    let count = log.lines().filter(|it| it.starts_with('L')).count();
+    assert!(count > 100 && usize::from(whole.board[BOARD_LEN - 1]) == count % 256);
+    // Without them there is only the divider's request, once in 6,144 clocks.
+    let without = Run {
+        timers: false,
+        ..run
+    };
+    let without = advance(without, &power_on(), end).unwrap();
+    assert_eq!(without.board[BOARD_LEN - 1], 48);
+    let mut machine = Machine::new(image, true).unwrap();
+    let parts: Vec<u8> = [1, 99_999, 200_000]
+        .into_iter()
+        .flat_map(|clocks| machine.run(clocks).unwrap())
+        .collect();
+    assert_eq!(parts, log.as_bytes()[..parts.len()]);
+    assert_eq!(machine.save()[BOARD_LEN - 1], whole.board[BOARD_LEN - 1]);
+}
+
+#[test]
+fn the_place_of_a_bad_line() {
+    let image = square();
+    for lines in [1, 2, 3, 1_000] {
+        let tape = "0 IN3 FF\n".repeat(lines - 1) + "0 IN9 FF\n1 END\n";
+        let run = over(&image, tape.as_bytes());
+        let wanted = (lines as u64, format!("line {lines}: port"));
+        for refused in [
+            advance(run, &power_on(), End::Clock(1)),
+            records(run, &power_on(), End::Clock(1)),
+            pcm(run, &power_on(), 1, 34),
+        ] {
+            let Err(Error::Tape(fault)) = refused else {
+                panic!("it isn't refused");
+            };
+            assert_eq!((fault.place, fault.words), wanted);
+        }
+    }
+}
+
+#[test]
+fn only_ports_are_set() {
+    let mut machine = Machine::new(square(), false).unwrap();
+    for port in ["IN3 FF\n0 IN4", "in3", "IN3 ", "", "P8"] {
+        let refused = machine.set(port, 0).unwrap_err().to_string();
+        assert_eq!(refused, format!("tape: {port:?} names no port"));
+    }
+    for port in PORTS {
+        machine.set(port, 0xFF).unwrap();
+    }
+    machine.run(1).unwrap();
 }
 
 #[test]

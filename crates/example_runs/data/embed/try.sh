@@ -4,8 +4,10 @@
 # sanitizers of addresses and undefined behaviour.
 #     try.sh [FOLDER]     FOLDER is the library's, as tools/quick.sh --lib or tools/lib_folder.sh leaves it, by
 #                         default what GRAVITAR_LIB names; else the library is proved and built
+# The rows of crates/board_rows are done by one call each, four parts at a time, and in Python 500 random command
+# lines, which have to give what the program gives.
 # The program is GRAVITAR of the environment, else FOLDER/gravitar, else that of crates/gravitar_program/out. It
-# needs gcc. What else a machine lacks (clang, a sanitizer, python3, pip, cargo) is said and passed over.
+# needs gcc. What else a machine lacks (clang, a sanitizer, python3, pip, Dask, cargo) is said and passed over.
 # It ends at the first that fails. The last line is `N passed, M failed, K skipped`; the status isn't 0 where one
 # failed, and 2 where nothing was tried.
 set -eu
@@ -41,6 +43,12 @@ cd "$work"
 "$gravitar" run square.img square/square.tape | sed '$d' >want
 "$gravitar" asm ship/ship.s ship/ship.v ship.img >ship.listing
 words='square/square.s square/square.v square/square.tape 160000'
+printf 'regs\nuntil 200000\nregs\nbreak 905B\ngo\nvdis 2000 8\n' >script
+session='ship/ship.s ship/ship.v ship/ship.tape script'
+"$gravitar" debug ship.img ship/ship.tape script >want.session
+"$gravitar" profile ship.img ship/ship.tape --until 5000000 >profile
+awk -f "$here/../recipes/names.awk" ship/ship.s ship.listing profile | grep '^R' >named
+export GRAVITAR="$gravitar"
 
 skip() {
     skipped=$((skipped + 1))
@@ -56,6 +64,12 @@ say_log() { # NAME FILE
     tell "$1: the log of gravitar run, $(wc -l <want) lines"
 }
 
+say_session() { # NAME FILE
+    [ -s want.session ]
+    cmp want.session "$2"
+    tell "$1: the session of gravitar debug, $(wc -l <want.session) lines"
+}
+
 # Whether a compiler makes programs with these options that run.
 can() { # COMPILER OPTIONS..
     { echo '#include <stdio.h>'; echo 'int main(void) { return puts("can") < 0; }'; } >can.c
@@ -66,7 +80,7 @@ can() { # COMPILER OPTIONS..
 try_c() { # NAME COMPILER OPTIONS..
     say=$1
     shift
-    for example in frames game records; do
+    for example in frames game records session; do
         "$@" -std=c11 -Wall -Wextra -Werror -pedantic -I "$lib" -o "$example" "$here/$example.c" \
             "$lib/libgravitar.a"
     done
@@ -79,10 +93,14 @@ try_c() { # NAME COMPILER OPTIONS..
     ./records "$here/kinds.s" "$here/kinds.v" ship/ship.tape 1000000 >records.txt
     ./records ship/ship.s ship/ship.v ship/ship.tape 13600000 >records.txt
     tell "$say: records: $(cat records.txt)"
+    ./session $session >c.session
+    say_session "$say: session" c.session
+    (CC=$1 && shift && CFLAGS=$* && export CC CFLAGS && "$root/bindings/c/compare.sh" "$lib") >compare.txt
+    tell "$say: compare: $(cat compare.txt)"
     "$@" -std=c11 -Wall -Wextra -Werror -I "$lib" -o limits "$root/bindings/c/limits.c" "$lib/libgravitar.a" \
         -Wl,--wrap=malloc,--wrap=realloc,--wrap=free -pthread
     ./limits ship/ship.s ship/ship.v ship/ship.tape >limits.txt
-    tell "$say: limits: at most $(awk '$2 ~ /^[0-9]+$/ && most < $2 { most = $2 } END { print most }' limits.txt)" \
+    tell "$say: limits: at most $(sed -n 's/.* \([0-9]*\) bytes of stack.*/\1/p' limits.txt | sort -n | tail -n 1)" \
         "bytes of stack"
 }
 try_both() { # NAME COMPILER OPTIONS..
@@ -101,6 +119,8 @@ try_both clang clang
 # The kit's compiler has no headers of its own.
 kit=$(command -v rt >/dev/null && dirname "$(rt doc | tail -1)" || true)
 try_both "the kit's clang" "$kit/toolchain/bin/clang" -isystem "$(gcc -print-file-name=include)"
+"$root/bindings/c/rows.sh" "$lib" >rows.txt || { cat rows.txt; exit 1; }
+tell "rows by one call each: $(tail -n 1 rows.txt)"
 if command -v valgrind >/dev/null; then
     gcc -std=c11 -O1 -g -I "$lib" -o frames "$here/frames.c" "$lib/libgravitar.a"
     valgrind -q --error-exitcode=9 --leak-check=full ./frames $words >c.log 2>frames.txt || { cat frames.txt; exit 1; }
@@ -126,10 +146,17 @@ fi
 try_python() { # NAME, and the settings of the environment
     say=$1
     shift
-    env "$@" PYTHONPATH="$work/site" python3 "$root/bindings/python/tests/test_gravitar.py" >python.txt 2>&1 ||
+    tests=$root/bindings/python/tests
+    env "$@" PYTHONPATH="$work/site" python3 -B -m unittest discover -v -s "$tests" >python.txt 2>&1 ||
         { cat python.txt; exit 1; }
     tell "$say: $(sed -n 's/^Ran \([0-9]*\) .*/\1 tests/p' python.txt)"
-    env "$@" PYTHONPATH="$work/site" python3 "$here/picture.py" $words picture.svg >python.log
+    ! grep -q ' skipped .*Dask' python.txt || skip "$say: Dask" "it isn't there"
+    env "$@" PYTHONPATH="$work/site" python3 -B "$tests/beside_program.py" "$gravitar" >python.txt || { cat python.txt; exit 1; }
+    tell "$say: beside the program: $(cat python.txt)"
+    env "$@" PYTHONPATH="$work/site" python3 -B "$here/profile.py" ship/ship.s ship/ship.v ship/ship.tape 5000000 >python.named
+    cmp named python.named
+    tell "$say: the profile of gravitar profile with names, $(wc -l <named) lines"
+    env "$@" PYTHONPATH="$work/site" python3 -B "$here/picture.py" $words picture.svg >python.log
     say_log "$say" python.log
 }
 if ! command -v python3 >/dev/null; then
@@ -159,6 +186,8 @@ if command -v cargo >/dev/null; then
     tell "cargo test: $(awk '/^test result: ok/ { sum += $4 } END { print sum }' cargo.txt) tests"
     cargo run -q --offline --release --manifest-path "$manifest" --example frames -- $words >rust.log
     say_log cargo rust.log
+    cargo run -q --offline --release --manifest-path "$manifest" --example session -- $session >rust.session
+    say_session cargo rust.session
     target=$(rustc -vV | sed -n 's/^host: //p')
     if RUSTUP_AUTO_INSTALL=0 RUSTFLAGS=-Zsanitizer=address cargo +nightly test -q --offline --tests --manifest-path "$manifest" \
         --target "$target" >cargo.txt 2>&1; then
