@@ -4,9 +4,10 @@
     python3 tools/doc_names.py              README.md, CONTRIBUTING.md and all of docs/*.md
     python3 tools/doc_names.py FILE..       these pages
 
-A name exists where it is a file or folder, or a word of the sources, definitions, proofs, data, examples, bindings or tools, or one of
-OUTSIDE below. Words of capital letters alone are places for a name or a number. It prints each line with a name that is missing; the
-status is 1 where there is one, and 2 where nothing was looked at."""
+A name exists where it is a file or folder, or a word of the sources, definitions, proofs, data,
+examples, bindings or tools, or one of OUTSIDE below. Words of capital letters alone are places for
+a name or a number. It prints each line with a name that is missing; the status is 1 where there is
+one, and 2 where nothing was looked at."""
 from __future__ import annotations
 
 import pathlib
@@ -15,10 +16,14 @@ import sys
 
 TOP = pathlib.Path(__file__).resolve().parent.parent
 FOLDERS = ("crates", "tools", "include", "bindings", ".ci", "web")
-TEXTS = (".rt", ".antt", ".edit", ".rows", ".txt", ".h", ".py", ".sh", ".md", ".s", ".v", ".awk", ".c", ".rs", ".toml", ".js", ".html", "")
+TEXTS = (
+    *(".rt", ".antt", ".edit", ".rows", ".txt", ".h", ".py", ".sh", ".md", ".s", ".v", ".awk"),
+    *(".c", ".rs", ".toml", ".js", ".html", ""),
+)
 WORD = re.compile(r"[A-Za-z_][A-Za-z0-9_-]*")
 NAME = re.compile(r"[A-Za-z_][A-Za-z0-9_]*")
-# Names of other programs, of the kit and of systems, and what a page makes up or says that there isn't.
+# Names of other programs, of the kit and of systems, and what a page makes up or says that there
+# isn't.
 OUTSIDE = frozenset("""
     rt fmt tidy plant dac8208d650f15bf byteorder memmove memset callgrind man xargs parallel
     bashrc zshrc vimrc fpath compinit modeline runtimepath
@@ -52,7 +57,8 @@ def missing(quoted: str, words: set[str]) -> list[str]:
     """The words of a quoted text that the repository doesn't have."""
     if (TOP / quoted).exists():
         return []
-    return [word for word in NAME.findall(quoted) if len(word) > 2 and word not in words and not re.fullmatch(r"[A-Z]+", word)]
+    names = [word for word in NAME.findall(quoted) if len(word) > 2 and word not in words]
+    return [word for word in names if not re.fullmatch(r"[A-Z]+", word)]
 
 
 def main(names: list[str]) -> int:
