@@ -15,6 +15,7 @@ short= folder=
 case $#:${1-} in 0:) ;; 1:-* | 1:) usage ;; 1:*) folder=$1 ;; *) usage ;; esac
 tools=$(CDPATH= cd -- "$(dirname -- "$0")" && pwd -P)
 top=$tools/..
+examples=$top/crates/example_runs/data
 if [ "$folder" ]; then
     folder=$(CDPATH= cd -- "$folder" && pwd -P) && [ -x "$folder/gravitar" ] || { echo "check.sh: no gravitar in $1" >&2; exit 2; }
 fi
@@ -89,9 +90,9 @@ scripts() {
 # The program reads nothing of its input, whatever it does.
 input_stays() {
     cd "$work"
-    cp "$top/examples/latch/latch.s" c
-    cp "$top/examples/latch/latch.v" v
-    cp "$top/examples/latch/latch.script" d
+    cp "$examples/latch/latch.s" c
+    cp "$examples/latch/latch.v" v
+    cp "$examples/latch/latch.script" d
     printf '20 END\n' >t
     "$program" asm c v i >listing
     "$program" run i t --save s >log
@@ -152,15 +153,24 @@ if [ "$program" ]; then
 fi
 ended "tests of these tools" $tests "$work/tests"
 if [ "$program" ] && [ -z "$short" ]; then
-    export PATH="$folder:$PATH"
+    export PATH="$folder:$PATH:/usr/games"
     check "the pages' commands" python3 "$tools/doc_commands.py"
+    check_with "the guide, pasted" "bash git" python3 -B "$tools/doc_pasted.py"
+    grep '^passed over' "$work/said" | sed 's/^/    /' || true
     check "broken files" python3 "$tools/broken_files.py" "$program" --jobs 2
     check_with "memory refused" cc "$tools/refuse_memory.sh" "$program"
     check "real faults and kills" "$tools/real_faults.sh" "$program" 20
-    check_with recipes "gnuplot sox" sh "$top/examples/recipes/try.sh"
+    check_with recipes "gnuplot sox" sh "$examples/recipes/try.sh"
+    grep '^skipped' "$work/said" | sed 's/^/    /' || true
+    check_with "a game and its font" sha256sum sh "$examples/rubble/try.sh"
     check_with "sources by ca65" "ca65 ld65" "$tools/ca65/both.sh" "$program"
+    check_with "ca65, ld65 and C" "ca65 cl65 ld65" sh "$examples/ca65/try.sh"
+    check_with "a tape from MAME" mame sh "$examples/recipes/mame.sh"
+    check_with "files for Vim" vim "$tools/vim/try.sh"
+    check "planted differences" python3 -B "$tools/planted_differences.py" "$program"
+    check_with "runs that are kept and compared" "git sha256sum split" "$tools/keep_and_compare.sh" "$program"
     if [ -f "$folder/libgravitar.a" ]; then
-        check_with "the library and its bindings" gcc "$top/examples/embed/try.sh" "$folder"
+        check_with "the library and its bindings" gcc "$examples/embed/try.sh" "$folder"
         grep 'passed over' "$work/said" | sed 's/^/    /' || true
     else
         skip "the library and its bindings" "no libgravitar.a beside the program"

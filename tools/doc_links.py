@@ -2,7 +2,8 @@
 """Looks for links of the pages that lead nowhere or to the wrong place, and for lines too long.
 
     python3 tools/doc_links.py           prints what is wrong; the status is 1 where something is
-    python3 tools/doc_links.py --mend    also puts the right line into each link whose line moved
+    python3 tools/doc_links.py --mend    also puts the right line into each link whose line moved,
+                                         and the real path into one through examples/
 
 It reads README.md, CONTRIBUTING.md, CHANGELOG.md and docs/*.md.
 
@@ -15,6 +16,7 @@ It reads README.md, CONTRIBUTING.md, CHANGELOG.md and docs/*.md.
   `clause` of `function`, or several clauses of one function. A section in which a sentence says
   "the clauses are those of `function`" needs no more. The line has to be in the contract of that
   function.
+- No link leads through `examples`, which is itself a link: a forge doesn't follow it.
 - Prose has at most 100 columns, outside tables, code and images, and links count by their text;
   a cell of a table has at most 160."""
 from __future__ import annotations
@@ -28,6 +30,8 @@ from typing import Iterator, NamedTuple, Optional
 TOP = pathlib.Path(__file__).resolve().parent.parent
 WIDTH = 100
 CELL = 160
+# `examples` is a link, since the gate wants its files below crates/.
+THROUGH = re.compile(r"\]\(((?:\.\./)*)examples(?=[/)#]|$)")
 WITH_LINES = ("PROVED.md", "READING.md", "MAP.md")
 LINK = re.compile(r"\[([^\]]+)\]\(([^)\s#]*)(?:#([^)\s]*))?\)")
 NAMED = r"\[`[^`]+`\]\([^)\s]+\)"
@@ -61,6 +65,8 @@ def dead_links(page: pathlib.Path, text: str) -> Iterator[str]:
             continue
         if not file.exists():
             yield f"{name}: {target} leads nowhere"
+        elif THROUGH.match(f"]({target}"):
+            yield f"{name}: {target} leads through the link examples, which a forge doesn't follow"
         elif heading and file.suffix == ".md" and heading not in headings(file):
             yield f"{name}: {target} has no such heading"
     for label, path, _ in LINK.findall(text):
@@ -159,7 +165,8 @@ def nearest(places: list[int], line: int) -> Optional[int]:
 
 
 def mended(page: pathlib.Path, text: str) -> str:
-    """The text of a page with its links to lines put right."""
+    """The text of a page with its links to lines, and those through `examples`, put right."""
+    text = THROUGH.sub(r"](\1crates/example_runs/data", text)
     if page.name not in WITH_LINES:
         return re.sub(r"(\]\([^)\s#]+)#L\d+\)", r"\1)", text)
     for link, place, _ in reversed(list(wrong_lines(page, text))):

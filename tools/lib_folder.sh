@@ -37,6 +37,6 @@ includedir=\${pcfiledir}
 Name: gravitar
 Description: A colour vector arcade board as calls of plain bytes and numbers
 Version: $(sed -n 's/^#define GRAVITAR_VERSION //p' gravitar.h)
-Libs: -L\${libdir} -lgravitar
+Libs: -L\${libdir} -Wl,-rpath,\${libdir} -lgravitar
 Cflags: -I\${includedir}
 END

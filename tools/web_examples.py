@@ -12,6 +12,7 @@ OUT = ROOT / "web" / "examples.js"
 # Title, layout of web/controls.js, tape, and cells of each example; the first one starts the page.
 EXAMPLES = {
     "ship": ("Ship: fly around a planet", "ship", "ship.tape", None),
+    "rubble": ("Rubble: rocks that break", "Gravitar", "rubble.tape", None),
     "square": ("Square: shrinking pictures", "no keys", "square.tape", None),
     "tune": ("Tune: a round for two voices", "no keys", "tune.tape", None),
     "score": ("Score: a number that stays", "one button", "first.tape", "blank.cells"),

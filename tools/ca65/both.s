@@ -187,3 +187,5 @@ here:   .org $A000
 last:   rts
         .org $FFFA              ; ld65 puts these behind the others; the image has them at FFFA
         .word start, start, last
+
+; vim: ft=gravitar

@@ -11,6 +11,7 @@ import crates_drawing
 import doc_commands
 import doc_links
 import doc_names
+import doc_pasted
 import facts
 
 
@@ -36,6 +37,13 @@ class Links(unittest.TestCase):
         good = "[`docs/GUIDE.md`](GUIDE.md) [GUIDE.md](GUIDE.md#looking-inside) [two](GUIDE.md)"
         self.assertEqual(self.dead(good), [])
         self.assertEqual(len(self.dead("[`src/limit.rt`](../tools/doc_links.py)")), 1)
+
+    def test_a_link_through_a_link(self) -> None:
+        for text in ("[a](../examples/latch/latch.s)", "[a](../examples)"):
+            self.assertEqual(len(self.dead(text)), 1, text)
+            mended = doc_links.mended(self.page, text)
+            self.assertIn("../crates/example_runs/data", mended)
+            self.assertEqual(self.dead(mended), [])
 
     def test_long_lines(self) -> None:
         good = "a" * 100 + "\n    " + "b" * 120
@@ -212,6 +220,21 @@ class Commands(unittest.TestCase):
         self.assertIsNone(doc_commands.difference(doc_commands.Command("echo a", ["a"]), folder))
         self.assertIsNotNone(doc_commands.difference(doc_commands.Command("echo a", ["b"]), folder))
         self.assertIsNotNone(doc_commands.difference(doc_commands.Command("false", []), folder))
+
+
+class Pasted(unittest.TestCase):
+    """doc_pasted.py."""
+
+    def test_blocks_of_commands(self) -> None:
+        blocks = doc_pasted.blocks("words\n\n    cd examples\n    sh try.sh\n\nmore\n\n    $ cat a > b\n    text\n    $ head b\n")
+        self.assertEqual([doc_pasted.commands(block) for block in blocks], [["cd examples", "sh try.sh"], ["cat a > b", "head b"]])
+
+    def test_what_is_no_command(self) -> None:
+        for block in (["lamp    = $8800", "        .org $9000"], ["S 8036 -1 -2 3 4 1 10"], ["left = IN3 0", "0.2 left down"]):
+            self.assertEqual(doc_pasted.commands(block), [])
+
+    def test_what_is_not_there(self) -> None:
+        self.assertEqual(doc_pasted.lacks(["no-such-program a", "cd b"]), ["no-such-program"])
 
 
 if __name__ == "__main__":

@@ -9,3 +9,5 @@ wait:   jmp wait
 
         .org $FFFC              ; the reset's vector
         .word start
+
+; vim: ft=gravitar

@@ -54,3 +54,5 @@ hold:   nop
 
         .org $FFFC
         .word start             ; the reset's vector
+
+; vim: ft=gravitar

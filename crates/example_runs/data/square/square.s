@@ -44,3 +44,5 @@ back:   rti
         .org $FFFC
         .word start             ; the vector of a reset
         .word irq               ; and that of an interrupt
+
+; vim: ft=gravitar

@@ -93,3 +93,5 @@ lengths: .byte beat, beat, beat, beat, beat, beat, beat, beat
         .org $FFFC
         .word start             ; the vector of a reset
         .word irq               ; and that of an interrupt
+
+; vim: ft=gravitar
