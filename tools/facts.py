@@ -161,10 +161,6 @@ FACTS = [
             (PROVED, "At most # bytes wait in it"),
         ],
     ),
-    Fact("stack of limits.c", None, [
-        (EMBED, "limits: at most # bytes of stack"),
-        (EMBED, "buffer of 300,000 bytes | # | 1,378,480"),
-    ]),
     Fact("the tries of a press", None, [
         (MANY, "These lines do # tries"),
         (MANY, "| # tries from one board"),
