@@ -26,7 +26,7 @@ NAME = re.compile(r"[A-Za-z_][A-Za-z0-9_]*")
 # isn't.
 OUTSIDE = frozenset("""
     rt fmt tidy plant dac8208d650f15bf byteorder memmove memset callgrind man xargs parallel
-    sshlogin
+    sshlogin wasm64 wasm_import_module libc
     bashrc zshrc vimrc fpath compinit modeline runtimepath
     res segment macro stz bra lax center quit fire press1 put_ _always_fails xEF xBB xBF
     """.split())

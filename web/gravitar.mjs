@@ -3,18 +3,17 @@
  *
  *     node web/gravitar.mjs run IMAGE TAPE > LOG
  *
- * Same words, texts, notes and statuses as the program's (docs/COMMANDS.md), by one call of the module
- * in module.js over the files that the words name. The module isn't proved. A file that can't be read
- * is as one that isn't there, but for a folder and a file without permission, which are status 6. A
- * store writes its file in place.
+ * Same words, texts, notes, stores and statuses as the program's (docs/COMMANDS.md), by one call of
+ * the module in module.js over the files that the words name. The module isn't proved. All is written
+ * when the command is done. A store writes its file in place.
  */
-import {readFileSync, statSync, writeFileSync, writeSync} from 'node:fs';
+import {closeSync, openSync, readFileSync, readSync, writeFileSync, writeSync} from 'node:fs';
 import {fileURLToPath} from 'node:url';
 import {runInThisContext} from 'node:vm';
 
 const OUTSIDE = 6, OUTSIDE_NOTE = 'gravitar: outside fault\n';
 const NO_MEMORY = 7, NO_MEMORY_NOTE = 'gravitar: no memory\n';
-const TAPE_LIMIT = 1 << 24;
+const TAPE_LIMIT = 1 << 24, PIECE = 1 << 16;
 
 // The scripts of the page, which are no modules of Node.
 function load_scripts(...names) {
@@ -35,14 +34,37 @@ function write_all(stream, bytes) {
     }
 }
 
-// The files that the words name. No file that the program reads is longer than a tape may be.
+// The names that a command line may read: all words but those that it only stores under.
+function names_read(words) {
+    const read = words.filter((word, i) =>
+        word && !word.startsWith('--') && words[i - 1] !== '--save');
+    return words[0] === 'asm' ? read.slice(1, 3) : read.slice(1);
+}
+
+// The first bytes of a file, one more than the longest that the program reads, as a tape may be.
+function read_first(name) {
+    const file = openSync(name, 'r'), pieces = [];
+    try {
+        for (let left = TAPE_LIMIT + 1; left > 0;) {
+            const piece = Buffer.alloc(Math.min(left, PIECE));
+            const count = readSync(file, piece);
+            if (count === 0) break;
+            pieces.push(piece.subarray(0, count));
+            left -= count;
+        }
+    } finally {
+        closeSync(file);
+    }
+    return Buffer.concat(pieces);
+}
+
+// The files that the words name; null is one that is there and can't be read.
 function files_of(words) {
     const found = new Map();
-    for (const name of words) {
-        if (!name || name.includes('\0') || found.has(name)) continue;
+    for (const name of names_read(words)) {
+        if (found.has(name)) continue;
         try {
-            if (statSync(name).size > 2 * TAPE_LIMIT) continue;
-            found.set(name, readFileSync(name));
+            found.set(name, read_first(name));
         } catch (error) {
             if (error.code !== 'ENOENT') found.set(name, null);
         }

@@ -72,6 +72,8 @@ else
     try "the module" node "$here/test/library.mjs"
     try sessions node "$here/test/session.mjs" "$program"
     try player node "$here/test/player.mjs"
+    # One row in eight, since each command starts Node.
+    try "the command line" "$here/../tools/rows.sh" "$here/gravitar.mjs" --part 3/8
     if [ "$hour" ]; then try "an hour" node "$here/test/hour.mjs" "$program"; fi
     if [ "$faults" ]; then
         try "faults in core.js" node "$here/test/faults.mjs" "$program"
