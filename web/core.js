@@ -208,9 +208,9 @@ class Library {
         const request = request_of(words, files);
         for (;;) {
             const answer = this.call('gravitar_command', request, {room: this.answer_len});
-            if (answer.status === NO_ROOM) { this.answer_len = 2 * answer.used; continue; }
-            if (answer.status !== DONE) throw new Refused(answer.status, answer.place, '');
-            return answer_parts(answer.written(1, answer.used));
+            if (answer.status === DONE) return answer_parts(answer.written(1, answer.used));
+            if (answer.status !== NO_ROOM) throw new Refused(answer.status, answer.place, '');
+            this.answer_len = 2 * answer.used;
         }
     }
     refusal(answer, note, room) {
