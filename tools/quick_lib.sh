@@ -2,6 +2,7 @@
 # FOLDER: changes a copy of the crates so that gravitar_c is the program with the library's calls.
 # `rt try` runs no static library, so quick.sh tries this in its place.
 set -eu
+[ $# = 1 ] || { echo "quick_lib.sh FOLDER" >&2; exit 2; }
 cd "$1"
 sed -i 's/^gravitar_c staticlib:/gravitar_c:/' crates.txt
 main=crates/gravitar_program/src/main.rt

@@ -55,6 +55,9 @@ def for_c(line):
 
 
 def main():
+    if len(sys.argv) not in (3, 4):
+        print("strip_checks.py [--lib] MODULE.ll REPOSITORY > OUT.ll", file=sys.stderr)
+        sys.exit(2)
     is_lib = sys.argv[1] == "--lib"
     text, repository = sys.argv[-2:]
     hints = hints_of(repository)

@@ -17,37 +17,45 @@ class Desk {
             page.say(sorted.unknown.map(it => unknown_file(it.name, it.bytes)).join('\n'));
             return;
         }
-        if (sorted.logs.length) { await this.open_logs(sorted.logs); return; }
-        page.attempt(() => this.open_game(sorted), {8: sorted.processor, 9: sorted.generator});
+        const sources = {8: sorted.processor, 9: sorted.generator};
+        const is_open = sorted.logs.length ? await this.open_logs(sorted.logs) :
+            page.attempt(() => this.open_game(sorted), sources);
+        if (is_open && sorted.left.length) {
+            page.say(`${sorted.left.map(it => it.name).join(', ')}: not opened. At a time there ` +
+                'are one log or two, or one image or two sources, one tape, one board.');
+        }
     }
+    // Whether it was opened.
     open_game({processor, generator, image, board, cells, tape}) {
         const page = this.page;
         if (Boolean(processor) !== Boolean(generator)) {
             const [one, other] = processor ? [processor, "the generator's source (.v)"] :
                 [generator, "the processor's source (.s)"];
             page.say(`${one.name}: ${other} is missing. Open both together.`);
-            return;
+            return false;
         }
         const made = processor && page.library.assemble(processor.bytes, generator.bytes);
         const bytes = made ?? image?.bytes ?? this.player.image, named = processor ?? image;
-        if (!bytes) return;
+        if (!bytes) return false;
         const name = named ? stem_of(named.name) : page.name;
         const options = {name, board: board?.bytes, cells: cells?.bytes, tape: tape?.bytes};
-        if (!page.begin(bytes, options)) return;
+        if (!page.begin(bytes, options, {4: tape})) return false;
         if (named) $('example').value = '';
-        const what = [processor && 'sources', image, board, cells, tape].filter(Boolean)
+        const what = [processor ? 'sources' : image, board, cells, tape].filter(Boolean)
             .map(it => it.name ?? `${processor.name} and ${generator.name}`);
         page.say(`${what.join(', ')}: opened`, true);
+        return true;
     }
     async open_logs(files) {
         const page = this.page;
         if (!page.is_log || files.length > 1) page.viewer.clear();
-        for (const {name, bytes} of files.slice(0, 2)) {
+        for (const {name, bytes} of files) {
             const log = await this.read_log(name, bytes);
-            if (!log) return;
+            if (!log) return false;
             page.viewer.add(name, log);
             this.show_log();
         }
+        return true;
     }
     // A part at a time, so that the page stays alive while 60 MB are read.
     async read_log(name, bytes) {

@@ -28,24 +28,29 @@ function unknown_file(name, bytes) {
     return `${name}: ${head}. ${FILE_KINDS[0].toUpperCase()}${FILE_KINDS.slice(1)}.`;
 }
 
-// A refused source: the library's words, and the line they are about.
+// A refused source or tape: the library's words, and the line they are about.
 function refusal_words(error, sources = {}) {
-    const source = sources[error.status];       // 8 is the processor's, 9 the generator's
+    const source = sources[error.status];       // 4 the tape, 8 the processor's, 9 the generator's
     if (!source || !error.place) return String(error.message ?? error);
     const line = Gravitar.string_of(source.bytes).split('\n')[error.place - 1] ?? '';
     const number = String(error.place).padStart(5);
     return `${source.name}: ${error.message}\n${number}  ${line.trimEnd()}`;
 }
 
-// Files that belong together: {image, sources, board, cells, tape, logs}, by their kinds.
+// Files that belong together, by their kinds: two logs at most, or one of each kind of a game's
+// files. `left` has those that nothing is done with.
 function sort_files(files) {
-    const sorted = {logs: [], unknown: []};
+    const sorted = {logs: [], unknown: [], left: []};
     for (const it of files) {
         const kind = kind_of_file(it.name, it.bytes);
         if (kind === null) sorted.unknown.push(it);
-        else if (kind === 'log') sorted.logs.push(it);
+        else if (kind === 'log' && sorted.logs.length < 2) sorted.logs.push(it);
+        else if (kind === 'log' || sorted[kind]) sorted.left.push(it);
         else sorted[kind] = it;
     }
+    const {logs, unknown, left, ...game} = sorted;
+    if (logs.length) left.push(...Object.values(game));
+    else if (game.processor && game.generator && game.image) left.push(game.image);
     return sorted;
 }
 

@@ -53,8 +53,9 @@ class Page {
 
     // ---- a game begins
 
-    // {name, layout} belong to an example; else the layout is the kept one of the image.
-    begin(image, {name = this.name, layout, ...options} = {}) {
+    // {name, layout} belong to an example; else the layout is the kept one of the image. `sources`
+    // are the files whose lines a refusal shows.
+    begin(image, {name = this.name, layout, ...options} = {}, sources = {}) {
         this.keep_cells();
         const sum = Gravitar.sha256(image), kept = this.shelf.get('layout', sum);
         const example = this.example_by_sum(sum);
@@ -65,12 +66,13 @@ class Page {
         const was = this.player.controls;
         this.player.controls = chosen.controls;
         const session = this.attempt(() => this.player.begin(image,
-            {...options, ports, timers: $('timers').checked}));
+            {...options, ports, timers: $('timers').checked}), sources);
         if (!session) { this.player.controls = was; return false; }
         Object.assign(this, {name, sum, layout: chosen, chosen: null, cells: session.cells()});
         this.on = chosen.on ?? [];
         document.title = `${name} · gravitar`;
         this.screen.box = null;
+        this.has_drawn = false;
         this.set_fit(this.shelf.get('fit', sum) ?? Boolean(example));
         this.say('');
         this.show_mode('play');
@@ -161,13 +163,16 @@ class Page {
             return 'a look back · Play goes on from here, forgets what came after · End: to now';
         }
         if (this.player.is_watching()) return 'playing a tape: a key of the game takes over';
-        return state === 'paused' ? 'paused' : '';
+        if (state === 'paused') return 'paused';
+        const {session, at} = this.player, started = session.kept[0].clock;
+        return this.has_drawn || at - started < Gravitar.HZ ? '' : 'nothing has been drawn yet';
     }
     draw() {
         if (this.is_log) return this.draw_log();
         const {player} = this;
         if (!player.session) return;
         const strokes = strokes_seen(player.strokes, player.at);
+        this.has_drawn ||= strokes.length > 0;
         if (this.screen.fits) this.screen.widen(player.strokes);
         this.screen.draw(strokes, this.chosen);
         const busy = player.state === 'running' || player.state === 'back';
@@ -179,7 +184,6 @@ class Page {
         this.show_play(busy);
         $('state').textContent = this.state_words();
     }
-    // The text of a board. Whole commands (`show`, `debug`) will come from the library here.
     board_text(board) { return Gravitar.board_text(board); }
     show_play(busy) {
         $('play').classList.toggle('is-on', busy);

@@ -17,6 +17,7 @@ STYLE = re.compile(r'<link rel="stylesheet" href="([^"]+)">')
 # A file that the page would still take from its folder.
 OUTSIDE = re.compile(r'<(?:script|img|link|iframe|audio)\b[^>]*\b(?:src|href)="(?!data:|#)([^"]*)"')
 IMAGE_LEN = 43008
+LAST_LINE = re.compile(rb"(?:^|\n)[0-9]{1,15} END\n?$")
 
 
 def in_script(code: str) -> str:
@@ -32,12 +33,24 @@ def base64_of(content: bytes) -> str:
     return base64.b64encode(content).decode()
 
 
-def game(name: str, image: bytes, tape: "bytes | None") -> str:
-    """The script that has somebody's game."""
+def content_of(path: pathlib.Path) -> bytes:
+    """The bytes of a file; a file that can't be read ends the program."""
+    try:
+        return path.read_bytes()
+    except OSError as error:
+        sys.exit(f"web.sh: {path}: {error.strerror}")
+
+
+def game(image_path: pathlib.Path, tape_path: "pathlib.Path | None") -> str:
+    """The script that has somebody's game. Of a tape only the last line is looked at here."""
+    image = content_of(image_path)
     if len(image) != IMAGE_LEN:
-        sys.exit(f"web.sh: {name}: length {len(image)}; an image has {IMAGE_LEN} bytes")
-    parts = {"name": name, "image": base64_of(image)}
-    if tape is not None:
+        sys.exit(f"web.sh: {image_path}: length {len(image)}; an image has {IMAGE_LEN} bytes")
+    parts = {"name": image_path.stem, "image": base64_of(image)}
+    if tape_path:
+        tape = content_of(tape_path)
+        if not LAST_LINE.search(tape):
+            sys.exit(f"web.sh: {tape_path}: no tape; the last line of one is CLOCK END")
         parts["tape"] = base64_of(tape)
     return script(f"var GRAVITAR_GAME = {json.dumps(parts)};\n") + "\n"
 
@@ -48,8 +61,7 @@ def single(page: pathlib.Path, files: "list[pathlib.Path]") -> str:
     if not first:
         sys.exit(f"web.sh: {page} names no script")
     if files:
-        image, *tape = [it.read_bytes() for it in files]
-        begin = game(files[0].stem, image, tape[0] if tape else None)
+        begin = game(files[0], files[1] if files[1:] else None)
         text = text[: first.start()] + begin + text[first.start() :]
     text = SCRIPT.sub(lambda it: script((page.parent / it[1]).read_text()), text)
     text = STYLE.sub(lambda it: f"<style>\n{(page.parent / it[1]).read_text()}</style>", text)
@@ -62,7 +74,10 @@ def single(page: pathlib.Path, files: "list[pathlib.Path]") -> str:
 def main() -> None:
     page, out, *files = map(pathlib.Path, sys.argv[1:])
     text = single(page, files)
-    out.write_text(text)
+    try:
+        out.write_text(text)
+    except OSError as error:
+        sys.exit(f"web.sh: {out}: {error.strerror}")
     print(f"{out}: {len(text.encode())} bytes")
 
 

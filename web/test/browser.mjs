@@ -313,10 +313,9 @@ async function views_logs(it) {
     holds((await it.get('log-words')).includes(many),
         'the count of lines');
     await it.run('page.go_time(340000)');
-    await wait(300);
-    const now = await browser.evaluate("document.querySelector('#lines b').textContent");
     const clock = text => Number(text.split(' ')[1]);
-    equal(now, lines.findLast(it => it && clock(it) <= 340000), 'the line of a clock');
+    const line = JSON.stringify(lines.findLast(it => it && clock(it) <= 340000));
+    await browser.until(`document.querySelector('#lines b').textContent === ${line}`);
     await it.shot('log');
     await browser.press('Period');
     equal(await browser.evaluate('page.viewer.at'), clock(lines.find(it => clock(it) > 340000)),

@@ -399,6 +399,22 @@ check('what a file is', () => {
         ['image', 'board', 'cells', 'processor', 'generator', 'tape', 'tape', 'log', null, 'tape']);
     equal(files.unknown_file('a.bin', new Uint8Array(1234)).includes('1,234 bytes'), true);
 });
+check('which files are opened together', () => {
+    const names = (...list) => {
+        const {logs, unknown, left, ...game} = files.sort_files(list.map(name => ({name,
+            bytes: Gravitar.text(name.endsWith('.log') ? 'E 5\n' : '9 END\n')})));
+        return [logs, Object.values(game), left].map(all => all.map(it => it.name).join(' '));
+    };
+    equal(names('a.s', 'a.v', 'a.tape'), ['', 'a.s a.v a.tape', '']);
+    equal(names('a.log', 'b.log', 'c.log'), ['a.log b.log', '', 'c.log']);
+    equal(names('a.tape', 'a.log'), ['a.log', 'a.tape', 'a.tape']);
+    equal(names('a.tape', 'b.tape'), ['', 'a.tape', 'b.tape']);
+});
+check('a refused tape shows its line', () => {
+    const tape = {name: 'a.tape', bytes: Gravitar.text('5 IN9 00\n9 END\n')};
+    equal(files.refusal_words({status: 4, place: 1, message: 'tape: line 1: port'}, {4: tape}),
+        'a.tape: tape: line 1: port\n    1  5 IN9 00');
+});
 
 // ---- sound
 

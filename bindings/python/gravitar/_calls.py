@@ -118,6 +118,8 @@ calls = _load()
 
 def given(content: Bytes) -> tuple[bytes, int]:
     """Bytes, with their length. Whatever has bytes is taken: bytes, a bytearray, a memoryview."""
+    if isinstance(content, str):
+        raise TypeError("bytes are wanted, not a str: read a file in mode 'rb', or encode the text")
     content = content if type(content) is bytes else bytes(memoryview(content))
     return content, len(content)
 
