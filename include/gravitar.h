@@ -12,8 +12,8 @@
  * - What a call writes (board, buffer, report) overlaps nothing else that the call is given.
  * - While a call runs, nobody writes what it was given, and nobody reads what it writes.
  * - The thread has 256 KiB of stack. A thread of musl has 128 KiB where it isn't told otherwise. A library of
- *   tools/quick.sh --lib takes less, measured on a painted stack: 63,896 bytes in gravitar_pcm, 59,464 in
- *   gravitar_advance, 59,416 in gravitar_records, 13,196 in gravitar_power_on, and with 50,000 names 6,904
+ *   tools/quick.sh --lib takes less, measured on a painted stack: 114,280 bytes in gravitar_command, 56,002 in
+ *   gravitar_pcm, 55,922 in gravitar_records, 55,906 in gravitar_advance, 13,218 in gravitar_power_on, and 4,216
  *   in gravitar_assemble.
  *
  * The caller owns all memory. malloc, realloc and free are called inside, and nothing is left
@@ -147,7 +147,7 @@ uint32_t gravitar_assemble(const uint8_t *processor, size_t processor_len, const
  * its bytes like a file. used is the length of all of it. Where that is too long for the buffer, nothing is put
  * there, and used says what is wanted: the call is to be made again with more room.
  *
- * It takes twice answer_len, the files twice, and 8 MB at most beside them, and 120 KB of stack.
+ * It takes twice answer_len, the files twice, and 8 MB at most beside them.
  *
  * GRAVITAR_DONE, BAD_REQUEST, NO_ROOM or NO_MEMORY. */
 uint32_t gravitar_command(const uint8_t *request, size_t request_len, uint8_t *answer, size_t answer_len,
