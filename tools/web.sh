@@ -1,8 +1,8 @@
 #!/bin/sh
 # The module of the page in web/, and the page as one file.
-#   web.sh           makes web/module.js from the sources, by quick.sh --wasm in two minutes, and
-#                    web/examples.js from the examples
-#   web.sh --check   makes both elsewhere, and compares: status 1 where one isn't the same
+#   web.sh           makes web/module.js from the sources, by quick.sh --wasm in two minutes,
+#                    web/examples.js from the examples, and web/single.js from the page
+#   web.sh --check   makes them elsewhere, and compares: status 1 where one isn't the same
 #   web.sh --single OUT.html [IMAGE [TAPE]]   writes the page with its scripts, and with a game, as
 #                    one file that can be sent to somebody
 # All but --single need rt of the Rattle kit on the path, and all need python3.
@@ -35,7 +35,8 @@ sum=$(sha256sum <"$work/gravitar.wasm" | cut -d ' ' -f 1)
 if [ "${1-}" != --check ]; then
     cp "$work/module.js" "$web/module.js"
     echo "web/module.js: $(wc -c <"$web/module.js") bytes, of the module $sum"
-    exec python3 "$tools/web_examples.py"
+    python3 "$tools/web_examples.py"
+    exec python3 "$tools/web_single.py"
 fi
 status=0
 if cmp -s "$work/module.js" "$web/module.js"; then
@@ -47,4 +48,5 @@ else
     status=1
 fi
 python3 "$tools/web_examples.py" --check || status=1
+python3 "$tools/web_single.py" --check || status=1
 exit "$status"

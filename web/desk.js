@@ -34,11 +34,21 @@ class Desk {
             page.say(`${one.name}: ${other} is missing. Open both together.`);
             return false;
         }
+        if (processor && page.workshop.is_open) {
+            page.workshop.open_sources(stem_of(processor.name),
+                {processor: Gravitar.string_of(processor.bytes),
+                    generator: Gravitar.string_of(generator.bytes)});
+            return true;
+        }
         const made = processor && page.library.assemble(processor.bytes, generator.bytes);
         const bytes = made ?? image?.bytes ?? this.player.image, named = processor ?? image;
         if (!bytes) return false;
         const name = named ? stem_of(named.name) : page.name;
         const options = {name, board: board?.bytes, cells: cells?.bytes, tape: tape?.bytes};
+        if (processor) {
+            options.sources = {processor: Gravitar.string_of(processor.bytes),
+                generator: Gravitar.string_of(generator.bytes)};
+        }
         if (!page.begin(bytes, options, {4: tape})) return false;
         if (named) $('example').value = '';
         const what = [processor ? 'sources' : image, board, cells, tape].filter(Boolean)

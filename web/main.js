@@ -22,6 +22,7 @@ class Wires {
             BracketLeft: () => page.choose_next(-1), BracketRight: () => page.choose_next(1),
             Comma: () => page.is_log && page.viewer.go_record(-1),
             Escape: () => this.escape(),
+            KeyW: () => page.workshop.toggle(),
         };
         this.fill();
         this.buttons();
@@ -56,6 +57,7 @@ class Wires {
         });
         click('open', () => $('files').click());
         click('forget-cells', () => page.forget_cells());
+        click('workshop-button', () => page.workshop.toggle());
         click('leave-log', () => { page.screen.box = null; page.show_mode('play'); });
         click('go-difference', () => page.go_time(page.viewer.difference.clock));
         click('change-keys', () => {
@@ -72,8 +74,10 @@ class Wires {
         // is.
         document.addEventListener('click', it => {
             if (it.detail && it.target.closest('button, summary') &&
-                !it.target.closest('dialog')) $('canvas').focus();
-            if (!it.target.closest('#save')) $('save').open = false;
+                !it.target.closest('dialog, #workshop, aside')) $('canvas').focus();
+            for (const menu of document.querySelectorAll('details.menu')) {
+                if (!menu.contains(it.target)) menu.open = false;
+            }
         });
     }
     time() {
@@ -148,6 +152,7 @@ class Wires {
         const {page} = this, {code, target} = event;
         if (value) page.speaker.start();
         if (event.ctrlKey && !code.startsWith('Control') || event.altKey || event.metaKey) return;
+        if (value && page.workshop.key(event)) { event.preventDefault(); return; }
         if (value && (is_typing(target) || is_pressed_by(target, code))) return;
         if (!page.is_log && page.player.controls.some(it => it.source === code)) {
             if (!event.repeat) page.player.move(code, value, event.timeStamp);
@@ -217,12 +222,14 @@ class Wires {
 }
 
 // The game that `tools/web.sh --single` puts into the page.
-function begin_game(page, {name, image, tape}) {
+function begin_game(page, {name, image, tape, processor, generator}) {
     const options = {name, tape: tape && Gravitar.bytes_of_base64(tape)};
+    if (processor !== undefined) options.sources = {processor, generator};
     if (page.begin(Gravitar.bytes_of_base64(image), options)) $('example').value = '';
 }
 
 async function main() {
+    page_text.own = own_text();
     const page = new Page(await Gravitar.Library.load(GRAVITAR_MODULE));
     window.page = page;                         // for whoever opens the console, and for the test
     new Wires(page);

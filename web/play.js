@@ -25,10 +25,13 @@ class Page {
         this.chosen = null;
         this.on = [];                           // switches that are on
         this.frames = 0;
+        this.workshop = new Workshop(this);
         this.player = new Player(library, {
             hears: (records, clock, levels) => this.hear(records, clock, levels),
             breaks: () => this.speaker.clear(),
         });
+        this.player.stops = (from, to) => this.workshop.stop_before(from, to);
+        this.player.stopped = stop => this.workshop.stopped(stop);
     }
     get is_log() { return document.body.dataset.mode === 'log'; }
     hear(records, clock, levels) { this.speaker.hear(records, clock, levels, this.speed); }
@@ -54,8 +57,8 @@ class Page {
     // ---- a game begins
 
     // {name, layout} belong to an example; else the layout is the kept one of the image. `sources`
-    // are the files whose lines a refusal shows.
-    begin(image, {name = this.name, layout, ...options} = {}, sources = {}) {
+    // are its texts, where it has them; `files` those whose lines a refusal shows.
+    begin(image, {name = this.name, layout, sources, ...options} = {}, files = {}) {
         this.keep_cells();
         const sum = Gravitar.sha256(image), kept = this.shelf.get('layout', sum);
         const example = this.example_by_sum(sum);
@@ -66,7 +69,7 @@ class Page {
         const was = this.player.controls;
         this.player.controls = chosen.controls;
         const session = this.attempt(() => this.player.begin(image,
-            {...options, ports, timers: $('timers').checked}), sources);
+            {...options, ports, timers: $('timers').checked}), files);
         if (!session) { this.player.controls = was; return false; }
         Object.assign(this, {name, sum, layout: chosen, chosen: null, cells: session.cells()});
         this.on = chosen.on ?? [];
@@ -77,8 +80,15 @@ class Page {
         this.say('');
         this.show_mode('play');
         this.show_keys();
+        this.workshop.begun(sources);
         this.player.go(performance.now());
         return true;
+    }
+    // Another image for the play that is under way (replay.js).
+    exchange(session) {
+        this.player.exchange(session);
+        Object.assign(this, {sum: Gravitar.sha256(session.image), cells: session.cells(),
+            chosen: null, frames: 0});
     }
     begin_example(name) {
         const it = GRAVITAR_EXAMPLES[name], sources = {
@@ -87,7 +97,7 @@ class Page {
         };
         const image = this.attempt(
             () => this.library.assemble(sources[8].bytes, sources[9].bytes), sources);
-        if (image) this.begin(image, {name, layout: it.layout});
+        if (image) this.begin(image, {name, layout: it.layout, sources: it});
         $('example').value = name;
     }
     begin_again({replay = false} = {}) {
@@ -160,7 +170,8 @@ class Page {
         const {state} = this.player;
         if (state === 'back') return 'running back: let go to play on from here';
         if (state === 'looking') {
-            return 'a look back · Play goes on from here, forgets what came after · End: to now';
+            return this.workshop.is_open ? 'a look back' :
+                'a look back · Play goes on from here, forgets what came after · End: to now';
         }
         if (this.player.is_watching()) return 'playing a tape: a key of the game takes over';
         if (state === 'paused') return 'paused';
@@ -183,6 +194,7 @@ class Page {
         if (this.frames % 30 === 0) this.show_machine();
         this.show_play(busy);
         $('state').textContent = this.state_words();
+        this.workshop.frame(busy);
     }
     board_text(board) { return Gravitar.board_text(board); }
     show_play(busy) {
@@ -340,6 +352,7 @@ class Page {
         $('stroke').textContent = `${where}${line}\n${ink}, intensity ${s.intensity} of 15, ` +
             `${(s.clock / Gravitar.HZ).toFixed(4)} s`;
         if (this.is_log && !this.viewer.is_playing && s.line !== undefined) this.viewer.go(s.clock);
+        if (!this.is_log) this.workshop.choose(stroke);
     }
     // The stroke before or after the chosen one, of those that are shown.
     choose_next(way) {

@@ -99,6 +99,23 @@ class Player {
         this.breaks();
     }
 
+    // Another session in the place of this one, at its own clock: its inputs are those so far.
+    exchange(session) {
+        this.settle_queue();
+        Object.assign(this, {session, image: session.image, state: 'paused', board: session.board});
+        this.at = this.exact = this.end = session.clock;
+        const from = Math.max(session.kept[0].clock, session.clock - SEEN);
+        this.strokes = strokes_in(session.look(session.clock, from).records);
+        this.seen &&= [];
+        this.breaks();
+    }
+    // Past the end of the run, with the inputs as they are.
+    extend(clock) {
+        if (this.state === 'looking') this.look(Infinity);
+        if (this.state !== 'paused') this.pause();
+        while (this.session.clock < clock && !this.session.jammed) this.run(clock);
+    }
+
     // ---- inputs
 
     // A source moved, at a time in milliseconds. A press that changes nothing isn't kept.
@@ -173,7 +190,16 @@ class Player {
             clock = Math.max(clock, this.clock_of_time(it.time, stretch));
             this.apply(it, clock);
         }
-        this.run(to);
+        this.run_to_stop(from, to);
+    }
+    // A debugger may stop a frame: `stops(from, to)` gives {clock}, or null.
+    run_to_stop(from, to) {
+        const stop = this.stops?.(from, to) ?? null;
+        this.run(stop ? stop.clock : to);
+        if (!stop) return;
+        if (!this.is_watching()) this.session.drop(stop.clock);
+        this.pause();
+        this.stopped(stop);
     }
     run(to) {
         const session = this.session, watching = this.is_watching();

@@ -1,6 +1,6 @@
 #!/bin/sh
-# Tests the page: its session under Node, and the page itself in the browsers that are there, each
-# held against the program.
+# Tests the page: its session, player and workshop under Node, and the page itself in the browsers
+# that are there, each held against the program.
 #   try.sh [--hour] [--faults] [--pictures FOLDER] [PROGRAM]
 # PROGRAM is gravitar, proved or not: by default GRAVITAR of the environment, else tools/quick.sh
 # builds it. --hour also plays an hour at a call a frame, and measures its memory and its looks.
@@ -74,10 +74,12 @@ else
     try player node "$here/test/player.mjs"
     # One row in eight, since each command starts Node.
     try "the command line" "$here/../tools/rows.sh" "$here/gravitar.mjs" --part 3/8
+    try workshop node "$here/test/workshop.mjs" "$program"
     if [ "$hour" ]; then try "an hour" node "$here/test/hour.mjs" "$program"; fi
     if [ "$faults" ]; then
         try "faults in core.js" node "$here/test/faults.mjs" "$program"
         try "faults in the page" node "$here/test/page_faults.mjs"
+        try "faults in the workshop" node "$here/test/workshop_faults.mjs" "$program"
     fi
     try browsers env GRAVITAR="$program" node "$here/test/browser.mjs" ${pictures:+"$pictures"}
 fi

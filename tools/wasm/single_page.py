@@ -81,4 +81,5 @@ def main() -> None:
     print(f"{out}: {len(text.encode())} bytes")
 
 
-main()
+if __name__ == "__main__":
+    main()

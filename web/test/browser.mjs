@@ -1,9 +1,9 @@
 // The page in Debian's browsers: opened by file://, played by real key events, and what it saw held
 // against the program over the tape that it saved. Nothing of npm.
 //     GRAVITAR=PROGRAM node web/test/browser.mjs [FOLDER]
-// FOLDER gets a screenshot of each state. A browser that isn't there is named and skipped. The last
-// line is `N passed, M failed, K skipped`; the status is 1 where something failed or nothing was
-// tried.
+// FOLDER gets a screenshot of each state. ONLY of the environment chooses the checks whose names
+// have it. A browser that isn't there is named and skipped. The last line is `N passed, M failed,
+// K skipped`; the status is 1 where something failed or nothing was tried.
 import {execFileSync} from 'node:child_process';
 import {existsSync, mkdirSync, mkdtempSync, readFileSync, rmSync, writeFileSync} from 'node:fs';
 import {tmpdir} from 'node:os';
@@ -435,6 +435,15 @@ async function shows_strokes(it) {
         `the clicked stroke: ${await it.get('stroke')}`);
     await it.shot('stroke');
 }
+async function full_screen(it) {
+    const {browser} = it;
+    await it.start();
+    await browser.press('KeyF');
+    await browser.until("$('stage').clientHeight > 700 && $('stage').clientWidth > 1200");
+    await it.shot('full');
+    await it.run("document.exitFullscreen?.().catch(() => 0); page.full()");
+    await browser.until("$('stage').clientHeight < 700");
+}
 async function plane(it) {
     await it.start('#2d');
     equal(await it.browser.evaluate('page.screen.kind'), '2D', 'the way of drawing');
@@ -457,6 +466,209 @@ async function one_file(it) {
         'the name, the end of the tape and its inputs');
 }
 
+// ---- the workshop
+
+// Begins anew with the workshop, and nothing kept.
+async function open_workshop(it) {
+    await it.browser.load(PAGE);
+    await it.browser.until('window.page?.player.session');
+    await it.run('localStorage.clear()');
+    await it.start();
+    await it.click('workshop-button');
+    await it.browser.until("$('disassembly').children.length > 5");
+}
+// Puts the cursor behind the first text of the source on the screen, which is replaced by keys.
+async function retype(it, part, text, other) {
+    await it.run(`page.workshop.show_part('${part}');
+        const area = page.workshop.editors.${part}.area, at = area.value.indexOf('${text}');
+        area.focus(); area.setSelectionRange(at, at + ${text.length})`);
+    await it.browser.type(other);
+    await wait(500);
+}
+const problems = it => it.browser.evaluate(
+    "[...page.workshop.editors.processor.problems].map(it => it.join(' ')).join('; ')");
+// Typed keys: the same play with another colour, and refused lines that are marked.
+async function changes_colour(it) {
+    const {browser} = it;
+    await open_workshop(it);
+    await browser.press('ArrowUp', 300);
+    await browser.press('ArrowRight', 200);
+    await browser.press('KeyP');
+    const [clock, tape] = [await it.clock(), await it.tape()];
+    await it.shot('workshop');
+    await retype(it, 'processor', '60F6', '60F5');
+    await browser.until("$('build').textContent.startsWith('assembled')");
+    equal(await it.clock(), clock, 'the clock of the play');
+    equal(await it.tape(), tape, 'its inputs');
+    await browser.until("page.screen.shown.some(it => it.colour === 5)");
+    const source = await browser.evaluate('page.workshop.sources().processor');
+    program('asm', file('changed.s', source), ship('v'), 'changed.img');
+    const log = (await it.save('log', 'my_ship.log')).toString();
+    same_log(log, program('run', 'changed.img', file('changed.tape', tape)), 'the changed ship');
+    await retype(it, 'processor', 'lda #40', 'lda #400');
+    await retype(it, 'processor', 'lsr a', 'lsr');
+    await browser.until('page.workshop.editors.processor.problems.size === 2');
+    const lines = source.split('\n'), line = text => lines.findIndex(has => has.includes(text)) + 1;
+    equal(await problems(it), `${line('lda #40')} out of range; ${line('lsr a')} no such form`,
+        'the refused lines');
+    const words = await it.get('problem');
+    holds(words.includes('lda #<n takes the low byte') && words.includes('lsr a'), words);
+    equal(await it.clock(), clock, 'the play stands where it was');
+    await it.shot('workshop-refused');
+}
+// A break by a click on its line stops the running game; steps on and back are the program's.
+async function debugs(it) {
+    const {browser} = it;
+    await open_workshop(it);
+    await it.run("page.player.seen = []; page.begin_again()");
+    const [x, y] = await browser.evaluate(`(() => {
+        const it = page.workshop.editors.processor;
+        it.reveal(it.lines.findIndex(line => line.startsWith('thrust:')) + 1);
+        const rows = [...it.gutter.querySelectorAll('[data-line]')];
+        const row = rows.find(row => it.lines[row.dataset.line - 1].startsWith('thrust:'));
+        const box = row.getBoundingClientRect();
+        return [box.x + 25, box.y + 9];
+    })()`);
+    await browser.click(x, y);
+    await browser.until("page.player.state === 'paused'");
+    const stop = await it.clock(), tape = file('stop.tape', await it.tape());
+    equal(program('debug', 'ship.img', file('stop2.tape', `${stop + 9} END\n`),
+        file('script', `until ${stop - 1}\nregs\n`)).includes(`clock ${stop}\ncpu pc 905B`), true,
+    'the program is at the line at this clock');
+    await it.shot('workshop-break');
+    const at = () => browser.evaluate('page.player.at');
+    await it.click('workshop-button');
+    await it.click('workshop-button');
+    for (const [what, lines] of [['step', ['step 1']], ['step', ['step 2']]]) {
+        await it.run(`page.workshop.act('${what}')`);
+        const out = program('debug', 'ship.img', file('more.tape', `${stop + 900} END\n`),
+            file('script', `until ${stop - 1}\n${lines.join('\n')}\nregs\n`));
+        equal(await at(), Number(/clock (\d+)/.exec(out)[1]), 'the clock after a step');
+    }
+    await it.run("page.workshop.act('back_step'); page.workshop.act('back_step')");
+    equal(await at(), stop, 'the clock after two steps back');
+    await it.run("page.workshop.act('back_picture')");
+    holds(await at() < stop, 'a picture back');
+    await it.run("page.workshop.who(page.workshop.address('nose'))");
+    await browser.until("$('found').textContent.startsWith('nose was changed last by')", 20000)
+        .catch(() => undefined);
+    holds(/^nose(:| was)/.test(await it.get('found')), await it.get('found'));
+    rmSync(tape);
+}
+async function profiles(it) {
+    const {browser} = it;
+    await open_workshop(it);
+    await browser.press('ArrowUp', 1200);
+    await browser.press('KeyP');
+    await it.run("page.workshop.show_tool('profile')");
+    await browser.until('page.workshop.tools.profile.profile');
+    await it.run("document.querySelector('[data-profile=play]').click()");
+    const [text, tape] = [await browser.evaluate('page.workshop.tools.profile.profile.text'),
+        await it.tape()];
+    equal(text, program('profile', 'ship.img', file('profile.tape', tape)), 'the profile');
+    holds((await it.get('profile')).startsWith('routineclocks%callsdevicesstart'),
+        'the dearest routine comes first');
+    await it.shot('workshop-profile');
+    await it.run("page.workshop.show_tool('memory')");
+    await browser.until("$('memory').children.length === 16");
+    await it.run("page.workshop.show_tool('pictures')");
+    await browser.until("$('pictures').children.length > 30");
+}
+// A stroke leads to the line of its word, and the line to a stroke.
+async function finds_words(it) {
+    const {browser} = it;
+    await open_workshop(it);
+    await browser.press('KeyP');
+    await it.run('page.choose(page.screen.shown.find(it => it.colour === 1 && it.y0 === it.y1))');
+    holds(/line (8|10) of the generator/.test(await it.get('word')), await it.get('word'));
+    await it.run("page.workshop.cursor('generator', 16)");
+    equal(await browser.evaluate('page.chosen.colour'), 2, 'the stroke of line 16');
+    await it.run('page.choose(page.screen.shown.find(it => it.colour === 6))');
+    await browser.until("/changed last by (coord|store)/.test($('word').textContent)", 20000);
+    await it.shot('workshop-word');
+}
+// A project is kept, saved and shared; the shared file plays the same log, and has the sources.
+async function shares(it) {
+    const {browser} = it;
+    await open_workshop(it);
+    await browser.press('ArrowUp', 200);
+    await browser.press('KeyP');
+    await retype(it, 'generator', 'stat 2, 12', 'stat 3, 12');
+    await browser.until("page.screen.shown.some(it => it.colour === 3)");
+    const log = (await it.save('log', 'my_ship.log')).toString(), clock = await it.clock();
+    const path = join(browser.downloads, 'my_ship.html');
+    rmSync(path, {force: true});
+    await it.click('project-demo');
+    for (let i = 0; i < 100 && !existsSync(path); i++) await wait(50);
+    await wait(200);
+    await it.start();
+    await it.click('workshop-button');
+    await it.run("page.workshop.choose_project('p my ship')");
+    holds(await browser.evaluate("page.workshop.sources().generator.includes('stat 3, 12')"),
+        'the project was kept');
+    await it.run('localStorage.clear()');
+    await browser.load(pathToFileURL(path).href);
+    await browser.until(
+        `window.page?.player.state === 'paused' && page.player.at >= ${clock}`, 20000);
+    const again = (await it.save('log', 'my_ship.log')).toString();
+    same_log(again, log, 'the log of the shared file');
+    await it.click('workshop-button');
+    holds(await browser.evaluate("page.workshop.build.sources.generator.includes('stat 3, 12')"),
+        'the shared file has its sources');
+    rmSync(path);
+    await it.click('project-share');
+    for (let i = 0; i < 100 && !existsSync(path); i++) await wait(50);
+    holds(existsSync(path), 'a shared file can be shared again');
+    await it.browser.load(PAGE);
+}
+// Keys in a source of 2,000 lines while the game runs.
+async function types_fast(it) {
+    const {browser} = it;
+    await open_workshop(it);
+    await it.run(`const it = page.workshop.editors.processor, lines = it.text.split('\\n');
+        const more = Array.from({length: 2010 - lines.length},
+            (_, i) => 'l' + i + ':    lda #' + i % 256);
+        it.area.value = [...lines, '        .org $C000', ...more].join('\\n');
+        it.edited();
+        window.costs = [];
+        let began = 0;
+        it.area.addEventListener('beforeinput', () => { began = performance.now(); });
+        it.area.addEventListener('input', () => {
+            it.layer.getBoundingClientRect();
+            costs.push(performance.now() - began);
+        })`);
+    await browser.until("$('build').textContent.startsWith('assembled')");
+    await it.run(`const {area} = page.workshop.editors.processor, at = area.value.indexOf('l900:');
+        page.workshop.editors.processor.reveal(1000);
+        area.focus(); area.setSelectionRange(at, at)`);
+    const clock = await it.clock();
+    await browser.type('; a comment\n        nop\n; and so on\n        ldx #5\n');
+    await wait(600);
+    const costs = (await browser.evaluate('costs')).sort((a, b) => a - b);
+    const [middle, many, most] = [0.5, 0.9, 1].map(share =>
+        costs[Math.ceil(share * costs.length) - 1].toFixed(1));
+    console.log(`${it.name}: ${costs.length} keys: ${middle} ms in the middle, nine of ten in ` +
+        `${many}, ${most} at most`);
+    // Whatever else the machine does counts too, so one key of ten may be late.
+    holds(costs.length > 40 && many < 50, 'a key takes 50 ms or more');
+    await browser.until(`page.player.session.clock > ${clock}`);
+    await it.run('localStorage.clear()');
+}
+async function small_workshop(it) {
+    const {browser} = it;
+    await browser.resize(390, 844);
+    await open_workshop(it);
+    for (const pane of ['source', 'picture', 'tools']) {
+        await it.run(`page.workshop.show_pane('${pane}')`);
+        await wait(100);
+        const wide = await browser.evaluate(
+            '(it => it.scrollWidth - it.clientWidth)(document.documentElement)');
+        equal(wide, 0, `pixels beside a small screen: ${pane}`);
+        await it.shot(`workshop-small-${pane}`);
+    }
+    await browser.resize(1280, 800);
+}
+
 const CHECKS = [
     ['starts with the ship', starts], ['plays by key events, as the program over its tape', plays],
     ['shows the board of any clock', looks_back], ['saves what it has', saves],
@@ -468,7 +680,12 @@ const CHECKS = [
     ['shows a log of 62 MB', views_large_log], ['a device that sleeps', sound_sleeps],
     ['a small screen', small_screen], ['the keyboard alone', keyboard_alone],
         ['a click on a stroke', shows_strokes],
-    ['draws without WebGL2', plane], ['one file with a game in it', one_file],
+    ['the full screen', full_screen], ['draws without WebGL2', plane], ['one file with a game in it', one_file],
+    ['the workshop changes a colour in a play', changes_colour],
+    ['the workshop breaks, steps and goes back', debugs], ['the workshop profiles', profiles],
+    ['the workshop finds words of strokes', finds_words], ['the workshop shares a game', shares],
+    ['the workshop takes keys in a long source', types_fast],
+    ['the workshop on a small screen', small_workshop],
 ];
 
 async function try_browser(kind, counts) {
@@ -482,7 +699,12 @@ async function try_browser(kind, counts) {
     try {
         browser = await kind.open({width: 1280, height: 800});
         const it = new Checks(name, browser);
-        for (const [what, doing] of CHECKS) await it.check(what, () => doing(it));
+        // The ship's image, for a check that is tried without those before it.
+        program('asm', ship('s'), ship('v'), 'ship.img');
+        const only = process.env.ONLY ?? '';
+        for (const [what, doing] of CHECKS) {
+            if (what.includes(only)) await it.check(what, () => doing(it));
+        }
         counts.passed += it.passed;
         counts.failed += it.failed;
     } catch (error) {

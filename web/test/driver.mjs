@@ -161,6 +161,16 @@ export class Chromium extends Browser {
             key: KEY_NUMBERS[code] && code !== 'Space' ? code : key,
                 windowsVirtualKeyCode: number});
     }
+    // Characters, each by a key that is pressed and let go.
+    async type(text) {
+        for (const it of text) {
+            const key = it === '\n' ? {key: 'Enter', text: '\r', windowsVirtualKeyCode: 13} :
+                {key: it, text: it};
+            for (const type of ['keyDown', 'keyUp']) {
+                await this.ask('Input.dispatchKeyEvent', {type, ...key});
+            }
+        }
+    }
     async click(x, y) {
         for (const type of ['mouseMoved', 'mousePressed', 'mouseReleased']) {
             const button = type === 'mouseMoved' ? 'none' : 'left';
@@ -325,6 +335,13 @@ export class Firefox extends Browser {
             '').toLowerCase();
         await this.act({type: 'key', id: 'keyboard',
             actions: [{type: down ? 'keyDown' : 'keyUp', value}]});
+    }
+    async type(text) {
+        for (const it of text) {
+            const value = it === '\n' ? BIDI_KEYS.Enter : it;
+            await this.act({type: 'key', id: 'keyboard',
+                actions: [{type: 'keyDown', value}, {type: 'keyUp', value}]});
+        }
     }
     async click(x, y) {
         await this.act({type: 'pointer', id: 'mouse', parameters: {pointerType: 'mouse'}, actions: [
