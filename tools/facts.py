@@ -110,6 +110,9 @@ FACTS = [
     ]),
     Fact("version of the calls", header("GRAVITAR_VERSION"), [
         (EMBED, "the version of the calls, #"),
+        ("docs/gravitar.1", '"gravitar #" "User commands"'),
+        ("web/core.js", "const VERSION = #, DONE"),
+        ("bindings/rust/Cargo.toml", 'version = "#.0.0"'),
     ]),
     Fact("tests in Python", matches("bindings/python/tests/*.py", r"^ +def test_"), [
         (EMBED, "python3: # tests"),

@@ -7,7 +7,7 @@
 `make` does the run, writes its log to LOG, the last board to the F of --save, and the manifest. It leaves a file of cells as it was,
 and a new one with `.after` at the end of its name. `check`, in the same folder, compares all files with their sums, does the run
 again, and compares what it gives. The sums alone are checked by `sha256sum -c MANIFEST`; the other lines of a manifest begin with
-`#`, which sha256sum passes over. --version is what a person calls this program; without it, it is what the file VERSION says at the
+`#`, which sha256sum passes over. --version is what a person calls this program; without it, it is the version of include/gravitar.h at the
 top of this repository, if it is there, and the commit. Names are those of plain files, without line feeds, as seen from the manifest's folder.
 
 The status is 0 where all is done or the same, 1 where something differs, and 2 where a file is absent or a line can't be read."""
@@ -15,6 +15,7 @@ from __future__ import annotations
 
 import hashlib
 import pathlib
+import re
 import shlex
 import subprocess
 import sys
@@ -65,10 +66,11 @@ def sum_of(name: str) -> str:
 
 
 def commit() -> str:
-    """The version in the file VERSION above this tool's folder, if there is one, and the folder's commit."""
+    """The one version number, that of include/gravitar.h, and the folder's commit."""
     folder = pathlib.Path(__file__).resolve().parent
-    file = folder.parent / "VERSION"
-    version = file.read_text().split() if file.is_file() else []
+    header = folder.parent / "include" / "gravitar.h"
+    found = re.search(r"#define GRAVITAR_VERSION (\d+)", header.read_text()) if header.is_file() else None
+    version = [found.group(1)] if found else []
     try:
         version += subprocess.run(["git", "-C", str(folder), "describe", "--always", "--dirty"], capture_output=True, text=True,
                                   check=True).stdout.split()
