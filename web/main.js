@@ -222,8 +222,8 @@ class Wires {
 }
 
 // The game that `tools/web.sh --single` puts into the page.
-function begin_game(page, {name, image, tape, processor, generator}) {
-    const options = {name, tape: tape && Gravitar.bytes_of_base64(tape)};
+function begin_game(page, {name, image, tape, processor, generator, layout}) {
+    const options = {name, layout, tape: tape && Gravitar.bytes_of_base64(tape)};
     if (processor !== undefined) options.sources = {processor, generator};
     if (page.begin(Gravitar.bytes_of_base64(image), options)) $('example').value = '';
 }

@@ -56,13 +56,14 @@ class Page {
 
     // ---- a game begins
 
-    // {name, layout} belong to an example; else the layout is the kept one of the image. `sources`
-    // are its texts, where it has them; `files` those whose lines a refusal shows.
+    // The layout is the one that the browser keeps for the image, else `layout`: an example's has a
+    // name, a shared game's is the table itself. `sources` are the image's texts, where it has
+    // them; `files` those whose lines a refusal shows.
     begin(image, {name = this.name, layout, sources, ...options} = {}, files = {}) {
         this.keep_cells();
         const sum = Gravitar.sha256(image), kept = this.shelf.get('layout', sum);
         const example = this.example_by_sum(sum);
-        const chosen = is_layout(kept) ? kept :
+        const chosen = [kept, layout].find(is_layout) ??
             LAYOUTS[layout ?? example?.layout] ?? LAYOUTS['all of IN3 and IN4'];
         const ports = Object.fromEntries((chosen.on ?? []).map(it => [it, 255]));
         if (!options.board && !options.cells && !options.tape) options.cells = this.kept_cells(sum);
@@ -101,7 +102,7 @@ class Page {
         $('example').value = name;
     }
     begin_again({replay = false} = {}) {
-        const {session} = this.player, options = {};
+        const {session} = this.player, options = {layout: {...this.layout, on: this.on}};
         if (!session.is_at_power_on && session.start.length) options.board = session.start;
         if (replay) options.tape = session.tape();
         else if (Gravitar.clock_of(session.start) === 0) {
@@ -128,7 +129,7 @@ class Page {
     forget_cells() {
         this.shelf.put('cells', this.sum, null);
         this.cells = this.player.session.cells();
-        this.begin(this.player.image);
+        this.begin(this.player.image, {layout: {...this.layout, on: this.on}});
     }
     keep_cells() {
         const session = this.player.session;

@@ -221,11 +221,11 @@ class Workshop {
     }
     demo_project() { return this.share_project(this.player.session.tape()); }
     async share_project(tape) {
-        const {page} = this, {name} = page.desk;
+        const {page} = this, {name} = page.desk, layout = {...page.layout, on: page.on};
         const sources = this.has_sources ? this.build?.sources ?? {} : {};
         try {
             const text = with_game(await page_text(),
-                {name, image: this.player.image, tape, ...sources});
+                {name, image: this.player.image, tape, ...sources, layout});
             download(`${name}.html`, [text]);
             page.say(`${name}.html: the game in one file, ${Math.round(text.length / 1000)} kB`,
                 true);

@@ -612,6 +612,9 @@ async function shares(it) {
         `window.page?.player.state === 'paused' && page.player.at >= ${clock}`, 20000);
     const again = (await it.save('log', 'my_ship.log')).toString();
     same_log(again, log, 'the log of the shared file');
+    equal(await browser.evaluate('JSON.stringify(page.layout.controls)'),
+        await browser.evaluate('JSON.stringify(LAYOUTS.ship.controls)'),
+        'the keys of the shared file');
     await it.click('workshop-button');
     holds(await browser.evaluate("page.workshop.build.sources.generator.includes('stat 3, 12')"),
         'the shared file has its sources');

@@ -483,7 +483,8 @@ test('the shared file is that of web.sh --single', what => {
 });
 test('a shared file can be shared again', what => {
     const page = '<!doctype html>\n<body>\n<script>\nlet a;\n</script>\n</body>\n';
-    const game = {name: 'a</script><!--', image: SHIP.image, ...sources_of('ship')};
+    const {LAYOUTS} = load('controls.js'), layout = {...LAYOUTS['all of IN3 and IN4'], on: ['in0']};
+    const game = {name: 'a</script><!--', image: SHIP.image, ...sources_of('ship'), layout};
     const once = with_game(page, game);
     same(what, with_game(once, game), once);
     same(what, once.match(/<\/script>/g).length, 2);
@@ -491,6 +492,7 @@ test('a shared file can be shared again', what => {
     const read = new Function(`${line}; return GRAVITAR_GAME`)();
     same(what, read.processor, game.processor);
     same(what, read.name, game.name);
+    same(what, JSON.stringify(read.layout), JSON.stringify(layout));
     checks.same(what, Gravitar.bytes_of_base64(read.image), game.image);
 });
 
