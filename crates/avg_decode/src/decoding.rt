@@ -11,7 +11,8 @@ fn short(n: u16) -> i16
     ensures value { result ≡ short_distance n }
     ensures range { IsShort result }
 {
-    2 * signed_of(n, 16)
+    // With its sign bit flipped the field counts from the lowest distance up.
+    ((2 * n) ^ 32) as i16 - 32
 }
 
 /// A `Stat` or a `Scal`.

@@ -1,13 +1,15 @@
 -- Scales, distances and drawing times stay in their ranges.
-use Rattle.std.proofs.Common.{◌≡◌, ℕ, ◌+◌, ◌-◌, ◌*◌, ◌%◌, ◌^◌, ◌<◌, ◌≤◌, nat_le, nat_lt, Bool, true, false, ℤ, pos, negsuc, ◌*ℤ◌, ◌≤ℤ◌, List, [], ◌∷◌, suc, refl, ◌∙◌, add-one, cond, FitsSigned, to_z, of_z, arith}
+use Rattle.std.proofs.Common.{◌≡◌, ℕ, ◌+◌, ◌-◌, ◌*◌, ◌/◌, ◌%◌, ◌^◌, ◌<◌, ◌≤◌, nat_le, nat_lt, Bool, true, false, ℤ, pos}
+use Rattle.std.proofs.Common.{negsuc, ◌*ℤ◌, ◌≤ℤ◌, List, [], ◌∷◌, suc, max, refl, sym, ◌∙◌, add-one, cond, FitsSigned, to_z, of_z, arith}
 use Rattle.std.proofs.Math.Nat.{mul-le-mul, pow-succ'}
 use Rattle.std.proofs.Math.Pow.{pow_mono}
 use Rattle.std.proofs.lemmas.Int.{ints, to_z-of_z}
-use Rattle.std.proofs.lemmas.Nat.{one_shl, leading_length}
+use Rattle.std.proofs.lemmas.Nat.{one_shl, leading_length, or_lt, le_or_l, le_or_r}
 use Rattle.std.proofs.lemmas.Bool.Decides.{nat_tests}
-use Rattle.std.specs.Int.{leading_zeros, w16, w32}
+use Rattle.std.specs.Int.{w32}
+use Rattle.std.specs.Int.Bits.{bit_or}
 use Rattle.std.specs.List.{count_by, fold, range_with_len}
-use Rattle.bit_words.proofs.Tables.{same_by_table}
+use Rattle.bit_words.proofs.Tables.{same_by_table, same_by_tables}
 use Rattle.avg_draw.specs.Beam.{binary_digits}
 
 -- the widest scale is 256 * 2^7
@@ -79,24 +81,27 @@ unfolding binary_digits
 digits_between n d few below reached =
     count_same (λ k. nat_le (2 ^ k) n) (λ k. nat_lt k d) (power_up_to n d below reached) (range_with_len 0 16) ∙ count_below d few
 
--- the digits are those below the leading zeros
-pub digits_are : (n : ℕ) → n ≤ 4096 → 16 - leading_zeros w16 n ≡ binary_digits n
-digits_are n h =
-    let fits : n < 2 ^ 16 = omega arith in
-    let top = leading_length 16 n fits in
-    let few : top.0 < 17 = omega (arith, top.1) in
-    omega (arith, top.1, digits_between n top.0 few top.2 top.3)
+-- the digits, by the power of two up to the odd number behind the double
+pub digits_are : (n d : ℕ) → d < 16 → 2 ^ d ≤ 2 * n + 1 → 2 * n + 1 < 2 * 2 ^ d → binary_digits n ≡ d
+digits_are n d few reached below = digits_between n d (omega arith) (omega arith) reached
 
-few_digits : (n d : ℕ) → n ≤ 4096 → 2 ^ d ≤ 2 * n + 1 → d ≤ 13
-few_digits n d h reached =
-    let wide : 14 ≤ d → 2 ^ 14 ≤ 2 ^ d = λ (h : 14 ≤ d). pow_mono h in
-    grind arith
-
-pub digits_few : (n : ℕ) → n ≤ 4096 → 16 - leading_zeros w16 n ≤ 13
+pub digits_few : (n : ℕ) → n < 8192 → binary_digits n ≤ 13
 digits_few n h =
-    let fits : n < 2 ^ 16 = omega arith in
-    let top = leading_length 16 n fits in
-    omega (arith, top.1, few_digits n top.0 h top.3)
+    let top = leading_length 13 n h in
+    omega (arith, top.1, digits_between n top.0 (omega (arith, top.1)) top.2 top.3)
+
+-- a number with the bits of two has as many digits as the larger one
+pub either_digits : (a b : ℕ) → a < 2 ^ 16 → b < 2 ^ 16 → binary_digits (bit_or a b) ≡ binary_digits (max a b)
+either_digits a b fits_a fits_b =
+    let fits : max a b < 2 ^ 16 = omega arith in
+    let top = leading_length 16 (max a b) fits in
+    let few : top.0 < 17 = omega (arith, top.1) in
+    let below : bit_or a b < 2 ^ top.0 = or_lt top.0 a b (omega (arith, top.2)) (omega (arith, top.2)) in
+    let reached : 2 ^ top.0 ≤ 2 * bit_or a b + 1 = omega (arith, top.3, le_or_l a b, le_or_r a b) in
+    digits_between (bit_or a b) top.0 few below reached ∙ sym (digits_between (max a b) top.0 few top.2 top.3)
+
+pub either_bound : (a b : ℕ) → a ≤ 4096 → b ≤ 4096 → bit_or a b < 8192
+either_bound a b few_a few_b = or_lt 13 a b (omega arith) (omega arith)
 
 -- the power of two above the longest distance
 pub power_bound : (d : ℕ) → d ≤ 13 → 2 ^ d ≤ 8192
@@ -104,3 +109,7 @@ power_bound d h = pow_mono h
 
 pub power_shift : (d : ℕ) → d ≤ 13 → 1 * 2 ^ d % 65536 ≡ 2 ^ d
 power_shift d h = let few : d < 16 = omega arith in one_shl d 16 few
+
+-- a power halved is a smaller power, down to 1
+pub power_halved : (d b : ℕ) → d ≤ 13 → b < 8 → max 1 (2 ^ d / 2 ^ b) ≡ 2 ^ (d - b)
+power_halved d b few h = same_by_tables 14 8 (λ d b. max 1 (2 ^ d / 2 ^ b)) (λ d b. 2 ^ (d - b)) refl d (omega arith) b h

@@ -44,28 +44,28 @@ pub fn move_beam(at: i32, delta: i32) -> i32
 }
 
 /// The binary digits of a distance.
-#[tactic(auto, using(crate::proofs::Scales::digits_are, crate::proofs::Scales::digits_few))]
+#[tactic(auto, using(crate::proofs::Scales::digits_are))]
 fn digits(n: u16) -> u16
-    requires { n ≤ 4096 }
+    requires { n < 8192 }
     ensures value { result ≡ binary_digits n }
     ensures few { result ≤ 13 }
 {
-    (u16::BITS - n.leading_zeros()) as u16
+    (2 * n + 1).ilog2() as u16
 }
 
 /// The clocks for this many digits.
-#[tactic(auto, using(crate::proofs::Scales::power_bound, crate::proofs::Scales::power_shift))]
+#[tactic(auto, using(crate::proofs::Scales::power_bound, crate::proofs::Scales::power_shift, crate::proofs::Scales::power_halved))]
 fn clocks(digits: u16, bin: u8) -> u16
     requires few { digits ≤ 13 }
     requires bin { bin < 8 }
     ensures value { result ≡ max 1 (2 ^ digits / 2 ^ bin) }
     ensures longest { result ≤ 8192 }
 {
-    ((1u16 << digits) >> bin).max(1)
+    1 << digits.saturating_sub(u16::from(bin))
 }
 
 /// The clocks of a draw.
-#[tactic(auto, unfolding(crate::specs::Beam::clocks_of))]
+#[tactic(auto, using(crate::proofs::Scales::either_bound, crate::proofs::Scales::either_digits), unfolding(crate::specs::Beam::clocks_of))]
 pub fn draw_clocks(dx: i16, dy: i16, bin: u8) -> u16
     requires dx_low { neg_ℤ (pos 4096) ≤ℤ dx }
     requires dx_high { dx ≤ℤ pos 4095 }
@@ -76,6 +76,7 @@ pub fn draw_clocks(dx: i16, dy: i16, bin: u8) -> u16
     ensures some { 1 ≤ result }
     ensures longest { result ≤ 8192 }
 {
-    let longest = dx.unsigned_abs().max(dy.unsigned_abs());
-    clocks(digits(longest), bin)
+    // It has as many digits as the longer of the two.
+    let either = dx.unsigned_abs() | dy.unsigned_abs();
+    clocks(digits(either), bin)
 }

@@ -1,5 +1,6 @@
 -- The generator stays in its range.
-use Rattle.std.proofs.Common.{◌≡◌, ◌≤◌, ℕ, ◌+◌, ◌-◌, ◌*◌, ◌/◌, ◌%◌, ◌^◌, ◌<◌, ◌==◌, max, Bool, true, false, if◌then◌else◌, List, [], ◌∷◌, nat_lt, slice_index_or, replicate, zero, suc, All, ℤ, pos, neg_ℤ, ◌+ℤ◌, ◌-ℤ◌, ◌≤ℤ◌, unsigned_abs, refl, ◌∙◌, arith}
+use Rattle.std.proofs.Common.{◌≡◌, ◌≤◌, ℕ, ◌+◌, ◌-◌, ◌*◌, ◌/◌, ◌%◌, ◌^◌, ◌<◌, ◌==◌, max, Bool, true, false, if◌then◌else◌, List, []}
+use Rattle.std.proofs.Common.{◌∷◌, nat_lt, slice_index_or, replicate, zero, suc, All, ℤ, pos, neg_ℤ, ◌+ℤ◌, ◌-ℤ◌, ◌≤ℤ◌, unsigned_abs, refl, ◌∙◌, arith}
 use Rattle.std.proofs.lemmas.Bool.{eqb-false, eqb-true}
 use Rattle.std.proofs.lemmas.Bool.Decides.{nat_tests}
 use Rattle.std.proofs.lemmas.Grind.{common_steps}
@@ -11,9 +12,10 @@ use Rattle.avg_decode.specs.declared.word.VgWord.TheVariants.{Vctr, Halt, Svec, 
 use Rattle.avg_decode.specs.Bits.{field, signed}
 use Rattle.avg_decode.specs.Word.{IsLong, second_of, setting_of, short_distance, word_of, words_of}
 use Rattle.avg_draw.specs.Beam.{binary_digits, clocks_of, delta_of, held}
-use Rattle.avg_draw.proofs.Scales.{delta_high, delta_low, digits_are, digits_few, power_bound, scale_bound}
+use Rattle.avg_draw.proofs.Scales.{delta_high, delta_low, digits_few, power_bound, scale_bound}
 use Rattle.board_base.specs.declared.phase.TheConstants.{LOW_BYTE, HIGH_BYTE, SECOND_LOW, SECOND_HIGH, EXECUTE, DRAW}
-use Rattle.avg_device.specs.Tick.{begun, drawn, ended, executed, high_byte, high_read, low_byte, low_read, word_executed, pen_of, phase_after, phase_done, second_high_read, second_low_read, vg_go, vg_reset, vg_tick, word_at}
+use Rattle.avg_device.specs.Tick.{begun, drawn, ended, executed, high_byte, high_read, low_byte, low_read, word_executed}
+use Rattle.avg_device.specs.Tick.{pen_of, phase_after, phase_done, second_high_read, second_low_read, vg_go, vg_reset, vg_tick, word_at}
 use Rattle.board_base.specs.Ranges.{IsWithin}
 use Rattle.board_base.specs.Vg.{VgValue, IsVg}
 use Rattle.cpu_core.specs.Ranges.{IsByte}
@@ -114,8 +116,7 @@ length_of d h = let low = h.above in let high = h.below in omega (arith, ints)
 
 few_clocks : (n bin : ℕ) → n ≤ 4096 → 2 ^ binary_digits n / 2 ^ bin ≤ 8192
 few_clocks n bin h =
-    let few : binary_digits n ≤ 13 = rw (← digits_are n h) (digits_few n h) in
-    let power : 2 ^ binary_digits n ≤ 8192 = power_bound (binary_digits n) few in
+    let power : 2 ^ binary_digits n ≤ 8192 = power_bound (binary_digits n) (digits_few n (omega arith)) in
     quotient (2 ^ binary_digits n) (2 ^ bin) power
   where
     quotient : (a b : ℕ) → a ≤ 8192 → a / b ≤ 8192
