@@ -1,7 +1,9 @@
 //! The text of the log: a line for each record of the board, by clock, and the last lines.
 #![tactic(auto)]
 
+mod kept_text;
 mod last;
+mod log_line;
 mod merged;
 mod record_bytes;
 mod record_line;

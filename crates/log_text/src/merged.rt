@@ -8,11 +8,11 @@ ghost use Rattle.outside_io.specs.Sink.{Takes};
 ghost use Rattle.std.specs.Iterator.{YieldsFirst, item_count};
 ghost use Rattle.log_text.specs.Merging.{first_clock, earliest_of, TakesAt, AreSorted};
 
+use crate::log_line::LogLine;
 use crate::record_bytes::RecordRow;
 use crate::record_line::set_line;
 use board_base::{Part, Record, Trails, sooner};
 use outside_io::{BlockWriter, Sink, SinkFault};
-use text_line::Line;
 
 /// The records of four trails by clock, within a clock in the order of the parts.
 #[derive(Clone, Copy)]
@@ -109,7 +109,7 @@ pub fn write_merged<O: Sink>(trails: &Trails<'_>, out: &mut O) -> Result<(), Sin
     ensures cause { HasCause (O.faults out.old) (O.faults out.new) result }
 {
     let mut block = BlockWriter::new();
-    let mut line = Line::empty();
+    let mut line = LogLine::empty();
     for (part, record) in Merge::of(trails) {
         set_line(&mut line, part, record);
         block.push(line.bytes(), out)?;

@@ -1,8 +1,9 @@
--- How many decimal digits a number has.
-use Rattle.std.proofs.Common.{◌≡◌, ℕ, zero, suc, ◌+◌, ◌*◌, ◌/◌, ◌^◌, ◌<◌, ◌≤◌, length, max, arith, ◌∙◌, sym}
+-- The decimal digits of a number, and how many there are.
+use Rattle.std.proofs.Common.{◌≡◌, ℕ, zero, suc, ◌+◌, ◌*◌, ◌/◌, ◌%◌, ◌^◌, ◌<◌, ◌≤◌, ◌++◌, length, max, arith, ◌∙◌, sym}
 use Rattle.std.specs.Fmt.{decimal}
 use Rattle.std.proofs.lemmas.Fmt.{length-decimal-le}
-use Rattle.itoa.proofs.Decimal.{length_one, length_step_wide}
+use Rattle.itoa.proofs.Decimal.{decimal_four, length_one, length_step_wide}
+use Rattle.text_line.specs.Words.{four_digits}
 
 -- a number from a power of ten up to the next has one digit more than the power says
 pub length_by_power : (k n : ℕ) → 10 ^ k ≤ n → n < 10 * 10 ^ k → n < 2 ^ 64 → length (decimal n) ≡ k + 1
@@ -28,3 +29,7 @@ length_half n fits = length-decimal-le 10 n (omega arith) (omega arith) (omega a
 -- one of 64 bits at most 20
 pub length_whole : (n : ℕ) → n < 2 ^ 64 → length (decimal n) ≤ 20
 length_whole n fits = length-decimal-le 20 n (omega arith) (omega arith) fits
+
+-- the text of a number is that of the number without its last four digits, and these
+pub last_four : (n : ℕ) → 10000 ≤ n → n < 2 ^ 64 → decimal n ≡ decimal (n / 10000) ++ four_digits (n % 10000)
+last_four n least fits = decimal_four n least fits

@@ -1,2 +1,3 @@
 pub mod DigitLaws
 mod LineLaws
+pub mod PieceLaws

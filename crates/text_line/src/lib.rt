@@ -5,4 +5,4 @@
 mod chain;
 pub mod line;
 
-pub use line::{LONGEST, Line, longest_line};
+pub use line::{LONGEST, Line, PIECE, longest_line};

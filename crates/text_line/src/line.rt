@@ -1,6 +1,6 @@
 ghost use Rattle.std.specs.Prelude.{◌≡◌, ◌+◌, ◌<◌, ◌≤◌, [], ◌∷◌, ◌++◌, length, decimal, true};
 ghost use Rattle.std.specs.Fmt.{digit_glyph, signed_decimal};
-ghost use Rattle.text_line.specs.Words.{hex_byte};
+ghost use Rattle.text_line.specs.Words.{four_digits, hex_byte, two_digits};
 
 use itoa::write_digits;
 use std::marker::Model;
@@ -13,6 +13,9 @@ pub const LONGEST: usize = 113;
 pub fn longest_line()
     ensures { LONGEST ≡ 113 }
 {}
+
+/// How many bytes `put_piece` copies, whatever the length of the text.
+pub const PIECE: usize = 24;
 
 /// A line of text while it is put together: words with a blank between each two, and LF. It takes
 /// no memory, and the bytes behind the text are any.
@@ -62,13 +65,21 @@ impl Line {
         &self.bytes[..self.len]
     }
 
+    /// Takes all of the text away.
+    #[inline(always)]
+    pub fn clear(&mut self)
+        ensures { self.new ≡ [] }
+    {
+        self.len = 0;
+    }
+
     /// Begins anew, with a letter and a number.
     #[inline(always)]
     pub fn begin(&mut self, letter: u8, n: u64)
         ensures text { self.new ≡ letter ∷ 32 ∷ decimal n }
         ensures len { length self.new ≤ 22 }
     {
-        self.len = 0;
+        self.clear();
         self.put_byte(letter);
         self.put_number(n);
     }
@@ -96,6 +107,18 @@ impl Line {
         self.len = end;
     }
 
+    /// Puts the text of a short line. It copies `PIECE` bytes, since a fixed length is faster.
+    #[inline(always)]
+    pub fn put_piece(&mut self, piece: &Line)
+        requires short { length piece.now ≤ PIECE }
+        requires room { length self.old + PIECE ≤ LONGEST }
+        ensures text { self.new ≡ self.old ++ piece.now }
+        ensures len { length self.new ≡ length self.old + length piece.now }
+    {
+        self.bytes[self.len..self.len + PIECE].copy_from_slice(&piece.bytes[..PIECE]);
+        self.len += piece.len;
+    }
+
     /// Puts the digits of a number, which are written from the last to the first.
     #[inline(always)]
     fn put_digits(&mut self, n: u64)
@@ -117,7 +140,42 @@ impl Line {
         ensures len { length self.new ≤ length self.old + 4 }
     {
         self.put_byte(b' ');
-        self.put_digits(n.into());
+        if n < 10 {
+            self.put_byte(b'0' + n);
+        } else if n < 100 {
+            self.put_two(n);
+        } else {
+            self.put_digits(n.into());
+        }
+    }
+
+    /// Puts two digits.
+    #[inline(always)]
+    fn put_two(&mut self, n: u8)
+        requires few { n < 100 }
+        requires room { length self.old + 2 ≤ LONGEST }
+        ensures text { self.new ≡ self.old ++ two_digits n }
+        ensures len { length self.new ≡ length self.old + 2 }
+    {
+        self.put_byte(b'0' + n / 10);
+        self.put_byte(b'0' + n % 10);
+    }
+
+    /// Puts four digits.
+    #[inline(always)]
+    pub fn put_four(&mut self, n: u16)
+        requires few { n < 10000 }
+        requires room { length self.old + 4 ≤ LONGEST }
+        ensures text { self.new ≡ self.old ++ four_digits n }
+        ensures len { length self.new ≡ length self.old + 4 }
+    {
+        let (high, low) = ((n / 100) as u8, (n % 100) as u8);
+        self.put_text(&[
+            b'0' + high / 10,
+            b'0' + high % 10,
+            b'0' + low / 10,
+            b'0' + low % 10,
+        ]);
     }
 
     /// Puts a blank and a number.
