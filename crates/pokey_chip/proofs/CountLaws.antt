@@ -7,7 +7,8 @@ use Rattle.pokey_timer.specs.Countdown.{pulse_taken}
 use Rattle.pokey_chip.specs.declared.channel.Channel.{Channel}
 use Rattle.pokey_chip.specs.declared.channel.Channel.TheVariants.{First, Second, Third, Fourth}
 use Rattle.pokey_chip.specs.Channels.{period_of, place}
-use Rattle.pokey_chip.specs.Tick.{base_pulses, channel_ticked, channels_ticked, clocked, is_pulsed, left_after, left_of, levelled, levels_of, passed, pokey_tick, pot_counted, pots_rise, requested, toned, underflow_effect, underflows, with_left}
+use Rattle.pokey_chip.specs.Tick.{base_pulses, channel_ticked, channels_ticked, clocked, is_pulsed, left_after, left_of, levelled, levels_of}
+use Rattle.pokey_chip.specs.Tick.{passed, pokey_tick, pot_counted, pots_rise, requested, toned, underflow_effect, underflows, with_left}
 
 -- the last pulse left is taken where at most one is left
 last-one : (left : ℕ) → (left - 1 == 0) ≡ nat_le left 1

@@ -8,11 +8,15 @@ pub mod PulseLaws
 pub mod RegisterLaws
 pub mod UnderflowLaws
 pub mod VoiceLaws
-pub mod EventLaws
+pub mod PeriodLaws
 pub mod NoiseLaws
 pub mod ToneLaws
 pub mod EffectLaws
 pub mod StepLaws
 pub mod MoveLaws
+pub mod DueLaws
+pub mod TickLaws
+pub mod SkipLaws
+pub mod PlanLaws
 pub mod MovedLaws
 pub mod RequestLaws

@@ -6,7 +6,7 @@ use Rattle.board_base.proofs.TickLaws.{times-add, times-zero}
 use Rattle.pokey_poly.specs.declared.poly.Poly.{Poly}
 use Rattle.pokey_poly.specs.declared.poly.Poly.TheVariants.{Four, Five, Nine, Seventeen}
 use Rattle.pokey_poly.specs.Shift.{shifted, width_of, IsAhead}
-use Rattle.pokey_chip.specs.Noise.{IsNoise, IsWord}
+use Rattle.pokey_chip.specs.Noise.{IsNoise, IsWord, IsWordFor}
 use Rattle.board_base.specs.Pokey.{PokeyValue}
 use Rattle.pokey_chip.specs.declared.noise.Noise.{Noise}
 use Rattle.pokey_chip.specs.Tick.{is_held, rolled}
@@ -37,18 +37,18 @@ register-held true poly r n e some = sym (rolled-held poly n r some)
 register-held false poly r n e some = cc
 
 -- and one that runs
-pub register-runs : (held : Bool) (poly : Poly) (r since word k : ℕ) → held ≡ false → (held ≡ false → IsWord poly r since word)
-    → times (shifted poly) k (word % 2 ^ width_of poly) ≡ times (rolled held poly) (since + k) r
-register-runs true poly r since word k e is = cc
-register-runs false poly r since word k e is = word-on poly r since word k (is refl)
+pub register-runs : (held : Bool) (poly : Poly) (r word k n : ℕ) → held ≡ false → (held ≡ false → IsWordFor poly r word k n)
+    → times (shifted poly) k (word % 2 ^ width_of poly) ≡ times (rolled held poly) n r
+register-runs true poly r word k n e is = cc
+register-runs false poly r word k n e is = let w : IsWordFor poly r word k n = is refl in word-on poly r w.since word k w.is ∙ w.same
 
 -- their outputs
 pub output-held : (held : Bool) (poly : Poly) (r n : ℕ) → held ≡ true → 1 ≤ n → held ≡ is_bit (times (rolled held poly) n r) 0
 output-held held poly r n e some = e ∙ sym (ones-odd poly) ∙ ap (λ (m : ℕ). is_bit m 0) (register-held held poly r n e some)
 
-pub output-runs : (held : Bool) (poly : Poly) (r since word k : ℕ) → held ≡ false → (held ≡ false → IsWord poly r since word)
-    → is_bit (times (shifted poly) k (word % 2 ^ width_of poly)) 0 ≡ is_bit (times (rolled held poly) (since + k) r) 0
-output-runs held poly r since word k e is = ap (λ (m : ℕ). is_bit m 0) (register-runs held poly r since word k e is)
+pub output-runs : (held : Bool) (poly : Poly) (r word k n : ℕ) → held ≡ false → (held ≡ false → IsWordFor poly r word k n)
+    → is_bit (times (shifted poly) k (word % 2 ^ width_of poly)) 0 ≡ is_bit (times (rolled held poly) n r) 0
+output-runs held poly r word k n e is = ap (λ (m : ℕ). is_bit m 0) (register-runs held poly r word k n e is)
 
 -- the word of a register itself
 pub word-begun : (poly : Poly) (r s word : ℕ) → s ≡ r → IsAhead poly s (47 + width_of poly) word → word % 2 ^ width_of poly ≡ s → IsWord poly r 0 word

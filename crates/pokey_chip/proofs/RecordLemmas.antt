@@ -41,6 +41,10 @@ extended-more {a} {b} {c} from n p first next = rw (levels-more from n p) (Exten
 pub levels-zero : (from : ℕ) (p : PokeyValue) → levels_made from 0 p ≡ []
 levels-zero from p = made-zero (λ _. pokey_tick) pokey_gives from p
 
+-- before the first clock
+pub begun-records : (from : ℕ) (p : PokeyValue) (t : TrailValue) → Extended t t (levels_made from 0 p)
+begun-records from p t = rw (levels-zero from p) (Extended-none t)
+
 one-change : (clock : ℕ) (before now : List ℕ) → length (change clock before now) ≤ 1
 unfolding change
 one-change clock before now = at_most (pointwise nat_eq now before)

@@ -1,5 +1,6 @@
 -- When a request is made.
-use Rattle.std.proofs.Common.{◌≡◌, ◌≢◌, ℕ, ◌+◌, ◌-◌, ◌<◌, ◌≤◌, min, Bool, true, false, not, ◌&&◌, nat_le, ◌⊎◌, inl, inr, if◌then◌else◌, ◌==◌, zero, suc, refl, add-zero, add-suc, sym, ap, ◌∙◌, arith, Option, Some, None, MatchOption}
+use Rattle.std.proofs.Common.{◌≡◌, ◌≢◌, ℕ, ◌+◌, ◌-◌, ◌<◌, ◌≤◌, min, Bool, true, false, not, ◌&&◌, nat_le, ◌⊎◌, inl}
+use Rattle.std.proofs.Common.{inr, if◌then◌else◌, ◌==◌, zero, suc, refl, add-zero, add-suc, sym, ap, ◌∙◌, arith, Option, Some, None, MatchOption}
 use Rattle.std.proofs.lemmas.Bool.Decides.{nat_tests}
 use Rattle.std.proofs.lemmas.Bool.{cases_lt}
 use Rattle.std.proofs.lemmas.List.Elements.{All-get_or}

@@ -1,5 +1,5 @@
 -- What a clock with underflows makes of the words in which a move has the tones.
-use Rattle.std.proofs.Common.{◌≡◌, ℕ, ◌+◌, ◌<◌, Bool, true, false, not, zero, suc, ◌&&◌, ◌||◌, if◌then◌else◌, [], ◌∷◌, refl, arith, sym, ap, ◌∙◌}
+use Rattle.std.proofs.Common.{◌≡◌, ℕ, ◌<◌, Bool, true, false, not, zero, suc, ◌&&◌, ◌||◌, if◌then◌else◌, [], ◌∷◌, refl, arith, sym, ap, ◌∙◌}
 use Rattle.std.proofs.lemmas.Nat.Bits.{same_from_bits_below}
 use Rattle.std.specs.Int.{bit_at, from_bool}
 use Rattle.bit_words.specs.Bits.{is_bit, number}
@@ -11,19 +11,17 @@ use Rattle.pokey_chip.specs.declared.channel.Channel.{Channel}
 use Rattle.pokey_chip.specs.declared.channel.Channel.TheVariants.{First, Second, Third, Fourth}
 use Rattle.pokey_chip.specs.declared.noise.Outputs.{Outputs}
 use Rattle.pokey_chip.specs.declared.tones.Tuning.{Tuning}
-use Rattle.pokey_chip.specs.Moves.{underflow_effects}
 use Rattle.pokey_chip.specs.Noise.{long_poly}
-use Rattle.pokey_chip.specs.Tick.{filtered, is_held, level, levelled, levels_of, long_register, pokey_tick, rolled, signal}
-use Rattle.pokey_chip.specs.Tones.{asker, audc_of, follower, has, level_on, levels_on, next_tone, of_channel, requests_made, IsTuning}
-use Rattle.pokey_chip.proofs.EventLaws.{stood}
+use Rattle.pokey_chip.specs.Tick.{filtered, is_held, level, levels_of, long_register, pokey_tick, rolled, signal}
+use Rattle.pokey_chip.specs.Tones.{asker, audc_of, has, level_on, levels_on, next_tone, requests_made, IsTuning}
 use Rattle.pokey_chip.proofs.RegisterLaws.{poly9-after, poly17-after}
-use Rattle.pokey_chip.proofs.EffectLaws.{next_by, effects-irqst, effects-irqst-fits, effects-pass, effects-pass-fits, effects-tone, effects-tone-fits}
+use Rattle.pokey_chip.proofs.EffectLaws.{next_by}
 
 -- numbers of a few bits that have the same bits
 same-digit : (a b j : ℕ) → is_bit a j ≡ is_bit b j → bit_at a j ≡ bit_at b j
 same-digit a b j e = sym (from-is_bit a j) ∙ ap from_bool e ∙ from-is_bit b j
 
-four-same : (a b : ℕ) → a < 16 → b < 16 → ((c : Channel) → has a c ≡ has b c) → a ≡ b
+pub four-same : (a b : ℕ) → a < 16 → b < 16 → ((c : Channel) → has a c ≡ has b c) → a ≡ b
 four-same a b small few same = same_from_bits_below 4 a b small few digit
   where
     digit : (j : ℕ) → j < 4 → bit_at a j ≡ bit_at b j
@@ -33,10 +31,10 @@ four-same a b small few same = same_from_bits_below 4 a b small few digit
     digit (suc (suc (suc zero))) h = same-digit a b 3 (same Fourth)
     digit (suc (suc (suc (suc j)))) h = absurd (omega arith)
 
-three-same : (a b : ℕ) → a < 8 → b < 8 → ((j : ℕ) → j < 3 → is_bit a j ≡ is_bit b j) → a ≡ b
+pub three-same : (a b : ℕ) → a < 8 → b < 8 → ((j : ℕ) → j < 3 → is_bit a j ≡ is_bit b j) → a ≡ b
 three-same a b small few same = same_from_bits_below 3 a b small few (λ j h. same-digit a b j (same j h))
 
-two-same : (a b : ℕ) → a < 4 → b < 4 → ((j : ℕ) → j < 2 → is_bit a j ≡ is_bit b j) → a ≡ b
+pub two-same : (a b : ℕ) → a < 4 → b < 4 → ((j : ℕ) → j < 2 → is_bit a j ≡ is_bit b j) → a ≡ b
 two-same a b small few same = same_from_bits_below 2 a b small few (λ j h. same-digit a b j (same j h))
 
 -- the bits of IRQST after underflows
@@ -60,11 +58,11 @@ number-fits false true false = omega arith
 number-fits false false true = omega arith
 number-fits false false false = omega arith
 
-requests-fits : (underflowed irqen irqst : ℕ) → requests_made underflowed irqen irqst < 8
+pub requests-fits : (underflowed irqen irqst : ℕ) → requests_made underflowed irqen irqst < 8
 unfolding requests_made
 requests-fits underflowed irqen irqst = number-fits _ _ _
 
-requests-bit : (underflowed irqen irqst j : ℕ) → j < 3 → is_bit (requests_made underflowed irqen irqst) j ≡ (is_bit irqst j && not (has underflowed (asker j) && is_bit irqen j))
+pub requests-bit : (underflowed irqen irqst j : ℕ) → j < 3 → is_bit (requests_made underflowed irqen irqst) j ≡ (is_bit irqst j && not (has underflowed (asker j) && is_bit irqen j))
 unfolding requests_made
 requests-bit underflowed irqen irqst zero h = (number-bit _ _ _).0
 requests-bit underflowed irqen irqst (suc zero) h = (number-bit _ _ _).1
@@ -87,7 +85,7 @@ requests-none irqen irqst small =
     none (suc (suc (suc j))) h = absurd (omega arith)
 
 -- a request made twice is made once
-both : (standing before now enabled : Bool)
+pub both : (standing before now enabled : Bool)
     → (standing && not ((before || now) && enabled)) ≡ ((standing && not (before && enabled)) && not (now && enabled))
 both true true true true = refl
 both true true true false = refl
@@ -107,7 +105,7 @@ pub long-after : (n : ℕ) (p : PokeyValue) → times (rolled (is_held p.skctl) 
 long-after n p = long-by (is_bit p.audctl 7) n p
 
 -- the tone bit by the words is that of the underflow's effect
-next-same : (tuning : Tuning) (outputs : Outputs) (p r : PokeyValue) (c : Channel) (tone : Bool) → IsTuning p tuning → r.audc ≡ p.audc
+pub next-same : (tuning : Tuning) (outputs : Outputs) (p r : PokeyValue) (c : Channel) (tone : Bool) → IsTuning p tuning → r.audc ≡ p.audc
     → outputs.four ≡ is_bit r.poly4 0 → outputs.five ≡ is_bit r.poly5 0 → outputs.long ≡ is_bit (long_register r) 0
     → next_tone tuning outputs c tone ≡ next_by (audc_of r c) r tone
 next-same tuning outputs p r c tone is audc four five long = rw (is.free c, is.pure c, is.four c, four, five, long, audc) refl
@@ -131,63 +129,3 @@ levels-same tuning p q on is audc audctl e =
       level-same tuning p q on Third is audc audctl (e Third),
       level-same tuning p q on Fourth is audc audctl (e Fourth),
     ) refl
-
--- a POKEY `r` before the effects of a clock's underflows, and `q` after them
-module _ (p r q : PokeyValue) (a b c d : Bool) (effects : levelled (underflow_effects a b c d r) ≡ stood p q) (audc : r.audc ≡ p.audc) (irqen : r.irqen ≡ p.irqen)
-    (due : ℕ) (is-due : (ch : Channel) → has due ch ≡ of_channel a b c d ch) where
-  tone-is : (underflow_effects a b c d r).tone ≡ q.tone
-  unfolding stood
-  tone-is = ap (λ (s : PokeyValue). s.tone) effects
-
-  pass-is : (underflow_effects a b c d r).pass ≡ q.pass
-  unfolding stood
-  pass-is = ap (λ (s : PokeyValue). s.pass) effects
-
-  irqst-is : (underflow_effects a b c d r).irqst ≡ q.irqst
-  unfolding stood
-  irqst-is = ap (λ (s : PokeyValue). s.irqst) effects
-
-  pub tone-step : (tuning : Tuning) (outputs : Outputs) (tone new : ℕ) → IsTuning p tuning
-      → outputs.four ≡ is_bit r.poly4 0 → outputs.five ≡ is_bit r.poly5 0 → outputs.long ≡ is_bit (long_register r) 0
-      → tone ≡ r.tone → tone < 16 → new < 16
-      → ((ch : Channel) → has new ch ≡ (if has due ch then next_tone tuning outputs ch (has tone ch) else has tone ch)) → new ≡ q.tone
-  tone-step tuning outputs tone new is four five long same small few e =
-      let fits : r.tone < 16 = omega arith in
-      four-same new (underflow_effects a b c d r).tone few (effects-tone-fits a b c d r fits)
-      (λ ch.
-      e ch
-      ∙ rw (is-due ch, next-same tuning outputs p r ch (has tone ch) is audc four five long, same) refl
-      ∙ sym (effects-tone a b c d r fits ch))
-      ∙ tone-is
-
-  due-follower : (k : ℕ) → k < 2 → is_bit due (k + 2) ≡ of_channel a b c d (follower k)
-  due-follower zero h = is-due Third
-  due-follower (suc zero) h = is-due Fourth
-  due-follower (suc (suc k)) h = absurd (omega arith)
-
-  pub pass-step : (tone pass new : ℕ) → r.tone < 16 → tone ≡ q.tone → pass ≡ r.pass → pass < 4 → new < 4
-      → ((k : ℕ) → k < 2 → is_bit new k ≡ (if is_bit due (k + 2) then is_bit tone k else is_bit pass k)) → new ≡ q.pass
-  pass-step tone pass new tones now same small few e =
-      let fits : r.pass < 4 = omega arith in
-      two-same new (underflow_effects a b c d r).pass few (effects-pass-fits a b c d r tones fits)
-      (λ k h. e k h ∙ rw (due-follower k h, now ∙ sym tone-is, same) refl ∙ sym (effects-pass a b c d r tones fits k h))
-      ∙ pass-is
-
-  due-asker : (j : ℕ) → j < 3 → has due (asker j) ≡ of_channel a b c d (asker j)
-  due-asker j h = is-due (asker j)
-
-  pub irqst-step : (underflowed new : ℕ) → r.tone < 16 → requests_made underflowed p.irqen p.irqst ≡ r.irqst
-      → ((ch : Channel) → has new ch ≡ (has underflowed ch || has due ch)) → requests_made new p.irqen p.irqst ≡ q.irqst
-  irqst-step underflowed new tones same e =
-      let fits : r.irqst < 8 = omega (arith, requests-fits underflowed p.irqen p.irqst) in
-      three-same (requests_made new p.irqen p.irqst) (underflow_effects a b c d r).irqst (requests-fits new p.irqen p.irqst) (effects-irqst-fits a b c d r tones fits)
-      (λ j h.
-      let before : is_bit r.irqst j ≡ (is_bit p.irqst j && not (has underflowed (asker j) && is_bit p.irqen j))
-      = ap (λ (n : ℕ). is_bit n j) (sym same) ∙ requests-bit underflowed p.irqen p.irqst j h in
-      requests-bit new p.irqen p.irqst j h
-      ∙ ap (λ (x : Bool). is_bit p.irqst j && not (x && is_bit p.irqen j)) (e (asker j) ∙ ap (λ (x : Bool). has underflowed (asker j) || x) (is-due (asker j)))
-      ∙ both (is_bit p.irqst j) (has underflowed (asker j)) (of_channel a b c d (asker j)) (is_bit p.irqen j)
-      ∙ ap (λ (x : Bool). x && not (of_channel a b c d (asker j) && is_bit p.irqen j)) (sym before)
-      ∙ ap (λ (i : ℕ). is_bit r.irqst j && not (of_channel a b c d (asker j) && is_bit i j)) (sym irqen)
-      ∙ sym (effects-irqst a b c d r tones fits j h))
-      ∙ irqst-is

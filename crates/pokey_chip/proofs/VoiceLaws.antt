@@ -1,24 +1,23 @@
 -- A channel in a move: when it is due.
-use Rattle.std.proofs.Common.{◌≡◌, ℕ, ◌+◌, ◌-◌, ◌*◌, ◌^◌, ◌<◌, ◌≤◌, ◌==◌, Bool, true, false, ◌&&◌, nat_le, if◌then◌else◌, zero, suc, refl, sym, ap, ◌∙◌, arith, add-zero, add-suc, ◌⊎◌, inl, inr}
+use Rattle.std.proofs.Common.{◌≡◌, ℕ, ◌+◌, ◌-◌, ◌*◌, ◌^◌, ◌<◌, ◌≤◌, ◌==◌, Bool, true, false, ◌&&◌, nat_le, if◌then◌else◌, zero, suc, refl, sym, ap, ◌∙◌, arith, ◌⊎◌, inl, inr}
 use Rattle.std.proofs.lemmas.Bool.Decides.{nat_tests}
 use Rattle.std.proofs.lemmas.Bool.{cases_lt}
 use Rattle.std.specs.Int.{from_bool}
 use Rattle.board_base.specs.Pokey.{PokeyValue}
 use Rattle.board_base.specs.Ticks.{ticks, times}
-use Rattle.board_base.proofs.TickLaws.{times-add}
 use Rattle.pokey_timer.specs.Prescaler.{pulsed, pulses}
 use Rattle.pokey_timer.proofs.Prescalers.{pulses-before, pulses-grow, pulses-reached}
 use Rattle.pokey_chip.specs.declared.channel.Channel.{Channel}
 use Rattle.pokey_chip.specs.declared.clock_source.ClockSource.{ClockSource}
 use Rattle.pokey_chip.specs.declared.clock_source.ClockSource.TheVariants.{Never, ChipClock, By28, By114}
 use Rattle.pokey_chip.specs.declared.voice.Voice.{Voice}
-use Rattle.pokey_chip.specs.Moves.{due_at, pulse_at, pulse_of, step_of, IsEarly, IsPassed, IsTimed, IsVoice}
+use Rattle.pokey_chip.specs.Moves.{due_at, pulse_at, pulse_of, step_of, IsEarly, IsTimed, IsVoice}
 use Rattle.pokey_chip.specs.ClockSources.{IsClockSource, source_pulses}
-use Rattle.pokey_chip.specs.Pulses.{HasNoUnderflow, has_pulse, pulses_of}
+use Rattle.pokey_chip.specs.Pulses.{has_pulse, pulses_of}
 use Rattle.pokey_chip.specs.Tick.{base_pulses, left_of, pokey_tick, underflows}
 use Rattle.pokey_chip.proofs.CountLaws.{left-is, underflow-is}
 use Rattle.pokey_chip.proofs.KeptLaws.{kept}
-use Rattle.pokey_chip.proofs.UnderflowLaws.{left-fallen, left-tick, no-underflow}
+use Rattle.pokey_chip.proofs.UnderflowLaws.{left-tick, no-underflow}
 
 -- no more pulses than clocks
 pulses-few : (period count n : ℕ) → pulses period count n ≤ n
@@ -86,6 +85,13 @@ pulse-due (By114 count) pulse is some = omega (arith, is)
 equal-by : (a b : ℕ) → (a == b) ≡ true → a ≡ b
 equal-by a b e = grind (arith, nat_tests)
 
+-- the same channel after the clock `at`, in which it underflows where it is due
+pub record IsPassed (at : ℕ) (before after : Voice) : Type 0 where
+  pub timed : IsTimed after
+  pub clock_source : after.clock_source ≡ before.clock_source
+  pub period : after.period ≡ before.period
+  pub pulse : pulse_of after ≡ (if before.due == at then pulse_of before + before.period else pulse_of before)
+
 passed-by : (b : Bool) (v : Voice) (at due : ℕ) → (v.due == at) ≡ b → IsTimed v → at ≤ 2 ^ 49 → due ≡ (if b then v.due + v.step else v.due) → IsPassed at v (record v { due = due })
 passed-by false v at due other timed small e = rw e (record { timed = timed; clock_source = refl; period = refl; pulse = rw other refl })
 passed-by true v at due now timed small e =
@@ -133,37 +139,6 @@ begun-left c p = refl
 
 pub ruleset begins = (begun, begun-left, pulse-due)
 
--- the pulses of clocks one after another
-pub pulses_of-add : (c : Channel) (k m : ℕ) (p : PokeyValue) → pulses_of c (k + m) p ≡ pulses_of c k p + pulses_of c m (times pokey_tick k p)
-unfolding pulses_of
-pulses_of-add c k zero p = rw (add-zero k, add-zero (pulses_of c k p)) refl
-pulses_of-add c k (suc m) p = rw (add-suc, pulses_of-add c k m p, times-add pokey_tick k m p) (omega arith)
-
-module _ (c : Channel) (k : ℕ) (p : PokeyValue) (v : Voice) (is : IsVoice c k p v) where
-  -- before it is due a channel has no underflow
-  pub none-before : (m : ℕ) → k + m < v.due → HasNoUnderflow (times pokey_tick k p) c m
-  none-before m h =
-      let soon : k + m < due_at v.clock_source (pulse_of v) = omega (arith, is.timed.due) in
-      let few : source_pulses v.clock_source (k + m) < pulse_of v = early v.clock_source (pulse_of v) (k + m) is.timed.prescaler is.timed.some soon in
-      omega (arith, few, pulses_of-add c k m p, is.pulses_are (k + m), is.next)
-
-  -- and it goes on with the same pulse
-  pub goes-on : (m : ℕ) → k + m < v.due → IsVoice c (k + m) p v
-  goes-on m h =
-      let none : HasNoUnderflow (times pokey_tick k p) c m = none-before m h in
-      let fallen : left_of c (times pokey_tick m (times pokey_tick k p)) + pulses_of c m (times pokey_tick k p) ≡ left_of c (times pokey_tick k p)
-      = left-fallen c m (times pokey_tick k p) none in
-      let at : left_of c (times pokey_tick (k + m) p) ≡ left_of c (times pokey_tick m (times pokey_tick k p))
-      = ap (left_of c) (times-add pokey_tick k m p) in
-      record {
-        timed = is.timed;
-        pulses_are = is.pulses_are;
-        period = is.period;
-        next = omega (arith, at, fallen, pulses_of-add c k m p, is.next);
-        some = omega (arith, at, fallen, none);
-        most = omega (arith, at, fallen, is.most);
-      }
-
 -- a channel that counts a pulse or none
 counted-next : (pulse : Bool) (left period so_far next : ℕ) → left + so_far ≡ next → 1 ≤ left
     → (if pulse then (if nat_le left 1 then period else left - 1) else left) + (so_far + from_bool pulse) ≡ (if pulse && nat_le left 1 then next + period else next)
@@ -175,10 +150,10 @@ counted-range : (pulse : Bool) (left period : ℕ) → 1 ≤ left → left ≤ 6
 counted-range true left period a b d e = (grind (arith, nat_tests), grind (arith, nat_tests))
 counted-range false left period a b d e = (a, b)
 
-later-test : (due at : ℕ) → at < due → (due == at) ≡ false
+pub later-test : (due at : ℕ) → at < due → (due == at) ≡ false
 later-test due at h = grind (arith, nat_tests)
 
-now-test : (due at : ℕ) → at ≤ due → due ≤ at → (due == at) ≡ true
+pub now-test : (due at : ℕ) → at ≤ due → due ≤ at → (due == at) ≡ true
 now-test due at h g = grind (arith, nat_tests)
 
 last-taken : (pulse : Bool) (left : ℕ) → 1 ≤ left → left ≤ from_bool pulse → (pulse && nat_le left 1) ≡ true

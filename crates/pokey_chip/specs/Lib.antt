@@ -7,3 +7,4 @@ pub mod Registers
 pub mod Tick
 pub mod Noise
 pub mod Tones
+pub mod Skips

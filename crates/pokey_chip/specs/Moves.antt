@@ -1,6 +1,6 @@
 -- A move of a POKEY from underflow to underflow. The pulses and the clocks of a channel are counted
 -- from the start of the move; no register is written in it.
-use Rattle.std.specs.Prelude.{◌≡◌, ℕ, ◌+◌, ◌-◌, ◌*◌, ◌/◌, ◌^◌, ◌<◌, ◌≤◌, ◌==◌, if◌then◌else◌, Bool}
+use Rattle.std.specs.Prelude.{◌≡◌, ℕ, ◌+◌, ◌-◌, ◌*◌, ◌/◌, ◌^◌, ◌<◌, ◌≤◌, Bool}
 use Rattle.board_base.specs.declared.board.TheConstants.{CLOCK_END}
 use Rattle.board_base.specs.declared.pokey.TheConstants.{LONGEST_PERIOD, PRESCALER_BASE, PRESCALER_LINE}
 use Rattle.board_base.specs.Pokey.{PokeyValue}
@@ -56,13 +56,6 @@ pub record IsTimed (v : Voice) : Type 0 where
   pub high : v.period ≤ LONGEST_PERIOD
   pub step : v.step ≡ step_of v.clock_source v.period
   pub due : v.due ≡ due_at v.clock_source (pulse_of v)
-
--- the same channel after the clock `at`, in which it underflows where it is due
-pub record IsPassed (at : ℕ) (before after : Voice) : Type 0 where
-  pub timed : IsTimed after
-  pub clock_source : after.clock_source ≡ before.clock_source
-  pub period : after.period ≡ before.period
-  pub pulse : pulse_of after ≡ (if before.due == at then pulse_of before + before.period else pulse_of before)
 
 -- the pulses that are left of a channel after n clocks
 abbrev pub left_of_voice : Voice → ℕ → ℕ

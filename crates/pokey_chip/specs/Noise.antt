@@ -21,9 +21,15 @@ pub record IsWord (poly : Poly) (r since word : ℕ) : Type 0 where
   pub ahead : IsAhead poly (word % 2 ^ width_of poly) (REACH + width_of poly) word
   pub start : word % 2 ^ width_of poly ≡ times (shifted poly) since r
 
--- the words of a POKEY's registers from a clock of a move on; nothing is said of them while the
--- registers are held
+-- a word of a register from one of its shifts on, which `k` shifts later is as after `n` in all
+pub record IsWordFor (poly : Poly) (r word k n : ℕ) : Type 0 where
+  pub since : ℕ
+  pub is : IsWord poly r since word
+  pub same : times (shifted poly) (since + k) r ≡ times (shifted poly) n r
+
+-- the words of a POKEY's registers: those of 4 and 5 bits from the start of a move on, the long one
+-- from a clock of it on; nothing is said of them while the registers are held
 pub record IsNoise (p : PokeyValue) (noise : Noise) : Type 0 where
-  pub four : is_held p.skctl ≡ false → IsWord Four p.poly4 noise.since noise.four
-  pub five : is_held p.skctl ≡ false → IsWord Five p.poly5 noise.since noise.five
+  pub four : is_held p.skctl ≡ false → IsWord Four p.poly4 0 noise.four
+  pub five : is_held p.skctl ≡ false → IsWord Five p.poly5 0 noise.five
   pub long : is_held p.skctl ≡ false → IsWord (long_poly p.audctl) (long_register p) noise.since noise.long

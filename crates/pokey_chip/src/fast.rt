@@ -12,7 +12,8 @@ use crate::voice::Voices;
 use board_base::{Device, PokeyState, Trail};
 
 /// A POKEY that goes from underflow to underflow: between two of them only its polynomial registers
-/// move, and what the channels and the pots have counted is put right at the end of a move.
+/// move, and what the channels and the pots have counted is put right at the end of a move. A
+/// channel that isn't heard leaves out the underflows that leave no trace.
 pub type FastPokey = Device<PokeyState, ByUnderflows>;
 
 /// From one underflow to the next.
@@ -57,8 +58,8 @@ impl Moves for ByUnderflows {
         }
         let start = *state;
         let tuning = Tuning::of(&start);
-        let mut voices = Voices::of(&start);
         let mut noise = Noise::of(&start);
+        let mut voices = Voices::of(&start).skipping(&start, noise, n);
         let mut tones = Tones::of(&start);
         let mut last = start.last;
         let mut last_on = None;

@@ -2,7 +2,7 @@ ghost use Rattle.std.specs.Prelude.{◌≡◌, ℕ, ◌+◌, ◌%◌, ◌^◌, �
 ghost use Rattle.bit_words.specs.Bits.{is_bit};
 ghost use Rattle.board_base.specs.Ticks.{times};
 ghost use Rattle.pokey_poly.specs.Shift.{width_of, IsAhead};
-ghost use Rattle.pokey_chip.specs.Noise.{IsNoise, IsWord, long_poly};
+ghost use Rattle.pokey_chip.specs.Noise.{IsNoise, IsWord, IsWordFor, long_poly};
 ghost use Rattle.pokey_chip.specs.Tick.{is_held, long_register, rolled};
 
 use crate::control::NINE_BITS;
@@ -11,9 +11,15 @@ use bit_words::is_set;
 use board_base::{CLOCK_END, PokeyState};
 use pokey_poly::{Poly, REACH};
 
-/// The noise in a move: the bits that leave the polynomial registers from the clock `since` of the
-/// move on, as words with the lowest bit first. The long register that no channel listens to has
-/// none.
+/// The clocks after which the 4-bit register is back at its value.
+const FOUR_PERIOD: u64 = 15;
+/// The clocks after which the 5-bit register is back at its value.
+pub const FIVE_PERIOD: u64 = 31;
+
+/// The noise in a move: the bits that leave the polynomial registers, as words with the lowest bit
+/// first. Those of the long register begin at the clock `since` of the move; those of 4 and 5 bits
+/// begin at its start, as these registers repeat soon. The long register that no channel listens to
+/// has none.
 #[derive(Clone, Copy)]
 pub struct Noise {
     pub since: u64,
@@ -59,7 +65,7 @@ fn later(poly: Poly, word: u64) -> u64
 fn output(held: bool, poly: Poly, word: u64, k: u64) -> bool
     requires ahead { held ≡ false → IsAhead poly (word % 2 ^ width_of poly) (REACH + width_of poly) word }
     requires reach { k ≤ REACH }
-    ensures { (r : ℕ) (since : ℕ) → (held ≡ false → IsWord poly r since word) → 1 ≤ since + k → result ≡ is_bit (times (rolled held poly) (since + k) r) 0 }
+    ensures { (r : ℕ) (n : ℕ) → (held ≡ false → IsWordFor poly r word k n) → 1 ≤ n → result ≡ is_bit (times (rolled held poly) n r) 0 }
 {
     held || poly.output(word, k)
 }
@@ -70,7 +76,7 @@ fn output(held: bool, poly: Poly, word: u64, k: u64) -> bool
 fn register(held: bool, poly: Poly, word: u64, k: u64) -> u32
     requires ahead { held ≡ false → IsAhead poly (word % 2 ^ width_of poly) (REACH + width_of poly) word }
     requires reach { k ≤ REACH }
-    ensures value { (r : ℕ) (since : ℕ) → (held ≡ false → IsWord poly r since word) → 1 ≤ since + k → result ≡ times (rolled held poly) (since + k) r }
+    ensures value { (r : ℕ) (n : ℕ) → (held ≡ false → IsWordFor poly r word k n) → 1 ≤ n → result ≡ times (rolled held poly) n r }
     ensures in_range { result < 2 ^ width_of poly }
 {
     if held {
@@ -111,7 +117,7 @@ impl Noise {
         }
     }
 
-    /// The words `REACH` clocks later.
+    /// The word of the long register `REACH` clocks later.
     #[inline(always)]
     fn later(self, start: &PokeyState) -> Noise
         requires noise { IsNoise start.now self }
@@ -122,13 +128,13 @@ impl Noise {
     {
         Noise {
             since: self.since + REACH,
-            four: later(Poly::Four, self.four),
-            five: later(Poly::Five, self.five),
+            four: self.four,
+            five: self.five,
             long: later(long_poly(start.audctl), self.long),
         }
     }
 
-    /// Words that reach to the clock `at`. Those of registers that are held stay what they are.
+    /// Words that reach to the clock `at`. That of a register that is held stays what it is.
     #[inline(always)]
     pub fn reaching(self, start: &PokeyState, at: u64) -> Noise
         requires noise { IsNoise start.now self }
@@ -148,6 +154,21 @@ impl Noise {
         noise
     }
 
+    /// The output of the 5-bit register in the clock `at`.
+    #[inline(always)]
+    pub fn five(self, start: &PokeyState, at: u64) -> bool
+        requires noise { IsNoise start.now self }
+        requires some { 1 ≤ at }
+        ensures { result ≡ is_bit (times (rolled (is_held start.now.skctl) Poly.Five) at start.now.poly5) 0 }
+    {
+        output(
+            is_held(start.skctl),
+            Poly::Five,
+            self.five,
+            at % FIVE_PERIOD,
+        )
+    }
+
     /// The outputs in the clock `at`, to which the words reach.
     #[inline(always)]
     pub fn outputs(self, start: &PokeyState, at: u64) -> Outputs
@@ -162,8 +183,8 @@ impl Noise {
         let held = is_held(start.skctl);
         let k = at - self.since;
         Outputs {
-            four: output(held, Poly::Four, self.four, k),
-            five: output(held, Poly::Five, self.five, k),
+            four: output(held, Poly::Four, self.four, at % FOUR_PERIOD),
+            five: self.five(start, at),
             long: output(held, long_poly(start.audctl), self.long, k),
         }
     }
@@ -204,22 +225,19 @@ impl Noise {
         }
     }
 
-    /// The 4-bit and the 5-bit register after `n` clocks, to which the words reach.
+    /// The 4-bit and the 5-bit register after `n` clocks.
     #[inline(always)]
     fn short(self, start: &PokeyState, n: u64) -> (u8, u8)
         requires noise { IsNoise start.now self }
         requires some { 1 ≤ n }
-        requires since { self.since ≤ n }
-        requires reach { n ≤ self.since + REACH }
         ensures four { result.0 ≡ times (rolled (is_held start.now.skctl) Poly.Four) n start.now.poly4 }
         ensures four_fits { result.0 < 16 }
         ensures five { result.1 ≡ times (rolled (is_held start.now.skctl) Poly.Five) n start.now.poly5 }
         ensures five_fits { result.1 < 32 }
     {
         let held = is_held(start.skctl);
-        let k = n - self.since;
-        let four = register(held, Poly::Four, self.four, k) as u8;
-        let five = register(held, Poly::Five, self.five, k) as u8;
+        let four = register(held, Poly::Four, self.four, n % FOUR_PERIOD) as u8;
+        let five = register(held, Poly::Five, self.five, n % FIVE_PERIOD) as u8;
         (four, five)
     }
 

@@ -1,11 +1,14 @@
-use Rattle.std.proofs.Common.{◌≡◌, ◌≤◌, Some, refl, ap, sym, ◌∙◌, arith}
+use Rattle.std.proofs.Common.{◌≡◌, ◌+◌, ◌<◌, ◌≤◌, ◌==◌, if◌then◌else◌, Some, refl, ap, sym, ◌∙◌, arith}
 use Rattle.board_base.proofs.TickLaws.{times-still}
 use Rattle.board_base.specs.Pokey.{PokeyValue}
+use Rattle.pokey_chip.specs.declared.channel.Channel.{Channel}
 use Rattle.pokey_chip.specs.declared.channel.Channel.TheVariants.{First, Second, Third, Fourth}
 use Rattle.pokey_chip.specs.Tick.{pokey_tick}
 use Rattle.pokey_chip.specs.Tones.{levels_on}
-use Rattle.pokey_chip.proofs.MoveLaws.{begun-records, is-left}
-use Rattle.pokey_chip.proofs.MovedLaws.{IsMoved, begun, moved, moved-records, moved-state}
+use Rattle.pokey_chip.proofs.RecordLemmas.{begun-records}
+use Rattle.pokey_chip.proofs.MovedLaws.{HasMoved, begun, is-timed, left-end, moved, moved-records, moved-state}
+use Rattle.pokey_chip.proofs.PlanLaws.{voice_of}
+use Rattle.pokey_chip.proofs.TickLaws.{IsSmall}
 use Rattle.pokey_chip.proofs.fast.ByUnderflowsMoves.run.Goals as goal
 
 pub returns-then-n-eq0-clause-state : goal.returns-then-n-eq0-clause-state
@@ -17,58 +20,93 @@ returns-then-n-eq0-clause-records c =
     rw none (begun-records c.args.from c.args.state.now c.args.trail.now)
 
 pub loop-at-init : goal.loop-at-init
-loop-at-init c = (
-  0,
-  begun c.args.state.now c.args.from c.args.n c.args.trail.now c.of-voices.result c.of-noise.result c.of-tones.result c.start.inside.last (omega arith) c.requires.room
-      c.of-noise.ensures.noise c.of-noise.ensures.since
-      c.of-tones.ensures.tone
-      c.of-tones.ensures.pass
-      c.of-tones.ensures.underflowed
-      (omega (arith, ap (λ (q : PokeyValue). q.irqst) c.start.view_is, c.start.invariant.irqst))
-      (ap (λ (q : PokeyValue). q.last) c.start.view_is)
-      c.start.invariant.levels
-      c.of-voices.ensures.first
-      c.of-voices.ensures.second
-      c.of-voices.ensures.third
-      c.of-voices.ensures.fourth,
-)
+loop-at-init c =
+    let small : IsSmall c.args.state.now = record {
+      tone = omega (arith, ap (λ (q : PokeyValue). q.tone) c.start.view_is, c.start.invariant.tone);
+      pass = omega (arith, ap (λ (q : PokeyValue). q.pass) c.start.view_is, c.start.invariant.pass);
+      irqst = omega (arith, ap (λ (q : PokeyValue). q.irqst) c.start.view_is, c.start.invariant.irqst);
+    } in
+    begun c.args.state.now c.args.from c.args.n c.args.trail.now c.of.result c.skipping-voices.result c.of-noise.result c.of-tones.result c.start.inside.last
+    (omega arith) (omega arith) c.requires.room small
+    c.of-noise.ensures.noise c.of-noise.ensures.since
+    c.of-tones.ensures.tone c.of-tones.ensures.pass c.of-tones.ensures.underflowed
+    (ap (λ (q : PokeyValue). q.last) c.start.view_is) c.start.invariant.levels
+    c.of.ensures.first c.of.ensures.second c.of.ensures.third c.of.ensures.fourth c.skipping-voices.ensures
 
--- the loop's invariant once the underflows of a clock are done
-done : (c : goal.After-soonest-at) → IsMoved c.args.state.now c.args.from c.args.n c.soonest-at.result c.args.trail.now c.record_levels.new.trail c.after-voices.result c.reaching-noise.result c.after-tones.result (Some c.on-on.result) c.record_levels.new.last c.loop-at.at
+pub after-voices-requires-clause-first : goal.after-voices-requires-clause-first
+after-voices-requires-clause-first c =
+    is-timed c.args.state.now c.args.from c.args.n c.loop-at.at c.args.trail.now c.loop-at.trail
+    c.loop-at.voices c.loop-at.noise c.loop-at.tones c.loop-at.last_on c.loop-at.last c.loop-at.invariant (omega arith) First
+
+pub after-voices-requires-clause-second : goal.after-voices-requires-clause-second
+after-voices-requires-clause-second c =
+    is-timed c.args.state.now c.args.from c.args.n c.loop-at.at c.args.trail.now c.loop-at.trail
+    c.loop-at.voices c.loop-at.noise c.loop-at.tones c.loop-at.last_on c.loop-at.last c.loop-at.invariant (omega arith) Second
+
+pub after-voices-requires-clause-third : goal.after-voices-requires-clause-third
+after-voices-requires-clause-third c =
+    is-timed c.args.state.now c.args.from c.args.n c.loop-at.at c.args.trail.now c.loop-at.trail
+    c.loop-at.voices c.loop-at.noise c.loop-at.tones c.loop-at.last_on c.loop-at.last c.loop-at.invariant (omega arith) Third
+
+pub after-voices-requires-clause-fourth : goal.after-voices-requires-clause-fourth
+after-voices-requires-clause-fourth c =
+    is-timed c.args.state.now c.args.from c.args.n c.loop-at.at c.args.trail.now c.loop-at.trail
+    c.loop-at.voices c.loop-at.noise c.loop-at.tones c.loop-at.last_on c.loop-at.last c.loop-at.invariant (omega arith) Fourth
+
+each : (c : goal.After-soonest-at) (ch : Channel) → voice_of c.after-voices.result ch ≡ record (voice_of c.loop-at.voices ch) {
+  due = if (voice_of c.loop-at.voices ch).due == c.loop-at.at then (voice_of c.loop-at.voices ch).due + (voice_of c.loop-at.voices ch).step else (voice_of c.loop-at.voices ch).due;
+}
+each c First = c.after-voices.ensures.first
+each c Second = c.after-voices.ensures.second
+each c Third = c.after-voices.ensures.third
+each c Fourth = c.after-voices.ensures.fourth
+
+-- once the underflows of a clock are done, the next comes later, and the move has come so far
+done : (c : goal.After-soonest-at) → (c.loop-at.at < c.soonest-at.result)
+    × HasMoved c.args.state.now c.args.from c.args.n c.soonest-at.result c.args.trail.now c.record_levels.new.trail c.after-voices.result
+    c.reaching-noise.result c.after-tones.result (Some c.on-on.result) c.record_levels.new.last
 done c =
-    moved c.args.state.now c.args.from c.args.n c.loop-at.at c.loop-at.invariant.0 c.args.trail.now c.loop-at.trail c.loop-at.voices c.loop-at.noise c.loop-at.tones c.loop-at.last_on c.loop-at.last c.loop-at.invariant.1 (omega arith) (omega arith)
-    c.of-tuning.result c.outputs.result c.due.result c.on-on.result c.soonest-at.result c.record_levels.new.trail c.after-voices.result c.reaching-noise.result c.after-tones.result c.record_levels.new.last
+    moved c.args.state.now c.args.from c.args.n c.loop-at.at c.args.trail.now c.loop-at.trail
+    c.loop-at.voices c.loop-at.noise c.loop-at.tones c.loop-at.last_on c.loop-at.last c.loop-at.invariant (omega arith)
+    (omega arith) c.of-tuning.result c.outputs.result c.due.result c.on-on.result c.soonest-at.result c.record_levels.new.trail c.after-voices.result
+    c.reaching-noise.result c.after-tones.result c.record_levels.new.last
     c.of-tuning.ensures c.reaching-noise.ensures.noise c.reaching-noise.ensures.since
     c.outputs.ensures.four c.outputs.ensures.five c.outputs.ensures.long
     c.due.ensures.bits c.after-tones.ensures.tone c.after-tones.ensures.pass c.after-tones.ensures.underflowed c.on-on.ensures
     (c.record_levels.ensures.last ∙ ap (λ (q : PokeyValue). levels_on c.on-on.result q.audc) c.start.view_is)
     (rw (ap (λ (q : PokeyValue). q.audc) c.start.view_is) at c.record_levels.ensures.records) c.record_levels.ensures.few
-    c.after-voices.ensures.first c.after-voices.ensures.second c.after-voices.ensures.third c.after-voices.ensures.fourth c.soonest-at.ensures
+    (each c) c.soonest-at.ensures
 
 pub loop-at-smaller : goal.loop-at-smaller
-loop-at-smaller c = let m = done c in omega (arith, m.later)
+loop-at-smaller c = omega (arith, (done c).0)
 
 pub loop-at-preserved : goal.loop-at-preserved
-loop-at-preserved c = (c.loop-at.at, done c)
+loop-at-preserved c = (done c).1
 
 pub put_counts-requires-clause-first : goal.put_counts-requires-clause-first
 put_counts-requires-clause-first c =
-    is-left First c.loop-at.invariant.0 c.loop-at.at c.args.n c.args.state.now c.loop-at.voices.first c.loop-at.invariant.1.first c.loop-at.invariant.1.within (omega arith) c.loop-at.invariant.1.first_due
+    left-end c.args.state.now c.args.from c.args.n c.loop-at.at c.args.trail.now c.loop-at.trail
+    c.loop-at.voices c.loop-at.noise c.loop-at.tones c.loop-at.last_on c.loop-at.last c.loop-at.invariant (omega arith) (omega arith) (omega arith) First
 
 pub put_counts-requires-clause-second : goal.put_counts-requires-clause-second
 put_counts-requires-clause-second c =
-    is-left Second c.loop-at.invariant.0 c.loop-at.at c.args.n c.args.state.now c.loop-at.voices.second c.loop-at.invariant.1.second c.loop-at.invariant.1.within (omega arith) c.loop-at.invariant.1.second_due
+    left-end c.args.state.now c.args.from c.args.n c.loop-at.at c.args.trail.now c.loop-at.trail
+    c.loop-at.voices c.loop-at.noise c.loop-at.tones c.loop-at.last_on c.loop-at.last c.loop-at.invariant (omega arith) (omega arith) (omega arith) Second
 
 pub put_counts-requires-clause-third : goal.put_counts-requires-clause-third
 put_counts-requires-clause-third c =
-    is-left Third c.loop-at.invariant.0 c.loop-at.at c.args.n c.args.state.now c.loop-at.voices.third c.loop-at.invariant.1.third c.loop-at.invariant.1.within (omega arith) c.loop-at.invariant.1.third_due
+    left-end c.args.state.now c.args.from c.args.n c.loop-at.at c.args.trail.now c.loop-at.trail
+    c.loop-at.voices c.loop-at.noise c.loop-at.tones c.loop-at.last_on c.loop-at.last c.loop-at.invariant (omega arith) (omega arith) (omega arith) Third
 
 pub put_counts-requires-clause-fourth : goal.put_counts-requires-clause-fourth
 put_counts-requires-clause-fourth c =
-    is-left Fourth c.loop-at.invariant.0 c.loop-at.at c.args.n c.args.state.now c.loop-at.voices.fourth c.loop-at.invariant.1.fourth c.loop-at.invariant.1.within (omega arith) c.loop-at.invariant.1.fourth_due
+    left-end c.args.state.now c.args.from c.args.n c.loop-at.at c.args.trail.now c.loop-at.trail
+    c.loop-at.voices c.loop-at.noise c.loop-at.tones c.loop-at.last_on c.loop-at.last c.loop-at.invariant (omega arith) (omega arith) (omega arith) Fourth
 
 pub returns-clause-records : goal.returns-clause-records
-returns-clause-records c = moved-records c.args.state.now c.args.from c.args.n c.loop-at.at c.loop-at.invariant.0 c.args.trail.now c.loop-at.trail c.loop-at.voices c.loop-at.noise c.loop-at.tones c.loop-at.last_on c.loop-at.last c.loop-at.invariant.1 (omega arith) (omega arith)
+returns-clause-records c =
+    moved-records c.args.state.now c.args.from c.args.n c.loop-at.at c.args.trail.now c.loop-at.trail
+    c.loop-at.voices c.loop-at.noise c.loop-at.tones c.loop-at.last_on c.loop-at.last c.loop-at.invariant (omega arith) (omega arith) (omega arith)
 
 small-pot : (c : goal.After-put_counts) → c.args.state.now.pot ≤ 228
 small-pot c =
@@ -77,6 +115,7 @@ small-pot c =
 
 pub returns-clause-state : goal.returns-clause-state
 returns-clause-state c =
-    moved-state c.args.state.now c.args.from c.args.n c.loop-at.at c.loop-at.invariant.0 c.args.trail.now c.loop-at.trail c.loop-at.voices c.loop-at.noise c.loop-at.tones c.loop-at.last_on c.loop-at.last c.loop-at.invariant.1 (omega arith) (omega arith)
+    moved-state c.args.state.now c.args.from c.args.n c.loop-at.at c.args.trail.now c.loop-at.trail
+    c.loop-at.voices c.loop-at.noise c.loop-at.tones c.loop-at.last_on c.loop-at.last c.loop-at.invariant (omega arith) (omega arith) (omega arith)
     c.args.state.now c.put_tones.new.state c.put_counts.new.state (small-pot c) refl
     (rw c.put.ensures at c.put_tones.ensures) c.put_counts.ensures
