@@ -1,5 +1,6 @@
 -- A step keeps a board in its range.
-use Rattle.std.proofs.Common.{◌≡◌, ◌≤◌, ℕ, ◌+◌, ◌%◌, ◌^◌, ◌<◌, ◌==◌, ◌++◌, nat_lt, Bool, true, false, if◌then◌else◌, List, [], ◌∷◌, length, slice_set, Option, Some, None, All, IfSome, IsSomeAnd, zero, suc, refl, subst, ◌∙◌, arith, length-append}
+use Rattle.std.proofs.Common.{◌≡◌, ◌≤◌, ℕ, ◌+◌, ◌%◌, ◌^◌, ◌<◌, ◌==◌, ◌++◌, nat_lt, Bool, true, false, if◌then◌else◌, List, []}
+use Rattle.std.proofs.Common.{◌∷◌, length, slice_set, Option, Some, None, All, IfSome, IsSomeAnd, zero, suc, refl, subst, ◌∙◌, arith, length-append}
 use Rattle.std.proofs.lemmas.List.{length-set}
 use Rattle.std.proofs.lemmas.List.Elements.{All-filter, All-head, All-push, All-set, All-tail, All-take}
 use Rattle.board_base.specs.declared.cpu.Sequence.{Sequence}
@@ -165,14 +166,14 @@ either_byte false m n h k = k
 all_pot_in : (p : PokeyValue) → IsPokeyInRange p → IsByte (all_pot p)
 unfolding all_pot
 all_pot_in p h =
-    let eight : length p.targets ≡ 8 = h.device.targets in
+    let eight : length p.targets ≡ 8 = h.pots.count in
     subst (λ n. all_pot p < 2 ^ n) eight (number_fits (λ target. nat_lt p.pot target) p.targets)
 
 register_read_in : (reg : ℕ) (p : PokeyValue) → IsPokeyInRange p → IsByte (register_read reg p)
 unfolding register_read
 register_read_in reg p h =
-    let few : p.pot ≤ 228 = h.device.pot in
-    let requests : p.irqst < 8 = h.device.irqst in
+    let few : p.pot ≤ 228 = h.pots.pot in
+    let requests : p.irqst < 8 = h.requests.irqst in
     let pot : IsByte (pot_of p reg) = omega arith in
     let random : IsByte (long_register p % 256) = omega arith in
     let status : IsByte (248 + p.irqst) = omega arith in

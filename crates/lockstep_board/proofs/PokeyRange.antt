@@ -1,5 +1,6 @@
 -- A POKEY stays in its range.
-use Rattle.std.proofs.Common.{◌≡◌, ◌≤◌, ℕ, ◌+◌, ◌-◌, ◌*◌, ◌/◌, ◌%◌, ◌^◌, ◌<◌, ◌==◌, ◌&&◌, Bool, true, false, if◌then◌else◌, List, [], ◌∷◌, ◌++◌, nat_lt, nat_le, drop, length, slice_index, slice_set, All, refl, ◌∙◌, arith}
+use Rattle.std.proofs.Common.{◌≡◌, ◌≤◌, ℕ, ◌+◌, ◌-◌, ◌*◌, ◌/◌, ◌%◌, ◌^◌, ◌<◌, ◌==◌, ◌&&◌, Bool, true, false}
+use Rattle.std.proofs.Common.{if◌then◌else◌, List, [], ◌∷◌, ◌++◌, nat_lt, nat_le, drop, length, slice_index, slice_set, All, refl, ◌∙◌, arith}
 use Rattle.std.proofs.Math.Nat.{pow-succ'}
 use Rattle.std.proofs.lemmas.Bool.{eqb-false}
 use Rattle.std.proofs.lemmas.Bool.Decides.{nat_tests}
@@ -7,7 +8,7 @@ use Rattle.std.proofs.lemmas.List.{length-set}
 use Rattle.std.proofs.lemmas.List.Elements.{All-set, All-from_recursion, All-get_or}
 use Rattle.std.specs.Int.{from_bool}
 use Rattle.bit_words.specs.Bits.{bits, is_bit, number}
-use Rattle.board_base.specs.Pokey.{PokeyValue, IsPokey}
+use Rattle.board_base.specs.Pokey.{PokeyValue}
 use Rattle.pokey_poly.specs.declared.poly.Poly.{Poly}
 use Rattle.pokey_poly.specs.declared.poly.Poly.TheVariants.{Four, Five, Nine, Seventeen}
 use Rattle.pokey_poly.specs.Shift.{incoming, moved, shifted, tap_of, width_of}
@@ -16,11 +17,12 @@ use Rattle.pokey_chip.specs.declared.channel.Channel.{Channel}
 use Rattle.pokey_chip.specs.declared.channel.Channel.TheVariants.{First, Second, Third, Fourth}
 use Rattle.pokey_chip.specs.Channels.{extra_of, frequency_of, is_on_chip_clock, is_upper, period_of, place}
 use Rattle.pokey_chip.specs.Registers.{channel_written, pot_set, register_written, requests_enabled, timers_started}
-use Rattle.pokey_chip.specs.Tick.{base_pulses, channel_ticked, channels_ticked, clocked, is_held, is_pulsed, left_after, left_of, level, levelled, levels_of, passed, pokey_tick, pot_counted, pots_rise, prescaled, request, requested, rolled, toned, underflow_effect, underflows, with_bit, with_left}
+use Rattle.pokey_chip.specs.Tick.{base_pulses, channel_ticked, channels_ticked, clocked, is_held, is_pulsed, left_after, left_of, level, levelled, levels_of, passed}
+use Rattle.pokey_chip.specs.Tick.{pokey_tick, pot_counted, pots_rise, prescaled, request, requested, rolled, toned, underflow_effect, underflows, with_bit, with_left}
 use Rattle.pokey_chip.proofs.BitLemmas.{with_bit_fits, with_bit_fits_two, with_bit_fits_three, bit_or_fits}
 use Rattle.pokey_chip.proofs.CountLaws.{left-is}
 use Rattle.cpu_core.specs.Ranges.{IsByte}
-use Rattle.lockstep_board.specs.Ranges.{IsPokeyInRange}
+use Rattle.lockstep_board.specs.Ranges.{AreChannels, ArePots, AreRegisters, AreRequests, IsPokeyInRange}
 use Rattle.lockstep_board.proofs.EaromRange.{byte_at}
 
 either_in : (P : PokeyValue → Type 0) (b : Bool) (p q : PokeyValue) → P p → P q → P (if b then p else q)
@@ -66,37 +68,35 @@ prescaled_below : (held : Bool) (period count : ℕ) → count < period → pres
 prescaled_below true period count h = omega arith
 prescaled_below false period count h = counted_below period count h
 
+-- with one group anew, a POKEY stays in its range where that group is in its own
+with_registers : (p : PokeyValue) (f c : List ℕ) (ctl sk : ℕ) → AreRegisters f c ctl sk → IsPokeyInRange p
+    → IsPokeyInRange (record p { audf = f; audc = c; audctl = ctl; skctl = sk })
+with_registers p f c ctl sk is h = record { registers = is; requests = h.requests; polys = h.polys; prescalers = h.prescalers; channels = h.channels; pots = h.pots; levels = h.levels }
+
+with_requests : (p : PokeyValue) (en st : ℕ) → AreRequests en st → IsPokeyInRange p → IsPokeyInRange (record p { irqen = en; irqst = st })
+with_requests p en st is h = record { registers = h.registers; requests = is; polys = h.polys; prescalers = h.prescalers; channels = h.channels; pots = h.pots; levels = h.levels }
+
+with_channels : (p : PokeyValue) (counts : List ℕ) (tones passes : ℕ) → AreChannels counts tones passes → IsPokeyInRange p
+    → IsPokeyInRange (record p { left = counts; tone = tones; pass = passes })
+with_channels p counts tones passes is h = record { registers = h.registers; requests = h.requests; polys = h.polys; prescalers = h.prescalers; channels = is; pots = h.pots; levels = h.levels }
+
+with_pots : (p : PokeyValue) (n : ℕ) (ends : List ℕ) → ArePots n ends → IsPokeyInRange p → IsPokeyInRange (record p { pot = n; targets = ends })
+with_pots p n ends is h = record { registers = h.registers; requests = h.requests; polys = h.polys; prescalers = h.prescalers; channels = h.channels; pots = is; levels = h.levels }
+
 clocked_in : (p : PokeyValue) → IsPokeyInRange p → IsPokeyInRange (clocked p)
 unfolding clocked
-clocked_in p h =
-    let d : IsPokey p = h.device in
-    record {
-      device = record {
-        audf = d.audf;
-        audc = d.audc;
-        irqen = d.irqen;
-        irqst = d.irqst;
-        poly4 = rolled_below (is_held p.skctl) Four p.poly4;
-        poly5 = rolled_below (is_held p.skctl) Five p.poly5;
-        poly9 = rolled_below (is_held p.skctl) Nine p.poly9;
-        poly17 = rolled_below (is_held p.skctl) Seventeen p.poly17;
-        pre28 = prescaled_below (is_held p.skctl) 28 p.pre28 d.pre28;
-        pre114 = prescaled_below (is_held p.skctl) 114 p.pre114 d.pre114;
-        left = d.left;
-        pulses = d.pulses;
-        tone = d.tone;
-        pass = d.pass;
-        pot = d.pot;
-        targets = d.targets;
-        last = d.last;
-        levels = d.levels;
-      };
-      audf = h.audf;
-      audc = h.audc;
-      audctl = h.audctl;
-      skctl = h.skctl;
-      targets = h.targets;
-    }
+clocked_in p h = record {
+  registers = h.registers;
+  requests = h.requests;
+  polys = record { poly4 = rolled_below held Four p.poly4; poly5 = rolled_below held Five p.poly5; poly9 = rolled_below held Nine p.poly9; poly17 = rolled_below held Seventeen p.poly17 };
+  prescalers = record { pre28 = prescaled_below held 28 p.pre28 h.prescalers.pre28; pre114 = prescaled_below held 114 p.pre114 h.prescalers.pre114 };
+  channels = h.channels;
+  pots = h.pots;
+  levels = h.levels;
+}
+  where
+    held : Bool
+    held = is_held p.skctl
 
 pot_below : (rise : Bool) (pot : ℕ) → pot ≤ 228 → (if rise && nat_lt pot 228 then pot + 1 else pot) ≤ 228
 pot_below rise pot h = by_test (rise && nat_lt pot 228) rise (nat_lt pot 228) refl refl
@@ -109,35 +109,7 @@ pot_below rise pot h = by_test (rise && nat_lt pot 228) rise (nat_lt pot 228) re
 
 pot_counted_in : (rise : Bool) (p : PokeyValue) → IsPokeyInRange p → IsPokeyInRange (pot_counted rise p)
 unfolding pot_counted
-pot_counted_in rise p h =
-    let d : IsPokey p = h.device in
-    record {
-      device = record {
-        audf = d.audf;
-        audc = d.audc;
-        irqen = d.irqen;
-        irqst = d.irqst;
-        poly4 = d.poly4;
-        poly5 = d.poly5;
-        poly9 = d.poly9;
-        poly17 = d.poly17;
-        pre28 = d.pre28;
-        pre114 = d.pre114;
-        left = d.left;
-        pulses = d.pulses;
-        tone = d.tone;
-        pass = d.pass;
-        pot = pot_below rise p.pot d.pot;
-        targets = d.targets;
-        last = d.last;
-        levels = d.levels;
-      };
-      audf = h.audf;
-      audc = h.audc;
-      audctl = h.audctl;
-      skctl = h.skctl;
-      targets = h.targets;
-    }
+pot_counted_in rise p h = with_pots p _ p.targets (record { pot = pot_below rise p.pot h.pots.pot; count = h.pots.count; targets = h.pots.targets }) h
 
 -- the pulses left of a channel, at any time
 abbrev IsLeft : ℕ → Type 0
@@ -172,11 +144,11 @@ period_in audf audctl c h =
     let most = frequency_below audf audctl c h in
     (omega arith, omega arith)
 
-left_of_in : (c : Channel) (p : PokeyValue) → IsPokey p → IsLeft (left_of c p)
-left_of_in First p d = let four = d.left in All-get_or IsLeft p.left 0 0 (omega arith) d.pulses
-left_of_in Second p d = let four = d.left in All-get_or IsLeft p.left 1 0 (omega arith) d.pulses
-left_of_in Third p d = let four = d.left in All-get_or IsLeft p.left 2 0 (omega arith) d.pulses
-left_of_in Fourth p d = let four = d.left in All-get_or IsLeft p.left 3 0 (omega arith) d.pulses
+left_of_in : (c : Channel) (p : PokeyValue) → IsPokeyInRange p → IsLeft (left_of c p)
+left_of_in First p h = let four = h.channels.left in All-get_or IsLeft p.left 0 0 (omega arith) h.channels.pulses
+left_of_in Second p h = let four = h.channels.left in All-get_or IsLeft p.left 1 0 (omega arith) h.channels.pulses
+left_of_in Third p h = let four = h.channels.left in All-get_or IsLeft p.left 2 0 (omega arith) h.channels.pulses
+left_of_in Fourth p h = let four = h.channels.left in All-get_or IsLeft p.left 3 0 (omega arith) h.channels.pulses
 
 counted_in : (pulse last : Bool) (left period : ℕ) → nat_le left 1 ≡ last → IsLeft left → IsLeft period
     → IsLeft (if pulse then (if last then period else left - 1) else left)
@@ -192,129 +164,24 @@ left_after_in : (base : Bool) (p : PokeyValue) (c : Channel) → IsPokeyInRange 
 left_after_in base p c h =
     rw (left-is base p c)
     (counted_in (is_pulsed base p.audctl c) (nat_le (left_of c p) 1) (left_of c p) (period_of p.audf p.audctl c) refl
-    (left_of_in c p h.device) (period_in p.audf p.audctl c h.audf))
+    (left_of_in c p h) (period_in p.audf p.audctl c h.registers.audf_bytes))
 
 four_left : (a b c d : ℕ) → IsLeft a → IsLeft b → IsLeft c → IsLeft d → All IsLeft (a ∷ b ∷ c ∷ d ∷ [])
 four_left a b c d h k l m = All-from_recursion IsLeft (a ∷ b ∷ c ∷ d ∷ []) (h, (k, (l, (m, tt))))
 
 with_left_in : (c : Channel) (n : ℕ) (p : PokeyValue) → IsLeft n → IsPokeyInRange p → IsPokeyInRange (with_left c n p)
 unfolding with_left
-with_left_in First n p k h =
-    let d : IsPokey p = h.device in
-    record {
-      device = record {
-        audf = d.audf;
-        audc = d.audc;
-        irqen = d.irqen;
-        irqst = d.irqst;
-        poly4 = d.poly4;
-        poly5 = d.poly5;
-        poly9 = d.poly9;
-        poly17 = d.poly17;
-        pre28 = d.pre28;
-        pre114 = d.pre114;
-        left = refl;
-        pulses = four_left n (left_of Second p) (left_of Third p) (left_of Fourth p) k (left_of_in Second p h.device) (left_of_in Third p h.device) (left_of_in Fourth p h.device);
-        tone = d.tone;
-        pass = d.pass;
-        pot = d.pot;
-        targets = d.targets;
-        last = d.last;
-        levels = d.levels;
-      };
-      audf = h.audf;
-      audc = h.audc;
-      audctl = h.audctl;
-      skctl = h.skctl;
-      targets = h.targets;
-    }
-with_left_in Second n p k h =
-    let d : IsPokey p = h.device in
-    record {
-      device = record {
-        audf = d.audf;
-        audc = d.audc;
-        irqen = d.irqen;
-        irqst = d.irqst;
-        poly4 = d.poly4;
-        poly5 = d.poly5;
-        poly9 = d.poly9;
-        poly17 = d.poly17;
-        pre28 = d.pre28;
-        pre114 = d.pre114;
-        left = refl;
-        pulses = four_left (left_of First p) n (left_of Third p) (left_of Fourth p) (left_of_in First p h.device) k (left_of_in Third p h.device) (left_of_in Fourth p h.device);
-        tone = d.tone;
-        pass = d.pass;
-        pot = d.pot;
-        targets = d.targets;
-        last = d.last;
-        levels = d.levels;
-      };
-      audf = h.audf;
-      audc = h.audc;
-      audctl = h.audctl;
-      skctl = h.skctl;
-      targets = h.targets;
-    }
-with_left_in Third n p k h =
-    let d : IsPokey p = h.device in
-    record {
-      device = record {
-        audf = d.audf;
-        audc = d.audc;
-        irqen = d.irqen;
-        irqst = d.irqst;
-        poly4 = d.poly4;
-        poly5 = d.poly5;
-        poly9 = d.poly9;
-        poly17 = d.poly17;
-        pre28 = d.pre28;
-        pre114 = d.pre114;
-        left = refl;
-        pulses = four_left (left_of First p) (left_of Second p) n (left_of Fourth p) (left_of_in First p h.device) (left_of_in Second p h.device) k (left_of_in Fourth p h.device);
-        tone = d.tone;
-        pass = d.pass;
-        pot = d.pot;
-        targets = d.targets;
-        last = d.last;
-        levels = d.levels;
-      };
-      audf = h.audf;
-      audc = h.audc;
-      audctl = h.audctl;
-      skctl = h.skctl;
-      targets = h.targets;
-    }
-with_left_in Fourth n p k h =
-    let d : IsPokey p = h.device in
-    record {
-      device = record {
-        audf = d.audf;
-        audc = d.audc;
-        irqen = d.irqen;
-        irqst = d.irqst;
-        poly4 = d.poly4;
-        poly5 = d.poly5;
-        poly9 = d.poly9;
-        poly17 = d.poly17;
-        pre28 = d.pre28;
-        pre114 = d.pre114;
-        left = refl;
-        pulses = four_left (left_of First p) (left_of Second p) (left_of Third p) n (left_of_in First p h.device) (left_of_in Second p h.device) (left_of_in Third p h.device) k;
-        tone = d.tone;
-        pass = d.pass;
-        pot = d.pot;
-        targets = d.targets;
-        last = d.last;
-        levels = d.levels;
-      };
-      audf = h.audf;
-      audc = h.audc;
-      audctl = h.audctl;
-      skctl = h.skctl;
-      targets = h.targets;
-    }
+with_left_in c n p k h = by_channel c
+  where
+    four : (i j l m : ℕ) → IsLeft i → IsLeft j → IsLeft l → IsLeft m → IsPokeyInRange (record p { left = i ∷ j ∷ l ∷ m ∷ [] })
+    four i j l m a b c d =
+        with_channels p _ p.tone p.pass (record { left = refl; pulses = four_left i j l m a b c d; tone = h.channels.tone; pass = h.channels.pass }) h
+
+    by_channel : (c : Channel) → IsPokeyInRange (with_left c n p)
+    by_channel First = four n _ _ _ k (left_of_in Second p h) (left_of_in Third p h) (left_of_in Fourth p h)
+    by_channel Second = four _ n _ _ (left_of_in First p h) k (left_of_in Third p h) (left_of_in Fourth p h)
+    by_channel Third = four _ _ n _ (left_of_in First p h) (left_of_in Second p h) k (left_of_in Fourth p h)
+    by_channel Fourth = four _ _ _ n (left_of_in First p h) (left_of_in Second p h) (left_of_in Third p h) k
 
 request_below : (k : ℕ) (p : PokeyValue) → k < 3 → p.irqst < 8 → request k p < 8
 request_below k p few h = either_below 8 (is_bit p.irqen k) (with_bit p.irqst k false) p.irqst (with_bit_fits_three k few p.irqst h) h
@@ -343,34 +210,15 @@ passed_below Fourth p h = with_bit_fits_two 1 (omega arith) p.pass h _
 underflow_effect_in : (underflow : Bool) (c : Channel) (p : PokeyValue) → IsPokeyInRange p → IsPokeyInRange (underflow_effect underflow c p)
 unfolding underflow_effect
 underflow_effect_in underflow c p h =
-    let d : IsPokey p = h.device in
-    record {
-      device = record {
-        audf = d.audf;
-        audc = d.audc;
-        irqen = d.irqen;
-        irqst = either_below 8 underflow (requested c p) p.irqst (requested_below c p d.irqst) d.irqst;
-        poly4 = d.poly4;
-        poly5 = d.poly5;
-        poly9 = d.poly9;
-        poly17 = d.poly17;
-        pre28 = d.pre28;
-        pre114 = d.pre114;
-        left = d.left;
-        pulses = d.pulses;
-        tone = either_below 16 underflow (toned c p) p.tone (toned_below c p d.tone) d.tone;
-        pass = either_below 4 underflow (passed c p) p.pass (passed_below c p d.pass) d.pass;
-        pot = d.pot;
-        targets = d.targets;
-        last = d.last;
-        levels = d.levels;
-      };
-      audf = h.audf;
-      audc = h.audc;
-      audctl = h.audctl;
-      skctl = h.skctl;
-      targets = h.targets;
-    }
+    with_channels _ p.left _ _
+    (record {
+      left = h.channels.left;
+      pulses = h.channels.pulses;
+      tone = either_below 16 underflow (toned c p) p.tone (toned_below c p h.channels.tone) h.channels.tone;
+      pass = either_below 4 underflow (passed c p) p.pass (passed_below c p h.channels.pass) h.channels.pass;
+    })
+    (with_requests p p.irqen _
+    (record { irqen = h.requests.irqen; irqst = either_below 8 underflow (requested c p) p.irqst (requested_below c p h.requests.irqst) h.requests.irqst }) h)
 
 channel_ticked_in : (base : Bool) (c : Channel) (p : PokeyValue) → IsPokeyInRange p → IsPokeyInRange (channel_ticked base c p)
 unfolding channel_ticked
@@ -405,35 +253,15 @@ unfolding levels_of
 four_levels p = refl
 
 levelled_in : (p : PokeyValue) → IsPokeyInRange p → IsPokeyInRange (levelled p)
-levelled_in p h =
-    let d : IsPokey p = h.device in
-    record {
-      device = record {
-        audf = d.audf;
-        audc = d.audc;
-        irqen = d.irqen;
-        irqst = d.irqst;
-        poly4 = d.poly4;
-        poly5 = d.poly5;
-        poly9 = d.poly9;
-        poly17 = d.poly17;
-        pre28 = d.pre28;
-        pre114 = d.pre114;
-        left = d.left;
-        pulses = d.pulses;
-        tone = d.tone;
-        pass = d.pass;
-        pot = d.pot;
-        targets = d.targets;
-        last = four_levels p;
-        levels = levels_in p;
-      };
-      audf = h.audf;
-      audc = h.audc;
-      audctl = h.audctl;
-      skctl = h.skctl;
-      targets = h.targets;
-    }
+levelled_in p h = record {
+  registers = h.registers;
+  requests = h.requests;
+  polys = h.polys;
+  prescalers = h.prescalers;
+  channels = h.channels;
+  pots = h.pots;
+  levels = record { last = four_levels p; levels = levels_in p };
+}
 
 pub pokey_tick-in_range : (p : PokeyValue) → IsPokeyInRange p → IsPokeyInRange (pokey_tick p)
 unfolding pokey_tick
@@ -441,256 +269,63 @@ pokey_tick-in_range p h = levelled_in _ (channels_ticked_in (base_pulses p) _ (p
 
 pub pot_set-in_range : (which value : ℕ) (p : PokeyValue) → IsByte value → IsPokeyInRange p → IsPokeyInRange (pot_set which value p)
 pot_set-in_range which value p byte h =
-    let d : IsPokey p = h.device in
-    record {
-      device = record {
-        audf = d.audf;
-        audc = d.audc;
-        irqen = d.irqen;
-        irqst = d.irqst;
-        poly4 = d.poly4;
-        poly5 = d.poly5;
-        poly9 = d.poly9;
-        poly17 = d.poly17;
-        pre28 = d.pre28;
-        pre114 = d.pre114;
-        left = d.left;
-        pulses = d.pulses;
-        tone = d.tone;
-        pass = d.pass;
-        pot = d.pot;
-        targets = length-set p.targets which value ∙ d.targets;
-        last = d.last;
-        levels = d.levels;
-      };
-      audf = h.audf;
-      audc = h.audc;
-      audctl = h.audctl;
-      skctl = h.skctl;
-      targets = All-set IsByte p.targets which value byte h.targets;
-    }
+    with_pots p p.pot _
+    (record { pot = h.pots.pot; count = length-set p.targets which value ∙ h.pots.count; targets = All-set IsByte p.targets which value byte h.pots.targets }) h
 
 channel_written_in : (reg value : ℕ) (p : PokeyValue) → IsByte value → IsPokeyInRange p → IsPokeyInRange (channel_written reg value p)
 unfolding channel_written
 channel_written_in reg value p byte h =
     either_in IsPokeyInRange (reg % 2 == 0) (record p { audf = slice_set p.audf (reg / 2) value }) (record p { audc = slice_set p.audc (reg / 2) value })
-    (
-    let d : IsPokey p = h.device in
-    record {
-      device = record {
-        audf = length-set p.audf (reg / 2) value ∙ d.audf;
-        audc = d.audc;
-        irqen = d.irqen;
-        irqst = d.irqst;
-        poly4 = d.poly4;
-        poly5 = d.poly5;
-        poly9 = d.poly9;
-        poly17 = d.poly17;
-        pre28 = d.pre28;
-        pre114 = d.pre114;
-        left = d.left;
-        pulses = d.pulses;
-        tone = d.tone;
-        pass = d.pass;
-        pot = d.pot;
-        targets = d.targets;
-        last = d.last;
-        levels = d.levels;
-      };
-      audf = All-set IsByte p.audf (reg / 2) value byte h.audf;
-      audc = h.audc;
-      audctl = h.audctl;
-      skctl = h.skctl;
-      targets = h.targets;
-    }
-    )
-    (
-    let d : IsPokey p = h.device in
-    record {
-      device = record {
-        audf = d.audf;
-        audc = length-set p.audc (reg / 2) value ∙ d.audc;
-        irqen = d.irqen;
-        irqst = d.irqst;
-        poly4 = d.poly4;
-        poly5 = d.poly5;
-        poly9 = d.poly9;
-        poly17 = d.poly17;
-        pre28 = d.pre28;
-        pre114 = d.pre114;
-        left = d.left;
-        pulses = d.pulses;
-        tone = d.tone;
-        pass = d.pass;
-        pot = d.pot;
-        targets = d.targets;
-        last = d.last;
-        levels = d.levels;
-      };
-      audf = h.audf;
-      audc = All-set IsByte p.audc (reg / 2) value byte h.audc;
-      audctl = h.audctl;
-      skctl = h.skctl;
-      targets = h.targets;
-    }
-    )
+    (with_registers p _ p.audc p.audctl p.skctl
+    (record {
+      audf = length-set p.audf (reg / 2) value ∙ r.audf;
+      audc = r.audc;
+      audf_bytes = All-set IsByte p.audf (reg / 2) value byte r.audf_bytes;
+      audc_bytes = r.audc_bytes;
+      audctl = r.audctl;
+      skctl = r.skctl;
+    }) h)
+    (with_registers p p.audf _ p.audctl p.skctl
+    (record {
+      audf = r.audf;
+      audc = length-set p.audc (reg / 2) value ∙ r.audc;
+      audf_bytes = r.audf_bytes;
+      audc_bytes = All-set IsByte p.audc (reg / 2) value byte r.audc_bytes;
+      audctl = r.audctl;
+      skctl = r.skctl;
+    }) h)
+  where
+    r : AreRegisters p.audf p.audc p.audctl p.skctl
+    r = h.registers
 
 timers_started_in : (p : PokeyValue) → IsPokeyInRange p → IsPokeyInRange (timers_started p)
 unfolding timers_started
 timers_started_in p h =
-    let d : IsPokey p = h.device in
-    record {
-      device = record {
-        audf = d.audf;
-        audc = d.audc;
-        irqen = d.irqen;
-        irqst = d.irqst;
-        poly4 = d.poly4;
-        poly5 = d.poly5;
-        poly9 = d.poly9;
-        poly17 = d.poly17;
-        pre28 = d.pre28;
-        pre114 = d.pre114;
-        left = refl;
-        pulses = four_left (period_of p.audf p.audctl First) (period_of p.audf p.audctl Second) (period_of p.audf p.audctl Third) (period_of p.audf p.audctl Fourth) (period_in p.audf p.audctl First h.audf) (period_in p.audf p.audctl Second h.audf) (period_in p.audf p.audctl Third h.audf) (period_in p.audf p.audctl Fourth h.audf);
-        tone = omega arith;
-        pass = d.pass;
-        pot = d.pot;
-        targets = d.targets;
-        last = d.last;
-        levels = d.levels;
-      };
-      audf = h.audf;
-      audc = h.audc;
-      audctl = h.audctl;
-      skctl = h.skctl;
-      targets = h.targets;
-    }
+    with_channels p _ 0 p.pass
+    (record { left = refl; pulses = four_left _ _ _ _ (period First) (period Second) (period Third) (period Fourth); tone = omega arith; pass = h.channels.pass }) h
+  where
+    period : (c : Channel) → IsLeft (period_of p.audf p.audctl c)
+    period c = period_in p.audf p.audctl c h.registers.audf_bytes
 
 requests_enabled_in : (value : ℕ) (p : PokeyValue) → IsPokeyInRange p → IsPokeyInRange (requests_enabled value p)
 unfolding requests_enabled
 requests_enabled_in value p h =
-    let d : IsPokey p = h.device in
-    record {
-      device = record {
-        audf = d.audf;
-        audc = d.audc;
-        irqen = omega arith;
-        irqst = bit_or_fits p.irqst (7 - value % 8) d.irqst (omega arith);
-        poly4 = d.poly4;
-        poly5 = d.poly5;
-        poly9 = d.poly9;
-        poly17 = d.poly17;
-        pre28 = d.pre28;
-        pre114 = d.pre114;
-        left = d.left;
-        pulses = d.pulses;
-        tone = d.tone;
-        pass = d.pass;
-        pot = d.pot;
-        targets = d.targets;
-        last = d.last;
-        levels = d.levels;
-      };
-      audf = h.audf;
-      audc = h.audc;
-      audctl = h.audctl;
-      skctl = h.skctl;
-      targets = h.targets;
-    }
+    with_requests p _ _ (record { irqen = omega arith; irqst = bit_or_fits p.irqst (7 - value % 8) h.requests.irqst (omega arith) }) h
 
 audctl_in : (value : ℕ) (p : PokeyValue) → IsByte value → IsPokeyInRange p → IsPokeyInRange (record p { audctl = value })
 audctl_in value p byte h =
-    let d : IsPokey p = h.device in
-    record {
-      device = record {
-        audf = d.audf;
-        audc = d.audc;
-        irqen = d.irqen;
-        irqst = d.irqst;
-        poly4 = d.poly4;
-        poly5 = d.poly5;
-        poly9 = d.poly9;
-        poly17 = d.poly17;
-        pre28 = d.pre28;
-        pre114 = d.pre114;
-        left = d.left;
-        pulses = d.pulses;
-        tone = d.tone;
-        pass = d.pass;
-        pot = d.pot;
-        targets = d.targets;
-        last = d.last;
-        levels = d.levels;
-      };
-      audf = h.audf;
-      audc = h.audc;
-      audctl = byte;
-      skctl = h.skctl;
-      targets = h.targets;
-    }
+    let r : AreRegisters p.audf p.audc p.audctl p.skctl = h.registers in
+    with_registers p p.audf p.audc value p.skctl
+    (record { audf = r.audf; audc = r.audc; audf_bytes = r.audf_bytes; audc_bytes = r.audc_bytes; audctl = byte; skctl = r.skctl }) h
 
 skctl_in : (value : ℕ) (p : PokeyValue) → IsByte value → IsPokeyInRange p → IsPokeyInRange (record p { skctl = value })
 skctl_in value p byte h =
-    let d : IsPokey p = h.device in
-    record {
-      device = record {
-        audf = d.audf;
-        audc = d.audc;
-        irqen = d.irqen;
-        irqst = d.irqst;
-        poly4 = d.poly4;
-        poly5 = d.poly5;
-        poly9 = d.poly9;
-        poly17 = d.poly17;
-        pre28 = d.pre28;
-        pre114 = d.pre114;
-        left = d.left;
-        pulses = d.pulses;
-        tone = d.tone;
-        pass = d.pass;
-        pot = d.pot;
-        targets = d.targets;
-        last = d.last;
-        levels = d.levels;
-      };
-      audf = h.audf;
-      audc = h.audc;
-      audctl = h.audctl;
-      skctl = byte;
-      targets = h.targets;
-    }
+    let r : AreRegisters p.audf p.audc p.audctl p.skctl = h.registers in
+    with_registers p p.audf p.audc p.audctl value
+    (record { audf = r.audf; audc = r.audc; audf_bytes = r.audf_bytes; audc_bytes = r.audc_bytes; audctl = r.audctl; skctl = byte }) h
 
 pots_started_in : (p : PokeyValue) → IsPokeyInRange p → IsPokeyInRange (record p { pot = 0 })
-pots_started_in p h =
-    let d : IsPokey p = h.device in
-    record {
-      device = record {
-        audf = d.audf;
-        audc = d.audc;
-        irqen = d.irqen;
-        irqst = d.irqst;
-        poly4 = d.poly4;
-        poly5 = d.poly5;
-        poly9 = d.poly9;
-        poly17 = d.poly17;
-        pre28 = d.pre28;
-        pre114 = d.pre114;
-        left = d.left;
-        pulses = d.pulses;
-        tone = d.tone;
-        pass = d.pass;
-        pot = omega arith;
-        targets = d.targets;
-        last = d.last;
-        levels = d.levels;
-      };
-      audf = h.audf;
-      audc = h.audc;
-      audctl = h.audctl;
-      skctl = h.skctl;
-      targets = h.targets;
-    }
+pots_started_in p h = with_pots p 0 p.targets (record { pot = omega arith; count = h.pots.count; targets = h.pots.targets }) h
 
 pub register_written-in_range : (reg value : ℕ) (p : PokeyValue) → IsByte value → IsPokeyInRange p → IsPokeyInRange (register_written reg value p)
 unfolding register_written

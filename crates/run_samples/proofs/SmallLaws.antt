@@ -5,28 +5,27 @@ use Rattle.std.specs.List.{sum, range_with_len}
 use Rattle.std.proofs.lemmas.List.Elements.{All-map, All-weaker}
 use Rattle.std.proofs.lemmas.List.FromFn.{length-map-range_with_len}
 use Rattle.std.proofs.lemmas.List.Sums.{sum_by-le}
-use Rattle.board_base.specs.Pokey.{PokeyValue, IsPokey}
 use Rattle.cpu_core.specs.Ranges.{IsByte}
 use Rattle.tape_ports.specs.declared.entry.TapeEntry.{TapeEntry}
 use Rattle.lockstep_board.specs.Lockstep.{Board}
-use Rattle.lockstep_board.specs.Ranges.{IsBoardInRange}
+use Rattle.lockstep_board.specs.Ranges.{AreLevels, IsBoardInRange}
 use Rattle.lockstep_board.specs.Run.{boundary_steps, stepped}
 use Rattle.lockstep_board.proofs.BoardRange.{stepped-in_range}
 use Rattle.sound_pcm.specs.declared.mixer.TheConstants.{MAX_PER}
 use Rattle.run_samples.specs.BoardSamples.{AreSmallSamples, board_sample, board_samples, weight_of}
 
 -- four levels weigh 60 at most, and a board 120
-levels-light : (p : PokeyValue) → IsPokey p → sum p.last ≤ 60
-levels-light p is =
-    let low = All-weaker (λ level. level < 16) (λ level. level ≤ 15) (λ level below. omega (arith, below)) p.last is.levels in
-    let most = sum_by-le (λ x. x) 15 p.last low in
+levels-light : (now : List ℕ) → AreLevels now → sum now ≤ 60
+levels-light now is =
+    let low = All-weaker (λ level. level < 16) (λ level. level ≤ 15) (λ level below. omega (arith, below)) now is.levels in
+    let most = sum_by-le (λ x. x) 15 now low in
     let count = is.last in
     omega (arith, most, count)
 
 board-light : (b : Board) → IsBoardInRange b → weight_of b ≤ 120
 board-light b is =
-    let one = levels-light b.peripherals.sound1 is.peripherals.sound1.device in
-    let two = levels-light b.peripherals.sound2 is.peripherals.sound2.device in
+    let one = levels-light b.peripherals.sound1.last is.peripherals.sound1.levels in
+    let two = levels-light b.peripherals.sound2.last is.peripherals.sound2.levels in
     omega (arith, one, two)
 
 module _ (entries : List TapeEntry) (b : Board) (bytes : All (λ entry. IsByte entry.value) entries) (is : IsBoardInRange b) where
