@@ -1,5 +1,6 @@
 -- Boards kept from the least clock to the greatest: one run comes to all of them.
-use Rattle.std.proofs.Common.{◌≡◌, ◌≢◌, ℕ, ◌+◌, ◌-◌, ◌*◌, ◌<◌, ◌≤◌, ◌&&◌, ◌||◌, nat_lt, nat_le, cond, Bool, true, false, zero, suc, List, [], ◌∷◌, ◌++◌, All, Option, Some, None, IfSome, length, length-append, get_or, refl, sym, ap, ◌∙◌, subst, inl, inr, arith}
+use Rattle.std.proofs.Common.{◌≡◌, ℕ, ◌+◌, ◌-◌, ◌*◌, ◌<◌, ◌≤◌, ◌&&◌, ◌||◌, nat_lt, nat_le, cond, Bool, true, false, zero, suc, List, []}
+use Rattle.std.proofs.Common.{◌∷◌, ◌++◌, All, Option, Some, None, IfSome, length, length-append, get_or, refl, sym, ap, ◌∙◌, subst, inl, inr, arith}
 use Rattle.std.specs.List.{count_by}
 use Rattle.std.proofs.lemmas.Bool.{cases_lt, true≢false}
 use Rattle.std.proofs.lemmas.Bool.Decides.{nat_tests}
@@ -12,7 +13,6 @@ use Rattle.lockstep_board.specs.Lockstep.{Board}
 use Rattle.lockstep_board.specs.Run.{clock_steps, to_clock}
 use Rattle.lockstep_board.proofs.Clocks.{stepped-clock}
 use Rattle.lockstep_board.proofs.Ends.{clock_steps-few}
-use Rattle.keyframes.specs.declared.pages.TheConstants.{BOARD_PAGES}
 use Rattle.keyframes.specs.Keys.{Keyframe, KeyframesValue, is_crowded, last_of, live_of}
 use Rattle.keyframes.specs.Seeking.{AddsBoard, Along, state_of}
 use Rattle.keyframes.proofs.AlongLaws.{clock-past}

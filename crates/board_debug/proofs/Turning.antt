@@ -1,8 +1,9 @@
 -- Turns of a session: several at once come to where one after another do.
-use Rattle.std.proofs.Common.{◌≡◌, ℕ, ◌+◌, ◌-◌, ◌==◌, ◌<◌, ◌≤◌, Bool, true, false, cond, ◌&&◌, ◌||◌, find, nat_le, is_none, is_some, unwrap_or, List, [], ◌∷◌, Option, Some, None, suc, zero, refl, sym, ap, ◌∙◌, arith}
+use Rattle.std.proofs.Common.{◌≡◌, ℕ, ◌+◌, ◌-◌, ◌==◌, ◌<◌, ◌≤◌, Bool, true, false, cond, ◌&&◌, ◌||◌, find, map, nat_le}
+use Rattle.std.proofs.Common.{is_none, is_some, unwrap_or, List, [], ◌∷◌, Option, Some, None, suc, zero, refl, sym, ap, ◌∙◌, arith}
 use Rattle.std.specs.List.{list_any}
 use Rattle.std.specs.Option.{option_map}
-use Rattle.std.proofs.lemmas.Bool.{leb-false, lt-leb}
+use Rattle.std.proofs.lemmas.Bool.{leb-false, lt-leb, or_parts}
 use Rattle.tape_ports.specs.declared.entry.TapeEntry.{TapeEntry}
 use Rattle.tape_ports.specs.Tape.{TapeValue}
 use Rattle.lockstep_board.specs.Breaks.{BreakRun, TurnsTo, is_at_any, turn, turned}
@@ -11,12 +12,15 @@ use Rattle.lockstep_board.specs.Lockstep.{Board}
 use Rattle.lockstep_board.specs.Run.{IsPlaced, is_over, to_boundary}
 use Rattle.lockstep_board.proofs.Behind.{behind-cleared}
 use Rattle.lockstep_board.proofs.Ended.{cleared-empty}
+use Rattle.catchup_engine.specs.StopConditions.{ConditionsValue, has_changed, is_other, stops_at}
 use Rattle.catchup_engine.proofs.RunsOn.{open-before}
+use Rattle.catchup_engine.proofs.StopLaws.{changed-same}
 use Rattle.lockstep_board.proofs.TurnLaws.{turn-behind, turn-boundary, turn-later, turned-next, turned-placed, turns-to}
 use Rattle.debug_script.specs.Breakpoints.{StopsValue}
 use Rattle.board_debug.specs.declared.stop_reason.StopReason.{StopReason}
 use Rattle.board_debug.specs.declared.stop_reason.StopReason.TheVariants.{Jam, End, Step, Until}
-use Rattle.board_debug.specs.Looks.{break_look, first_of, jam_look, look_after, look_before, look_until}
+use Rattle.board_debug.specs.Looks.{conditions_of, first_of, jam_look, look_after, look_before, look_until, vg_look, watch_look, watched}
+use Rattle.board_debug.proofs.WatchLaws.{IsSame, halts-none, halts-same, same-self, watches-none, watches-same}
 use Rattle.board_debug.specs.Session.{Reached, go_from, turn_done, step_from, turning, unless_found, until_from}
 
 -- a look that finds nothing stands before its limit, and isn't jammed
@@ -62,14 +66,11 @@ find-none test (x ∷ xs) none = by_test (test x) refl none (find-none test xs)
     by_test true is none rest = cc
     by_test false is none rest = rw is (rest none)
 
--- of the stops only breaks
-abbrev pub breaks_alone : List ℕ → StopsValue
-breaks_alone breaks = record { breaks = breaks; watches = []; vg = false }
-
-breaks-none : (end : ℕ) (breaks : List ℕ) (before b : Board) → b.cpu.jam ≡ None → b.peripherals.clock < end → is_at_any breaks b ≡ false
-    → look_after end (breaks_alone breaks) before b ≡ None
-breaks-none end breaks before b running early apart =
-    rw (running, lt-leb end b.peripherals.clock early, find-none (λ address. address == b.cpu.pc) breaks apart) refl
+-- looks after a turn that each find nothing
+none-after : (end : ℕ) (stops : StopsValue) (before b : Board) → b.cpu.jam ≡ None → b.peripherals.clock < end → is_at_any stops.breaks b ≡ false
+    → watch_look stops.watches before b ≡ None → vg_look stops.vg before b ≡ None → look_after end stops before b ≡ None
+none-after end stops before b running early apart watches halts =
+    rw (running, lt-leb end b.peripherals.clock early, find-none (λ address. address == b.cpu.pc) stops.breaks apart, watches, halts) refl
 
 and-false : (x : Bool) → x && false ≡ false
 and-false true = refl
@@ -180,6 +181,23 @@ module _ (entries : List TapeEntry) where
           ∙ ap (λ look. unless_found look b (unless_found (after b next) next (turning entries before after (suc limit) next))) none
           ∙ ap (unless_found (after b next) next) (enough limit (limit - next.peripherals.clock) next (omega arith) (omega arith))
 
+-- where turns don't stop
+away-same : (stops : StopsValue) (b d : Board) → stops_at (conditions_of stops b) d ≡ false → IsSame stops b (cleared d)
+away-same stops b d away =
+    let changed = list_any (has_changed d.peripherals) (map (watched b) stops.watches) in
+    let other = is_other (conditions_of stops b).halted d.peripherals.vg.halted in
+    let first = or_parts (is_at_any stops.breaks d) (changed || other) away in
+    let more = or_parts changed other first.1 in
+    record { bytes = changed-same (map (watched b) stops.watches) (cleared d).peripherals d.peripherals refl refl refl ∙ more.0; halted = more.1 }
+
+away-breaks : (stops : StopsValue) (b d : Board) → stops_at (conditions_of stops b) d ≡ false → is_at_any stops.breaks (cleared d) ≡ false
+away-breaks stops b d away =
+    (or_parts (is_at_any stops.breaks d)
+    (list_any (has_changed d.peripherals) (map (watched b) stops.watches) || is_other (conditions_of stops b).halted d.peripherals.vg.halted) away).0
+
+look-same : (end : ℕ) (stops : StopsValue) (b d c : Board) → IsSame stops b d → look_after end stops d c ≡ look_after end stops b c
+look-same end stops b d c same = rw (watches-same stops b d same c, halts-same stops b d same c) refl
+
 -- a board from which a session goes on
 pub record Stands (b : Board) : Type 0 where
   pub placed : IsPlaced b
@@ -225,8 +243,8 @@ module _ (entries : List TapeEntry) (b : Board) (stands : Stands b) where
           let at : cleared (turned entries (suc k) b) ≡ moves entries (suc k) b = moves-are entries (suc k) b _ stands.empty refl in
           rw (← at) (until-none tape.end clock (cleared (turned entries (suc k) b)) opens.running (omega arith) (omega arith))
 
-  -- turns up to a break
-  module _ (end : ℕ) (breaks : List ℕ) (c0 : Board) (none : look_before end b ≡ None) (run : BreakRun entries end breaks b c0) where
+  -- turns up to a stop
+  module _ (end : ℕ) (stops : StopsValue) (c0 : Board) (none : look_before end b ≡ None) (run : BreakRun entries end (stops_at (conditions_of stops b)) b c0) where
     open_yet : (k : ℕ) → k < run.count → is_over end (turned entries k b) ≡ false
     unfolding turned
     open_yet zero inside = let opens = before-opens end b none in before-open end b opens.running opens.clock
@@ -241,23 +259,35 @@ module _ (entries : List TapeEntry) (b : Board) (stands : Stands b) where
         let at : cleared (turned entries (suc k) b) ≡ moves entries (suc k) b = moves-are entries (suc k) b _ stands.empty refl in
         rw (← at) (before-none end (cleared (turned entries (suc k) b)) opens.running opens.clock)
 
+    -- and what is watched has stayed
+    same : (k : ℕ) → k < run.count → IsSame stops b (moves entries k b)
+    unfolding moves
+    same zero inside = same-self stops b
+    same (suc k) inside =
+        let at : cleared (turned entries (suc k) b) ≡ moves entries (suc k) b = moves-are entries (suc k) b _ stands.empty refl in
+        rw (← at) (away-same stops b (turned entries (suc k) b) (run.at (suc k) (omega arith) inside))
+
     -- nor after each but the last
-    passed : (k : ℕ) → suc k < run.count → look_after end (breaks_alone breaks) (moves entries k b) (moves entries (suc k) b) ≡ None
+    passed : (k : ℕ) → suc k < run.count → look_after end stops (moves entries k b) (moves entries (suc k) b) ≡ None
     passed k inside =
         let opens = early end run.count open_yet k inside in
         let at : cleared (turned entries (suc k) b) ≡ moves entries (suc k) b = moves-are entries (suc k) b _ stands.empty refl in
-        rw (← at)
-        (breaks-none end breaks (moves entries k b) (cleared (turned entries (suc k) b)) opens.running opens.clock (run.at (suc k) (omega arith) inside))
+        let there = moves entries (suc k) b in
+        let here = same k (omega arith) in
+        let then = same (suc k) inside in
+        none-after end stops (moves entries k b) there (rw (← at) opens.running) (rw (← at) opens.clock)
+        (rw (← at) (away-breaks stops b (turned entries (suc k) b) (run.at (suc k) (omega arith) inside)))
+        (watches-same stops b (moves entries k b) here there ∙ watches-none stops b there then)
+        (halts-same stops b (moves entries k b) here there ∙ halts-none stops b there then)
 
-    pub go-breaks : (tape : TapeValue) (c : Board) → tape.entries ≡ entries → tape.end ≡ end → c ≡ cleared c0
-        → go_from tape (breaks_alone breaks) b ≡ unless_found (look_after end (breaks_alone breaks) b c) c (go_from tape (breaks_alone breaks) c)
-    go-breaks tape c these last is = by_count run.count refl
+    go-stops : (tape : TapeValue) (c : Board) → tape.entries ≡ entries → tape.end ≡ end → c ≡ cleared c0
+        → go_from tape stops b ≡ unless_found (look_after end stops b c) c (go_from tape stops c)
+    go-stops tape c these last is = by_count run.count refl
       where
         after : Board → Board → Option StopReason
-        after before d = look_after end (breaks_alone breaks) before d
+        after before d = look_after end stops before d
 
-        by_count : (count : ℕ) → run.count ≡ count
-            → go_from tape (breaks_alone breaks) b ≡ unless_found (look_after end (breaks_alone breaks) b c) c (go_from tape (breaks_alone breaks) c)
+        by_count : (count : ℕ) → run.count ≡ count → go_from tape stops b ≡ unless_found (look_after end stops b c) c (go_from tape stops c)
         by_count zero e = let some = run.some in absurd (omega arith)
         by_count (suc m) e =
             let d = moves entries m b in
@@ -267,7 +297,15 @@ module _ (entries : List TapeEntry) (b : Board) (stands : Stands b) where
             let on = turns-on entries (look_before end) after end (before-opens end) d (still m (omega arith)) in
             rw (these, last)
             (up ∙ on
-            ∙ ap (λ (x : Board). unless_found (after b x) x (turning entries (look_before end) after (suc (end - x.peripherals.clock)) x)) there)
+            ∙ ap (λ (x : Board). unless_found (after d x) x (turning entries (look_before end) after (suc (end - x.peripherals.clock)) x)) there
+            ∙ ap (λ look. unless_found look c (turning entries (look_before end) after (suc (end - c.peripherals.clock)) c)) (look-same end stops b d c (same m (omega arith))))
+
+-- turns of `go` that are made at once, up to where one of them is looked at
+pub go-turns : (tape : TapeValue) (stops : StopsValue) (conditions : ConditionsValue) (end : ℕ) (b c : Board) → Stands b → end ≡ tape.end → None ≡ look_before end b
+    → conditions ≡ conditions_of stops b → ((d : Board) × BreakRun tape.entries end (stops_at conditions) b d × (c ≡ cleared d))
+    → go_from tape stops b ≡ unless_found (look_after end stops b c) c (go_from tape stops c)
+go-turns tape stops conditions end b c stands last none are went =
+    go-stops tape.entries b stands end stops went.0 (sym none) (rw are at went.1) tape c refl (sym last) went.2
 
 turning-found : (entries : List TapeEntry) (before : Board → Option StopReason) (after : Board → Board → Option StopReason) (most : ℕ) (b : Board) (found : StopReason)
     → before b ≡ Some found → turning entries before after (suc most) b ≡ record { found = found; board = b }
@@ -309,27 +347,14 @@ left-less end clock b c waits later = rw waits.running (by_jam c.cpu.jam refl)
     by_jam (Some opcode) is = omega arith
 
 -- the looks after a turn begin with those before one
-after-first : (jam : Option ℕ) (ended : Bool) (looks : List (Option StopReason)) (found : StopReason) → Some found ≡ first_of (option_map Jam jam ∷ cond ended (Some End) None ∷ [])
-    → first_of (option_map Jam jam ∷ cond ended (Some End) None ∷ looks) ≡ Some found
-after-first (Some opcode) ended looks found is = sym is
-after-first None true looks found is = sym is
-after-first None false looks found is = cc
+before-first : (jam : Option ℕ) (ended : Bool) (looks : List (Option StopReason)) → first_of (option_map Jam jam ∷ cond ended (Some End) None ∷ looks) ≡ None
+    → first_of (option_map Jam jam ∷ cond ended (Some End) None ∷ []) ≡ None
+before-first (Some opcode) ended looks none = cc
+before-first None true looks none = cc
+before-first None false looks none = refl
 
-pub after-before : (end : ℕ) (stops : StopsValue) (before b : Board) (found : StopReason) → Some found ≡ look_before end b → look_after end stops before b ≡ Some found
-after-before end stops before b found is = after-first b.cpu.jam (nat_le end b.peripherals.clock) _ found is
-
--- and then come the breaks
-pub after-break : (end : ℕ) (stops : StopsValue) (before b : Board) (found : StopReason) → None ≡ look_before end b → Some found ≡ break_look stops.breaks b
-    → look_after end stops before b ≡ Some found
-after-break end stops before b found none is =
-    let opens = before-opens end b (sym none) in
-    rw (opens.running, lt-leb end b.peripherals.clock opens.clock, ← is) refl
-
-pub after-none : (end : ℕ) (breaks : List ℕ) (before b : Board) → None ≡ look_before end b → None ≡ break_look breaks b
-    → look_after end (breaks_alone breaks) before b ≡ None
-after-none end breaks before b none apart =
-    let opens = before-opens end b (sym none) in
-    rw (opens.running, lt-leb end b.peripherals.clock opens.clock, ← apart) refl
+pub after-opens : (end : ℕ) (stops : StopsValue) (before b : Board) → None ≡ look_after end stops before b → None ≡ look_before end b
+after-opens end stops before b none = sym (before-first b.cpu.jam (nat_le end b.peripherals.clock) _ (sym none))
 
 -- a command stops where a look after a turn finds something, and else goes on
 pub stops-at : (look : Option StopReason) (b : Board) (found : StopReason) (more whole : Reached) → whole ≡ unless_found look b more → look ≡ Some found
@@ -365,13 +390,6 @@ step-last tape n b is = rw is (by_jam (jam_look b))
     by_jam : (look : Option StopReason) → record { found = unwrap_or look Step; board = b } ≡ unless_found look b (record { found = Step; board = b })
     by_jam None = refl
     by_jam (Some found) = refl
-
--- a turn of `go` by itself
-pub go-turn : (tape : TapeValue) (stops : StopsValue) (end : ℕ) (b c : Board) → end ≡ tape.end → None ≡ look_before end b → c ≡ turn_done tape.entries b
-    → go_from tape stops b ≡ unless_found (look_after end stops b c) c (go_from tape stops c)
-go-turn tape stops end b c last found is =
-    let none : look_before tape.end b ≡ None = rw (← last) (sym found) in
-    rw (is, last) (turns-on tape.entries (look_before tape.end) (look_after tape.end stops) tape.end (before-opens tape.end) b none)
 
 -- the board after a turn whose records are forgotten
 pub done-turn : (entries : List TapeEntry) (b c : Board) → c ≡ cleared (turn entries b) → c ≡ turn_done entries b

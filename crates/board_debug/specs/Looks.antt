@@ -4,6 +4,8 @@ use Rattle.std.specs.Option.{option_map}
 use Rattle.text_line.specs.Words.{line, hex_byte, hex_word}
 use Rattle.lockstep_board.specs.Lockstep.{Board}
 use Rattle.lockstep_board.specs.Memory.{memory_byte}
+use Rattle.catchup_engine.specs.StopConditions.{ConditionsValue}
+use Rattle.catchup_engine.specs.declared.stop_conditions.WatchedByte.{WatchedByte}
 use Rattle.debug_script.specs.Breakpoints.{StopsValue}
 use Rattle.board_debug.specs.declared.stop_reason.StopReason.{StopReason}
 use Rattle.board_debug.specs.declared.looks.Before.{Before}
@@ -33,7 +35,7 @@ watched_byte b address = unwrap_or (memory_byte address b.peripherals) 0
 
 -- one of these bytes has changed since the boundary before
 abbrev pub watch_look : List ℕ → Board → Board → Option StopReason
-watch_look watches before b = option_map Watch (find (λ address. not (watched_byte before address == watched_byte b address)) watches)
+watch_look watches before b = option_map Watch (find (λ address. not (watched_byte b address == watched_byte before address)) watches)
 
 -- the generator is halted, and wasn't at the boundary before
 abbrev pub vg_look : Bool → Board → Board → Option StopReason
@@ -70,7 +72,20 @@ found_words Until b = codes "until" ∷ []
 unfoldable pub stop_text : StopReason → Board → List ℕ
 stop_text found b = line (codes "stop" ∷ (found_words found b ++ codes "at" ∷ decimal b.peripherals.clock ∷ []))
 
+-- a byte of a board, to be watched from there on
+abbrev pub watched : Board → ℕ → WatchedByte
+watched b address = record { address = address; value = watched_byte b address }
+
 -- what was seen of a board before a turn: the watched bytes, and whether the generator was halted
 pub record IsBefore (stops : StopsValue) (b : Board) (before : Before) : Type 0 where
-  pub bytes : before.bytes.items ≡ map (watched_byte b) stops.watches
+  pub bytes : before.bytes.items ≡ map (watched b) stops.watches
   pub halted : before.halted ≡ b.peripherals.vg.halted
+
+-- where turns from a board stop that are made at once: where a look after one of them would find
+-- something
+abbrev pub conditions_of : StopsValue → Board → ConditionsValue
+conditions_of stops b = record {
+  addresses = stops.breaks;
+  bytes = map (watched b) stops.watches;
+  halted = if stops.vg then Some b.peripherals.vg.halted else None;
+}

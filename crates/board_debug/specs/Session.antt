@@ -1,6 +1,6 @@
 -- A debugger's session: the commands of its script over lockstep boards. This project's own
 -- profile.
-use Rattle.std.specs.Prelude.{ℕ, ◌+◌, ◌-◌, List, [], ◌∷◌, ◌++◌, Option, Some, None, zero, suc}
+use Rattle.std.specs.Prelude.{ℕ, ◌-◌, List, [], ◌∷◌, ◌++◌, Option, Some, None, zero, suc}
 use Rattle.tape_ports.specs.declared.entry.TapeEntry.{TapeEntry}
 use Rattle.tape_ports.specs.Tape.{TapeValue}
 use Rattle.lockstep_board.specs.Breaks.{turn}

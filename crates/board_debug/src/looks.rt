@@ -1,12 +1,13 @@
 //! What a session looks at between two turns.
-ghost use Rattle.std.specs.Prelude.{◌≡◌, ◌==◌, find, map, length, true, unwrap_or};
+ghost use Rattle.std.specs.Prelude.{◌≡◌, ℕ, ◌==◌, List, find, map, true, unwrap_or};
 ghost use Rattle.lockstep_board.specs.Lockstep as lockstep;
+ghost use Rattle.catchup_engine.specs.StopConditions.{has_changed};
 ghost use Rattle.run_windows.specs.SyncedMachine.{value_of};
-ghost use Rattle.board_debug.specs.Looks.{IsBefore, break_look, jam_look, look_after, look_before, look_until, vg_look, watch_look, watched_byte};
+ghost use Rattle.board_debug.specs.Looks.{IsBefore, break_look, conditions_of, jam_look, look_after, look_before, look_until, vg_look, watch_look, watched, watched_byte};
 
 use crate::stop_reason::StopReason;
 use arrayvec::ArrayVec;
-use catchup_engine::Machine;
+use catchup_engine::{Machine, StopConditions, WatchedByte};
 use debug_script::{Breakpoints, STOPS};
 use run_windows::SyncedMachine;
 
@@ -61,10 +62,7 @@ fn first_at(addresses: &[u16], pc: u16) -> Option<u16>
 }
 
 /// Whether pc is one of these.
-pub fn look_at_breaks<M: Machine>(
-    synced: &SyncedMachine<'_, M>,
-    breaks: &[u16],
-) -> Option<StopReason>
+fn look_at_breaks<M: Machine>(synced: &SyncedMachine<'_, M>, breaks: &[u16]) -> Option<StopReason>
     ensures { result ≡ break_look breaks.now (value_of synced.now).board }
 {
     match first_at(breaks, synced.machine().cpu().pc) {
@@ -80,22 +78,25 @@ fn watched_byte<M: Machine>(synced: &SyncedMachine<'_, M>, address: u16) -> u8
     synced.machine().byte_at(address).unwrap_or(0)
 }
 
-/// What a look after a turn compares with: the watched bytes before it, and whether the generator
+/// What a look after turns compares with: the watched bytes before them, and whether the generator
 /// was halted.
 #[derive(Drop)]
 pub struct Before {
-    bytes: ArrayVec<u8, STOPS>,
+    bytes: ArrayVec<WatchedByte, STOPS>,
     halted: bool,
 }
 
 impl Before {
-    /// Looks at a board before a turn.
+    /// Looks at a board before turns.
     pub fn of<M: Machine>(synced: &SyncedMachine<'_, M>, stops: &Breakpoints) -> Before
         ensures { IsBefore stops.now (value_of synced.now).board result }
     {
         let mut bytes = ArrayVec::new();
         'watches: for address in stops.watches() {
-            bytes.push(watched_byte(synced, *address));
+            bytes.push(WatchedByte {
+                address: *address,
+                value: watched_byte(synced, *address),
+            });
         }
         Before {
             bytes,
@@ -103,22 +104,33 @@ impl Before {
         }
     }
 
-    /// Whether a watched byte has changed since.
-    fn look_at_watches<M: Machine>(
-        &self,
-        synced: &SyncedMachine<'_, M>,
-        watches: &[u16],
-    ) -> Option<StopReason>
-        requires { length watches.now ≡ length self.now.bytes.items }
-        ensures { (before : lockstep.Board) → self.now.bytes.items ≡ map (watched_byte before) watches.now
-            → result ≡ watch_look watches.now before (value_of synced.now).board }
+    /// Where turns from that board stop: where a look after one of them would find something.
+    pub fn conditions<'a>(&'a self, stops: &'a Breakpoints) -> StopConditions<'a>
+        ensures { (b : lockstep.Board) → IsBefore stops.now b self.now → result ≡ conditions_of stops.now b }
     {
-        'watches: for i in 0..watches.len() {
-            if watched_byte(synced, watches[i]) != self.bytes[i] {
-                return Some(StopReason::Watch(watches[i]));
-            }
+        let halted = if stops.vg() { Some(self.halted) } else { None };
+        StopConditions::new(stops.breaks(), self.bytes.as_slice(), halted)
+    }
+
+    /// The first watched byte that has changed since.
+    fn changed<M: Machine>(&self, synced: &SyncedMachine<'_, M>) -> Option<WatchedByte>
+        ensures { result ≡ find (has_changed (value_of synced.now).board.peripherals) self.now.bytes.items }
+    {
+        self.bytes
+            .iter()
+            .copied()
+            .find(|byte| watched_byte(synced, byte.address) != byte.value)
+    }
+
+    /// Whether a watched byte has changed since.
+    fn look_at_watches<M: Machine>(&self, synced: &SyncedMachine<'_, M>) -> Option<StopReason>
+        ensures { (before : lockstep.Board) → (watches : List ℕ) → self.now.bytes.items ≡ map (watched before) watches
+            → result ≡ watch_look watches before (value_of synced.now).board }
+    {
+        match self.changed(synced) {
+            Some(byte) => Some(StopReason::Watch(byte.address)),
+            None => None,
         }
-        None
     }
 
     /// Whether the generator has halted since.
@@ -133,7 +145,7 @@ impl Before {
     }
 }
 
-/// What `go` looks at after a turn, in order: a jam, the tape's END, the breaks, the watches, and
+/// What `go` looks at after turns, in order: a jam, the tape's END, the breaks, the watches, and
 /// the generator.
 pub fn look_after<M: Machine>(
     synced: &SyncedMachine<'_, M>,
@@ -141,7 +153,6 @@ pub fn look_after<M: Machine>(
     stops: &Breakpoints,
     before: &Before,
 ) -> Option<StopReason>
-    requires watched { length before.now.bytes.items ≡ length stops.now.watches }
     ensures { (b : lockstep.Board) → IsBefore stops.now b before.now → result ≡ look_after end stops.now b (value_of synced.now).board }
 {
     if let Some(found) = look_before(synced, end) {
@@ -150,7 +161,7 @@ pub fn look_after<M: Machine>(
     if let Some(found) = look_at_breaks(synced, stops.breaks()) {
         return Some(found);
     }
-    if let Some(found) = before.look_at_watches(synced, stops.watches()) {
+    if let Some(found) = before.look_at_watches(synced) {
         return Some(found);
     }
     if stops.vg() {

@@ -1,9 +1,9 @@
 //! The turns of a session.
-ghost use Rattle.std.specs.Prelude.{◌≡◌, [], false};
+ghost use Rattle.std.specs.Prelude.{◌≡◌};
 ghost use Rattle.run_windows.specs.SyncedMachine.{loan_of, value_of};
 ghost use Rattle.board_debug.specs.Session.{go_from, step_from, until_from};
 
-use crate::looks::{Before, look_after, look_at_breaks, look_at_last, look_before, look_until};
+use crate::looks::{Before, look_after, look_at_last, look_before, look_until};
 use crate::stop_reason::StopReason;
 use catchup_engine::Machine;
 use debug_script::Breakpoints;
@@ -37,53 +37,6 @@ pub fn until<M: Machine>(synced: &mut SyncedMachine<'_, M>, tape: &Tape, clock: 
     }
 }
 
-/// Makes turns up to a break, or to the end of the run.
-fn go_to_break<M: Machine>(
-    synced: &mut SyncedMachine<'_, M>,
-    tape: &Tape,
-    breaks: &[u16],
-) -> StopReason
-    ensures same { loan_of synced.new ≡ loan_of synced.old }
-    ensures reached { record { found = result; board = (value_of synced.new).board }
-        ≡ go_from tape.now (record { breaks = breaks.now; watches = []; vg = false }) (value_of synced.old).board }
-{
-    let end = tape.end();
-    if let Some(found) = look_before(synced, end) {
-        return found;
-    }
-    'windows: loop {
-        synced.turns_to_break(tape, end, breaks);
-        if let Some(found) = look_before(synced, end) {
-            return found;
-        }
-        if let Some(found) = look_at_breaks(synced, breaks) {
-            return found;
-        }
-    }
-}
-
-/// Makes turns up to any stop, each by itself.
-fn go_by_turns<M: Machine>(
-    synced: &mut SyncedMachine<'_, M>,
-    tape: &Tape,
-    stops: &Breakpoints,
-) -> StopReason
-    ensures same { loan_of synced.new ≡ loan_of synced.old }
-    ensures reached { record { found = result; board = (value_of synced.new).board } ≡ go_from tape.now stops.now (value_of synced.old).board }
-{
-    let end = tape.end();
-    'turns: loop {
-        if let Some(found) = look_before(synced, end) {
-            return found;
-        }
-        let before = Before::of(synced, stops);
-        synced.turn(tape);
-        if let Some(found) = look_after(synced, end, stops, &before) {
-            return found;
-        }
-    }
-}
-
 /// Makes turns up to a stop.
 pub fn go<M: Machine>(
     synced: &mut SyncedMachine<'_, M>,
@@ -93,9 +46,15 @@ pub fn go<M: Machine>(
     ensures same { loan_of synced.new ≡ loan_of synced.old }
     ensures reached { record { found = result; board = (value_of synced.new).board } ≡ go_from tape.now stops.now (value_of synced.old).board }
 {
-    if stops.watches().is_empty() && !stops.vg() {
-        go_to_break(synced, tape, stops.breaks())
-    } else {
-        go_by_turns(synced, tape, stops)
+    let end = tape.end();
+    if let Some(found) = look_before(synced, end) {
+        return found;
+    }
+    'windows: loop {
+        let before = Before::of(synced, stops);
+        synced.turns_to_stop(tape, end, &before.conditions(stops));
+        if let Some(found) = look_after(synced, end, stops, &before) {
+            return found;
+        }
     }
 }

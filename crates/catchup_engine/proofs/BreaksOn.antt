@@ -1,14 +1,15 @@
--- A run to an address that is under way, turn by turn.
+-- A run to a stop that is under way, turn by turn.
 use Rattle.std.proofs.Common.{◌≡◌, ℕ, ◌+◌, ◌-◌, ◌^◌, ◌≤◌, ◌<◌, Bool, true, false, ◌&&◌, ◌||◌, nat_le, is_some, is_none, List, Option, Some, None, IfSome, suc, zero, inl, inr, refl, sym, arith}
 use Rattle.std.proofs.lemmas.Bool.{or_parts}
 use Rattle.std.proofs.lemmas.Bool.Decides.{nat_tests}
 use Rattle.board_base.specs.Cpu.{CpuValue, MidValue}
 use Rattle.cpu_core.specs.Places.{IsMiddle}
 use Rattle.tape_ports.specs.declared.entry.TapeEntry.{TapeEntry}
+use Rattle.catchup_engine.specs.StopConditions.{ConditionsValue, asks_generator, stops_at}
 use Rattle.catchup_engine.specs.Bus.{BusValue}
 use Rattle.lockstep_board.specs.Lockstep.{Board, step}
 use Rattle.lockstep_board.specs.Run.{is_over}
-use Rattle.lockstep_board.specs.Breaks.{is_at_any, BreakRun}
+use Rattle.lockstep_board.specs.Breaks.{BreakRun}
 use Rattle.catchup_engine.specs.Runs.{over_bus, RunsOn, TurnsOn, TurnsRun, BoundaryRun, BreakRunBus, IsInRange}
 use Rattle.lockstep_board.specs.Steps.{StepsTo, Through}
 use Rattle.catchup_engine.specs.Turn.{TurnedBus}
@@ -54,10 +55,10 @@ through-on : (entries : List TapeEntry) (n : ℕ) (b last : Board) → Through e
 through-on entries zero b last e = e
 through-on entries (suc n) b last t = (refl, through-on entries n (step entries b) last t.1)
 
--- a run to an address that is at a boundary
-pub record AtTurn (entries : List TapeEntry) (limit : ℕ) (addresses : List ℕ) (c : CpuValue) (s t : BusValue) (e : CpuValue) : Type 0 where
-  pub run : RunsOn entries never c s t e
-  pub turns : BreakRun entries limit addresses (over_bus c s) (over_bus e t)
+-- a run to a stop that is at a boundary
+pub record AtTurn (entries : List TapeEntry) (limit : ℕ) (stops : ConditionsValue) (c : CpuValue) (s t : BusValue) (e : CpuValue) : Type 0 where
+  pub run : RunsOn entries never (asks_generator stops) c s t e
+  pub turns : BreakRun entries limit (stops_at stops) (over_bus c s) (over_bus e t)
   pub boundary : e.mid ≡ None
   pub range : IsInRange e t
   pub later : c.jam ≡ None → s.peripherals.clock < t.peripherals.clock
@@ -71,38 +72,38 @@ jammed-at c None jammed e place = refl
 jammed-at c (Some m) jammed e place = let running = place.0 in let none : is_some c.jam ≡ false = rw running refl in cc
 
 -- a jammed board takes its turn at once
-pub break-jammed : (entries : List TapeEntry) (limit : ℕ) (addresses : List ℕ) (c : CpuValue) (s : BusValue) → s.clock_open ≡ false → is_some c.jam ≡ true
-    → IfSome c.mid (λ _. IsMiddle c) → IsInRange c s → AtTurn entries limit addresses c s s c
-break-jammed entries limit addresses c s between jammed place range = record {
-  run = starts entries never c s between;
-  turns = break-one entries limit addresses (over_bus c s) (over_bus c s) (sym (turn-jammed entries (over_bus c s) jammed));
+pub break-jammed : (entries : List TapeEntry) (limit : ℕ) (stops : ConditionsValue) (c : CpuValue) (s : BusValue) → s.clock_open ≡ false → is_some c.jam ≡ true
+    → IfSome c.mid (λ _. IsMiddle c) → IsInRange c s → AtTurn entries limit stops c s s c
+break-jammed entries limit stops c s between jammed place range = record {
+  run = starts entries never (asks_generator stops) c s between;
+  turns = break-one entries limit (stops_at stops) (over_bus c s) (over_bus c s) (sym (turn-jammed entries (over_bus c s) jammed));
   boundary = jammed-at c c.mid jammed refl place;
   range = range;
   later = λ running. (let none : is_some c.jam ≡ false = rw running refl in cc);
 }
 
 -- the first turn of another
-pub break-begins : (entries : List TapeEntry) (limit : ℕ) (addresses : List ℕ) (c : CpuValue) (s u : BusValue) (f : CpuValue) → s.clock_open ≡ false
+pub break-begins : (entries : List TapeEntry) (limit : ℕ) (stops : ConditionsValue) (c : CpuValue) (s u : BusValue) (f : CpuValue) → s.clock_open ≡ false
     → is_some c.jam ≡ false → s.peripherals.clock < 2 ^ 48 → IfSome c.mid (λ _. IsMiddle c) → IsInRange c s → TurnedBus entries 7 c s u f
-    → AtTurn entries limit addresses c s u f
-break-begins entries limit addresses c s u f between running early place range turned =
+    → AtTurn entries limit stops c s u f
+break-begins entries limit stops c s u f between running early place range turned =
     let made = turn-run entries c s u f between (jam-none c.jam running) early place range turned in
     let clock = turned.turned.clock in
     record {
       run =
-          goes_on entries never 7 c s s u c f (starts entries never c s between) refl turned
+          goes_on entries never (asks_generator stops) 7 c s s u c f (starts entries never (asks_generator stops) c s between) refl turned
           (through-on entries turned.turned.count (step entries (over_bus c s)) (over_bus f u) turned.turned.through);
-      turns = break-one entries limit addresses (over_bus c s) (over_bus f u) made.board;
+      turns = break-one entries limit (stops_at stops) (over_bus c s) (over_bus f u) made.board;
       boundary = made.boundary;
       range = made.range;
       later = λ _. omega arith;
     }
 
 -- no turn is made yet
-pub turns-start : (entries : List TapeEntry) (limit : ℕ) (addresses : List ℕ) (c : CpuValue) (s : BusValue) → s.clock_open ≡ false → c.mid ≡ None
-    → IsInRange c s → TurnsOn entries limit addresses c s s c
-turns-start entries limit addresses c s between boundary range = record {
-  run = starts entries (is_over limit) c s between;
+pub turns-start : (entries : List TapeEntry) (limit : ℕ) (stops : ConditionsValue) (c : CpuValue) (s : BusValue) → s.clock_open ≡ false → c.mid ≡ None
+    → IsInRange c s → TurnsOn entries limit stops c s s c
+turns-start entries limit stops c s between boundary range = record {
+  run = starts entries (is_over limit) (asks_generator stops) c s between;
   near = inl refl;
   turns = λ b run. run;
   boundary = boundary;
@@ -110,11 +111,11 @@ turns-start entries limit addresses c s between boundary range = record {
 }
 
 -- a turn more
-pub turns-go_on : (entries : List TapeEntry) (limit : ℕ) (addresses : List ℕ) (c : CpuValue) (s t u : BusValue) (e f : CpuValue) → limit ≤ 2 ^ 48
-    → TurnsOn entries limit addresses c s t e → is_over limit (over_bus e t) || is_at_any addresses (over_bus e t) ≡ false
-    → TurnedBus entries 7 e t u f → TurnsOn entries limit addresses c s u f
-turns-go_on entries limit addresses c s t u e f last on open_yet turned =
-    let both = or_parts (is_over limit (over_bus e t)) (is_at_any addresses (over_bus e t)) open_yet in
+pub turns-go_on : (entries : List TapeEntry) (limit : ℕ) (stops : ConditionsValue) (c : CpuValue) (s t u : BusValue) (e f : CpuValue) → limit ≤ 2 ^ 48
+    → TurnsOn entries limit stops c s t e → is_over limit (over_bus e t) || stops_at stops (over_bus e t) ≡ false
+    → TurnedBus entries 7 e t u f → TurnsOn entries limit stops c s u f
+turns-go_on entries limit stops c s t u e f last on open_yet turned =
+    let both = or_parts (is_over limit (over_bus e t)) (stops_at stops (over_bus e t)) open_yet in
     let before = open-before limit (over_bus e t) on.boundary both.0 in
     let early = before.clock in
     let boundary = on.boundary in
@@ -123,24 +124,24 @@ turns-go_on entries limit addresses c s t u e f last on open_yet turned =
     let so_far = on.run.clock in
     record {
       run =
-          goes_on entries (is_over limit) 7 c s t u e f on.run both.0 turned
+          goes_on entries (is_over limit) (asks_generator stops) 7 c s t u e f on.run both.0 turned
           (through-reached entries limit turned.turned.count (step entries (over_bus e t)) (over_bus f u) turned.turned.through);
       near = inr (record { before = omega arith; within = omega arith });
       turns =
-          λ b run. breaks-append entries limit addresses b (over_bus e t) (over_bus f u) (on.turns b run) both.0 both.1
-          (break-one entries limit addresses (over_bus e t) (over_bus f u) made.board);
+          λ b run. breaks-append entries limit (stops_at stops) b (over_bus e t) (over_bus f u) (on.turns b run) both.0 both.1
+          (break-one entries limit (stops_at stops) (over_bus e t) (over_bus f u) made.board);
       boundary = made.boundary;
       range = made.range;
     }
 
 -- other turns after them
-pub turns-join : (entries : List TapeEntry) (limit : ℕ) (addresses : List ℕ) (c : CpuValue) (s t u : BusValue) (e f : CpuValue)
-    → TurnsOn entries limit addresses c s t e → TurnsOn entries limit addresses e t u f → TurnsOn entries limit addresses c s u f
-turns-join entries limit addresses c s t u e f on more =
+pub turns-join : (entries : List TapeEntry) (limit : ℕ) (stops : ConditionsValue) (c : CpuValue) (s t u : BusValue) (e f : CpuValue)
+    → TurnsOn entries limit stops c s t e → TurnsOn entries limit stops e t u f → TurnsOn entries limit stops c s u f
+turns-join entries limit stops c s t u e f on more =
     let so_far = on.run.clock in
     let clock_then = more.run.clock in
     record {
-      run = runs-join entries (is_over limit) c s t u e f on.run more.run;
+      run = runs-join entries (is_over limit) (asks_generator stops) c s t u e f on.run more.run;
       near = elim more.near [
         | inl none ↦ elim on.near [
           | inl still ↦ inl (omega arith)
@@ -154,11 +155,11 @@ turns-join entries limit addresses c s t u e f on more =
     }
 
 -- the end of a run, whose first turn is made and whose others have come to their end
-pub break-ends : (entries : List TapeEntry) (limit : ℕ) (addresses : List ℕ) (c : CpuValue) (s u t : BusValue) (f e : CpuValue)
-    → AtTurn entries limit addresses c s u f → TurnsRun entries limit addresses f u t e → BreakRunBus entries limit addresses c s t e
-break-ends entries limit addresses c s u t f e at rest =
-    let more = runs-asked entries never (is_over limit) (λ b open_yet. refl) f u t e rest.on.run in
-    let run = runs-join entries never c s u t f e at.run more in
+pub break-ends : (entries : List TapeEntry) (limit : ℕ) (stops : ConditionsValue) (c : CpuValue) (s u t : BusValue) (f e : CpuValue)
+    → AtTurn entries limit stops c s u f → TurnsRun entries limit stops f u t e → BreakRunBus entries limit stops c s t e
+break-ends entries limit stops c s u t f e at rest =
+    let more = runs-asked entries never (is_over limit) (asks_generator stops) (λ b open_yet. refl) f u t e rest.on.run in
+    let run = runs-join entries never (asks_generator stops) c s u t f e at.run more in
     let clock = run.clock in
     let clock_then = rest.on.run.clock in
     let steps : t.peripherals.clock - s.peripherals.clock ≡ run.count = omega arith in
@@ -166,7 +167,7 @@ break-ends entries limit addresses c s u t f e at rest =
       turns = rest.on.turns (over_bus c s) at.turns;
       ends = rest.ends;
       boundary = rest.on.boundary;
-      paid = rw steps run.paid;
+      paid = λ free. rw steps (run.paid free);
       goes = run.goes;
       range = rest.on.range;
       since = omega arith;

@@ -1,5 +1,6 @@
 -- Boundaries at which only the clock has to be looked at.
-use Rattle.std.proofs.Common.{◌≡◌, ℕ, ◌+◌, ◌-◌, ◌≤◌, ◌<◌, Bool, true, false, not, ◌&&◌, ◌||◌, nat_le, nat_lt, min, is_none, is_some, List, [], ◌∷◌, ◌++◌, slice_set, Option, Some, None, refl, sym, ap, ◌∙◌, arith, if◌then◌else◌}
+use Rattle.std.proofs.Common.{◌≡◌, ℕ, ◌+◌, ◌-◌, ◌≤◌, ◌<◌, Bool, true, false, not, ◌&&◌, ◌||◌, nat_le, nat_lt, min, is_none}
+use Rattle.std.proofs.Common.{is_some, List, [], ◌∷◌, ◌++◌, slice_set, Option, Some, None, refl, sym, ap, ◌∙◌, arith, if◌then◌else◌}
 use Rattle.std.proofs.lemmas.Bool.{and_parts}
 use Rattle.std.proofs.lemmas.Bool.Decides.{nat_tests}
 use Rattle.board_base.specs.declared.divider.TheConstants.{DIVIDER_PERIOD}
@@ -17,7 +18,7 @@ use Rattle.cpu_core.specs.Registers.{RegistersValue}
 use Rattle.cpu_core.specs.Sequences.{Moves, Runs}
 use Rattle.catchup_engine.specs.declared.quiet.Horizon.{Horizon}
 use Rattle.catchup_engine.specs.declared.bus.TheConstants.{MAX_SEQUENCE_CLOCKS}
-use Rattle.lockstep_board.specs.Breaks.{is_at_any}
+use Rattle.catchup_engine.specs.StopConditions.{ConditionsValue, stops_at}
 use Rattle.catchup_engine.specs.Bus.{BusValue, Does, at_clock}
 use Rattle.catchup_engine.specs.Horizon.{IsHorizon, KeepsLines, LeavesLines, NothingDue}
 use Rattle.lockstep_board.specs.Lockstep.{is_reset, sequence_due}
@@ -192,11 +193,11 @@ all-true a b c e f h = rw (e, f, h) refl
 quiet-yet : (clock event : ℕ) → clock + MAX_SEQUENCE_CLOCKS ≤ event → nat_le (clock + MAX_SEQUENCE_CLOCKS) event ≡ true
 quiet-yet clock event h = grind (arith, nat_tests)
 
-pub horizon-goes_on : (limit : ℕ) (addresses : List ℕ) (horizon : Horizon) (c : CpuValue) (s : BusValue) → c.mid ≡ None → s.peripherals.clock < horizon.until
+pub horizon-goes_on : (limit : ℕ) (stops : ConditionsValue) (horizon : Horizon) (c : CpuValue) (s : BusValue) → c.mid ≡ None → s.peripherals.clock < horizon.until
     → NothingDue limit horizon s → LeavesLines s.peripherals → is_none c.jam ≡ true → horizon.irq_idle || is_masked c.p ≡ true
-    → is_at_any addresses (over_bus c s) ≡ false → GoesOn limit addresses c s
+    → stops_at stops (over_bus c s) ≡ false → GoesOn limit stops c s
 unfolding reads_opcode
-horizon-goes_on limit addresses horizon c s boundary early are leaves running quiet_line elsewhere =
+horizon-goes_on limit stops horizon c s boundary early are leaves running quiet_line elsewhere =
     let before = are.before in
     let no_event = are.no_event in
     let not_taken : line_of (devices_ticked s.peripherals) && not (is_masked c.p) ≡ false =
@@ -204,7 +205,7 @@ horizon-goes_on limit addresses horizon c s boundary early are leaves running qu
     (λ e. unwired s.peripherals (are.irq_idle e).0 leaves (are.irq_idle e).1) quiet_line in
     record {
       open_yet =
-          both-false (is_over limit (over_bus c s)) (is_at_any addresses (over_bus c s))
+          both-false (is_over limit (over_bus c s)) (stops_at stops (over_bus c s))
           (before-limit c.jam (is_none c.mid) limit s.peripherals.clock running (omega arith)) elsewhere;
       reads =
           all-true (is_none c.mid) (nat_le (s.peripherals.clock + MAX_SEQUENCE_CLOCKS) s.event_at) (is_opcode (sequence_due c (devices_ticked s.peripherals)))

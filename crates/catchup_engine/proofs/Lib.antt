@@ -15,6 +15,7 @@ pub mod Seen
 pub mod RunsOn
 pub mod SettledLaws
 pub mod Steps
+pub mod StopLaws
 pub mod TapeLaws
 pub mod Turns
 pub mod Windows

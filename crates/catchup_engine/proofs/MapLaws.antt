@@ -26,3 +26,5 @@ program-byte a w h last = rw (row-program a h last) refl
 
 pub private-ram : (a : ℕ) → is_private a ≡ true → a < 36864 → a < 2048
 private-ram a is below = grind (arith, nat_tests)
+
+pub ruleset map_rows = row-ram

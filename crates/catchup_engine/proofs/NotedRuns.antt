@@ -11,7 +11,7 @@ use Rattle.cpu_core.specs.Registers.{registers_of}
 use Rattle.cpu_core.specs.Sequences.{Runs}
 use Rattle.tape_ports.specs.declared.entry.TapeEntry.{TapeEntry}
 use Rattle.tape_ports.specs.Tape.{TapeValue}
-use Rattle.lockstep_board.specs.Breaks.{is_at_any}
+use Rattle.catchup_engine.specs.StopConditions.{no_conditions, stops_at}
 use Rattle.lockstep_board.specs.Run.{is_over}
 use Rattle.lockstep_board.specs.Peripherals.{Peripherals, byte_read, devices_ticked, ticked}
 use Rattle.catchup_engine.specs.declared.trace.Access.{Access}
@@ -44,15 +44,15 @@ module _ {T : Type 0} (next : T → TraceValue → ℕ → T) (enough : T → Bo
   -- From c, s and w such a run led to e, t and v, with so many clocks that t hasn't got yet. The
   -- flags say whether the tracer has enough, and whether the run goes on.
   pub record AtNoted (horizon : Horizon) (c : CpuValue) (s : BusValue) (elapsed : ℕ) (t : BusValue) (e : CpuValue) (w v : T) (full more : Bool) : Type 0 where
-    pub at : AtHorizon tape limit [] horizon c s elapsed t e more
+    pub at : AtHorizon tape limit no_conditions horizon c s elapsed t e more
     pub turns : NotedTurns next enough tape.entries limit (over_bus c s) (over_bus e (passed elapsed t)) w v full
     pub open_yet : more ≡ true → full ≡ false
     pub opcode : more ≡ true → is_private e.pc ≡ true
 
   pub noted-starts : (horizon : Horizon) (c : CpuValue) (s : BusValue) (w : T) → limit ≤ CLOCK_LIMIT → IsInRange c s → s.clock_open ≡ false → HasRoomTo limit s → Accepts tape s
-      → GoesOn limit [] c s → is_private c.pc ≡ true → IsHorizon limit horizon s → horizon.until ≡ min limit (s.event_at - 6) → AtNoted horizon c s 0 s c w w false true
+      → GoesOn limit no_conditions c s → is_private c.pc ≡ true → IsHorizon limit horizon s → horizon.until ≡ min limit (s.event_at - 6) → AtNoted horizon c s 0 s c w w false true
   noted-starts horizon c s w last range between room accepts goes private known until = record {
-    at = horizon-starts tape limit [] horizon c s last range between room accepts goes known until;
+    at = horizon-starts tape limit no_conditions horizon c s last range between room accepts goes known until;
     turns = rw (passed-zero s) (turns-none next enough tape.entries limit (over_bus c s) w).0;
     open_yet = λ _. refl;
     opcode = λ _. private;
@@ -99,12 +99,12 @@ module _ {T : Type 0} (next : T → TraceValue → ℕ → T) (enough : T → Bo
       let memories = kept-memories tape elapsed t at.at.counted.accepts reads.no_event in
       let note = ap (λ k. opcode_note code k l) time ∙ turn.note code (byte (ticked tape.entries (passed elapsed t).peripherals) memories.0 memories.1) in
       record {
-        at = horizon-goes tape limit [] horizon c e f s t u elapsed n more then on_yet last at.at (bus-runs e f (passed elapsed t) (noting (passed n u) l) runs) boundary counted lines wrap
+        at = horizon-goes tape limit no_conditions horizon c e f s t u elapsed n more then on_yet last at.at (bus-runs e f (passed elapsed t) (noting (passed n u) l) runs) boundary counted lines wrap
             (λ on. and-none _ (parts has before_then (is_private f.pc) (sym goes_on ∙ on)).1);
         turns =
             (turns-more next enough tape.entries limit (over_bus c s) (passed elapsed t) (passed n u) e f w v new turn.trace has last
             (subst (λ flag. NotedTurns next enough tape.entries limit (over_bus c s) (over_bus e (passed elapsed t)) w v flag) (at.open_yet on_yet) at.turns)
-            (or_parts (is_over limit (over_bus e (passed elapsed t))) (is_at_any [] (over_bus e (passed elapsed t))) goes.open_yet).0 at.at.on.range turn.turned turn.is (observed turn.trace note) asked).0;
+            (or_parts (is_over limit (over_bus e (passed elapsed t))) (stops_at no_conditions (over_bus e (passed elapsed t))) goes.open_yet).0 at.at.on.range turn.turned turn.is (observed turn.trace note) asked).0;
         open_yet = λ on. (parts has before_then (is_private f.pc) (sym goes_on ∙ on)).0;
         opcode = λ on. (parts has before_then (is_private f.pc) (sym goes_on ∙ on)).2;
       }
@@ -125,7 +125,7 @@ module _ {T : Type 0} (next : T → TraceValue → ℕ → T) (enough : T → Bo
       → Runs (NotedStep tape.entries) (registers_of e) Opcode (noting (passed elapsed t) []) (noting (passed n u) l) f → f.mid ≡ None
       → limit - (passed n u).peripherals.clock < limit - (passed elapsed t).peripherals.clock
   noted-smaller horizon c e f s t u elapsed n l w v full more on_yet at runs boundary =
-      horizon-smaller tape limit [] horizon c e f s t u elapsed n more on_yet at.at (bus-runs e f (passed elapsed t) (noting (passed n u) l) runs) boundary
+      horizon-smaller tape limit no_conditions horizon c e f s t u elapsed n more on_yet at.at (bus-runs e f (passed elapsed t) (noting (passed n u) l) runs) boundary
 
 -- an instruction over a bus that notes it, from one of which nothing is noted
 pub record IsNotedBy {S : Type 0} (entries : List TapeEntry) (seen : S → NotedValue) (bus : S → BusValue) (name name_then : S → ℕ) (e f : CpuValue) (m : ℕ) (b : BusValue) (s t : S) : Type 0 where

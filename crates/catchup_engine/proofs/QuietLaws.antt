@@ -1,5 +1,6 @@
 -- Clocks in which no event is due.
-use Rattle.std.proofs.Common.{◌≡◌, ℕ, ◌+◌, ◌-◌, ◌*◌, ◌≤◌, ◌<◌, false, List, ◌++◌, length, refl, sym, ap, ◌∙◌, append_assoc, append-nil, add-zero, arith, slice_index, slice_set, ◌==◌, zero, suc, if◌then◌else◌}
+use Rattle.std.proofs.Common.{◌≡◌, ℕ, ◌+◌, ◌-◌, ◌*◌, ◌≤◌, ◌<◌, false, List, ◌++◌, length, refl, sym}
+use Rattle.std.proofs.Common.{ap, ◌∙◌, append_assoc, append-nil, add-zero, arith, slice_index, slice_set, ◌==◌, zero, suc, if◌then◌else◌}
 use Rattle.std.proofs.lemmas.Bool.Decides.{nat_tests}
 use Rattle.std.specs.Int.{from_bool}
 use Rattle.board_base.specs.declared.cpu.Sequence.{Sequence}

@@ -1,5 +1,6 @@
 -- A run that is under way, turn by turn.
-use Rattle.std.proofs.Common.{◌≡◌, ℕ, ◌+◌, ◌-◌, ◌^◌, ◌≤◌, ◌<◌, Bool, true, false, ◌&&◌, ◌||◌, nat_le, is_some, is_none, min, List, [], Option, Some, None, IsSome, IfSome, suc, zero, inl, inr, ◌⊎◌, refl, sym, ap, ◌∙◌, arith, rules, add-zero}
+use Rattle.std.proofs.Common.{◌≡◌, ℕ, ◌+◌, ◌-◌, ◌^◌, ◌≤◌, ◌<◌, Bool, true, false, ◌&&◌, ◌||◌, nat_le, is_some, is_none, min, List}
+use Rattle.std.proofs.Common.{Option, Some, None, IsSome, IfSome, suc, zero, inl, inr, ◌⊎◌, refl, sym, ap, ◌∙◌, arith, rules, add-zero}
 use Rattle.std.proofs.lemmas.Bool.{leb-false, lt-leb}
 use Rattle.board_base.specs.Cpu.{CpuValue, MidValue}
 use Rattle.cpu_core.specs.Places.{IsMiddle}
@@ -7,10 +8,10 @@ use Rattle.tape_ports.specs.declared.entry.TapeEntry.{TapeEntry}
 use Rattle.lockstep_board.specs.Budget.{budget, counted}
 use Rattle.catchup_engine.specs.Bus.{BusValue}
 use Rattle.lockstep_board.specs.Lockstep.{Board, step}
-use Rattle.lockstep_board.specs.Breaks.{is_at_any}
 use Rattle.lockstep_board.specs.Run.{stepped, is_over, is_cut, boundary_steps, cut_steps}
 use Rattle.catchup_engine.specs.Runs.{over_bus, RunsOn, TurnsRun, BoundaryRun, CutRun, IsInRange}
 use Rattle.lockstep_board.specs.Steps.{StepsTo, IsInside, Through}
+use Rattle.catchup_engine.specs.StopConditions.{no_conditions, stops_at}
 use Rattle.catchup_engine.specs.Turn.{TurnedBus}
 use Rattle.lockstep_board.proofs.Budgets.{budget-add}
 use Rattle.lockstep_board.proofs.Clocks.{step-clock, through-clock}
@@ -21,28 +22,26 @@ unfolding counted
 no-budget entries b = refl
 
 -- no step is made yet
-abbrev pub starts : (entries : List TapeEntry) (asked : Board → Bool) (c : CpuValue) (s : BusValue) → s.clock_open ≡ false → RunsOn entries asked c s s c
-starts entries asked c s between = record {
+abbrev pub starts : (entries : List TapeEntry) (asked : Board → Bool) (looks : Bool) (c : CpuValue) (s : BusValue) → s.clock_open ≡ false → RunsOn entries asked looks c s s c
+starts entries asked looks c s between = record {
   count = 0;
   reached = refl;
   clock = sym (add-zero s.peripherals.clock);
   written = omega arith;
-  paid = omega arith;
+  paid = λ free. omega arith;
   goes = record { more = omega arith; rooms = refl; until = omega arith; between = between };
 }
 
 -- a run goes on by another
-pub runs-join : (entries : List TapeEntry) (asked : Board → Bool) (c : CpuValue) (s t u : BusValue) (e f : CpuValue)
-    → RunsOn entries asked c s t e → RunsOn entries asked e t u f → RunsOn entries asked c s u f
-runs-join entries asked c s t u e f run more =
+pub runs-join : (entries : List TapeEntry) (asked : Board → Bool) (looks : Bool) (c : CpuValue) (s t u : BusValue) (e f : CpuValue)
+    → RunsOn entries asked looks c s t e → RunsOn entries asked looks e t u f → RunsOn entries asked looks c s u f
+runs-join entries asked looks c s t u e f run more =
     let n = run.count in
     let m = more.count in
     let clock = run.clock in
     let clock_then = more.clock in
     let written = run.written in
     let written_then = more.written in
-    let paid = run.paid in
-    let paid_then = more.paid in
     let here : stepped entries n (over_bus c s) ≡ over_bus e t = stepped-is entries asked n (over_bus c s) (over_bus e t) run.reached in
     let whole : budget entries (n + m) (over_bus c s) ≡ budget entries n (over_bus c s) + budget entries m (over_bus e t) =
     budget-add entries n m (over_bus c s) ∙ ap (λ (b : Board). budget entries n (over_bus c s) + budget entries m b) here in
@@ -55,36 +54,36 @@ runs-join entries asked c s t u e f run more =
       reached = reached-append entries asked n m (over_bus c s) (over_bus e t) (over_bus f u) run.reached more.reached;
       clock = omega arith;
       written = omega arith;
-      paid = omega arith;
+      paid = λ free. (let paid = run.paid free in let paid_then = more.paid free in omega arith);
       goes = record { more = omega arith; rooms = more.goes.rooms ∙ run.goes.rooms; until = omega arith; between = more.goes.between };
     }
 
 -- one turn is a run
-abbrev pub turn-runs : (entries : List TapeEntry) (asked : Board → Bool) (clocks : ℕ) (e f : CpuValue) (t u : BusValue)
+abbrev pub turn-runs : (entries : List TapeEntry) (asked : Board → Bool) (looks : Bool) (clocks : ℕ) (e f : CpuValue) (t u : BusValue)
     → asked (over_bus e t) ≡ false → (turned : TurnedBus entries clocks e t u f)
     → StepsTo entries asked turned.turned.count (step entries (over_bus e t)) (over_bus f u)
-    → RunsOn entries asked e t u f
-turn-runs entries asked clocks e f t u open_yet turned reached = record {
+    → RunsOn entries asked looks e t u f
+turn-runs entries asked looks clocks e f t u open_yet turned reached = record {
   count = suc turned.turned.count;
   reached = (open_yet, reached);
   clock = turned.turned.clock;
   written = turned.turned.written;
-  paid = turned.turned.paid;
+  paid = λ free. turned.turned.paid;
   goes = turned.goes;
 }
 
 -- a turn more
-pub goes_on : (entries : List TapeEntry) (asked : Board → Bool) (clocks : ℕ) (c : CpuValue) (s t u : BusValue) (e f : CpuValue)
-    → (run : RunsOn entries asked c s t e) → asked (over_bus e t) ≡ false → (turned : TurnedBus entries clocks e t u f)
+pub goes_on : (entries : List TapeEntry) (asked : Board → Bool) (looks : Bool) (clocks : ℕ) (c : CpuValue) (s t u : BusValue) (e f : CpuValue)
+    → (run : RunsOn entries asked looks c s t e) → asked (over_bus e t) ≡ false → (turned : TurnedBus entries clocks e t u f)
     → StepsTo entries asked turned.turned.count (step entries (over_bus e t)) (over_bus f u)
-    → RunsOn entries asked c s u f
-goes_on entries asked clocks c s t u e f run open_yet turned reached =
-    runs-join entries asked c s t u e f run (turn-runs entries asked clocks e f t u open_yet turned reached)
+    → RunsOn entries asked looks c s u f
+goes_on entries asked looks clocks c s t u e f run open_yet turned reached =
+    runs-join entries asked looks c s t u e f run (turn-runs entries asked looks clocks e f t u open_yet turned reached)
 
 -- a run whose boards aren't as another asks either is such a run too
-pub runs-as : (entries : List TapeEntry) (asked other : Board → Bool) (c : CpuValue) (s t : BusValue) (e : CpuValue) → (run : RunsOn entries other c s t e)
-    → StepsTo entries asked run.count (over_bus c s) (over_bus e t) → RunsOn entries asked c s t e
-runs-as entries asked other c s t e run reached = record {
+pub runs-as : (entries : List TapeEntry) (asked other : Board → Bool) (looks : Bool) (c : CpuValue) (s t : BusValue) (e : CpuValue) → (run : RunsOn entries other looks c s t e)
+    → StepsTo entries asked run.count (over_bus c s) (over_bus e t) → RunsOn entries asked looks c s t e
+runs-as entries asked other looks c s t e run reached = record {
   count = run.count;
   reached = reached;
   clock = run.clock;
@@ -94,14 +93,14 @@ runs-as entries asked other c s t e run reached = record {
 }
 
 -- where a run isn't over, another that comes to its end no sooner isn't either
-pub runs-asked : (entries : List TapeEntry) (asked sooner : Board → Bool) → ((b : Board) → sooner b ≡ false → asked b ≡ false)
-    → (c : CpuValue) (s t : BusValue) (e : CpuValue) → RunsOn entries sooner c s t e → RunsOn entries asked c s t e
-runs-asked entries asked sooner weaker c s t e run =
-    runs-as entries asked sooner c s t e run (reached-asked entries asked sooner weaker run.count (over_bus c s) (over_bus e t) run.reached)
+pub runs-asked : (entries : List TapeEntry) (asked sooner : Board → Bool) (looks : Bool) → ((b : Board) → sooner b ≡ false → asked b ≡ false)
+    → (c : CpuValue) (s t : BusValue) (e : CpuValue) → RunsOn entries sooner looks c s t e → RunsOn entries asked looks c s t e
+runs-asked entries asked sooner looks weaker c s t e run =
+    runs-as entries asked sooner looks c s t e run (reached-asked entries asked sooner weaker run.count (over_bus c s) (over_bus e t) run.reached)
 
 -- a run to a boundary that is at one
 pub record AtBoundary (entries : List TapeEntry) (limit : ℕ) (c : CpuValue) (s t : BusValue) (e : CpuValue) : Type 0 where
-  pub run : RunsOn entries (is_over limit) c s t e
+  pub run : RunsOn entries (is_over limit) false c s t e
   pub few : run.count ≤ (limit - s.peripherals.clock) + 6
   pub boundary : e.mid ≡ None
   pub range : IsInRange e t
@@ -109,7 +108,7 @@ pub record AtBoundary (entries : List TapeEntry) (limit : ℕ) (c : CpuValue) (s
 pub boundary-starts : (entries : List TapeEntry) (limit : ℕ) (c : CpuValue) (s : BusValue) → s.clock_open ≡ false → c.mid ≡ None → IsInRange c s
     → AtBoundary entries limit c s s c
 boundary-starts entries limit c s between boundary range = record {
-  run = starts entries (is_over limit) c s between;
+  run = starts entries (is_over limit) false c s between;
   few = omega arith;
   boundary = boundary;
   range = range;
@@ -172,7 +171,7 @@ boundary-resumes entries limit c s u f between inside place range turned =
     let one = no-budget entries (over_bus c s) in
     record {
       run =
-          turn-runs entries (is_over limit) 7 c f s u open_yet turned
+          turn-runs entries (is_over limit) false 7 c f s u open_yet turned
           (through-reached entries limit turned.turned.count (step entries (over_bus c s)) (over_bus f u) turned.turned.through);
       few = omega arith;
       boundary = ends;
@@ -194,7 +193,7 @@ boundary-goes_on entries limit c s t u e f last at open_yet turned =
     let clock = at.run.clock in
     let clock_then = turned.turned.clock in
     let reached = through-reached entries limit turned.turned.count (step entries (over_bus e t)) (over_bus f u) turned.turned.through in
-    let run = goes_on entries (is_over limit) 7 c s t u e f at.run open_yet turned reached in
+    let run = goes_on entries (is_over limit) false 7 c s t u e f at.run open_yet turned reached in
     let clock_now = run.clock in
     record {
       run = run;
@@ -218,7 +217,7 @@ boundary-ends entries limit c s t e at over =
       board = sym (to_boundary-is entries limit at.run.count (over_bus c s) (over_bus e t) at.run.reached over at.few);
       over = over;
       boundary = at.boundary;
-      paid = rw steps at.run.paid;
+      paid = rw steps (at.run.paid refl);
       goes = at.run.goes;
       range = at.range;
       later = omega arith;
@@ -226,9 +225,9 @@ boundary-ends entries limit c s t e at over =
 
 -- a run to a boundary is what its first turn made, if it had one, and whole turns
 pub boundary-turns : (entries : List TapeEntry) (limit : ℕ) (c : CpuValue) (s u t : BusValue) (f e : CpuValue) → AtBoundary entries limit c s u f
-    → TurnsRun entries limit [] f u t e → BoundaryRun entries limit c s t e
+    → TurnsRun entries limit no_conditions f u t e → BoundaryRun entries limit c s t e
 boundary-turns entries limit c s u t f e at rest =
-    let run = runs-join entries (is_over limit) c s u t f e at.run rest.on.run in
+    let run = runs-join entries (is_over limit) false c s u t f e at.run rest.on.run in
     let first = at.few in
     let clock = at.run.clock in
     let clock_then = rest.on.run.clock in
@@ -239,23 +238,23 @@ boundary-turns entries limit c s u t f e at rest =
     boundary-ends entries limit c s t e (record { run = run; few = few; boundary = rest.on.boundary; range = rest.on.range })
     (no-break limit (over_bus e t) rest.ends)
   where
-    no-break : (most : ℕ) (b : Board) → is_over most b || is_at_any [] b ≡ true → is_over most b ≡ true
+    no-break : (most : ℕ) (b : Board) → is_over most b || stops_at no_conditions b ≡ true → is_over most b ≡ true
     no-break most b ends = by_test (is_over most b) refl ends
       where
-        by_test : (over : Bool) → is_over most b ≡ over → over || is_at_any [] b ≡ true → is_over most b ≡ true
+        by_test : (over : Bool) → is_over most b ≡ over → over || stops_at no_conditions b ≡ true → is_over most b ≡ true
         by_test true e ends = e
         by_test false e ends = cc
 
 -- a run to a cut
 pub record AtCut (entries : List TapeEntry) (cut wrap : ℕ) (c : CpuValue) (s t : BusValue) (e : CpuValue) : Type 0 where
-  pub run : RunsOn entries (is_cut cut wrap) c s t e
+  pub run : RunsOn entries (is_cut cut wrap) false c s t e
   pub few : run.count ≤ cut - s.peripherals.clock
   pub range : IsInRange e t
   pub inside : IsSome e.mid → (t.peripherals.clock ≡ s.peripherals.clock) ⊎ (cut ≤ t.peripherals.clock)
 
 pub cut-starts : (entries : List TapeEntry) (cut wrap : ℕ) (c : CpuValue) (s : BusValue) → s.clock_open ≡ false → IsInRange c s → AtCut entries cut wrap c s s c
 cut-starts entries cut wrap c s between range = record {
-  run = starts entries (is_cut cut wrap) c s between;
+  run = starts entries (is_cut cut wrap) false c s between;
   few = omega arith;
   range = range;
   inside = λ some. inl refl;
@@ -285,7 +284,7 @@ pub cut-goes_on : (entries : List TapeEntry) (cut wrap clocks : ℕ) (c : CpuVal
 cut-goes_on entries cut wrap clocks c s t u e f last at open_yet within all turned =
     let most = turned.at_most in
     let reached = through-cut entries cut wrap turned.turned.count (step entries (over_bus e t)) (over_bus f u) turned.turned.through (omega arith) in
-    let run = goes_on entries (is_cut cut wrap) clocks c s t u e f at.run open_yet turned reached in
+    let run = goes_on entries (is_cut cut wrap) false clocks c s t u e f at.run open_yet turned reached in
     let clock = run.clock in
     record {
       run = run;
@@ -310,7 +309,7 @@ cut-ends entries cut wrap c s t e at over =
     record {
       board = sym (to_cut-is entries cut wrap at.run.count (over_bus c s) (over_bus e t) at.run.reached over at.few);
       over = over;
-      paid = rw steps at.run.paid;
+      paid = rw steps (at.run.paid refl);
       goes = at.run.goes;
       range = at.range;
       later = omega arith;
@@ -338,7 +337,7 @@ over-cut entries cut wrap limit (suc n) b last sooner r within =
 
 -- a run to a cut goes on by whole turns that end before it
 pub cut-turns : (entries : List TapeEntry) (cut wrap limit : ℕ) (c : CpuValue) (s t u : BusValue) (e f : CpuValue) → limit ≡ min wrap (cut - 6)
-    → AtCut entries cut wrap c s t e → TurnsRun entries limit [] e t u f → AtCut entries cut wrap c s u f
+    → AtCut entries cut wrap c s t e → TurnsRun entries limit no_conditions e t u f → AtCut entries cut wrap c s u f
 cut-turns entries cut wrap limit c s t u e f least at rest =
     let clock = at.run.clock in
     let clock_then = rest.on.run.clock in
@@ -347,8 +346,8 @@ cut-turns entries cut wrap limit c s t u e f least at rest =
       | inl none ↦ inl (omega arith)
       | inr near ↦ inr (let before = near.before in let within = near.within in omega arith)
     ] in
-    let more = runs-as entries (is_cut cut wrap) (is_over limit) e t u f rest.on.run (by-made rest.on.run.count made rest.on.run.reached) in
-    let run = runs-join entries (is_cut cut wrap) c s t u e f at.run more in
+    let more = runs-as entries (is_cut cut wrap) (is_over limit) false e t u f rest.on.run (by-made rest.on.run.count made rest.on.run.reached) in
+    let run = runs-join entries (is_cut cut wrap) false c s t u e f at.run more in
     record {
       run = run;
       few = elim made [ inl none ↦ omega arith | inr within ↦ omega arith ];

@@ -1,10 +1,12 @@
 -- A run that is passed to a tracer turn by turn.
-use Rattle.std.proofs.Common.{◌≡◌, ℕ, ◌+◌, ◌-◌, ◌^◌, ◌≤◌, ◌<◌, is_some, Bool, true, false, List, [], Option, Some, None, IfSome, refl, sym, ap, ◌∙◌, subst, arith, suc, zero, zero-add, inl, inr, ◌⊎◌, if◌then◌else◌}
+use Rattle.std.proofs.Common.{◌≡◌, ℕ, ◌+◌, ◌-◌, ◌^◌, ◌≤◌, ◌<◌, is_some, Bool, true, false, List, Option, Some, None}
+use Rattle.std.proofs.Common.{IfSome, refl, sym, ap, ◌∙◌, subst, arith, suc, zero, zero-add, inl, inr, ◌⊎◌, if◌then◌else◌}
 use Rattle.std.proofs.lemmas.Bool.{cases_lt}
 use Rattle.board_base.specs.Cpu.{CpuValue, MidValue}
 use Rattle.cpu_core.specs.Places.{IsMiddle}
 use Rattle.tape_ports.specs.declared.entry.TapeEntry.{TapeEntry}
 use Rattle.lockstep_board.specs.Breaks.{turn, turned}
+use Rattle.catchup_engine.specs.StopConditions.{no_conditions}
 use Rattle.catchup_engine.specs.Bus.{BusValue}
 use Rattle.lockstep_board.specs.Lockstep.{Board, step}
 use Rattle.lockstep_board.specs.Run.{is_over}
@@ -144,7 +146,7 @@ module _ {T : Type 0} (next : T → TraceValue → ℕ → T) where
   -- From c, s and w some turns have led to e, t and v, and the flag says whether the tracer has
   -- enough.
   pub record AtTraced (enough : T → Bool) (entries : List TapeEntry) (limit : ℕ) (c : CpuValue) (s t : BusValue) (e : CpuValue) (w v : T) (flag : Bool) : Type 0 where
-    pub run : RunsOn entries (is_over limit) c s t e
+    pub run : RunsOn entries (is_over limit) false c s t e
     pub turns : NotedTurns next enough entries limit (over_bus c s) (over_bus e t) w v flag
     pub first : turns.count ≡ 0 → (e ≡ c) × (t ≡ s)
     pub later : 1 ≤ turns.count → e.mid ≡ None
@@ -154,7 +156,7 @@ module _ {T : Type 0} (next : T → TraceValue → ℕ → T) where
   pub traced-starts : (enough : T → Bool) (entries : List TapeEntry) (limit : ℕ) (c : CpuValue) (s : BusValue) (w : T) → s.clock_open ≡ false → IsInRange c s
       → AtTraced enough entries limit c s s c w w false
   traced-starts enough entries limit c s w between range = let none = turns-none enough entries limit (over_bus c s) w in record {
-    run = starts entries (is_over limit) c s between;
+    run = starts entries (is_over limit) false c s between;
     turns = none.0;
     first = λ _. (refl, refl);
     later = λ h. (let zero = none.1 in absurd (omega (arith, h, zero)));
@@ -175,7 +177,7 @@ module _ {T : Type 0} (next : T → TraceValue → ℕ → T) where
       let whole = turns-more enough entries limit (over_bus c s) t u e f w v new trace flag last at.turns open_yet at.range turned_bus is told_new asked in
       record {
         run =
-            goes_on entries (is_over limit) 7 c s t u e f at.run open_yet turned_bus
+            goes_on entries (is_over limit) false 7 c s t u e f at.run open_yet turned_bus
             (through-reached entries limit turned_bus.turned.count (step entries (over_bus e t)) (over_bus f u) turned_bus.turned.through);
         turns = whole.0;
         first = λ none. (let some = whole.1 in absurd (omega (arith, none, some)));
@@ -198,14 +200,14 @@ module _ {T : Type 0} (next : T → TraceValue → ℕ → T) where
 
   -- and some turns of it from a boundary on
   pub traced-to-horizon : (enough : T → Bool) (entries : List TapeEntry) (limit : ℕ) (c : CpuValue) (s t u : BusValue) (e f : CpuValue) (w v new : T) (flag : Bool)
-      → AtTraced enough entries limit c s t e w v false → TurnsOn entries limit [] e t u f
+      → AtTraced enough entries limit c s t e w v false → TurnsOn entries limit no_conditions e t u f
       → NotedTurns next enough entries limit (over_bus e t) (over_bus f u) v new flag → t.peripherals.clock < u.peripherals.clock
       → AtTraced enough entries limit c s u f w new flag
   traced-to-horizon enough entries limit c s t u e f w v new flag at on turns more =
       let clock = at.run.clock in
       let whole = turns-then enough entries limit (over_bus c s) (over_bus e t) (over_bus f u) w v new flag at.turns turns (omega arith) more in
       record {
-        run = runs-join entries (is_over limit) c s t u e f at.run on.run;
+        run = runs-join entries (is_over limit) false c s t u e f at.run on.run;
         turns = whole;
         first = λ none. (let some = turns-some enough entries limit (over_bus c s) (over_bus f u) w new flag whole (omega arith) in absurd (omega (arith, none, some)));
         later = λ _. on.boundary;
@@ -246,7 +248,7 @@ module _ {T : Type 0} (next : T → TraceValue → ℕ → T) where
               ])
           | inr not_less ↦ at.later (omega (arith, not_less))
         ];
-        paid = rw steps at.run.paid;
+        paid = rw steps (at.run.paid refl);
         goes = at.run.goes;
         range = at.range;
         later = omega arith;

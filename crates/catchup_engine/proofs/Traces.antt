@@ -1,5 +1,6 @@
 -- The accesses of a sequence, as they are traced.
-use Rattle.std.proofs.Common.{◌≡◌, ◌≢◌, ℕ, ◌+◌, ◌-◌, ◌^◌, ◌≤◌, ◌<◌, ◌||◌, is_some, true, false, List, [], ◌∷◌, ◌++◌, length, append-nil, length-append, Option, Some, None, IfSome, IsSome, refl, sym, ap, ◌∙◌, subst, arith, rules, suc, slice_index, slice_set, nat_le, append_assoc, if◌then◌else◌}
+use Rattle.std.proofs.Common.{◌≡◌, ◌≢◌, ℕ, ◌+◌, ◌-◌, ◌^◌, ◌≤◌, ◌<◌, ◌||◌, is_some, true, false, List, [], ◌∷◌, ◌++◌, length, append-nil, length-append}
+use Rattle.std.proofs.Common.{Option, Some, None, IfSome, IsSome, refl, sym, ap, ◌∙◌, subst, arith, rules, suc, slice_index, slice_set, nat_le, append_assoc, if◌then◌else◌}
 use Rattle.std.proofs.lemmas.Bool.{lt-leb, le-leb}
 use Rattle.board_base.specs.declared.cpu.Sequence.{Sequence}
 use Rattle.board_base.specs.declared.cpu.Sequence.TheVariants.{Opcode, Interrupt, Reset}
@@ -19,7 +20,8 @@ use Rattle.catchup_engine.specs.EngineValue.{Rooms}
 use Rattle.lockstep_board.specs.Lockstep.{Board, access_in, due_access, made_by, sequence_due, step}
 use Rattle.lockstep_board.specs.Run.{boundary_steps, is_over}
 use Rattle.catchup_engine.specs.Runs.{over_bus, BoundaryRun, IsInRange}
-use Rattle.catchup_engine.specs.Trace.{TracedReset, TracedStep, TracedValue, TraceValue, access_at, accesses_in, accesses_of, byte_of, first_byte, first_value, no_trace, opcode_by, pushed, sequence_at, seven_of, step_trace, trace_of, traced}
+use Rattle.catchup_engine.specs.Trace.{TracedReset, TracedStep, TracedValue, TraceValue, access_at, accesses_in, accesses_of, byte_of, first_byte}
+use Rattle.catchup_engine.specs.Trace.{first_value, no_trace, opcode_by, pushed, sequence_at, seven_of, step_trace, trace_of, traced}
 use Rattle.catchup_engine.specs.Turn.{Goes, TurnedBus}
 use Rattle.lockstep_board.specs.Peripherals.{Peripherals, ticked}
 use Rattle.lockstep_board.proofs.Clocks.{step-clock}
@@ -27,7 +29,8 @@ use Rattle.lockstep_board.proofs.Runs.{steps_until-is, through-reached}
 use Rattle.catchup_engine.proofs.RunsOn.{boundary-ends, boundary-starts, open-before, turn-runs}
 use Rattle.catchup_engine.proofs.Seen.{advances-seen, moves-seen, runs-seen}
 use Rattle.catchup_engine.proofs.Steps.{board_after, in_clock-between, moves-length, moves-went, paused-is, stays-of, step-access}
-use Rattle.catchup_engine.proofs.Turns.{Begins, First, HasEffects, ResetBegun, clock-some, due-clock, effects-by, fetch-first, given-some, in_clock-open, next-first, opcode-first, reset-begun, reset-first, reset-turn, resets-more, resume-first, resume-turn, standing-paused, turned-clock}
+use Rattle.catchup_engine.proofs.Turns.{Begins, First, HasEffects, ResetBegun, clock-some, due-clock, effects-by, fetch-first, given-some, in_clock-open}
+use Rattle.catchup_engine.proofs.Turns.{next-first, opcode-first, reset-begun, reset-first, reset-turn, resets-more, resume-first, resume-turn, standing-paused, turned-clock}
 
 -- the access that was made is the one that the board makes
 made_by-is : (entries : List TapeEntry) (next : Next) (v : ℕ) (x : cycles.Access) (s t : BusValue) → IsAccess next v x → BusStep entries x s t
@@ -543,7 +546,7 @@ trace-ends entries c s t e running range early turned =
     let reached = through-reached entries limit n (step entries (over_bus c s)) (over_bus e t) turned.turned.through in
     boundary-ends entries limit c s t e
     (record {
-      run = turn-runs entries (is_over limit) 7 c e s t (turn-open (over_bus c s) running) turned reached;
+      run = turn-runs entries (is_over limit) false 7 c e s t (turn-open (over_bus c s) running) turned reached;
       few = omega arith;
       boundary = boundary;
       range = record { clock = omega arith; middle = λ some. none-some e.mid t.peripherals.clock boundary some };

@@ -1,5 +1,6 @@
 -- A turn: the rest of a sequence, a whole one, or as much of it as there are clocks for.
-use Rattle.std.proofs.Common.{◌≡◌, ◌≢◌, ℕ, ◌+◌, ◌-◌, ◌*◌, ◌<◌, ◌≤◌, true, false, List, [], ◌∷◌, ◌++◌, length, Option, Some, None, IfSome, IsSome, refl, sym, ap, ◌∙◌, subst, arith, append_assoc, length-append, append-nil, inl, inr, ◌⊎◌, suc, if◌then◌else◌, rules}
+use Rattle.std.proofs.Common.{◌≡◌, ◌≢◌, ℕ, ◌+◌, ◌-◌, ◌*◌, ◌<◌, ◌≤◌, true, false, List, [], ◌∷◌, ◌++◌, length, Option, Some, None}
+use Rattle.std.proofs.Common.{IfSome, IsSome, refl, sym, ap, ◌∙◌, subst, arith, append_assoc, length-append, append-nil, inl, inr, ◌⊎◌, suc, if◌then◌else◌, rules}
 use Rattle.std.specs.Int.{from_bool}
 use Rattle.std.proofs.lemmas.List.{length-take-le}
 use Rattle.board_base.specs.declared.cpu.Sequence.{Sequence}

@@ -54,6 +54,14 @@ pub record Does (old new : BusValue) (peripherals : Peripherals) (most : ℕ) : 
   pub calls : new.calls ≤ old.calls + most
   pub more : old.calls ≤ new.calls
 
+-- The board was looked at, for which the generator may have been synced: where it wasn't asked, all
+-- stays, and else all but what lags and the calls.
+pub record Looked (asked : Bool) (old new : BusValue) : Type 0 where
+  pub value : new ≡ record old { lagging = new.lagging; until = new.until; calls = new.calls }
+  pub until : old.until ≤ new.until
+  pub more : old.calls ≤ new.calls
+  pub same : asked ≡ false → new ≡ old
+
 -- what an access leaves: the room of the trails stays, and the calls are within their price
 pub record Stays (entries : List TapeEntry) (x : Access) (s t : BusValue) : Type 0 where
   pub clock_open : t.clock_open ≡ false

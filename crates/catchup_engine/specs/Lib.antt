@@ -1,8 +1,10 @@
 pub mod Bus
+pub mod Calls
 pub mod EngineValue
 pub mod Events
 pub mod Lags
 pub mod Runs
+pub mod StopConditions
 pub mod Turn
 pub mod Trace
 pub mod Traced

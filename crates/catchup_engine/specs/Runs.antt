@@ -7,11 +7,12 @@ use Rattle.tape_ports.specs.declared.entry.TapeEntry.{TapeEntry}
 use Rattle.tape_ports.specs.Tape.{TapeValue}
 use Rattle.lockstep_board.specs.Lockstep.{Board}
 use Rattle.lockstep_board.specs.Run.{is_over, is_cut, to_boundary, to_cut, boundary_steps, cut_steps}
-use Rattle.lockstep_board.specs.Breaks.{is_at_any, BreakRun}
+use Rattle.lockstep_board.specs.Breaks.{BreakRun}
 use Rattle.lockstep_board.specs.Budget.{budget}
 use Rattle.lockstep_board.specs.Steps.{StepsTo}
 use Rattle.catchup_engine.specs.declared.bus.TheConstants.{TRAIL_ROOM}
 use Rattle.catchup_engine.specs.Bus.{Accepts, BusValue, room_of}
+use Rattle.catchup_engine.specs.StopConditions.{ConditionsValue, asks_generator, stops_at}
 use Rattle.catchup_engine.specs.Trace.{TraceValue}
 use Rattle.catchup_engine.specs.Traced.{TracedRun}
 use Rattle.catchup_engine.specs.Turn.{Goes, reads_opcode}
@@ -26,13 +27,13 @@ pub record IsInRange (c : CpuValue) (s : BusValue) : Type 0 where
   pub middle : IsSome c.mid → s.peripherals.clock ≤ CLOCK_LIMIT
 
 -- from the processor c and the bus s some steps have led to e and t, none of them from a board that
--- is as asked
-pub record RunsOn (entries : List TapeEntry) (asked : Board → Bool) (c : CpuValue) (s t : BusValue) (e : CpuValue) : Type 0 where
+-- is as asked; where no device is called to look at a boundary, the calls are within their budget
+pub record RunsOn (entries : List TapeEntry) (asked : Board → Bool) (looks : Bool) (c : CpuValue) (s t : BusValue) (e : CpuValue) : Type 0 where
   pub count : ℕ
   pub reached : StepsTo entries asked count (over_bus c s) (over_bus e t)
   pub clock : t.peripherals.clock ≡ s.peripherals.clock + count
   pub written : length t.peripherals.written ≤ length s.peripherals.written + count
-  pub paid : t.calls ≤ s.calls + budget entries count (over_bus c s)
+  pub paid : looks ≡ false → t.calls ≤ s.calls + budget entries count (over_bus c s)
   pub goes : Goes s t
 
 -- there is room for the clocks up to a limit, and those of a turn that begins before it
@@ -66,29 +67,29 @@ pub record IsNear (limit : ℕ) (s t : BusValue) : Type 0 where
 
 -- From c and s whole turns led to e and t, none of them from a board at which a run to this limit
 -- is over. A run to a break that had come to c goes on to e.
-pub record TurnsOn (entries : List TapeEntry) (limit : ℕ) (addresses : List ℕ) (c : CpuValue) (s t : BusValue) (e : CpuValue) : Type 0 where
-  pub run : RunsOn entries (is_over limit) c s t e
+pub record TurnsOn (entries : List TapeEntry) (limit : ℕ) (stops : ConditionsValue) (c : CpuValue) (s t : BusValue) (e : CpuValue) : Type 0 where
+  pub run : RunsOn entries (is_over limit) (asks_generator stops) c s t e
   pub near : (t.peripherals.clock ≡ s.peripherals.clock) ⊎ IsNear limit s t
-  pub turns : (b : Board) → BreakRun entries limit addresses b (over_bus c s) → BreakRun entries limit addresses b (over_bus e t)
+  pub turns : (b : Board) → BreakRun entries limit (stops_at stops) b (over_bus c s) → BreakRun entries limit (stops_at stops) b (over_bus e t)
   pub boundary : e.mid ≡ None
   pub range : IsInRange e t
 
--- and have come as far as they can: such a run is over, or is at one of these addresses, or the
+-- and have come as far as they can: such a run is over, or stops here, or the
 -- next fetch reads no opcode, or an event is due in the clocks of its sequence
-pub record QuietRun (entries : List TapeEntry) (limit : ℕ) (addresses : List ℕ) (c : CpuValue) (s t : BusValue) (e : CpuValue) : Type 0 where
-  pub on : TurnsOn entries limit addresses c s t e
-  pub ends : (is_over limit (over_bus e t) || is_at_any addresses (over_bus e t)) || not (reads_opcode e t) ≡ true
+pub record QuietRun (entries : List TapeEntry) (limit : ℕ) (stops : ConditionsValue) (c : CpuValue) (s t : BusValue) (e : CpuValue) : Type 0 where
+  pub on : TurnsOn entries limit stops c s t e
+  pub ends : (is_over limit (over_bus e t) || stops_at stops (over_bus e t)) || not (reads_opcode e t) ≡ true
 
--- neither is such a run over nor has it come to one of these addresses, and the next fetch reads an
+-- neither is such a run over nor does it stop here, and the next fetch reads an
 -- opcode in whose clocks no event is due
-pub record GoesOn (limit : ℕ) (addresses : List ℕ) (c : CpuValue) (s : BusValue) : Type 0 where
-  pub open_yet : is_over limit (over_bus c s) || is_at_any addresses (over_bus c s) ≡ false
+pub record GoesOn (limit : ℕ) (stops : ConditionsValue) (c : CpuValue) (s : BusValue) : Type 0 where
+  pub open_yet : is_over limit (over_bus c s) || stops_at stops (over_bus c s) ≡ false
   pub reads : reads_opcode c s ≡ true
 
--- and have come to where such a run is over, or to one of these addresses
-pub record TurnsRun (entries : List TapeEntry) (limit : ℕ) (addresses : List ℕ) (c : CpuValue) (s t : BusValue) (e : CpuValue) : Type 0 where
-  pub on : TurnsOn entries limit addresses c s t e
-  pub ends : is_over limit (over_bus e t) || is_at_any addresses (over_bus e t) ≡ true
+-- and have come to where such a run is over, or stops
+pub record TurnsRun (entries : List TapeEntry) (limit : ℕ) (stops : ConditionsValue) (c : CpuValue) (s t : BusValue) (e : CpuValue) : Type 0 where
+  pub on : TurnsOn entries limit stops c s t e
+  pub ends : is_over limit (over_bus e t) || stops_at stops (over_bus e t) ≡ true
 
 -- from the processor c and the bus s a run to a boundary led to e and t
 pub record BoundaryRun (entries : List TapeEntry) (limit : ℕ) (c : CpuValue) (s t : BusValue) (e : CpuValue) : Type 0 where
@@ -109,12 +110,12 @@ pub record CutRun (entries : List TapeEntry) (cut wrap : ℕ) (c : CpuValue) (s 
   pub range : IsInRange e t
   pub later : s.peripherals.clock ≤ t.peripherals.clock
 
--- and one that ends at one of these addresses too, a turn at least
-pub record BreakRunBus (entries : List TapeEntry) (limit : ℕ) (addresses : List ℕ) (c : CpuValue) (s t : BusValue) (e : CpuValue) : Type 0 where
-  pub turns : BreakRun entries limit addresses (over_bus c s) (over_bus e t)
-  pub ends : is_over limit (over_bus e t) || is_at_any addresses (over_bus e t) ≡ true
+-- and one that stops where it is told to, a turn at least
+pub record BreakRunBus (entries : List TapeEntry) (limit : ℕ) (stops : ConditionsValue) (c : CpuValue) (s t : BusValue) (e : CpuValue) : Type 0 where
+  pub turns : BreakRun entries limit (stops_at stops) (over_bus c s) (over_bus e t)
+  pub ends : is_over limit (over_bus e t) || stops_at stops (over_bus e t) ≡ true
   pub boundary : e.mid ≡ None
-  pub paid : t.calls ≤ s.calls + budget entries (t.peripherals.clock - s.peripherals.clock) (over_bus c s)
+  pub paid : asks_generator stops ≡ false → t.calls ≤ s.calls + budget entries (t.peripherals.clock - s.peripherals.clock) (over_bus c s)
   pub goes : Goes s t
   pub range : IsInRange e t
   pub since : s.peripherals.clock ≤ t.peripherals.clock

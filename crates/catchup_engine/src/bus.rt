@@ -9,13 +9,10 @@ mod lines;
 mod regions;
 mod state;
 
-use avg_device::VectorUnit;
+use crate::devices::Units;
 use board_base::{RAM_LEN, Trail, VectorMemory};
 use catchup_devices::{CatchUp, SoundCatchUp, VectorCatchUp};
 use cpu_core::Bus;
-use earom_cells::CellUnit;
-use irq_watchdog::DividerUnit;
-use pokey_chip::SoundUnit;
 use rom_image::PROGRAM_ROM_START;
 use std::marker::Model;
 use tape_ports::Tape;
@@ -45,12 +42,12 @@ pub(crate) const MAX_SEQUENCE_CLOCKS: u8 = 7;
 /// its latch, its watchdog and its reset are the same before its ticks and after them. So in most
 /// clocks nothing moves but the number of clocks.
 #[derive(Drop)]
-pub(crate) struct BoardBus<V: VectorUnit, P: SoundUnit, C: CellUnit, D: DividerUnit> {
-    vector: VectorCatchUp<V>,
-    sound1: SoundCatchUp<P>,
-    sound2: SoundCatchUp<P>,
-    cells: CatchUp<C>,
-    divider: CatchUp<D>,
+pub(crate) struct BoardBus<S: Units> {
+    vector: VectorCatchUp<S::Vector>,
+    sound1: SoundCatchUp<S::Sound>,
+    sound2: SoundCatchUp<S::Sound>,
+    cells: CatchUp<S::Cells>,
+    divider: CatchUp<S::Divider>,
     memory: VectorMemory,
     ram: Vec<u8>,
     program: Vec<u8>,
@@ -66,7 +63,7 @@ pub(crate) struct BoardBus<V: VectorUnit, P: SoundUnit, C: CellUnit, D: DividerU
     written: Trail,
 }
 
-impl<V: VectorUnit, P: SoundUnit, C: CellUnit, D: DividerUnit> Model for BoardBus<V, P, C, D> {
+impl<S: Units> Model for BoardBus<S> {
     ghost use Rattle.std.specs.Prelude.{◌≡◌, ◌+◌, ◌-◌, ◌≤◌, ◌<◌, ◌^◌, ◌++◌, true, length, min};
     ghost use Rattle.board_base.specs.declared.board.TheConstants.{CLOCK_END};
     ghost use Rattle.board_base.specs.declared.board.TheConstants.{RAM_LEN};
@@ -91,17 +88,17 @@ impl<V: VectorUnit, P: SoundUnit, C: CellUnit, D: DividerUnit> Model for BoardBu
         in0 = a.in0;
         in3 = a.in3;
         in4 = a.in4;
-        divider = times divider_tick (a.clock - a.divider.done) (D.device a.divider.unit);
-        vg = ticks (vg_tick a.memory) a.vector.done (a.clock - a.vector.done) (V.device a.vector.unit);
-        sound1 = times pokey_tick (a.clock - a.sound1.done) (P.device a.sound1.unit);
-        sound2 = times pokey_tick (a.clock - a.sound2.done) (P.device a.sound2.unit);
-        earom = times earom_tick (a.clock - a.cells.done) (C.device a.cells.unit);
+        divider = times divider_tick (a.clock - a.divider.done) (S.Divider.device a.divider.unit);
+        vg = ticks (vg_tick a.memory) a.vector.done (a.clock - a.vector.done) (S.Vector.device a.vector.unit);
+        sound1 = times pokey_tick (a.clock - a.sound1.done) (S.Sound.device a.sound1.unit);
+        sound2 = times pokey_tick (a.clock - a.sound2.done) (S.Sound.device a.sound2.unit);
+        earom = times earom_tick (a.clock - a.cells.done) (S.Cells.device a.cells.unit);
         ram = a.ram.items;
         memory = a.memory;
         program = a.program.items;
-        strokes = a.vector.trail.records ++ made (vg_tick a.memory) vg_gives a.vector.done (a.clock - a.vector.done) (V.device a.vector.unit);
-        levels1 = a.sound1.trail.records ++ levels_made a.sound1.done (a.clock - a.sound1.done) (P.device a.sound1.unit);
-        levels2 = a.sound2.trail.records ++ levels_made a.sound2.done (a.clock - a.sound2.done) (P.device a.sound2.unit);
+        strokes = a.vector.trail.records ++ made (vg_tick a.memory) vg_gives a.vector.done (a.clock - a.vector.done) (S.Vector.device a.vector.unit);
+        levels1 = a.sound1.trail.records ++ levels_made a.sound1.done (a.clock - a.sound1.done) (S.Sound.device a.sound1.unit);
+        levels2 = a.sound2.trail.records ++ levels_made a.sound2.done (a.clock - a.sound2.done) (S.Sound.device a.sound2.unit);
         written = a.written.records;
       };
       clock_open = a.clock_open;
@@ -110,15 +107,15 @@ impl<V: VectorUnit, P: SoundUnit, C: CellUnit, D: DividerUnit> Model for BoardBu
       lagging = record { vector = lags a.vector.done a.clock; sound1 = lags a.sound1.done a.clock; sound2 = lags a.sound2.done a.clock; cells = lags a.cells.done a.clock; divider = lags a.divider.done a.clock };
       until = min (a.vector.done + a.vector.trail.spare) (min (a.sound1.done + a.sound1.trail.spare) (a.sound2.done + a.sound2.trail.spare));
       rooms = record { vector = a.vector.trail.room; sound1 = a.sound1.trail.room; sound2 = a.sound2.trail.room; board = a.written.room };
-      calls = min (V.calls a.vector.unit + P.calls a.sound1.unit + P.calls a.sound2.unit + C.calls a.cells.unit + D.calls a.divider.unit) (2 ^ 64 - 1);
+      calls = min (S.Vector.calls a.vector.unit + S.Sound.calls a.sound1.unit + S.Sound.calls a.sound2.unit + S.Cells.calls a.cells.unit + S.Divider.calls a.divider.unit) (2 ^ 64 - 1);
     } };
 
     ghost invariant = { λ a. (a.clock ≤ CLOCK_END) × (a.in0 < 64)
         × (a.vector.done ≤ a.clock) × (a.sound1.done ≤ a.clock) × (a.sound2.done ≤ a.clock) × (a.cells.done ≤ a.clock) × (a.divider.done ≤ a.clock)
-        × ((D.device a.divider.unit).phase + (a.wrap_at - a.divider.done) ≡ DIVIDER_PERIOD) × (a.clock < a.wrap_at) × (a.event_at < a.wrap_at)
+        × ((S.Divider.device a.divider.unit).phase + (a.wrap_at - a.divider.done) ≡ DIVIDER_PERIOD) × (a.clock < a.wrap_at) × (a.event_at < a.wrap_at)
         × (a.clock_open ≡ true → (1 ≤ a.clock) × (a.event_at ≡ 0))
-        × (a.sound1.wired ≡ true → AsksAt a.sound1.done a.sound1.request_at (P.device a.sound1.unit))
-        × (a.sound2.wired ≡ true → AsksAt a.sound2.done a.sound2.request_at (P.device a.sound2.unit)) × (a.sound2.wired ≡ a.sound1.wired)
+        × (a.sound1.wired ≡ true → AsksAt a.sound1.done a.sound1.request_at (S.Sound.device a.sound1.unit))
+        × (a.sound2.wired ≡ true → AsksAt a.sound2.done a.sound2.request_at (S.Sound.device a.sound2.unit)) × (a.sound2.wired ≡ a.sound1.wired)
         × (length a.ram.items ≡ RAM_LEN) × (length a.program.items ≡ PROGRAM_ROM_LEN)
         × (a.clock ≤ a.vector.done + a.vector.trail.spare) × (a.clock ≤ a.sound1.done + a.sound1.trail.spare) × (a.clock ≤ a.sound2.done + a.sound2.trail.spare)
         × (TRAIL_ROOM ≤ a.vector.trail.room) × (a.vector.trail.spare + length a.vector.trail.records ≡ a.vector.trail.room)
@@ -127,7 +124,7 @@ impl<V: VectorUnit, P: SoundUnit, C: CellUnit, D: DividerUnit> Model for BoardBu
         × (TRAIL_ROOM ≤ a.written.room) × (a.written.spare + length a.written.records ≡ a.written.room) };
 }
 
-impl<V: VectorUnit, P: SoundUnit, C: CellUnit, D: DividerUnit> Bus for BoardBus<V, P, C, D> {
+impl<S: Units> Bus for BoardBus<S> {
     ghost use Rattle.std.specs.Prelude.{◌≡◌};
     ghost use Rattle.catchup_engine.specs.Bus.{Accepts, BusStep, room_of};
 

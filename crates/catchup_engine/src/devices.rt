@@ -15,6 +15,27 @@ pub struct Devices<V: VectorUnit, P: SoundUnit, C: CellUnit, D: DividerUnit> {
     pub divider: D,
 }
 
+/// The types of the devices of a board.
+pub(crate) trait Units: Drop {
+    type Vector: VectorUnit;
+
+    type Sound: SoundUnit;
+
+    type Cells: CellUnit;
+
+    type Divider: DividerUnit;
+}
+
+impl<V: VectorUnit, P: SoundUnit, C: CellUnit, D: DividerUnit> Units for Devices<V, P, C, D> {
+    type Vector = V;
+
+    type Sound = P;
+
+    type Cells = C;
+
+    type Divider = D;
+}
+
 impl Devices<FastVg, FastPokey, Earom, Divider> {
     /// Those that move in large steps where there are two kinds, none of them called yet. They
     /// allocate nothing.

@@ -1,19 +1,22 @@
 ghost use Rattle.std.specs.Prelude.{◌≡◌, ◌+◌, ◌-◌, ◌≤◌, ◌<◌, ◌==◌, ◌||◌, true, false, None, IfSome, IfOk, All, min};
 ghost use Rattle.cpu_core.specs.Places.{IsMiddle};
 ghost use Rattle.cpu_table.specs.Opcodes.{row_of};
-ghost use Rattle.lockstep_board.specs.Breaks.{is_at_any, BreakRun};
+ghost use Rattle.lockstep_board.specs.Breaks.{BreakRun};
 ghost use Rattle.lockstep_board.specs.Budget.{budget};
+ghost use Rattle.catchup_engine.specs.Calls.{EndsWindow, RunsTo, RunsToClock, RunsToStop, RunsTraced, Settles};
 ghost use Rattle.catchup_engine.specs.EngineValue.{HasRoom, counted_on};
 ghost use Rattle.lockstep_board.specs.Order.{HasNoRecords, cleared};
 ghost use Rattle.lockstep_board.specs.Memory.{memory_byte};
 ghost use Rattle.lockstep_board.specs.Run.{boundary_steps, cause_of, cut_steps, is_over, to_boundary, to_cut, window_limit, wrap_of, IsPlaced};
 ghost use Rattle.catchup_engine.specs.Trace.{step_trace};
+ghost use Rattle.catchup_engine.specs.StopConditions.{asks_generator, stops_at};
 ghost use Rattle.catchup_engine.specs.Traced.{TracedRun};
 ghost use Rattle.lockstep_board.specs.Peripherals.{board_of, reloaded, peripherals_of};
 
 use crate::bus::BoardBus;
 use crate::devices::Devices;
-use crate::run::{run_to_break, run_to_cut, run_traced, run_until};
+use crate::run::{run_to_cut, run_to_stop, run_traced, run_until};
+use crate::stop_conditions::StopConditions;
 use crate::trace::{Trace, trace_sequence};
 use crate::tracer::Tracer;
 use avg_device::VectorUnit;
@@ -35,7 +38,7 @@ use tape_ports::Tape;
 #[derive(Drop)]
 pub struct Engine<V: VectorUnit, P: SoundUnit, C: CellUnit, D: DividerUnit> {
     cpu: Cpu,
-    bus: BoardBus<V, P, C, D>,
+    bus: BoardBus<Devices<V, P, C, D>>,
     done: u64,
 }
 
@@ -157,17 +160,8 @@ impl<V: VectorUnit, P: SoundUnit, C: CellUnit, D: DividerUnit> Engine<V, P, C, D
         requires limit { limit ≤ CLOCK_LIMIT }
         requires settled { self.old.lagging ≡ 0 }
         requires empty { HasNoRecords self.old.board }
-        ensures board { self.new.board ≡ to_boundary tape.now.entries (window_limit limit self.old.board) self.old.board }
-        ensures cause { result ≡ cause_of limit self.new.board }
-        ensures boundary { self.new.board.cpu.mid ≡ None }
-        ensures window { result ≡ Stop.Window → wrap_of self.old.board ≤ self.new.board.peripherals.clock }
-        ensures later { result ≡ Stop.Window → self.old.board.peripherals.clock < self.new.board.peripherals.clock }
-        ensures before { result ≡ Stop.Window → self.new.board.peripherals.clock < limit }
-        ensures calls { self.new.calls ≤ self.old.calls
-            + budget tape.now.entries (boundary_steps tape.now.entries (window_limit limit self.old.board) self.old.board) self.old.board }
-        ensures more { self.old.calls ≤ self.new.calls }
-        ensures done { self.new.done ≡ counted_on self.old.done (self.new.board.peripherals.clock - self.old.board.peripherals.clock) }
-        ensures rooms { self.new.rooms ≡ self.old.rooms }
+        ensures runs { RunsTo tape.now.entries limit (window_limit limit self.old.board) self.old self.new result }
+        ensures window { EndsWindow limit self.old self.new result }
     {
         let until = limit.min(self.bus.next_wrap());
         self.advance(tape, until);
@@ -175,30 +169,23 @@ impl<V: VectorUnit, P: SoundUnit, C: CellUnit, D: DividerUnit> Engine<V, P, C, D
     }
 
     /// Runs turn by turn, one turn at least, to the first boundary that isn't before the limit, at
-    /// which pc is one of these addresses, or that comes after the divider's next wrap, whichever
-    /// comes first. A board that is jammed takes no clock.
+    /// which it stops, or that comes after the divider's next wrap, whichever comes first. A board
+    /// that is jammed takes no clock. Where the conditions ask the generator, each boundary may
+    /// call it once or twice.
     #[tactic(auto, using(crate::proofs::Windows::windows))]
-    pub fn run_to_break(&mut self, tape: &Tape, limit: u64, addresses: &[u16])
+    pub fn run_to_stop(&mut self, tape: &Tape, limit: u64, stops: &StopConditions<'_>)
         requires limit { limit ≤ CLOCK_LIMIT }
         requires before { self.old.board.peripherals.clock < limit }
         requires settled { self.old.lagging ≡ 0 }
         requires empty { HasNoRecords self.old.board }
-        ensures run { BreakRun tape.now.entries limit addresses.now self.old.board self.new.board }
-        ensures window { BreakRun tape.now.entries (window_limit limit self.old.board) addresses.now self.old.board self.new.board }
-        ensures ends { (is_over (window_limit limit self.old.board) self.new.board || is_at_any addresses.now self.new.board) ≡ true }
-        ensures boundary { self.new.board.cpu.mid ≡ None }
-        ensures later { self.old.board.cpu.jam ≡ None → self.old.board.peripherals.clock < self.new.board.peripherals.clock }
-        ensures calls { self.new.calls ≤ self.old.calls + budget tape.now.entries (self.new.board.peripherals.clock - self.old.board.peripherals.clock) self.old.board }
-        ensures more { self.old.calls ≤ self.new.calls }
-        ensures done { self.new.done ≡ counted_on self.old.done (self.new.board.peripherals.clock - self.old.board.peripherals.clock) }
-        ensures rooms { self.new.rooms ≡ self.old.rooms }
+        ensures runs { RunsToStop tape.now.entries limit stops.now self.old self.new }
     {
         let wrap = self.bus.next_wrap();
         let before = self.bus.clock();
         self.bus.lemma_room();
         self.bus.look_at(tape);
         let cpu = Cpu::new(*self.cpu.state());
-        self.cpu = run_to_break(cpu, &mut self.bus, tape, limit.min(wrap), addresses);
+        self.cpu = run_to_stop(cpu, &mut self.bus, tape, limit.min(wrap), stops);
         self.count_clocks(before);
     }
 
@@ -208,14 +195,7 @@ impl<V: VectorUnit, P: SoundUnit, C: CellUnit, D: DividerUnit> Engine<V, P, C, D
         requires clock { self.old.board.peripherals.clock < CLOCK_LIMIT }
         requires settled { self.old.lagging ≡ 0 }
         requires empty { HasNoRecords self.old.board }
-        ensures board { self.new.board ≡ to_boundary tape.now.entries (self.old.board.peripherals.clock + 1) self.old.board }
-        ensures cause { result ≡ cause_of (self.old.board.peripherals.clock + 1) self.new.board }
-        ensures boundary { self.new.board.cpu.mid ≡ None }
-        ensures calls { self.new.calls ≤ self.old.calls
-            + budget tape.now.entries (boundary_steps tape.now.entries (self.old.board.peripherals.clock + 1) self.old.board) self.old.board }
-        ensures more { self.old.calls ≤ self.new.calls }
-        ensures done { self.new.done ≡ counted_on self.old.done (self.new.board.peripherals.clock - self.old.board.peripherals.clock) }
-        ensures rooms { self.new.rooms ≡ self.old.rooms }
+        ensures runs { RunsTo tape.now.entries (self.old.board.peripherals.clock + 1) (self.old.board.peripherals.clock + 1) self.old self.new result }
     {
         let limit = self.bus.clock() + 1;
         self.advance(tape, limit);
@@ -228,15 +208,8 @@ impl<V: VectorUnit, P: SoundUnit, C: CellUnit, D: DividerUnit> Engine<V, P, C, D
         requires clock { self.old.board.cpu.mid ≡ None → self.old.board.peripherals.clock < CLOCK_LIMIT }
         requires settled { self.old.lagging ≡ 0 }
         requires empty { HasNoRecords self.old.board }
-        ensures board { self.new.board ≡ to_boundary tape.now.entries (self.old.board.peripherals.clock + 1) self.old.board }
-        ensures cause { result ≡ cause_of (self.old.board.peripherals.clock + 1) self.new.board }
-        ensures boundary { self.new.board.cpu.mid ≡ None }
+        ensures runs { RunsTo tape.now.entries (self.old.board.peripherals.clock + 1) (self.old.board.peripherals.clock + 1) self.old self.new result }
         ensures trace { trace.new ≡ step_trace tape.now.entries self.old.board }
-        ensures calls { self.new.calls ≤ self.old.calls
-            + budget tape.now.entries (boundary_steps tape.now.entries (self.old.board.peripherals.clock + 1) self.old.board) self.old.board }
-        ensures more { self.old.calls ≤ self.new.calls }
-        ensures done { self.new.done ≡ counted_on self.old.done (self.new.board.peripherals.clock - self.old.board.peripherals.clock) }
-        ensures rooms { self.new.rooms ≡ self.old.rooms }
     {
         let before = self.bus.clock();
         self.bus.lemma_room();
@@ -256,13 +229,7 @@ impl<V: VectorUnit, P: SoundUnit, C: CellUnit, D: DividerUnit> Engine<V, P, C, D
         requires limit { limit ≤ CLOCK_LIMIT }
         requires settled { self.old.lagging ≡ 0 }
         requires empty { HasNoRecords self.old.board }
-        ensures run { TracedRun T.next T.has_enough tape.now.entries (window_limit limit self.old.board) self.old.board self.new.board tracer.old tracer.new }
-        ensures cause { result ≡ cause_of limit self.new.board }
-        ensures boundary { self.new.board.cpu.mid ≡ None }
-        ensures calls { self.new.calls ≤ self.old.calls + budget tape.now.entries (self.new.board.peripherals.clock - self.old.board.peripherals.clock) self.old.board }
-        ensures more { self.old.calls ≤ self.new.calls }
-        ensures done { self.new.done ≡ counted_on self.old.done (self.new.board.peripherals.clock - self.old.board.peripherals.clock) }
-        ensures rooms { self.new.rooms ≡ self.old.rooms }
+        ensures runs { RunsTraced T.next T.has_enough tape.now.entries limit self.old self.new tracer.old tracer.new result }
     {
         let wrap = self.bus.next_wrap();
         let before = self.bus.clock();
@@ -281,16 +248,8 @@ impl<V: VectorUnit, P: SoundUnit, C: CellUnit, D: DividerUnit> Engine<V, P, C, D
         requires cut { cut ≤ CLOCK_LIMIT }
         requires settled { self.old.lagging ≡ 0 }
         requires empty { HasNoRecords self.old.board }
-        ensures board { self.new.board ≡ to_cut tape.now.entries cut (wrap_of self.old.board) self.old.board }
-        ensures cause { result ≡ cause_of cut self.new.board }
-        ensures window { result ≡ Stop.Window → wrap_of self.old.board ≤ self.new.board.peripherals.clock }
-        ensures later { result ≡ Stop.Window → self.old.board.peripherals.clock < self.new.board.peripherals.clock }
-        ensures before { result ≡ Stop.Window → self.new.board.peripherals.clock < cut }
-        ensures calls { self.new.calls ≤ self.old.calls
-            + budget tape.now.entries (cut_steps tape.now.entries cut (wrap_of self.old.board) self.old.board) self.old.board }
-        ensures more { self.old.calls ≤ self.new.calls }
-        ensures done { self.new.done ≡ counted_on self.old.done (self.new.board.peripherals.clock - self.old.board.peripherals.clock) }
-        ensures rooms { self.new.rooms ≡ self.old.rooms }
+        ensures runs { RunsToClock tape.now.entries cut self.old self.new result }
+        ensures window { EndsWindow cut self.old self.new result }
     {
         let wrap = self.bus.next_wrap();
         let before = self.bus.clock();
@@ -305,10 +264,7 @@ impl<V: VectorUnit, P: SoundUnit, C: CellUnit, D: DividerUnit> Engine<V, P, C, D
     /// Moves each device to the present clock. One that doesn't lag isn't called, so that there are
     /// as many device calls as devices that lag, or fewer.
     pub fn settle(&mut self)
-        ensures value { self.new ≡ record self.old { lagging = 0; calls = self.new.calls } }
-        ensures calls { self.new.calls ≤ self.old.calls + self.old.lagging }
-        ensures few { self.old.lagging ≤ 5 }
-        ensures more { self.old.calls ≤ self.new.calls }
+        ensures settles { Settles self.old self.new }
     {
         self.bus.settle();
     }

@@ -1,7 +1,6 @@
 //! The engine: the board, moved by sequences of the processor.
 #![tactic(auto)]
 
-mod breaks;
 mod bus;
 pub mod devices;
 pub mod engine;
@@ -11,6 +10,7 @@ mod note;
 mod noted;
 mod quiet;
 mod run;
+pub mod stop_conditions;
 pub mod trace;
 mod tracer;
 mod turn;
@@ -21,5 +21,6 @@ pub use laws::engine_numbers;
 pub use lockstep_board::Stop;
 pub use machine::Machine;
 pub use note::{Reached, TurnNote};
+pub use stop_conditions::{StopConditions, WatchedByte};
 pub use trace::{Access, Trace};
 pub use tracer::Tracer;

@@ -1,18 +1,21 @@
 //! A machine: what the crates above an engine call, in terms of the engine's value.
-ghost use Rattle.std.specs.Prelude.{◌≡◌, ◌+◌, ◌-◌, ◌≤◌, ◌<◌, ◌||◌, true, None, IfSome, All};
+ghost use Rattle.std.specs.Prelude.{◌≡◌, ◌+◌, ◌-◌, ◌≤◌, ◌<◌, ◌||◌, true, false, None, IfSome, All};
 ghost use Rattle.board_base.specs.declared.divider.TheConstants.{DIVIDER_PERIOD};
 ghost use Rattle.cpu_core.specs.Places.{IsMiddle};
 ghost use Rattle.cpu_table.specs.Opcodes.{row_of};
-ghost use Rattle.lockstep_board.specs.Breaks.{is_at_any, BreakRun};
+ghost use Rattle.lockstep_board.specs.Breaks.{BreakRun};
 ghost use Rattle.lockstep_board.specs.Budget.{budget};
 ghost use Rattle.lockstep_board.specs.Memory.{memory_byte};
 ghost use Rattle.lockstep_board.specs.Order.{HasNoRecords, cleared};
 ghost use Rattle.lockstep_board.specs.Run.{boundary_steps, cause_of, cut_steps, is_over, to_boundary, to_cut, window_limit, wrap_of, IsPlaced};
 ghost use Rattle.lockstep_board.specs.Peripherals.{board_of, reloaded};
+ghost use Rattle.catchup_engine.specs.Calls.{EndsWindow, RunsTo, RunsToClock, RunsToStop, RunsTraced, Settles};
 ghost use Rattle.catchup_engine.specs.EngineValue.{EngineValue, counted_on};
+ghost use Rattle.catchup_engine.specs.StopConditions.{asks_generator, stops_at};
 ghost use Rattle.catchup_engine.specs.Traced.{TracedRun};
 
 use crate::engine::Engine;
+use crate::stop_conditions::StopConditions;
 use crate::tracer::Tracer;
 use avg_device::VectorUnit;
 use board_base::{BoardState, CLOCK_LIMIT, CpuState, Trails};
@@ -42,35 +45,19 @@ pub trait Machine {
         requires limit { limit ≤ CLOCK_LIMIT }
         requires settled { (value self.old).lagging ≡ 0 }
         requires empty { HasNoRecords (value self.old).board }
-        ensures board { (value self.new).board ≡ to_boundary tape.now.entries (window_limit limit (value self.old).board) (value self.old).board }
-        ensures cause { result ≡ cause_of limit (value self.new).board }
-        ensures boundary { (value self.new).board.cpu.mid ≡ None }
-        ensures window { result ≡ Stop.Window → wrap_of (value self.old).board ≤ (value self.new).board.peripherals.clock }
-        ensures later { result ≡ Stop.Window → (value self.old).board.peripherals.clock < (value self.new).board.peripherals.clock }
-        ensures before { result ≡ Stop.Window → (value self.new).board.peripherals.clock < limit }
-        ensures calls { (value self.new).calls ≤ (value self.old).calls
-            + budget tape.now.entries (boundary_steps tape.now.entries (window_limit limit (value self.old).board) (value self.old).board) (value self.old).board }
-        ensures more { (value self.old).calls ≤ (value self.new).calls }
-        ensures done { (value self.new).done ≡ counted_on (value self.old).done ((value self.new).board.peripherals.clock - (value self.old).board.peripherals.clock) }
-        ensures rooms { (value self.new).rooms ≡ (value self.old).rooms };
+        ensures runs { RunsTo tape.now.entries limit (window_limit limit (value self.old).board) (value self.old) (value self.new) result }
+        ensures window { EndsWindow limit (value self.old) (value self.new) result };
 
     /// Runs turn by turn, one turn at least, to the first boundary that isn't before the limit, at
-    /// which pc is one of these addresses, or that comes after the divider's next wrap, whichever
-    /// comes first. A board that is jammed takes no clock.
-    fn run_to_break(&mut self, tape: &Tape, limit: u64, addresses: &[u16])
+    /// which it stops, or that comes after the divider's next wrap, whichever comes first. A board
+    /// that is jammed takes no clock. Where the conditions ask the generator, each boundary may
+    /// call it once or twice.
+    fn run_to_stop(&mut self, tape: &Tape, limit: u64, stops: &StopConditions<'_>)
         requires limit { limit ≤ CLOCK_LIMIT }
         requires before { (value self.old).board.peripherals.clock < limit }
         requires settled { (value self.old).lagging ≡ 0 }
         requires empty { HasNoRecords (value self.old).board }
-        ensures run { BreakRun tape.now.entries limit addresses.now (value self.old).board (value self.new).board }
-        ensures window { BreakRun tape.now.entries (window_limit limit (value self.old).board) addresses.now (value self.old).board (value self.new).board }
-        ensures ends { (is_over (window_limit limit (value self.old).board) (value self.new).board || is_at_any addresses.now (value self.new).board) ≡ true }
-        ensures boundary { (value self.new).board.cpu.mid ≡ None }
-        ensures later { (value self.old).board.cpu.jam ≡ None → (value self.old).board.peripherals.clock < (value self.new).board.peripherals.clock }
-        ensures calls { (value self.new).calls ≤ (value self.old).calls + budget tape.now.entries ((value self.new).board.peripherals.clock - (value self.old).board.peripherals.clock) (value self.old).board }
-        ensures more { (value self.old).calls ≤ (value self.new).calls }
-        ensures done { (value self.new).done ≡ counted_on (value self.old).done ((value self.new).board.peripherals.clock - (value self.old).board.peripherals.clock) }
-        ensures rooms { (value self.new).rooms ≡ (value self.old).rooms };
+        ensures runs { RunsToStop tape.now.entries limit stops.now (value self.old) (value self.new) };
 
     /// Does what is left of the sequence under way, or else one instruction or sequence. A board
     /// that is jammed takes no clock.
@@ -78,14 +65,7 @@ pub trait Machine {
         requires clock { (value self.old).board.peripherals.clock < CLOCK_LIMIT }
         requires settled { (value self.old).lagging ≡ 0 }
         requires empty { HasNoRecords (value self.old).board }
-        ensures board { (value self.new).board ≡ to_boundary tape.now.entries ((value self.old).board.peripherals.clock + 1) (value self.old).board }
-        ensures cause { result ≡ cause_of ((value self.old).board.peripherals.clock + 1) (value self.new).board }
-        ensures boundary { (value self.new).board.cpu.mid ≡ None }
-        ensures calls { (value self.new).calls ≤ (value self.old).calls
-            + budget tape.now.entries (boundary_steps tape.now.entries ((value self.old).board.peripherals.clock + 1) (value self.old).board) (value self.old).board }
-        ensures more { (value self.old).calls ≤ (value self.new).calls }
-        ensures done { (value self.new).done ≡ counted_on (value self.old).done ((value self.new).board.peripherals.clock - (value self.old).board.peripherals.clock) }
-        ensures rooms { (value self.new).rooms ≡ (value self.old).rooms };
+        ensures runs { RunsTo tape.now.entries ((value self.old).board.peripherals.clock + 1) ((value self.old).board.peripherals.clock + 1) (value self.old) (value self.new) result };
 
     /// Runs turn by turn to the limit, to the first boundary after the divider's next wrap, or to
     /// where a tracer has enough, whichever comes first, and passes each turn to the tracer. A
@@ -94,13 +74,7 @@ pub trait Machine {
         requires limit { limit ≤ CLOCK_LIMIT }
         requires settled { (value self.old).lagging ≡ 0 }
         requires empty { HasNoRecords (value self.old).board }
-        ensures run { TracedRun T.next T.has_enough tape.now.entries (window_limit limit (value self.old).board) (value self.old).board (value self.new).board tracer.old tracer.new }
-        ensures cause { result ≡ cause_of limit (value self.new).board }
-        ensures boundary { (value self.new).board.cpu.mid ≡ None }
-        ensures calls { (value self.new).calls ≤ (value self.old).calls + budget tape.now.entries ((value self.new).board.peripherals.clock - (value self.old).board.peripherals.clock) (value self.old).board }
-        ensures more { (value self.old).calls ≤ (value self.new).calls }
-        ensures done { (value self.new).done ≡ counted_on (value self.old).done ((value self.new).board.peripherals.clock - (value self.old).board.peripherals.clock) }
-        ensures rooms { (value self.new).rooms ≡ (value self.old).rooms };
+        ensures runs { RunsTraced T.next T.has_enough tape.now.entries limit (value self.old) (value self.new) tracer.old tracer.new result };
 
     /// Runs to this clock, inside a sequence too, or to the first boundary after the divider's next
     /// wrap where that comes first. A board that is jammed takes no clock.
@@ -108,24 +82,13 @@ pub trait Machine {
         requires cut { cut ≤ CLOCK_LIMIT }
         requires settled { (value self.old).lagging ≡ 0 }
         requires empty { HasNoRecords (value self.old).board }
-        ensures board { (value self.new).board ≡ to_cut tape.now.entries cut (wrap_of (value self.old).board) (value self.old).board }
-        ensures cause { result ≡ cause_of cut (value self.new).board }
-        ensures window { result ≡ Stop.Window → wrap_of (value self.old).board ≤ (value self.new).board.peripherals.clock }
-        ensures later { result ≡ Stop.Window → (value self.old).board.peripherals.clock < (value self.new).board.peripherals.clock }
-        ensures before { result ≡ Stop.Window → (value self.new).board.peripherals.clock < cut }
-        ensures calls { (value self.new).calls ≤ (value self.old).calls
-            + budget tape.now.entries (cut_steps tape.now.entries cut (wrap_of (value self.old).board) (value self.old).board) (value self.old).board }
-        ensures more { (value self.old).calls ≤ (value self.new).calls }
-        ensures done { (value self.new).done ≡ counted_on (value self.old).done ((value self.new).board.peripherals.clock - (value self.old).board.peripherals.clock) }
-        ensures rooms { (value self.new).rooms ≡ (value self.old).rooms };
+        ensures runs { RunsToClock tape.now.entries cut (value self.old) (value self.new) result }
+        ensures window { EndsWindow cut (value self.old) (value self.new) result };
 
     /// Moves each device to the present clock. One that doesn't lag isn't called, so that there are
     /// as many device calls as devices that lag, or fewer.
     fn settle(&mut self)
-        ensures value { value self.new ≡ record (value self.old) { lagging = 0; calls = (value self.new).calls } }
-        ensures calls { (value self.new).calls ≤ (value self.old).calls + (value self.old).lagging }
-        ensures few { (value self.old).lagging ≤ 5 }
-        ensures more { (value self.old).calls ≤ (value self.new).calls };
+        ensures settles { Settles (value self.old) (value self.new) };
 
     /// Copies the board.
     fn state(&self, into: &mut BoardState)
@@ -204,8 +167,8 @@ impl<V: VectorUnit, P: SoundUnit, C: CellUnit, D: DividerUnit> Machine for Engin
     }
 
     #[inline(always)]
-    fn run_to_break(&mut self, tape: &Tape, limit: u64, addresses: &[u16]) {
-        self.run_to_break(tape, limit, addresses)
+    fn run_to_stop(&mut self, tape: &Tape, limit: u64, stops: &StopConditions<'_>) {
+        self.run_to_stop(tape, limit, stops)
     }
 
     #[inline(always)]

@@ -1,9 +1,13 @@
 //! Instructions in whose clocks no event is due, each of which is passed to a tracer.
-ghost use Rattle.std.specs.Prelude.{◌≡◌, ◌+◌, ◌-◌, ◌<◌, ◌≤◌, ◌&&◌, ◌||◌, [], true, is_none, length, nat_lt, not};
+ghost use Rattle.std.specs.Prelude.{◌≡◌, ◌+◌, ◌-◌, ◌<◌, ◌≤◌, ◌&&◌, ◌||◌, [], true, is_none, length, nat_lt, not, None};
 ghost use Rattle.board_base.specs.declared.divider.TheConstants.{DIVIDER_PERIOD};
 ghost use Rattle.cpu_alu.specs.Flags.{is_masked};
 ghost use Rattle.cpu_core.specs.BusCycles.{read_of, write_of};
+ghost use Rattle.cpu_core.specs.Registers.{registers_of};
+ghost use Rattle.cpu_core.specs.Sequences.{Runs};
+ghost use Rattle.cpu_core.specs.Places.{Fetches, fetched_of};
 ghost use Rattle.lockstep_board.specs.Peripherals.{Peripherals, byte_read};
+ghost use Rattle.catchup_engine.specs.StopConditions.{no_conditions};
 ghost use Rattle.catchup_engine.specs.Bus.{Accepts, is_private};
 ghost use Rattle.catchup_engine.specs.Horizon.{KeepsLines};
 ghost use Rattle.catchup_engine.specs.Notes.{NotedStep, noting};
@@ -12,23 +16,20 @@ ghost use Rattle.catchup_engine.specs.Runs.{over_bus, CanTakeTurns, GoesOn, Turn
 ghost use Rattle.catchup_engine.specs.Traced.{NotedTurns};
 
 use crate::bus::{BoardBus, PROGRAM_START, is_private};
+use crate::devices::Units;
 use crate::note::{Reached, TurnNote};
 use crate::quiet::{Horizon, QuietBus, horizon_from};
 use crate::trace::Access;
 use crate::tracer::Tracer;
-use avg_device::VectorUnit;
 use board_base::{RAM_LEN, Sequence};
 use board_map::row;
-use cpu_core::{Bus, Cpu};
-use earom_cells::CellUnit;
-use irq_watchdog::DividerUnit;
+use cpu_core::{Bus, Cpu, Fetched};
 use lockstep_board::{devices_read, devices_written};
-use pokey_chip::SoundUnit;
 use tape_ports::Tape;
 
 /// A `QuietBus` that notes the accesses that reach a device.
-struct NotedBus<'a, V: VectorUnit, P: SoundUnit, C: CellUnit, D: DividerUnit, T: Tracer> {
-    quiet: QuietBus<'a, V, P, C, D, T>,
+struct NotedBus<'a, S: Units, T: Tracer> {
+    quiet: QuietBus<'a, S, T>,
     reached: &'a mut Reached,
 }
 
@@ -38,8 +39,8 @@ struct NotedBus<'a, V: VectorUnit, P: SoundUnit, C: CellUnit, D: DividerUnit, T:
 /// LLVM never puts it into the processor: with it the processor would be too long for the loop.
 #[inline(never)]
 #[tactic(auto, unfolding(lockstep_board::specs::Budget::reaches_device))]
-fn read_noted<V: VectorUnit, P: SoundUnit, C: CellUnit, D: DividerUnit>(
-    bus: &mut BoardBus<V, P, C, D>,
+fn read_noted<S: Units>(
+    bus: &mut BoardBus<S>,
     elapsed: u64,
     reached: &mut Reached,
     _tape: &Tape,
@@ -72,8 +73,8 @@ fn read_noted<V: VectorUnit, P: SoundUnit, C: CellUnit, D: DividerUnit>(
 /// LLVM never puts it into the processor, as `read_noted`.
 #[inline(never)]
 #[tactic(auto, unfolding(lockstep_board::specs::Budget::reaches_device))]
-fn write_noted<V: VectorUnit, P: SoundUnit, C: CellUnit, D: DividerUnit>(
-    bus: &mut BoardBus<V, P, C, D>,
+fn write_noted<S: Units>(
+    bus: &mut BoardBus<S>,
     elapsed: u64,
     reached: &mut Reached,
     _tape: &Tape,
@@ -100,14 +101,7 @@ fn write_noted<V: VectorUnit, P: SoundUnit, C: CellUnit, D: DividerUnit>(
     reached.add(access, !devices_written(row.writes).is_empty());
 }
 
-impl<'a, V: VectorUnit, P: SoundUnit, C: CellUnit, D: DividerUnit, T: Tracer> NotedBus<
-    'a,
-    V,
-    P,
-    C,
-    D,
-    T,
-> {
+impl<'a, S: Units, T: Tracer> NotedBus<'a, S, T> {
     /// Begins the note of a turn.
     #[inline(always)]
     fn begin(&mut self)
@@ -128,6 +122,23 @@ impl<'a, V: VectorUnit, P: SoundUnit, C: CellUnit, D: DividerUnit, T: Tracer> No
         self.quiet.bus.private_byte(addr)
     }
 
+    /// Executes the instruction at `pc` over it.
+    #[inline(always)]
+    fn instruction(&mut self, cpu: &mut Cpu, tape: &Tape) -> Fetched
+        requires running { cpu.old.jam ≡ None }
+        requires boundary { cpu.old.mid ≡ None }
+        requires accepts { ⟦<NotedBus<'a, S, T> as Bus>⟧.accepts tape.now self.old }
+        requires room { 7 ≤ ⟦<NotedBus<'a, S, T> as Bus>⟧.room self.old }
+        ensures runs { Runs (⟦<NotedBus<'a, S, T> as Bus>⟧.step tape.now) (registers_of cpu.old) Sequence.Opcode self.old self.new cpu.new }
+        ensures fetches { Fetches (⟦<NotedBus<'a, S, T> as Bus>⟧.step tape.now) cpu.old self.old self.new cpu.new }
+        ensures boundary { cpu.new.mid ≡ None }
+        ensures jammed { result ≡ fetched_of cpu.new.jam }
+        ensures accepts { ⟦<NotedBus<'a, S, T> as Bus>⟧.accepts tape.now self.new }
+        ensures room { ⟦<NotedBus<'a, S, T> as Bus>⟧.room self.old ≤ ⟦<NotedBus<'a, S, T> as Bus>⟧.room self.new + 7 }
+    {
+        cpu.instruction(self, tape)
+    }
+
     /// Whether a tracer has not enough, and the fetch at this boundary surely reads an opcode, from
     /// the RAM or the program ROM.
     #[inline(always)]
@@ -140,8 +151,7 @@ impl<'a, V: VectorUnit, P: SoundUnit, C: CellUnit, D: DividerUnit, T: Tracer> No
     }
 }
 
-impl<'a, V: VectorUnit, P: SoundUnit, C: CellUnit, D: DividerUnit, T: Tracer> Bus
-    for NotedBus<'a, V, P, C, D, T> {
+impl<'a, S: Units, T: Tracer> Bus for NotedBus<'a, S, T> {
     ghost use Rattle.std.specs.Prelude.{◌≡◌, ◌-◌, ◌≤◌, length, min};
     ghost use Rattle.catchup_engine.specs.Horizon.{KeepsLines};
     ghost use Rattle.catchup_engine.specs.Notes.{NotedStep, noting};
@@ -194,25 +204,26 @@ pub(crate) struct TracedTurns {
 
 /// Does the instruction at a boundary, and those at the boundaries after it before the horizon
 /// whose opcodes are in the RAM or the program ROM, up to one after which a tracer has enough.
-pub(crate) fn trace_to_horizon<V: VectorUnit, P: SoundUnit, C: CellUnit, D: DividerUnit, T: Tracer>(
+pub(crate) fn trace_to_horizon<S: Units, T: Tracer>(
     mut cpu: Cpu,
-    bus: &mut BoardBus<V, P, C, D>,
+    bus: &mut BoardBus<S>,
     tape: &Tape,
     limit: u64,
     tracer: &mut T,
 ) -> TracedTurns
     requires ready { CanTakeTurns limit tape.now cpu bus.old }
-    requires goes_on { GoesOn limit [] cpu bus.old }
+    requires goes_on { GoesOn limit no_conditions cpu bus.old }
     requires opcode { is_private cpu.pc ≡ true }
-    ensures on { TurnsOn tape.now.entries limit [] cpu bus.old bus.new result.cpu }
+    ensures on { TurnsOn tape.now.entries limit no_conditions cpu bus.old bus.new result.cpu }
     ensures turns { NotedTurns T.next T.has_enough tape.now.entries limit (over_bus cpu bus.old) (over_bus result.cpu bus.new) tracer.old tracer.new result.enough }
     ensures later { bus.old.peripherals.clock < bus.new.peripherals.clock }
     ensures accepts { Accepts tape.now bus.new }
 {
     let horizon = horizon_from(bus, limit);
     let mut reached = Reached::new();
-    let mut noted = NotedBus::<V, P, C, D, T> {
-        quiet: QuietBus::new(bus),
+    let lent = QuietBus::<S, T>::new(bus);
+    let mut noted = NotedBus::<S, T> {
+        quiet: lent,
         reached: &mut reached,
     };
     let mut goes_on = true;
@@ -221,7 +232,7 @@ pub(crate) fn trace_to_horizon<V: VectorUnit, P: SoundUnit, C: CellUnit, D: Divi
         noted.begin();
         let opcode = noted.byte_at(cpu.state().pc);
         let start = noted.quiet.clock();
-        let _fetched = cpu.instruction(&mut noted, tape);
+        let _fetched = noted.instruction(&mut cpu, tape);
         let clocks = (noted.quiet.clock() - start) as u8;
         let note = TurnNote {
             sequence: Sequence::Opcode,

@@ -1,23 +1,25 @@
 //! Instructions in whose clocks no event is due.
-ghost use Rattle.std.specs.Prelude.{◌≡◌, ◌+◌, ◌-◌, ◌≤◌, ◌<◌, ◌&&◌, ◌||◌, false, is_none, min, nat_lt};
+ghost use Rattle.std.specs.Prelude.{◌≡◌, ◌+◌, ◌-◌, ◌≤◌, ◌<◌, ◌&&◌, ◌||◌, false, is_none, min, nat_lt, None};
 ghost use Rattle.board_base.specs.declared.divider.Pending.TheVariants.{Nothing};
 ghost use Rattle.board_base.specs.declared.divider.TheConstants.{DIVIDER_PERIOD};
 ghost use Rattle.cpu_alu.specs.Flags.{is_masked};
-ghost use Rattle.catchup_engine.specs.Bus.{Accepts};
+ghost use Rattle.cpu_core.specs.Sequences.{Runs};
+ghost use Rattle.cpu_core.specs.Places.{Fetches};
+ghost use Rattle.cpu_core.specs.Registers.{registers_of};
+ghost use Rattle.catchup_engine.specs.Bus.{Accepts, Looked};
 ghost use Rattle.catchup_engine.specs.Horizon.{IsHorizon, KeepsLines};
 ghost use Rattle.lockstep_board.specs.Peripherals.{devices_ticked};
-ghost use Rattle.catchup_engine.specs.Quiet.{passed};
-ghost use Rattle.catchup_engine.specs.Runs.{CanTakeTurns, GoesOn, TurnsOn};
+ghost use Rattle.catchup_engine.specs.Quiet.{IsCounted, passed};
+ghost use Rattle.catchup_engine.specs.Runs.{CanTakeTurns, GoesOn, TurnsOn, over_bus};
+ghost use Rattle.catchup_engine.specs.StopConditions.{asks_generator, stops_at};
+ghost use Rattle.tape_ports.specs.Tape.{TapeValue};
 
-use crate::breaks::Breaks;
 use crate::bus::{BoardBus, PROGRAM_START};
-use avg_device::VectorUnit;
-use board_base::{CLOCK_END, RAM_LEN};
+use crate::devices::Units;
+use crate::stop_conditions::{Breaks, is_stop};
+use board_base::{CLOCK_END, RAM_LEN, Sequence};
 use cpu_alu::Flags;
-use cpu_core::{Bus, Cpu};
-use earom_cells::CellUnit;
-use irq_watchdog::DividerUnit;
-use pokey_chip::SoundUnit;
+use cpu_core::{Bus, Cpu, Fetched};
 use std::marker::PhantomData;
 use tape_ports::Tape;
 
@@ -34,10 +36,7 @@ pub(crate) struct Horizon {
 /// The boundaries from one on whose fetch reads an opcode. It is called once between two events.
 #[inline(never)]
 #[tactic(auto, using(crate::proofs::HorizonLaws::horizon))]
-pub(crate) fn horizon_from<V: VectorUnit, P: SoundUnit, C: CellUnit, D: DividerUnit>(
-    bus: &BoardBus<V, P, C, D>,
-    limit: u64,
-) -> Horizon
+pub(crate) fn horizon_from<S: Units>(bus: &BoardBus<S>, limit: u64) -> Horizon
     requires no_event { bus.now.peripherals.clock < bus.now.event_at }
     requires pending { (devices_ticked bus.now.peripherals).divider.pending ≡ Nothing }
     ensures horizon { IsHorizon limit result bus.now }
@@ -54,16 +53,16 @@ pub(crate) fn horizon_from<V: VectorUnit, P: SoundUnit, C: CellUnit, D: DividerU
 ///
 /// It is a type of its own for each user, which is a kind of breaks or a tracer. So each loop has
 /// the only call of the processor on its bus, and LLVM puts the processor into the loop.
-pub(crate) struct QuietBus<'a, V: VectorUnit, P: SoundUnit, C: CellUnit, D: DividerUnit, U> {
-    pub(crate) bus: &'a mut BoardBus<V, P, C, D>,
+pub(crate) struct QuietBus<'a, S: Units, U> {
+    pub(crate) bus: &'a mut BoardBus<S>,
     pub(crate) elapsed: u64,
     pub(crate) user: PhantomData<U>,
 }
 
-impl<'a, V: VectorUnit, P: SoundUnit, C: CellUnit, D: DividerUnit, U> QuietBus<'a, V, P, C, D, U> {
+impl<'a, S: Units, U> QuietBus<'a, S, U> {
     /// A bus with no clock counted yet.
     #[inline(always)]
-    pub(crate) fn new(bus: &'a mut BoardBus<V, P, C, D>) -> QuietBus<'a, V, P, C, D, U>
+    pub(crate) fn new(bus: &'a mut BoardBus<S>) -> QuietBus<'a, S, U>
         ensures same_reference { result.bus.ghost_name ≡ bus.entry.ghost_name }
         ensures bus { result.bus.now ≡ bus.old }
         ensures none { result.elapsed ≡ 0 }
@@ -91,6 +90,42 @@ impl<'a, V: VectorUnit, P: SoundUnit, C: CellUnit, D: DividerUnit, U> QuietBus<'
         self.elapsed = 0;
     }
 
+    /// Executes the instruction at `pc` over it.
+    #[inline(always)]
+    pub(crate) fn instruction(&mut self, cpu: &mut Cpu, tape: &Tape) -> Fetched
+        requires running { cpu.old.jam ≡ None }
+        requires boundary { cpu.old.mid ≡ None }
+        requires accepts { ⟦<QuietBus<'a, S, U> as Bus>⟧.accepts tape.now self.old }
+        requires room { 7 ≤ ⟦<QuietBus<'a, S, U> as Bus>⟧.room self.old }
+        ensures runs { Runs (⟦<QuietBus<'a, S, U> as Bus>⟧.step tape.now) (registers_of cpu.old) Sequence.Opcode self.old self.new cpu.new }
+        ensures fetches { Fetches (⟦<QuietBus<'a, S, U> as Bus>⟧.step tape.now) cpu.old self.old self.new cpu.new }
+        ensures boundary { cpu.new.mid ≡ None }
+        ensures accepts { ⟦<QuietBus<'a, S, U> as Bus>⟧.accepts tape.now self.new }
+        ensures room { ⟦<QuietBus<'a, S, U> as Bus>⟧.room self.old ≤ ⟦<QuietBus<'a, S, U> as Bus>⟧.room self.new + 7 }
+    {
+        cpu.instruction(self, tape)
+    }
+
+    /// Whether a run ends at this boundary, where its limit hasn't come. Where the generator is
+    /// asked, the board gets the clocks counted first.
+    #[inline(always)]
+    fn is_stop<B: Breaks>(&mut self, cpu: &Cpu, breaks: &B) -> bool
+        requires counted { self.old.bus.now.peripherals.clock + self.old.elapsed ≤ self.old.bus.now.event_at }
+        requires clock { self.old.bus.now.peripherals.clock + self.old.elapsed ≤ CLOCK_END }
+        requires room { self.old.bus.now.peripherals.clock + self.old.elapsed ≤ self.old.bus.now.until }
+        requires between { self.old.bus.now.clock_open ≡ false }
+        ensures same_reference { self.new.bus.ghost_name ≡ self.old.bus.ghost_name }
+        ensures value { result ≡ stops_at (B.conditions breaks.now) (over_bus cpu.now (passed self.old.elapsed self.old.bus.now)) }
+        ensures looked { Looked (asks_generator (B.conditions breaks.now)) (passed self.old.elapsed self.old.bus.now) (passed self.new.elapsed self.new.bus.now) }
+        ensures lines { KeepsLines self.old.bus.now self.new.bus.now }
+        ensures counted { (tape : TapeValue) → IsCounted tape self.old.elapsed self.old.bus.now → IsCounted tape self.new.elapsed self.new.bus.now }
+    {
+        if breaks.halted().is_some() {
+            self.flush();
+        }
+        is_stop(cpu, self.bus, breaks)
+    }
+
     /// The clock, with those counted.
     #[inline(always)]
     pub(crate) fn clock(&self) -> u64
@@ -113,8 +148,7 @@ impl<'a, V: VectorUnit, P: SoundUnit, C: CellUnit, D: DividerUnit, U> QuietBus<'
     }
 }
 
-impl<'a, V: VectorUnit, P: SoundUnit, C: CellUnit, D: DividerUnit, U> Bus
-    for QuietBus<'a, V, P, C, D, U> {
+impl<'a, S: Units, U> Bus for QuietBus<'a, S, U> {
     ghost use Rattle.std.specs.Prelude.{◌≡◌, ◌-◌, false};
     ghost use Rattle.catchup_engine.specs.Bus.{Accepts, BusStep, room_of};
     ghost use Rattle.catchup_engine.specs.Horizon.{KeepsLines};
@@ -154,28 +188,28 @@ impl<'a, V: VectorUnit, P: SoundUnit, C: CellUnit, D: DividerUnit, U> Bus
 }
 
 /// Does the instruction at a boundary, and those at the boundaries after it before the horizon, up
-/// to the first of these addresses. The board gets their clocks where a device is reached, and at
-/// the end.
+/// to the first at which the run stops. The board gets their clocks where a device is reached, and
+/// at the end.
 #[inline(always)]
-pub(crate) fn run_to_horizon<V: VectorUnit, P: SoundUnit, C: CellUnit, D: DividerUnit, B: Breaks>(
+pub(crate) fn run_to_horizon<S: Units, B: Breaks>(
     mut cpu: Cpu,
-    bus: &mut BoardBus<V, P, C, D>,
+    bus: &mut BoardBus<S>,
     tape: &Tape,
     limit: u64,
     breaks: &B,
 ) -> Cpu
     requires ready { CanTakeTurns limit tape.now cpu bus.old }
-    requires goes_on { GoesOn limit (B.addresses breaks.now) cpu bus.old }
-    ensures on { TurnsOn tape.now.entries limit (B.addresses breaks.now) cpu bus.old bus.new result }
+    requires goes_on { GoesOn limit (B.conditions breaks.now) cpu bus.old }
+    ensures on { TurnsOn tape.now.entries limit (B.conditions breaks.now) cpu bus.old bus.new result }
     ensures later { bus.old.peripherals.clock < bus.new.peripherals.clock }
     ensures accepts { Accepts tape.now bus.new }
 {
     let horizon = horizon_from(bus, limit);
-    let mut quiet = QuietBus::<V, P, C, D, B>::new(bus);
+    let mut quiet = QuietBus::<S, B>::new(bus);
     let mut goes_on = true;
     while goes_on {
-        let _fetched = cpu.instruction(&mut quiet, tape);
-        goes_on = quiet.is_before(&horizon, &cpu) && !breaks.has(cpu.state().pc);
+        let _fetched = quiet.instruction(&mut cpu, tape);
+        goes_on = quiet.is_before(&horizon, &cpu) && !quiet.is_stop(&cpu, breaks);
     }
     quiet.flush();
     let QuietBus {

@@ -1,34 +1,27 @@
 //! Runs of the processor over the bus, turn by turn.
 ghost use Rattle.std.specs.Prelude.{◌≡◌, ◌+◌, ◌≤◌, ◌<◌, ◌⊎◌, ◌&&◌, ◌||◌, not, None, IfSome};
 ghost use Rattle.cpu_core.specs.Places.{IsMiddle};
-ghost use Rattle.lockstep_board.specs.Breaks.{is_at_any};
-ghost use Rattle.catchup_engine.specs.Bus.{Accepts};
+ghost use Rattle.catchup_engine.specs.Bus.{Accepts, Looked};
 ghost use Rattle.lockstep_board.specs.Run.{is_over, is_cut};
 ghost use Rattle.catchup_engine.specs.Turn.{reads_opcode};
+ghost use Rattle.catchup_engine.specs.StopConditions.{asks_generator, stops_at};
 ghost use Rattle.catchup_engine.specs.Runs.{over_bus, BoundaryRun, BreakRunBus, CanRun, CanTakeTurns, CutRun, IsInRange, QuietRun, TracedBusRun, TurnsRun};
 
-use crate::breaks::{BreakList, Breaks, Nowhere};
 use crate::bus::{BoardBus, MAX_SEQUENCE_CLOCKS, is_private};
+use crate::devices::Units;
 use crate::note::{Reached, TurnNote};
 use crate::noted::trace_to_horizon;
 use crate::quiet::run_to_horizon;
+use crate::stop_conditions::{Breaks, Nowhere, StopConditions, is_stop};
 use crate::trace::trace_running;
 use crate::tracer::Tracer;
 use crate::turn::{reads_opcode, step_slow};
-use avg_device::VectorUnit;
 use cpu_core::Cpu;
-use earom_cells::CellUnit;
-use irq_watchdog::DividerUnit;
-use pokey_chip::SoundUnit;
 use tape_ports::Tape;
 
 /// Whether a run to a boundary is over.
 #[inline(always)]
-fn is_done<V: VectorUnit, P: SoundUnit, C: CellUnit, D: DividerUnit>(
-    cpu: &Cpu,
-    bus: &BoardBus<V, P, C, D>,
-    limit: u64,
-) -> bool
+fn is_done<S: Units>(cpu: &Cpu, bus: &BoardBus<S>, limit: u64) -> bool
     ensures { result ≡ is_over limit (over_bus cpu.now bus.now) }
 {
     let state = cpu.state();
@@ -36,121 +29,100 @@ fn is_done<V: VectorUnit, P: SoundUnit, C: CellUnit, D: DividerUnit>(
 }
 
 /// Whether a run to a clock, or to the first boundary after a wrap, is over.
-fn is_stopped<V: VectorUnit, P: SoundUnit, C: CellUnit, D: DividerUnit>(
-    cpu: &Cpu,
-    bus: &BoardBus<V, P, C, D>,
-    cut: u64,
-    wrap: u64,
-) -> bool
+fn is_stopped<S: Units>(cpu: &Cpu, bus: &BoardBus<S>, cut: u64, wrap: u64) -> bool
     ensures { result ≡ is_cut cut wrap (over_bus cpu.now bus.now) }
 {
     let state = cpu.state();
     state.jam.is_some() || cut <= bus.clock() || state.mid.is_none() && wrap <= bus.clock()
 }
 
-/// Whether a run to a boundary is over, or has come to one of these addresses.
+/// Whether a run to a boundary is over, or stops here.
 #[inline(always)]
-fn is_at_break<V: VectorUnit, P: SoundUnit, C: CellUnit, D: DividerUnit, B: Breaks>(
-    cpu: &Cpu,
-    bus: &BoardBus<V, P, C, D>,
-    limit: u64,
-    breaks: &B,
-) -> bool
-    ensures { result ≡ (is_over limit (over_bus cpu.now bus.now) || is_at_any (B.addresses breaks.now) (over_bus cpu.now bus.now)) }
+fn is_at_end<S: Units, B: Breaks>(cpu: &Cpu, bus: &mut BoardBus<S>, limit: u64, breaks: &B) -> bool
+    ensures value { result ≡ (is_over limit (over_bus cpu.now bus.old) || stops_at (B.conditions breaks.now) (over_bus cpu.now bus.old)) }
+    ensures looked { Looked (asks_generator (B.conditions breaks.now)) bus.old bus.new }
 {
-    is_done(cpu, bus, limit) || breaks.has(cpu.state().pc)
+    is_done(cpu, bus, limit) || is_stop(cpu, bus, breaks)
 }
 
-/// Whether no run ends here, and the next fetch reads an opcode in whose clocks no event is due. It
+/// Whether a run isn't over, and the next fetch reads an opcode in whose clocks no event is due. It
 /// is called once between two events.
 #[inline(never)]
-fn goes_on<V: VectorUnit, P: SoundUnit, C: CellUnit, D: DividerUnit, B: Breaks>(
-    cpu: &Cpu,
-    bus: &BoardBus<V, P, C, D>,
-    limit: u64,
-    breaks: &B,
-) -> bool
+fn goes_on<S: Units>(cpu: &Cpu, bus: &BoardBus<S>, limit: u64) -> bool
     requires range { IsInRange cpu.now bus.now }
-    ensures { result ≡ (not (is_over limit (over_bus cpu.now bus.now) || is_at_any (B.addresses breaks.now) (over_bus cpu.now bus.now)) && reads_opcode cpu.now bus.now) }
+    ensures { result ≡ (not (is_over limit (over_bus cpu.now bus.now)) && reads_opcode cpu.now bus.now) }
 {
-    !is_at_break(cpu, bus, limit, breaks) && reads_opcode(cpu, bus)
+    !is_done(cpu, bus, limit) && reads_opcode(cpu, bus)
 }
 
-/// Does instructions in whose clocks no event is due, up to the limit or to the first of these
-/// addresses.
+/// Whether a run goes on so, and doesn't stop here.
+#[inline(always)]
+fn goes_fast<S: Units, B: Breaks>(cpu: &Cpu, bus: &mut BoardBus<S>, limit: u64, breaks: &B) -> bool
+    requires range { IsInRange cpu.now bus.old }
+    ensures value { result ≡ (not (is_over limit (over_bus cpu.now bus.old) || stops_at (B.conditions breaks.now) (over_bus cpu.now bus.old)) && reads_opcode cpu.now bus.old) }
+    ensures looked { Looked (asks_generator (B.conditions breaks.now)) bus.old bus.new }
+{
+    goes_on(cpu, bus, limit) && !is_stop(cpu, bus, breaks)
+}
+
+/// Does instructions in whose clocks no event is due, up to the limit or to where the run stops.
 ///
 /// Every run makes most of its clocks here. As nothing that this loop calls takes the processor,
 /// LLVM keeps its registers out of memory.
 #[inline(always)]
-fn run_fast<V: VectorUnit, P: SoundUnit, C: CellUnit, D: DividerUnit, B: Breaks>(
+fn run_fast<S: Units, B: Breaks>(
     mut cpu: Cpu,
-    bus: &mut BoardBus<V, P, C, D>,
+    bus: &mut BoardBus<S>,
     tape: &Tape,
     limit: u64,
     breaks: &B,
 ) -> Cpu
     requires ready { CanTakeTurns limit tape.now cpu bus.old }
     requires boundary { cpu.mid ≡ None }
-    ensures runs { QuietRun tape.now.entries limit (B.addresses breaks.now) cpu bus.old bus.new result }
+    ensures runs { QuietRun tape.now.entries limit (B.conditions breaks.now) cpu bus.old bus.new result }
     ensures accepts { Accepts tape.now bus.new }
 {
-    while goes_on(&cpu, bus, limit, breaks) {
+    let mut on = goes_fast(&cpu, bus, limit, breaks);
+    while on {
         cpu = run_to_horizon(cpu, bus, tape, limit, breaks);
+        on = goes_fast(&cpu, bus, limit, breaks);
     }
     cpu
 }
 
-/// Does whole sequences up to the limit, or to the first of these addresses.
+/// Does whole sequences up to the limit, or to where the run stops.
 ///
-/// All runs without breaks share one such loop, since LLVM puts the processor into it only where it
-/// is called once. Runs to breaks have a second.
+/// All runs without stops share one such loop, since LLVM puts the processor into it only where it
+/// is called once. Runs to stops have a second.
 #[inline(never)]
-fn run_turns<V: VectorUnit, P: SoundUnit, C: CellUnit, D: DividerUnit, B: Breaks>(
+fn run_turns<S: Units, B: Breaks>(
     mut cpu: Cpu,
-    bus: &mut BoardBus<V, P, C, D>,
+    bus: &mut BoardBus<S>,
     tape: &Tape,
     limit: u64,
     breaks: &B,
 ) -> Cpu
     requires ready { CanTakeTurns limit tape.now cpu bus.old }
     requires boundary { cpu.mid ≡ None }
-    ensures runs { TurnsRun tape.now.entries limit (B.addresses breaks.now) cpu bus.old bus.new result }
+    ensures runs { TurnsRun tape.now.entries limit (B.conditions breaks.now) cpu bus.old bus.new result }
     ensures accepts { Accepts tape.now bus.new }
 {
     // opens its range
     let _clock = bus.clock();
-    while !is_at_break(&cpu, bus, limit, breaks) {
+    let mut ended = is_at_end(&cpu, bus, limit, breaks);
+    while !ended {
         cpu = step_slow(cpu, bus, tape, MAX_SEQUENCE_CLOCKS);
         cpu = run_fast(cpu, bus, tape, limit, breaks);
+        ended = is_at_end(&cpu, bus, limit, breaks);
     }
     cpu
 }
 
-/// Does whole sequences up to the limit, or to the first of these addresses, of which there may be
-/// none.
-fn run_turns_to_break<V: VectorUnit, P: SoundUnit, C: CellUnit, D: DividerUnit>(
-    cpu: Cpu,
-    bus: &mut BoardBus<V, P, C, D>,
-    tape: &Tape,
-    limit: u64,
-    addresses: &[u16],
-) -> Cpu
-    requires ready { CanTakeTurns limit tape.now cpu bus.old }
-    requires boundary { cpu.mid ≡ None }
-    ensures runs { TurnsRun tape.now.entries limit addresses.now cpu bus.old bus.new result }
-{
-    if addresses.is_empty() {
-        run_turns(cpu, bus, tape, limit, &Nowhere)
-    } else {
-        run_turns(cpu, bus, tape, limit, &BreakList::new(addresses))
-    }
-}
-
 /// Does the rest of the sequence under way, if there is one, and then whole sequences up to the
 /// limit.
-pub(crate) fn run_until<V: VectorUnit, P: SoundUnit, C: CellUnit, D: DividerUnit>(
+pub(crate) fn run_until<S: Units>(
     mut cpu: Cpu,
-    bus: &mut BoardBus<V, P, C, D>,
+    bus: &mut BoardBus<S>,
     tape: &Tape,
     limit: u64,
 ) -> Cpu
@@ -165,32 +137,32 @@ pub(crate) fn run_until<V: VectorUnit, P: SoundUnit, C: CellUnit, D: DividerUnit
     run_turns(cpu, bus, tape, limit, &Nowhere)
 }
 
-/// Does a turn, unless the processor is jammed, and then others up to the limit or to the first of
-/// these addresses.
-pub(crate) fn run_to_break<V: VectorUnit, P: SoundUnit, C: CellUnit, D: DividerUnit>(
+/// Does a turn, unless the processor is jammed, and then others up to the limit or to where the run
+/// stops.
+pub(crate) fn run_to_stop<S: Units>(
     mut cpu: Cpu,
-    bus: &mut BoardBus<V, P, C, D>,
+    bus: &mut BoardBus<S>,
     tape: &Tape,
     limit: u64,
-    addresses: &[u16],
+    stops: &StopConditions<'_>,
 ) -> Cpu
     requires ready { CanRun limit limit tape.now cpu bus.old }
     requires before { bus.old.peripherals.clock < limit }
-    ensures runs { BreakRunBus tape.now.entries limit addresses.now cpu bus.old bus.new result }
+    ensures runs { BreakRunBus tape.now.entries limit stops.now cpu bus.old bus.new result }
 {
     // opens its range
     let _clock = bus.clock();
     if cpu.state().jam.is_none() {
         cpu = step_slow(cpu, bus, tape, MAX_SEQUENCE_CLOCKS);
     }
-    run_turns_to_break(cpu, bus, tape, limit, addresses)
+    run_turns(cpu, bus, tape, limit, stops)
 }
 
 /// Does turns up to the limit, each of which is passed to a tracer, or up to one after which it has
 /// enough.
-pub(crate) fn run_traced<V: VectorUnit, P: SoundUnit, C: CellUnit, D: DividerUnit, T: Tracer>(
+pub(crate) fn run_traced<S: Units, T: Tracer>(
     mut cpu: Cpu,
-    bus: &mut BoardBus<V, P, C, D>,
+    bus: &mut BoardBus<S>,
     tape: &Tape,
     limit: u64,
     tracer: &mut T,
@@ -203,7 +175,7 @@ pub(crate) fn run_traced<V: VectorUnit, P: SoundUnit, C: CellUnit, D: DividerUni
     let _clock = bus.clock();
     let mut enough = false;
     while !enough && !is_done(&cpu, bus, limit) {
-        if goes_on(&cpu, bus, limit, &Nowhere) && is_private(cpu.state().pc) {
+        if goes_on(&cpu, bus, limit) && is_private(cpu.state().pc) {
             let turns = trace_to_horizon(cpu, bus, tape, limit, tracer);
             cpu = turns.cpu;
             enough = turns.enough;
@@ -233,9 +205,9 @@ fn clocks_to(clock: u64, cut: u64) -> u8
 }
 
 /// Does as many clocks as there are to a cut, unless a boundary comes after the wrap before.
-pub(crate) fn run_to_cut<V: VectorUnit, P: SoundUnit, C: CellUnit, D: DividerUnit>(
+pub(crate) fn run_to_cut<S: Units>(
     mut cpu: Cpu,
-    bus: &mut BoardBus<V, P, C, D>,
+    bus: &mut BoardBus<S>,
     tape: &Tape,
     cut: u64,
     wrap: u64,

@@ -9,13 +9,10 @@ ghost use Rattle.catchup_engine.specs.Trace.{TracedReset, TracedStep, no_trace, 
 ghost use Rattle.catchup_engine.specs.Turn.{CanTurn, TurnedBus};
 
 use crate::bus::{BoardBus, MAX_SEQUENCE_CLOCKS};
+use crate::devices::Units;
 use crate::turn::{due, perform};
-use avg_device::VectorUnit;
 use board_base::{CLOCK_LIMIT, Sequence};
 use cpu_core::{Bus, Cpu};
-use earom_cells::CellUnit;
-use irq_watchdog::DividerUnit;
-use pokey_chip::SoundUnit;
 use std::marker::Model;
 use tape_ports::Tape;
 
@@ -118,14 +115,14 @@ impl Trace {
 }
 
 /// A bus that records each access.
-struct TracedBus<'a, V: VectorUnit, P: SoundUnit, C: CellUnit, D: DividerUnit> {
-    bus: &'a mut BoardBus<V, P, C, D>,
+struct TracedBus<'a, S: Units> {
+    bus: &'a mut BoardBus<S>,
     trace: Trace,
 }
 
-impl<'a, V: VectorUnit, P: SoundUnit, C: CellUnit, D: DividerUnit> TracedBus<'a, V, P, C, D> {
+impl<'a, S: Units> TracedBus<'a, S> {
     /// A bus that goes on with a trace.
-    fn new(bus: &'a mut BoardBus<V, P, C, D>, trace: Trace) -> TracedBus<'a, V, P, C, D>
+    fn new(bus: &'a mut BoardBus<S>, trace: Trace) -> TracedBus<'a, S>
         ensures same_reference { result.bus.ghost_name ≡ bus.entry.ghost_name }
         ensures bus { result.bus.now ≡ bus.old }
         ensures trace { result.trace ≡ trace }
@@ -182,8 +179,7 @@ impl<'a, V: VectorUnit, P: SoundUnit, C: CellUnit, D: DividerUnit> TracedBus<'a,
     }
 }
 
-impl<'a, V: VectorUnit, P: SoundUnit, C: CellUnit, D: DividerUnit> Bus
-    for TracedBus<'a, V, P, C, D> {
+impl<'a, S: Units> Bus for TracedBus<'a, S> {
     ghost use Rattle.std.specs.Prelude.{◌≡◌, ◌-◌, min};
     ghost use Rattle.catchup_engine.specs.Bus.{Accepts, room_of};
     ghost use Rattle.catchup_engine.specs.Trace.{TracedStep, traced};
@@ -219,10 +215,10 @@ impl<'a, V: VectorUnit, P: SoundUnit, C: CellUnit, D: DividerUnit> Bus
 }
 
 /// Does a whole instruction or interrupt sequence, and returns its accesses.
-fn trace_whole<V: VectorUnit, P: SoundUnit, C: CellUnit, D: DividerUnit>(
+fn trace_whole<S: Units>(
     cpu: &mut Cpu,
     sequence: Sequence,
-    bus: &mut BoardBus<V, P, C, D>,
+    bus: &mut BoardBus<S>,
     tape: &Tape,
 ) -> Trace
     requires running { cpu.old.jam ≡ None }
@@ -243,11 +239,7 @@ fn trace_whole<V: VectorUnit, P: SoundUnit, C: CellUnit, D: DividerUnit>(
 }
 
 /// Makes the first access of a reset, and returns it.
-fn trace_first<V: VectorUnit, P: SoundUnit, C: CellUnit, D: DividerUnit>(
-    cpu: &mut Cpu,
-    bus: &mut BoardBus<V, P, C, D>,
-    tape: &Tape,
-) -> Trace
+fn trace_first<S: Units>(cpu: &mut Cpu, bus: &mut BoardBus<S>, tape: &Tape) -> Trace
     requires running { cpu.old.jam ≡ None }
     requires boundary { cpu.old.mid ≡ None }
     requires clock_open { bus.old.clock_open ≡ true }
@@ -267,9 +259,9 @@ fn trace_first<V: VectorUnit, P: SoundUnit, C: CellUnit, D: DividerUnit>(
 
 /// Does what is left of the sequence under way, in so many clocks at most, and returns its accesses
 /// after those of a trace.
-fn trace_rest<V: VectorUnit, P: SoundUnit, C: CellUnit, D: DividerUnit>(
+fn trace_rest<S: Units>(
     cpu: &mut Cpu,
-    bus: &mut BoardBus<V, P, C, D>,
+    bus: &mut BoardBus<S>,
     tape: &Tape,
     trace: Trace,
     clocks: u8,
@@ -292,11 +284,7 @@ fn trace_rest<V: VectorUnit, P: SoundUnit, C: CellUnit, D: DividerUnit>(
 
 /// Does a whole reset, and returns its accesses. Its effects come in its first clock, after the
 /// access.
-fn trace_reset<V: VectorUnit, P: SoundUnit, C: CellUnit, D: DividerUnit>(
-    cpu: &mut Cpu,
-    bus: &mut BoardBus<V, P, C, D>,
-    tape: &Tape,
-) -> Trace
+fn trace_reset<S: Units>(cpu: &mut Cpu, bus: &mut BoardBus<S>, tape: &Tape) -> Trace
     requires running { cpu.old.jam ≡ None }
     requires boundary { cpu.old.mid ≡ None }
     requires clock_open { bus.old.clock_open ≡ true }
@@ -311,11 +299,7 @@ fn trace_reset<V: VectorUnit, P: SoundUnit, C: CellUnit, D: DividerUnit>(
 }
 
 /// Does the sequence that a fetch begins, and returns its accesses.
-fn trace_fetch<V: VectorUnit, P: SoundUnit, C: CellUnit, D: DividerUnit>(
-    cpu: &mut Cpu,
-    bus: &mut BoardBus<V, P, C, D>,
-    tape: &Tape,
-) -> Trace
+fn trace_fetch<S: Units>(cpu: &mut Cpu, bus: &mut BoardBus<S>, tape: &Tape) -> Trace
     requires ready { CanTurn MAX_SEQUENCE_CLOCKS tape.now bus.old }
     requires running { cpu.old.jam ≡ None }
     requires boundary { cpu.old.mid ≡ None }
@@ -339,11 +323,7 @@ fn trace_fetch<V: VectorUnit, P: SoundUnit, C: CellUnit, D: DividerUnit>(
 }
 
 /// Does what is left of the sequence under way, and returns its accesses.
-fn trace_middle<V: VectorUnit, P: SoundUnit, C: CellUnit, D: DividerUnit>(
-    cpu: &mut Cpu,
-    bus: &mut BoardBus<V, P, C, D>,
-    tape: &Tape,
-) -> Trace
+fn trace_middle<S: Units>(cpu: &mut Cpu, bus: &mut BoardBus<S>, tape: &Tape) -> Trace
     requires ready { CanTurn MAX_SEQUENCE_CLOCKS tape.now bus.old }
     requires middle { IsSome cpu.old.mid }
     ensures turned { TurnedBus tape.now.entries MAX_SEQUENCE_CLOCKS cpu.old bus.old bus.new cpu.new }
@@ -361,11 +341,7 @@ fn trace_middle<V: VectorUnit, P: SoundUnit, C: CellUnit, D: DividerUnit>(
 
 /// Does what is left of the sequence under way, or else one instruction or sequence, and returns
 /// its accesses.
-pub(crate) fn trace_running<V: VectorUnit, P: SoundUnit, C: CellUnit, D: DividerUnit>(
-    cpu: &mut Cpu,
-    bus: &mut BoardBus<V, P, C, D>,
-    tape: &Tape,
-) -> Trace
+pub(crate) fn trace_running<S: Units>(cpu: &mut Cpu, bus: &mut BoardBus<S>, tape: &Tape) -> Trace
     requires ready { CanTurn MAX_SEQUENCE_CLOCKS tape.now bus.old }
     requires running { cpu.old.jam ≡ None }
     ensures turned { TurnedBus tape.now.entries MAX_SEQUENCE_CLOCKS cpu.old bus.old bus.new cpu.new }
@@ -380,11 +356,7 @@ pub(crate) fn trace_running<V: VectorUnit, P: SoundUnit, C: CellUnit, D: Divider
 }
 
 /// Does what `trace_running` does; a processor that is jammed makes no access.
-pub(crate) fn trace_sequence<V: VectorUnit, P: SoundUnit, C: CellUnit, D: DividerUnit>(
-    cpu: &mut Cpu,
-    bus: &mut BoardBus<V, P, C, D>,
-    tape: &Tape,
-) -> Trace
+pub(crate) fn trace_sequence<S: Units>(cpu: &mut Cpu, bus: &mut BoardBus<S>, tape: &Tape) -> Trace
     requires ready { CanTurn MAX_SEQUENCE_CLOCKS tape.now bus.old }
     requires range { IsInRange cpu.old bus.old }
     requires early { cpu.old.mid ≡ None → bus.old.peripherals.clock < CLOCK_LIMIT }

@@ -7,20 +7,14 @@ ghost use Rattle.lockstep_board.specs.Lockstep.{sequence_due};
 ghost use Rattle.catchup_engine.specs.Turn.{CanTurn, Resets, TurnedBus, reads_opcode};
 
 use crate::bus::{BoardBus, MAX_SEQUENCE_CLOCKS};
-use avg_device::VectorUnit;
+use crate::devices::Units;
 use board_base::{CLOCK_END, Pending, Sequence};
 use cpu_alu::Flags;
 use cpu_core::{Bus, Cpu};
-use earom_cells::CellUnit;
-use irq_watchdog::DividerUnit;
-use pokey_chip::SoundUnit;
 use tape_ports::Tape;
 
 /// What a fetch begins in a clock whose ticks are done.
-pub(crate) fn due<V: VectorUnit, P: SoundUnit, C: CellUnit, D: DividerUnit>(
-    cpu: &Cpu,
-    bus: &BoardBus<V, P, C, D>,
-) -> Sequence
+pub(crate) fn due<S: Units>(cpu: &Cpu, bus: &BoardBus<S>) -> Sequence
     ensures { result ≡ sequence_due cpu.now bus.now.peripherals }
 {
     if bus.pending() != Pending::Nothing {
@@ -53,10 +47,10 @@ pub(crate) fn perform<B: Bus>(cpu: &mut Cpu, sequence: Sequence, bus: &mut B, fe
 }
 
 /// Does an instruction or an interrupt sequence, or its first clocks.
-fn begin_sequence<V: VectorUnit, P: SoundUnit, C: CellUnit, D: DividerUnit>(
+fn begin_sequence<S: Units>(
     cpu: &mut Cpu,
     sequence: Sequence,
-    bus: &mut BoardBus<V, P, C, D>,
+    bus: &mut BoardBus<S>,
     tape: &Tape,
     clocks: u8,
 )
@@ -79,12 +73,7 @@ fn begin_sequence<V: VectorUnit, P: SoundUnit, C: CellUnit, D: DividerUnit>(
 
 /// Takes the pending reset, or its first clocks: its effects come in its first clock, after the
 /// access.
-fn take_reset<V: VectorUnit, P: SoundUnit, C: CellUnit, D: DividerUnit>(
-    cpu: &mut Cpu,
-    bus: &mut BoardBus<V, P, C, D>,
-    tape: &Tape,
-    clocks: u8,
-)
+fn take_reset<S: Units>(cpu: &mut Cpu, bus: &mut BoardBus<S>, tape: &Tape, clocks: u8)
     requires running { cpu.old.jam ≡ None }
     requires boundary { cpu.old.mid ≡ None }
     requires accepts { Accepts tape.now bus.old }
@@ -103,12 +92,7 @@ fn take_reset<V: VectorUnit, P: SoundUnit, C: CellUnit, D: DividerUnit>(
 }
 
 /// Does the sequence that a fetch begins, or its first clocks.
-fn fetch<V: VectorUnit, P: SoundUnit, C: CellUnit, D: DividerUnit>(
-    cpu: &mut Cpu,
-    bus: &mut BoardBus<V, P, C, D>,
-    tape: &Tape,
-    clocks: u8,
-)
+fn fetch<S: Units>(cpu: &mut Cpu, bus: &mut BoardBus<S>, tape: &Tape, clocks: u8)
     requires ready { CanTurn clocks tape.now bus.old }
     requires running { cpu.old.jam ≡ None }
     requires boundary { cpu.old.mid ≡ None }
@@ -124,12 +108,7 @@ fn fetch<V: VectorUnit, P: SoundUnit, C: CellUnit, D: DividerUnit>(
 }
 
 /// Does the rest of the sequence under way, or its next clocks.
-fn resume<V: VectorUnit, P: SoundUnit, C: CellUnit, D: DividerUnit>(
-    cpu: &mut Cpu,
-    bus: &mut BoardBus<V, P, C, D>,
-    tape: &Tape,
-    clocks: u8,
-)
+fn resume<S: Units>(cpu: &mut Cpu, bus: &mut BoardBus<S>, tape: &Tape, clocks: u8)
     requires ready { CanTurn clocks tape.now bus.old }
     requires middle { IsSome cpu.old.mid }
     ensures turned { TurnedBus tape.now.entries clocks cpu.old bus.old bus.new cpu.new }
@@ -144,9 +123,9 @@ fn resume<V: VectorUnit, P: SoundUnit, C: CellUnit, D: DividerUnit>(
 
 /// Does a turn that may begin with anything.
 #[inline(never)]
-pub(crate) fn step_slow<V: VectorUnit, P: SoundUnit, C: CellUnit, D: DividerUnit>(
+pub(crate) fn step_slow<S: Units>(
     mut cpu: Cpu,
-    bus: &mut BoardBus<V, P, C, D>,
+    bus: &mut BoardBus<S>,
     tape: &Tape,
     clocks: u8,
 ) -> Cpu
@@ -167,10 +146,7 @@ pub(crate) fn step_slow<V: VectorUnit, P: SoundUnit, C: CellUnit, D: DividerUnit
 /// before them.
 #[inline(always)]
 #[tactic(auto, using(crate::proofs::OpcodeLaws::opcodes), unfolding(crate::specs::Turn::reads_opcode))]
-pub(crate) fn reads_opcode<V: VectorUnit, P: SoundUnit, C: CellUnit, D: DividerUnit>(
-    cpu: &Cpu,
-    bus: &BoardBus<V, P, C, D>,
-) -> bool
+pub(crate) fn reads_opcode<S: Units>(cpu: &Cpu, bus: &BoardBus<S>) -> bool
     requires clock { bus.now.peripherals.clock < CLOCK_END }
     ensures { result ≡ reads_opcode cpu.now bus.now }
 {

@@ -1,6 +1,7 @@
 -- Each run ends, and may be cut in two: a run to a clock takes the clocks up to it, and a run to a
 -- boundary six more at most.
-use Rattle.std.proofs.Common.{◌≡◌, ℕ, ◌+◌, ◌-◌, ◌≤◌, ◌<◌, Bool, true, false, ◌&&◌, ◌||◌, nat_le, is_some, is_none, List, length, Option, Some, None, IfSome, zero, suc, refl, ap, ◌∙◌, arith, inl, inr, ◌⊎◌, if◌then◌else◌}
+use Rattle.std.proofs.Common.{◌≡◌, ℕ, ◌+◌, ◌-◌, ◌≤◌, ◌<◌, Bool, true, false, ◌&&◌, ◌||◌, nat_le, is_some, is_none, List}
+use Rattle.std.proofs.Common.{length, Option, Some, None, IfSome, zero, suc, refl, ap, ◌∙◌, arith, inl, inr, ◌⊎◌, if◌then◌else◌}
 use Rattle.std.proofs.lemmas.Bool.{cases_lt}
 use Rattle.std.proofs.lemmas.Bool.Decides.{nat_tests}
 use Rattle.board_base.specs.Cpu.{MidValue}

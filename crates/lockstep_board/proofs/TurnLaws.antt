@@ -1,5 +1,6 @@
 -- The lockstep board turn by turn.
-use Rattle.std.proofs.Common.{◌≡◌, ℕ, ◌+◌, ◌-◌, ◌≤◌, ◌<◌, Bool, true, false, ◌&&◌, ◌||◌, nat_le, is_some, is_none, List, [], Option, Some, None, IfSome, zero, suc, refl, sym, ap, ◌∙◌, arith, zero-add, inl, inr, subst}
+use Rattle.std.proofs.Common.{◌≡◌, ℕ, ◌+◌, ◌-◌, ◌≤◌, ◌<◌, Bool, true, false, ◌&&◌, ◌||◌, nat_le, is_some, is_none, List, []}
+use Rattle.std.proofs.Common.{Option, Some, None, IfSome, zero, suc, refl, sym, ap, ◌∙◌, arith, zero-add, inl, inr, subst}
 use Rattle.std.proofs.lemmas.Bool.{cases_lt}
 use Rattle.std.proofs.lemmas.Bool.Decides.{nat_tests}
 use Rattle.board_base.specs.declared.cpu.Sequence.{Sequence}
@@ -15,7 +16,7 @@ use Rattle.lockstep_board.specs.Peripherals.{Peripherals, ticked}
 use Rattle.lockstep_board.specs.Lockstep.{Board, accessed, accessed_by, sequence_due, at_fetch, after_access, step}
 use Rattle.lockstep_board.specs.Run.{stepped, steps_until, is_jammed, is_over, boundary_steps, to_boundary, IsPlaced}
 use Rattle.lockstep_board.specs.Order.{Recorded, behind}
-use Rattle.lockstep_board.specs.Breaks.{turn, turned, is_at_any, BreakRun, TurnsTo}
+use Rattle.lockstep_board.specs.Breaks.{turn, turned, BreakRun, TurnsTo}
 use Rattle.lockstep_board.proofs.Behind.{to_boundary-behind}
 use Rattle.lockstep_board.proofs.Ends.{boundary-split, to_boundary-clock, to_boundary-over}
 use Rattle.lockstep_board.proofs.Places.{begun-cpu, to_boundary-placed}
@@ -217,9 +218,9 @@ pub turns-to : (entries : List TapeEntry) (limit : ℕ) (b : Board) → IsPlaced
 turns-to entries limit b placed = turns-within entries limit limit b (is_over limit b) refl placed (omega arith)
 
 -- one turn is a run to a break
-pub break-one : (entries : List TapeEntry) (limit : ℕ) (addresses : List ℕ) (b c : Board) → c ≡ turn entries b → BreakRun entries limit addresses b c
+pub break-one : (entries : List TapeEntry) (limit : ℕ) (stops : Board → Bool) (b c : Board) → c ≡ turn entries b → BreakRun entries limit stops b c
 unfolding turned
-break-one entries limit addresses b c is = record {
+break-one entries limit stops b c is = record {
   count = 1;
   some = omega arith;
   board = is;
@@ -246,16 +247,16 @@ all-between holds entries n m b c is first here rest k some few =
     ]
 
 -- a run to a break that stands at none yet, and goes on
-pub breaks-append : (entries : List TapeEntry) (limit : ℕ) (addresses : List ℕ) (b c d : Board) → BreakRun entries limit addresses b c
-    → is_over limit c ≡ false → is_at_any addresses c ≡ false → BreakRun entries limit addresses c d → BreakRun entries limit addresses b d
-breaks-append entries limit addresses b c d first open_yet away rest =
+pub breaks-append : (entries : List TapeEntry) (limit : ℕ) (stops : Board → Bool) (b c d : Board) → BreakRun entries limit stops b c
+    → is_over limit c ≡ false → stops c ≡ false → BreakRun entries limit stops c d → BreakRun entries limit stops b d
+breaks-append entries limit stops b c d first open_yet away rest =
     let some = first.some in
     record {
       count = first.count + rest.count;
       some = omega arith;
       board = rest.board ∙ ap (turned entries rest.count) first.board ∙ sym (turned-add entries first.count rest.count b);
       over = all-between (λ e. is_over limit e ≡ false) entries first.count rest.count b c first.board first.over open_yet rest.over;
-      at = all-between (λ e. is_at_any addresses e ≡ false) entries first.count rest.count b c first.board first.at away rest.at;
+      at = all-between (λ e. stops e ≡ false) entries first.count rest.count b c first.board first.at away rest.at;
     }
 
 pub ruleset turn_laws = (turns-to, turn-later, turn-boundary, turn-jammed, turned-behind, turned-placed)

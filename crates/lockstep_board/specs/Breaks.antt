@@ -20,13 +20,13 @@ abbrev pub is_at_any : List ℕ → Board → Bool
 is_at_any addresses b = list_any (λ address. address == b.cpu.pc) addresses
 
 -- Some turns lead from b to c, one at least. After none of them but the last a run to this limit is
--- over, or the processor stands at one of these addresses.
-pub record BreakRun (entries : List TapeEntry) (limit : ℕ) (addresses : List ℕ) (b c : Board) : Type 0 where
+-- over, or the board is one at which it stops.
+pub record BreakRun (entries : List TapeEntry) (limit : ℕ) (stops : Board → Bool) (b c : Board) : Type 0 where
   pub count : ℕ
   pub some : 1 ≤ count
   pub board : c ≡ turned entries count b
   pub over : (k : ℕ) → 1 ≤ k → k < count → is_over limit (turned entries k b) ≡ false
-  pub at : (k : ℕ) → 1 ≤ k → k < count → is_at_any addresses (turned entries k b) ≡ false
+  pub at : (k : ℕ) → 1 ≤ k → k < count → stops (turned entries k b) ≡ false
 
 -- a run to a boundary is so many turns, before each of which it isn't over
 pub record TurnsTo (entries : List TapeEntry) (limit : ℕ) (b : Board) : Type 0 where

@@ -7,10 +7,12 @@ ghost use Rattle.cpu_core.specs.Places.{IsMiddle};
 ghost use Rattle.cpu_table.specs.Opcodes.{row_of};
 ghost use Rattle.lockstep_board.specs.Breaks.{BreakRun, turn};
 ghost use Rattle.lockstep_board.specs.Budget.{budget};
+ghost use Rattle.catchup_engine.specs.Calls.{Settles};
 ghost use Rattle.catchup_engine.specs.EngineValue.{counted_on};
 ghost use Rattle.lockstep_board.specs.Order.{HasNoRecords, cleared, records_of};
 ghost use Rattle.lockstep_board.specs.Lockstep as lockstep;
 ghost use Rattle.lockstep_board.specs.Run.{cause_of, to_boundary, window_limit, wrap_of};
+ghost use Rattle.catchup_engine.specs.StopConditions.{stops_at};
 ghost use Rattle.catchup_engine.specs.Traced.{TracedRun};
 ghost use Rattle.lockstep_board.specs.Peripherals.{reloaded};
 ghost use Rattle.run_windows.specs.Synced.{IsSynced};
@@ -20,7 +22,7 @@ use crate::record_observer::RecordObserver;
 use crate::turn_observer::TurnObserver;
 use crate::until::Until;
 use board_base::{BoardState, CLOCK_LIMIT};
-use catchup_engine::{Machine, Stop};
+use catchup_engine::{Machine, Stop, StopConditions};
 use outside_io::{Sink, SinkFault};
 use tape_ports::Tape;
 
@@ -45,6 +47,15 @@ fn load_synced<M: Machine>(machine: &mut M, state: &BoardState)
 {
     machine.load(state);
     machine.lemma_range();
+}
+
+/// Moves each device to the present clock, and returns it.
+fn settle<M: Machine>(machine: &mut M) -> u64
+    ensures settles { Settles (M.value machine.old) (M.value machine.new) }
+    ensures clock { result ≡ (M.value machine.old).board.peripherals.clock }
+{
+    machine.settle();
+    machine.clock()
 }
 
 /// Forgets the records of a settled machine, and leaves it synchronised.
@@ -147,8 +158,7 @@ impl<'a, M: Machine> SyncedMachine<'a, M> {
             ≡ counted_on (value_of self.old).done ((value_of self.new).board.peripherals.clock - (value_of self.old).board.peripherals.clock) }
     {
         let stop = advance(self.machine, tape, until);
-        self.machine.settle();
-        let upto = self.machine.clock();
+        let upto = settle(self.machine);
         let taken = observer.take(&self.machine.trails(), upto, out);
         forget_records(self.machine);
         taken?;
@@ -271,17 +281,17 @@ impl<'a, M: Machine> SyncedMachine<'a, M> {
         forget_records(self.machine);
     }
 
-    /// Makes some turns, one at least, up to a limit, to where pc is one of these addresses, or to
-    /// the end of a window, and forgets their records.
-    pub fn turns_to_break(&mut self, tape: &Tape, limit: u64, addresses: &[u16])
+    /// Makes some turns, one at least, up to a limit, to where they stop, or to the end of a
+    /// window, and forgets their records.
+    pub fn turns_to_stop(&mut self, tape: &Tape, limit: u64, stops: &StopConditions<'_>)
         requires limit { limit ≤ CLOCK_LIMIT }
         requires before { (value_of self.old).board.peripherals.clock < limit }
         ensures same { loan_of self.new ≡ loan_of self.old }
-        ensures board { (c : lockstep.Board) × BreakRun tape.now.entries limit addresses.now (value_of self.old).board c
+        ensures board { (c : lockstep.Board) × BreakRun tape.now.entries limit (stops_at stops.now) (value_of self.old).board c
             × ((value_of self.new).board ≡ cleared c) }
         ensures later { (value_of self.old).board.cpu.jam ≡ None → (value_of self.old).board.peripherals.clock < (value_of self.new).board.peripherals.clock }
     {
-        self.machine.run_to_break(tape, limit, addresses);
+        self.machine.run_to_stop(tape, limit, stops);
         self.machine.settle();
         forget_records(self.machine);
     }

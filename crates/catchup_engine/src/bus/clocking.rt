@@ -10,6 +10,7 @@ ghost use Rattle.catchup_engine.specs.Bus.{Accepts, Does, begin_price, done_cloc
 ghost use Rattle.lockstep_board.specs.Peripherals.{devices_ticked, ticked};
 
 use crate::bus::{BoardBus, MAX_SEQUENCE_CLOCKS, TRAIL_ROOM};
+use crate::devices::Units;
 use avg_device::VectorUnit;
 use board_base::{CLOCK_END, DIVIDER_PERIOD};
 use catchup_devices::CatchUp;
@@ -30,7 +31,7 @@ pub(super) fn catch_up_divider<D: DividerUnit>(divider: &mut CatchUp<D>, clock: 
     divider.catch_up(clock, |unit, clocks| unit.advance(clocks));
 }
 
-impl<V: VectorUnit, P: SoundUnit, C: CellUnit, D: DividerUnit> BoardBus<V, P, C, D> {
+impl<S: Units> BoardBus<S> {
     /// The clocks done.
     #[tactic(auto, using(crate::proofs::DividerLaws::lines, crate::proofs::DividerLaws::next_lines), unfolding(lockstep_board::specs::Peripherals::devices_ticked))]
     pub fn clock(&self) -> u64

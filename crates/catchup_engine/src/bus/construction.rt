@@ -5,7 +5,7 @@ ghost use Rattle.catchup_engine.specs.NewBoard.{IsNew, peripherals_over};
 ghost use Rattle.lockstep_board.specs.Peripherals.{reloaded, peripherals_of};
 
 use crate::bus::{BoardBus, TRAIL_ROOM};
-use crate::devices::Devices;
+use crate::devices::{Devices, Units};
 use avg_device::VectorUnit;
 use board_base::{BoardState, OutOfMemory, Trail, VECTOR_ROM_LEN, VectorMemory};
 use catchup_devices::{CatchUp, SoundCatchUp, VectorCatchUp};
@@ -74,20 +74,20 @@ fn new_bytes(alloc: Global, image: &Image, state: &BoardState) -> Result<BoardBy
     })
 }
 
-impl<V: VectorUnit, P: SoundUnit, C: CellUnit, D: DividerUnit> BoardBus<V, P, C, D> {
+impl<S: Units> BoardBus<S> {
     /// The peripherals of a board over an image. It allocates all the memory that the board needs.
     pub fn new(
         alloc: Global,
         image: &Image,
         state: &BoardState,
-        devices: Devices<V, P, C, D>,
+        devices: Devices<S::Vector, S::Sound, S::Cells, S::Divider>,
         wired: bool,
-    ) -> Result<BoardBus<V, P, C, D>, OutOfMemory>
+    ) -> Result<BoardBus<S>, OutOfMemory>
         ensures peripherals { IfOk result (λ bus. bus.peripherals ≡ peripherals_of image.now wired state.now) }
         ensures between { IfOk result (λ bus. bus.clock_open ≡ false) }
         ensures settled { IfOk result (λ bus. bus.lagging ≡ none_lags) }
-        ensures calls { IfOk result (λ bus. bus.calls ≡ min (V.calls devices.vector + P.calls devices.sound1 + P.calls devices.sound2
-            + C.calls devices.cells + D.calls devices.divider + 5) (2 ^ 64 - 1)) }
+        ensures calls { IfOk result (λ bus. bus.calls ≡ min (S.Vector.calls devices.vector + S.Sound.calls devices.sound1 + S.Sound.calls devices.sound2
+            + S.Cells.calls devices.cells + S.Divider.calls devices.divider + 5) (2 ^ 64 - 1)) }
     {
         let trails = new_trails(alloc)?;
         let bytes = new_bytes(alloc, image, state)?;
@@ -100,9 +100,9 @@ impl<V: VectorUnit, P: SoundUnit, C: CellUnit, D: DividerUnit> BoardBus<V, P, C,
         trails: EmptyTrails,
         bytes: BoardBytes,
         state: &BoardState,
-        devices: Devices<V, P, C, D>,
+        devices: Devices<S::Vector, S::Sound, S::Cells, S::Divider>,
         wired: bool,
-    ) -> BoardBus<V, P, C, D>
+    ) -> BoardBus<S>
         requires vector { IsNew trails.vector }
         requires sound1 { IsNew trails.sound1 }
         requires sound2 { IsNew trails.sound2 }
@@ -112,8 +112,8 @@ impl<V: VectorUnit, P: SoundUnit, C: CellUnit, D: DividerUnit> BoardBus<V, P, C,
         ensures peripherals { result.peripherals ≡ peripherals_over wired state.now bytes.memory bytes.program.items }
         ensures between { result.clock_open ≡ false }
         ensures settled { result.lagging ≡ none_lags }
-        ensures calls { result.calls ≡ min (V.calls devices.vector + P.calls devices.sound1 + P.calls devices.sound2
-            + C.calls devices.cells + D.calls devices.divider + 5) (2 ^ 64 - 1) }
+        ensures calls { result.calls ≡ min (S.Vector.calls devices.vector + S.Sound.calls devices.sound1 + S.Sound.calls devices.sound2
+            + S.Cells.calls devices.cells + S.Divider.calls devices.divider + 5) (2 ^ 64 - 1) }
     {
         let Devices {
             vector,

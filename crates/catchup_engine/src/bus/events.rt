@@ -10,6 +10,7 @@ ghost use Rattle.catchup_engine.specs.Bus.{Accepts, ComesNext, Does, IsTapePlace
 ghost use Rattle.lockstep_board.specs.Peripherals.{applied, port_set, ticked};
 
 use crate::bus::BoardBus;
+use crate::devices::Units;
 use avg_device::VectorUnit;
 use board_base::CLOCK_END;
 use earom_cells::CellUnit;
@@ -18,7 +19,7 @@ use irq_watchdog::DividerUnit;
 use pokey_chip::SoundUnit;
 use tape_ports::{Port, Tape, TapeEntry};
 
-impl<V: VectorUnit, P: SoundUnit, C: CellUnit, D: DividerUnit> BoardBus<V, P, C, D> {
+impl<S: Units> BoardBus<S> {
     /// Sets the port of an entry of the tape, or the target of its pot.
     #[tactic(auto, using(board_base::proofs::TickLaws::level, crate::proofs::SettledLaws::settled))]
     fn set_port(&mut self, entry: TapeEntry)

@@ -5,13 +5,14 @@ ghost use Rattle.irq_watchdog.specs.Tick.{reset_taken};
 ghost use Rattle.lockstep_board.specs.Peripherals.{devices_ticked, line_of, reset_begun};
 
 use crate::bus::BoardBus;
+use crate::devices::Units;
 use avg_device::VectorUnit;
 use board_base::{CLOCK_END, Pending, Record};
 use earom_cells::CellUnit;
 use irq_watchdog::DividerUnit;
 use pokey_chip::SoundUnit;
 
-impl<V: VectorUnit, P: SoundUnit, C: CellUnit, D: DividerUnit> BoardBus<V, P, C, D> {
+impl<S: Units> BoardBus<S> {
     /// The interrupt line.
     #[tactic(auto, using(crate::proofs::DividerLaws::lines), unfolding(lockstep_board::specs::Peripherals::line_of))]
     pub fn line(&self) -> bool

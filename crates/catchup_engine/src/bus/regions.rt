@@ -1,17 +1,18 @@
 //! What reads and writes of the address map do. The devices that one reaches are synced first.
-ghost use Rattle.std.specs.Prelude.{◌≡◌, ◌+◌, ◌-◌, ◌*◌, ◌≤◌, ◌<◌, true, length, slice_index, slice_set, ◌++◌, ◌∷◌, []};
+ghost use Rattle.std.specs.Prelude.{◌≡◌, ◌+◌, ◌-◌, ◌*◌, ◌≤◌, ◌<◌, true, length, unwrap_or, slice_index, slice_set, ◌++◌, ◌∷◌, []};
 ghost use Rattle.std.specs.Int.{from_bool};
 ghost use Rattle.cpu_core.specs.BusCycles.{read_of, write_of};
 ghost use Rattle.lockstep_board.specs.Budget.{reaches_device};
 ghost use Rattle.board_map.specs.Map.{IsWithin, row_of};
 ghost use Rattle.catchup_engine.specs.Lags.{all_lag, lagging_among, lagging_at, with_synced};
-ghost use Rattle.catchup_engine.specs.Bus.{Does, at_clock, is_private};
+ghost use Rattle.catchup_engine.specs.Bus.{Does, Looked, at_clock, is_private};
 ghost use Rattle.lockstep_board.specs.Memory.{memory_byte};
 ghost use Rattle.avg_device.specs.Tick.{vg_reset};
 ghost use Rattle.lockstep_board.specs.Peripherals.{Peripherals, byte_put, byte_read, in0_byte};
 
 use crate::bus::clocking::catch_up_divider;
 use crate::bus::{BoardBus, PROGRAM_START};
+use crate::devices::Units;
 use avg_device::VectorUnit;
 use board_base::{RAM_LEN, Record, VECTOR_RAM_LEN};
 use board_map::{Reads, Row, Writes, row};
@@ -21,7 +22,7 @@ use lockstep_board::{DeviceSet, devices_read, devices_written};
 use pokey_chip::SoundUnit;
 use rom_image::PROGRAM_ROM_LEN;
 
-impl<V: VectorUnit, P: SoundUnit, C: CellUnit, D: DividerUnit> BoardBus<V, P, C, D> {
+impl<S: Units> BoardBus<S> {
     /// Moves the generator to the present clock: one call where it lags, and none where it doesn't.
     #[tactic(auto, using(board_base::proofs::TickLaws::level, crate::proofs::SettledLaws::synced))]
     pub(super) fn sync_vector(&mut self)
@@ -289,5 +290,28 @@ impl<V: VectorUnit, P: SoundUnit, C: CellUnit, D: DividerUnit> BoardBus<V, P, C,
             Reads::ProgramRom => Some(self.program_byte(row.offset)),
             _ => None,
         }
+    }
+
+    /// The byte that stands at an address, or 0 where no memory does.
+    #[inline(always)]
+    #[tactic(auto, using(crate::proofs::MapLaws::map_rows), unfolding(lockstep_board::specs::Memory::memory_byte))]
+    pub fn memory_byte(&self, addr: u16) -> u8
+        ensures { result ≡ unwrap_or (memory_byte addr self.now.peripherals) 0 }
+    {
+        if addr < RAM_LEN as u16 {
+            self.ram_byte(addr)
+        } else {
+            self.byte_at(addr).unwrap_or(0)
+        }
+    }
+
+    /// Whether the generator is halted: one call where it lags, and none where it doesn't.
+    #[tactic(auto, using(board_base::proofs::TickLaws::level, crate::proofs::SettledLaws::settled))]
+    pub fn generator_halted(&mut self) -> bool
+        ensures halted { result ≡ self.old.peripherals.vg.halted }
+        ensures looked { Looked true self.old self.new }
+    {
+        self.sync_vector();
+        self.vector.unit.halted()
     }
 }

@@ -4,9 +4,9 @@ ghost use Rattle.catchup_engine.specs.Lags.{lagging_of, none_lags};
 ghost use Rattle.lockstep_board.specs.Peripherals.{board_of};
 
 use crate::bus::{BoardBus, TRAIL_ROOM};
-use crate::devices::Devices;
+use crate::devices::{Devices, Units};
 use avg_device::VectorUnit;
-use board_base::{BoardState, CLOCK_LIMIT, CpuState, DIVIDER_PERIOD, PokeyState, Trails};
+use board_base::{BoardState, CLOCK_LIMIT, Clocked, CpuState, DIVIDER_PERIOD, PokeyState, Trails};
 use earom_cells::CellUnit;
 use irq_watchdog::DividerUnit;
 use lockstep_board::ALL_DEVICES;
@@ -20,7 +20,7 @@ fn levels_of(sound: &PokeyState) -> [u8; 4]
     sound.last
 }
 
-impl<V: VectorUnit, P: SoundUnit, C: CellUnit, D: DividerUnit> BoardBus<V, P, C, D> {
+impl<S: Units> BoardBus<S> {
     /// Moves each device to the present clock. One that doesn't lag isn't called.
     pub fn settle(&mut self)
         ensures value { self.new ≡ record self.old { lagging = none_lags; until = self.new.until; calls = self.new.calls } }
@@ -67,13 +67,13 @@ impl<V: VectorUnit, P: SoundUnit, C: CellUnit, D: DividerUnit> BoardBus<V, P, C,
 
     /// Gives the devices back.
     #[tactic(auto, using(board_base::proofs::TickLaws::level, crate::proofs::SettledLaws::settled))]
-    pub fn into_devices(self) -> Devices<V, P, C, D>
-        ensures calls { self.calls ≡ min (V.calls result.vector + P.calls result.sound1 + P.calls result.sound2 + C.calls result.cells + D.calls result.divider) (2 ^ 64 - 1) }
-        ensures vector { lagging_of self.lagging ≡ 0 → V.device result.vector ≡ self.peripherals.vg }
-        ensures sound1 { lagging_of self.lagging ≡ 0 → P.device result.sound1 ≡ self.peripherals.sound1 }
-        ensures sound2 { lagging_of self.lagging ≡ 0 → P.device result.sound2 ≡ self.peripherals.sound2 }
-        ensures cells { lagging_of self.lagging ≡ 0 → C.device result.cells ≡ self.peripherals.earom }
-        ensures divider { lagging_of self.lagging ≡ 0 → D.device result.divider ≡ self.peripherals.divider }
+    pub fn into_devices(self) -> Devices<S::Vector, S::Sound, S::Cells, S::Divider>
+        ensures calls { self.calls ≡ min (S.Vector.calls result.vector + S.Sound.calls result.sound1 + S.Sound.calls result.sound2 + S.Cells.calls result.cells + S.Divider.calls result.divider) (2 ^ 64 - 1) }
+        ensures vector { lagging_of self.lagging ≡ 0 → S.Vector.device result.vector ≡ self.peripherals.vg }
+        ensures sound1 { lagging_of self.lagging ≡ 0 → S.Sound.device result.sound1 ≡ self.peripherals.sound1 }
+        ensures sound2 { lagging_of self.lagging ≡ 0 → S.Sound.device result.sound2 ≡ self.peripherals.sound2 }
+        ensures cells { lagging_of self.lagging ≡ 0 → S.Cells.device result.cells ≡ self.peripherals.earom }
+        ensures divider { lagging_of self.lagging ≡ 0 → S.Divider.device result.divider ≡ self.peripherals.divider }
     {
         let BoardBus {
             vector,

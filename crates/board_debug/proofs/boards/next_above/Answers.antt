@@ -1,5 +1,4 @@
-use Rattle.std.proofs.Common.{arith, refl}
-use Rattle.board_debug.proofs.OneRunLaws.{next-step}
+use Rattle.std.proofs.Common.{arith}
 use Rattle.board_debug.proofs.boards.next_above.Goals as goal
 
 pub loop-clock-init : goal.loop-clock-init

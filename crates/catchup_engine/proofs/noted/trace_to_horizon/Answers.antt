@@ -1,5 +1,6 @@
 use Rattle.std.proofs.Common.{◌+◌, ◌-◌, [], length, ap, sym, ◌∙◌, refl, arith}
 use Rattle.board_base.specs.Cpu.{CpuValue}
+use Rattle.catchup_engine.specs.StopConditions.{no_conditions}
 use Rattle.catchup_engine.specs.Notes.{noting}
 use Rattle.catchup_engine.specs.Quiet.{passed, quiet_room}
 use Rattle.lockstep_board.specs.Peripherals.{byte_read, devices_ticked}
@@ -20,7 +21,7 @@ horizon_from-horizon-requires-clause-pending g c =
 pub loop-goes_on-init : goal.loop-goes_on-init
 loop-goes_on-init g c = record {
   at =
-      rw (c.new.ensures.none, c.new.ensures.bus) (noted-starts g.T.Tracer.next g.T.Tracer.has_enough c.args.tape.now c.args.limit c.horizon_from-horizon.result c.args.cpu
+      rw (c.new-lent.ensures.none, c.new-lent.ensures.bus) (noted-starts g.T.Tracer.next g.T.Tracer.has_enough c.args.tape.now c.args.limit c.horizon_from-horizon.result c.args.cpu
       c.args.bus.now c.args.tracer.now c.requires.ready.within c.requires.ready.range c.requires.ready.between c.requires.ready.room c.requires.ready.accepts c.requires.goes_on c.requires.opcode
       c.horizon_from-horizon.ensures.horizon c.horizon_from-horizon.ensures.until);
   bus = refl;
@@ -29,7 +30,7 @@ loop-goes_on-init g c = record {
 
 pub instruction-fetched-requires-clause-room : goal.instruction-fetched-requires-clause-room
 instruction-fetched-requires-clause-room g c =
-    let room = horizon-room c.args.tape.now c.args.limit [] c.horizon_from-horizon.result c.args.cpu c.loop-goes_on.cpu c.args.bus.now c.loop-goes_on.noted.quiet.bus.now
+    let room = horizon-room c.args.tape.now c.args.limit no_conditions c.horizon_from-horizon.result c.args.cpu c.loop-goes_on.cpu c.args.bus.now c.loop-goes_on.noted.quiet.bus.now
     c.loop-goes_on.noted.quiet.elapsed c.loop-goes_on.goes_on c.loop-goes_on-test.true c.requires.ready.within c.requires.ready.room c.loop-goes_on.invariant.at.at in
     let none = ap length c.begin.ensures.none in
     let same = ap (λ k. quiet_room k.quiet.elapsed k.quiet.bus.now) c.begin.ensures.same in
@@ -44,11 +45,11 @@ overflow_sub-clocks g c =
     ∙ ap (λ k. noting (passed k.quiet.elapsed k.quiet.bus.now) []) c.begin.ensures.same in
     let did =
     noted-by c.args.tape.now.entries (λ k. noting (passed k.quiet.elapsed k.quiet.bus.now) k.reached.now) (λ k. k.quiet.bus.now) (λ k. k.quiet.bus.ghost_name)
-    (λ k. k.reached.ghost_name) (λ x a b h. h) c.loop-goes_on.cpu c.instruction-fetched.new.self elapsed t c.begin.new.self c.instruction-fetched.new.bus start
+    (λ k. k.reached.ghost_name) (λ x a b h. h) c.loop-goes_on.cpu c.instruction-fetched.new.cpu elapsed t c.begin.new.self c.instruction-fetched.new.self start
     (ap (λ k. k.quiet.bus.now) c.begin.ensures.same) c.instruction-fetched.ensures.runs in
     let short =
-    noted-short g.T.Tracer.next g.T.Tracer.has_enough c.args.tape.now c.args.limit c.horizon_from-horizon.result c.args.cpu c.loop-goes_on.cpu c.instruction-fetched.new.self
-    c.args.bus.now t c.instruction-fetched.new.bus.quiet.bus.now elapsed c.instruction-fetched.new.bus.quiet.elapsed c.instruction-fetched.new.bus.reached.now c.args.tracer.now
+    noted-short g.T.Tracer.next g.T.Tracer.has_enough c.args.tape.now c.args.limit c.horizon_from-horizon.result c.args.cpu c.loop-goes_on.cpu c.instruction-fetched.new.cpu
+    c.args.bus.now t c.instruction-fetched.new.self.quiet.bus.now elapsed c.instruction-fetched.new.self.quiet.elapsed c.instruction-fetched.new.self.reached.now c.args.tracer.now
     c.loop-goes_on.tracer c.loop-goes_on.enough c.loop-goes_on.goes_on c.loop-goes_on-test.true c.loop-goes_on.invariant.at did.runs c.instruction-fetched.ensures.boundary in
     let later = short.later in
     let few = short.few in
@@ -66,11 +67,11 @@ overflow_cast-clocks g c =
     ∙ ap (λ k. noting (passed k.quiet.elapsed k.quiet.bus.now) []) c.begin.ensures.same in
     let did =
     noted-by c.args.tape.now.entries (λ k. noting (passed k.quiet.elapsed k.quiet.bus.now) k.reached.now) (λ k. k.quiet.bus.now) (λ k. k.quiet.bus.ghost_name)
-    (λ k. k.reached.ghost_name) (λ x a b h. h) c.loop-goes_on.cpu c.instruction-fetched.new.self elapsed t c.begin.new.self c.instruction-fetched.new.bus start
+    (λ k. k.reached.ghost_name) (λ x a b h. h) c.loop-goes_on.cpu c.instruction-fetched.new.cpu elapsed t c.begin.new.self c.instruction-fetched.new.self start
     (ap (λ k. k.quiet.bus.now) c.begin.ensures.same) c.instruction-fetched.ensures.runs in
     let short =
-    noted-short g.T.Tracer.next g.T.Tracer.has_enough c.args.tape.now c.args.limit c.horizon_from-horizon.result c.args.cpu c.loop-goes_on.cpu c.instruction-fetched.new.self
-    c.args.bus.now t c.instruction-fetched.new.bus.quiet.bus.now elapsed c.instruction-fetched.new.bus.quiet.elapsed c.instruction-fetched.new.bus.reached.now c.args.tracer.now
+    noted-short g.T.Tracer.next g.T.Tracer.has_enough c.args.tape.now c.args.limit c.horizon_from-horizon.result c.args.cpu c.loop-goes_on.cpu c.instruction-fetched.new.cpu
+    c.args.bus.now t c.instruction-fetched.new.self.quiet.bus.now elapsed c.instruction-fetched.new.self.quiet.elapsed c.instruction-fetched.new.self.reached.now c.args.tracer.now
     c.loop-goes_on.tracer c.loop-goes_on.enough c.loop-goes_on.goes_on c.loop-goes_on-test.true c.loop-goes_on.invariant.at did.runs c.instruction-fetched.ensures.boundary in
     let later = short.later in
     let few = short.few in
@@ -88,11 +89,11 @@ invariant_of-note g c =
     ∙ ap (λ k. noting (passed k.quiet.elapsed k.quiet.bus.now) []) c.begin.ensures.same in
     let did =
     noted-by c.args.tape.now.entries (λ k. noting (passed k.quiet.elapsed k.quiet.bus.now) k.reached.now) (λ k. k.quiet.bus.now) (λ k. k.quiet.bus.ghost_name)
-    (λ k. k.reached.ghost_name) (λ x a b h. h) c.loop-goes_on.cpu c.instruction-fetched.new.self elapsed t c.begin.new.self c.instruction-fetched.new.bus start
+    (λ k. k.reached.ghost_name) (λ x a b h. h) c.loop-goes_on.cpu c.instruction-fetched.new.cpu elapsed t c.begin.new.self c.instruction-fetched.new.self start
     (ap (λ k. k.quiet.bus.now) c.begin.ensures.same) c.instruction-fetched.ensures.runs in
     let short =
-    noted-short g.T.Tracer.next g.T.Tracer.has_enough c.args.tape.now c.args.limit c.horizon_from-horizon.result c.args.cpu c.loop-goes_on.cpu c.instruction-fetched.new.self
-    c.args.bus.now t c.instruction-fetched.new.bus.quiet.bus.now elapsed c.instruction-fetched.new.bus.quiet.elapsed c.instruction-fetched.new.bus.reached.now c.args.tracer.now
+    noted-short g.T.Tracer.next g.T.Tracer.has_enough c.args.tape.now c.args.limit c.horizon_from-horizon.result c.args.cpu c.loop-goes_on.cpu c.instruction-fetched.new.cpu
+    c.args.bus.now t c.instruction-fetched.new.self.quiet.bus.now elapsed c.instruction-fetched.new.self.quiet.elapsed c.instruction-fetched.new.self.reached.now c.args.tracer.now
     c.loop-goes_on.tracer c.loop-goes_on.enough c.loop-goes_on.goes_on c.loop-goes_on-test.true c.loop-goes_on.invariant.at did.runs c.instruction-fetched.ensures.boundary in
     let later = short.later in
     let few = short.few in
@@ -111,10 +112,10 @@ loop-goes_on-smaller g c =
     ∙ ap (λ k. noting (passed k.quiet.elapsed k.quiet.bus.now) []) c.begin.ensures.same in
     let did =
     noted-by c.args.tape.now.entries (λ k. noting (passed k.quiet.elapsed k.quiet.bus.now) k.reached.now) (λ k. k.quiet.bus.now) (λ k. k.quiet.bus.ghost_name)
-    (λ k. k.reached.ghost_name) (λ x a b h. h) c.loop-goes_on.cpu c.instruction-fetched.new.self elapsed t c.begin.new.self c.instruction-fetched.new.bus start
+    (λ k. k.reached.ghost_name) (λ x a b h. h) c.loop-goes_on.cpu c.instruction-fetched.new.cpu elapsed t c.begin.new.self c.instruction-fetched.new.self start
     (ap (λ k. k.quiet.bus.now) c.begin.ensures.same) c.instruction-fetched.ensures.runs in
-    noted-smaller g.T.Tracer.next g.T.Tracer.has_enough c.args.tape.now c.args.limit c.horizon_from-horizon.result c.args.cpu c.loop-goes_on.cpu c.instruction-fetched.new.self
-    c.args.bus.now t c.instruction-fetched.new.bus.quiet.bus.now elapsed c.instruction-fetched.new.bus.quiet.elapsed c.instruction-fetched.new.bus.reached.now c.args.tracer.now
+    noted-smaller g.T.Tracer.next g.T.Tracer.has_enough c.args.tape.now c.args.limit c.horizon_from-horizon.result c.args.cpu c.loop-goes_on.cpu c.instruction-fetched.new.cpu
+    c.args.bus.now t c.instruction-fetched.new.self.quiet.bus.now elapsed c.instruction-fetched.new.self.quiet.elapsed c.instruction-fetched.new.self.reached.now c.args.tracer.now
     c.loop-goes_on.tracer c.loop-goes_on.enough c.loop-goes_on.goes_on c.loop-goes_on-test.true c.loop-goes_on.invariant.at did.runs c.instruction-fetched.ensures.boundary
 
 pub loop-goes_on-preserved : goal.loop-goes_on-preserved
@@ -126,16 +127,16 @@ loop-goes_on-preserved g c =
     ∙ ap (λ k. noting (passed k.quiet.elapsed k.quiet.bus.now) []) c.begin.ensures.same in
     let did =
     noted-by c.args.tape.now.entries (λ k. noting (passed k.quiet.elapsed k.quiet.bus.now) k.reached.now) (λ k. k.quiet.bus.now) (λ k. k.quiet.bus.ghost_name)
-    (λ k. k.reached.ghost_name) (λ x a b h. h) c.loop-goes_on.cpu c.instruction-fetched.new.self elapsed t c.begin.new.self c.instruction-fetched.new.bus start
+    (λ k. k.reached.ghost_name) (λ x a b h. h) c.loop-goes_on.cpu c.instruction-fetched.new.cpu elapsed t c.begin.new.self c.instruction-fetched.new.self start
     (ap (λ k. k.quiet.bus.now) c.begin.ensures.same) c.instruction-fetched.ensures.runs in
-    let u = c.instruction-fetched.new.bus.quiet.bus.now in
-    let n = c.instruction-fetched.new.bus.quiet.elapsed in
+    let u = c.instruction-fetched.new.self.quiet.bus.now in
+    let n = c.instruction-fetched.new.self.quiet.elapsed in
     let clocks = c.clock.result - c.clock-start.result in
     let from = c.clock-start.ensures ∙ ap (λ k. k.quiet.bus.now.peripherals.clock + k.quiet.elapsed) c.begin.ensures.same in
     record {
       at =
-          noted-goes g.T.Tracer.next g.T.Tracer.has_enough c.args.tape.now c.args.limit c.horizon_from-horizon.result c.args.cpu c.loop-goes_on.cpu c.instruction-fetched.new.self
-          c.args.bus.now t u elapsed n c.byte_at-opcode.result clocks c.instruction-fetched.new.bus.reached.now c.args.tracer.now c.loop-goes_on.tracer c.turn-enough.new.self
+          noted-goes g.T.Tracer.next g.T.Tracer.has_enough c.args.tape.now c.args.limit c.horizon_from-horizon.result c.args.cpu c.loop-goes_on.cpu c.instruction-fetched.new.cpu
+          c.args.bus.now t u elapsed n c.byte_at-opcode.result clocks c.instruction-fetched.new.self.reached.now c.args.tracer.now c.loop-goes_on.tracer c.turn-enough.new.self
           c.loop-goes_on.enough c.loop-goes_on.goes_on c.goes_on-goes_on.result c.turn-enough.result c.loop-goes_on-test.true c.requires.ready.within c.loop-goes_on.invariant.at
           did.runs c.instruction-fetched.ensures.boundary c.instruction-fetched.ensures.accepts.0 did.lines
           (λ w ram program. c.byte_at-opcode.ensures w (ram ∙ sym (ap (λ k. k.quiet.bus.now.peripherals.ram) c.begin.ensures.same))

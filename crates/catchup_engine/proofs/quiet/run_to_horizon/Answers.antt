@@ -1,16 +1,16 @@
-use Rattle.std.proofs.Common.{◌&&◌, ◌||◌, is_none, nat_lt, sym, ap, ◌∙◌, ◌+◌, refl}
+use Rattle.std.proofs.Common.{◌&&◌, ◌||◌, is_none, nat_lt, sym, ◌∙◌, ◌+◌, refl}
 use Rattle.board_base.specs.declared.cpu.Sequence.TheVariants.{Opcode}
-use Rattle.board_base.specs.Cpu.{CpuValue}
 use Rattle.cpu_alu.specs.Flags.{is_masked}
 use Rattle.cpu_core.specs.Registers.{registers_of}
-use Rattle.lockstep_board.specs.Breaks.{is_at_any}
+use Rattle.catchup_engine.specs.StopConditions.{asks_generator, stops_at}
 use Rattle.lockstep_board.specs.Peripherals.{devices_ticked}
 use Rattle.catchup_engine.specs.Quiet.{passed}
 use Rattle.catchup_engine.specs.Runs.{over_bus}
 use Rattle.catchup_engine.proofs.HorizonLaws.{none-pending, runs-keep}
-use Rattle.catchup_engine.proofs.HorizonRuns.{and-else, and-then, horizon-goes, horizon-room, horizon-smaller, horizon-starts}
+use Rattle.catchup_engine.proofs.HorizonRuns.{horizon-looked, and-else, and-then, horizon-goes, horizon-room, horizon-smaller, horizon-starts}
 use Rattle.catchup_engine.proofs.OpcodeLaws.{reads-opcode}
 use Rattle.catchup_engine.proofs.QuietLaws.{quiet-runs}
+use Rattle.catchup_engine.proofs.StopLaws.{looked-clock}
 use Rattle.catchup_engine.proofs.quiet.run_to_horizon.Goals as goal
 
 pub horizon_from-horizon-requires-clause-no_event : goal.horizon_from-horizon-requires-clause-no_event
@@ -23,7 +23,7 @@ horizon_from-horizon-requires-clause-pending g c =
 pub loop-goes_on-init : goal.loop-goes_on-init
 loop-goes_on-init g c = record {
   at =
-      rw (c.new-quiet.ensures.none, c.new-quiet.ensures.bus) (horizon-starts c.args.tape.now c.args.limit (g.B.Breaks.addresses c.args.breaks.now) c.horizon_from-horizon.result c.args.cpu
+      rw (c.new-quiet.ensures.none, c.new-quiet.ensures.bus) (horizon-starts c.args.tape.now c.args.limit (g.B.Breaks.conditions c.args.breaks.now) c.horizon_from-horizon.result c.args.cpu
       c.args.bus.now c.requires.ready.within c.requires.ready.range c.requires.ready.between c.requires.ready.room c.requires.ready.accepts c.requires.goes_on c.horizon_from-horizon.ensures.horizon
       c.horizon_from-horizon.ensures.until);
   same = refl;
@@ -31,70 +31,74 @@ loop-goes_on-init g c = record {
 
 pub instruction-fetched-requires-clause-room : goal.instruction-fetched-requires-clause-room
 instruction-fetched-requires-clause-room g c =
-    horizon-room c.args.tape.now c.args.limit (g.B.Breaks.addresses c.args.breaks.now) c.horizon_from-horizon.result c.args.cpu c.loop-goes_on.cpu c.args.bus.now
+    horizon-room c.args.tape.now c.args.limit (g.B.Breaks.conditions c.args.breaks.now) c.horizon_from-horizon.result c.args.cpu c.loop-goes_on.cpu c.args.bus.now
     c.loop-goes_on.quiet.bus.now c.loop-goes_on.quiet.elapsed c.loop-goes_on.goes_on c.loop-goes_on-test.true c.requires.ready.within c.requires.ready.room c.loop-goes_on.invariant.at
 
 pub loop-goes_on-smaller-then-is_before : goal.loop-goes_on-smaller-then-is_before
 loop-goes_on-smaller-then-is_before g c =
     let seen =
     quiet-runs c.args.tape.now.entries (λ s. s.bus.now) (λ s. s.elapsed) (λ s. s.bus.ghost_name) (λ x a b h. (h.0, h.2)) (registers_of c.loop-goes_on.cpu) Opcode
-    c.loop-goes_on.quiet c.instruction-fetched.new.bus c.instruction-fetched.new.self c.instruction-fetched.ensures.runs in
-    horizon-smaller c.args.tape.now c.args.limit (g.B.Breaks.addresses c.args.breaks.now) c.horizon_from-horizon.result c.args.cpu c.loop-goes_on.cpu
-    c.instruction-fetched.new.self c.args.bus.now c.loop-goes_on.quiet.bus.now c.instruction-fetched.new.bus.bus.now c.loop-goes_on.quiet.elapsed
-    c.instruction-fetched.new.bus.elapsed c.loop-goes_on.goes_on c.loop-goes_on-test.true c.loop-goes_on.invariant.at seen.1 c.instruction-fetched.ensures.boundary
+    c.loop-goes_on.quiet c.instruction-fetched.new.self c.instruction-fetched.new.cpu c.instruction-fetched.ensures.runs in
+    let same =
+    looked-clock (asks_generator (g.B.Breaks.conditions c.args.breaks.now)) (passed c.instruction-fetched.new.self.elapsed c.instruction-fetched.new.self.bus.now)
+    (passed c.is_stop.new.self.elapsed c.is_stop.new.self.bus.now) c.is_stop.ensures.looked in
+    rw same (horizon-smaller c.args.tape.now c.args.limit (g.B.Breaks.conditions c.args.breaks.now) c.horizon_from-horizon.result c.args.cpu c.loop-goes_on.cpu
+    c.instruction-fetched.new.cpu c.args.bus.now c.loop-goes_on.quiet.bus.now c.instruction-fetched.new.self.bus.now c.loop-goes_on.quiet.elapsed
+    c.instruction-fetched.new.self.elapsed c.loop-goes_on.goes_on c.loop-goes_on-test.true c.loop-goes_on.invariant.at seen.1 c.instruction-fetched.ensures.boundary)
 
 pub loop-goes_on-preserved-then-is_before : goal.loop-goes_on-preserved-then-is_before
 loop-goes_on-preserved-then-is_before g c =
     let seen =
     quiet-runs c.args.tape.now.entries (λ s. s.bus.now) (λ s. s.elapsed) (λ s. s.bus.ghost_name) (λ x a b h. (h.0, h.2)) (registers_of c.loop-goes_on.cpu) Opcode
-    c.loop-goes_on.quiet c.instruction-fetched.new.bus c.instruction-fetched.new.self c.instruction-fetched.ensures.runs in
+    c.loop-goes_on.quiet c.instruction-fetched.new.self c.instruction-fetched.new.cpu c.instruction-fetched.ensures.runs in
     let lines =
-    runs-keep (λ s. s.bus.now) (λ x a b h. h.1) (registers_of c.loop-goes_on.cpu) Opcode c.loop-goes_on.quiet c.instruction-fetched.new.bus
-    c.instruction-fetched.new.self c.instruction-fetched.ensures.runs in
-    let addresses = g.B.Breaks.addresses c.args.breaks.now in
-    let t = c.instruction-fetched.new.bus.bus.now in
-    let n = c.instruction-fetched.new.bus.elapsed in
-    let f = c.instruction-fetched.new.self in
+    runs-keep (λ s. s.bus.now) (λ x a b h. h.1) (registers_of c.loop-goes_on.cpu) Opcode c.loop-goes_on.quiet c.instruction-fetched.new.self
+    c.instruction-fetched.new.cpu c.instruction-fetched.ensures.runs in
+    let stops = g.B.Breaks.conditions c.args.breaks.now in
+    let t = c.instruction-fetched.new.self.bus.now in
+    let n = c.instruction-fetched.new.self.elapsed in
+    let f = c.instruction-fetched.new.cpu in
     let horizon = c.horizon_from-horizon.result in
     record {
       at =
-          horizon-goes c.args.tape.now c.args.limit addresses horizon c.args.cpu c.loop-goes_on.cpu f c.args.bus.now c.loop-goes_on.quiet.bus.now t c.loop-goes_on.quiet.elapsed n
+          horizon-looked c.args.tape.now c.args.limit stops horizon c.args.cpu f c.args.bus.now t c.is_stop.new.self.bus.now n c.is_stop.new.self.elapsed _
+          (horizon-goes c.args.tape.now c.args.limit stops horizon c.args.cpu c.loop-goes_on.cpu f c.args.bus.now c.loop-goes_on.quiet.bus.now t c.loop-goes_on.quiet.elapsed n
           c.loop-goes_on.goes_on _ c.loop-goes_on-test.true c.requires.ready.within c.loop-goes_on.invariant.at seen.1 c.instruction-fetched.ensures.boundary
           c.instruction-fetched.ensures.accepts lines (λ _. c.is_before.ensures.wrap)
-          (and-then (nat_lt (t.peripherals.clock + n) horizon.until && (is_none f.jam && (horizon.irq_idle || is_masked f.p))) (is_at_any addresses (over_bus f (passed n t))) c.has.result
-          (sym c.is_before.ensures.value ∙ c.if-is_before.true)
-          (ap (λ (k : CpuValue). is_at_any addresses (over_bus k (passed n t))) (sym (c.behind-cpu.view_is ∙ c.state.ensures.value)) ∙ sym c.has.ensures));
-      same = seen.0 ∙ c.loop-goes_on.invariant.same;
+          (and-then (nat_lt (t.peripherals.clock + n) horizon.until && (is_none f.jam && (horizon.irq_idle || is_masked f.p))) (stops_at stops (over_bus f (passed n t))) c.is_stop.result
+          (sym c.is_before.ensures.value ∙ c.if-is_before.true) (sym c.is_stop.ensures.value)))
+          c.is_stop.ensures.looked c.is_stop.ensures.lines (c.is_stop.ensures.counted c.args.tape.now c.instruction-fetched.ensures.accepts);
+      same = c.is_stop.ensures.same_reference ∙ seen.0 ∙ c.loop-goes_on.invariant.same;
     }
 
 pub loop-goes_on-smaller : goal.loop-goes_on-smaller
 loop-goes_on-smaller g c =
     let seen =
     quiet-runs c.args.tape.now.entries (λ s. s.bus.now) (λ s. s.elapsed) (λ s. s.bus.ghost_name) (λ x a b h. (h.0, h.2)) (registers_of c.loop-goes_on.cpu) Opcode
-    c.loop-goes_on.quiet c.instruction-fetched.new.bus c.instruction-fetched.new.self c.instruction-fetched.ensures.runs in
-    horizon-smaller c.args.tape.now c.args.limit (g.B.Breaks.addresses c.args.breaks.now) c.horizon_from-horizon.result c.args.cpu c.loop-goes_on.cpu
-    c.instruction-fetched.new.self c.args.bus.now c.loop-goes_on.quiet.bus.now c.instruction-fetched.new.bus.bus.now c.loop-goes_on.quiet.elapsed
-    c.instruction-fetched.new.bus.elapsed c.loop-goes_on.goes_on c.loop-goes_on-test.true c.loop-goes_on.invariant.at seen.1 c.instruction-fetched.ensures.boundary
+    c.loop-goes_on.quiet c.instruction-fetched.new.self c.instruction-fetched.new.cpu c.instruction-fetched.ensures.runs in
+    horizon-smaller c.args.tape.now c.args.limit (g.B.Breaks.conditions c.args.breaks.now) c.horizon_from-horizon.result c.args.cpu c.loop-goes_on.cpu
+    c.instruction-fetched.new.cpu c.args.bus.now c.loop-goes_on.quiet.bus.now c.instruction-fetched.new.self.bus.now c.loop-goes_on.quiet.elapsed
+    c.instruction-fetched.new.self.elapsed c.loop-goes_on.goes_on c.loop-goes_on-test.true c.loop-goes_on.invariant.at seen.1 c.instruction-fetched.ensures.boundary
 
 pub loop-goes_on-preserved : goal.loop-goes_on-preserved
 loop-goes_on-preserved g c =
     let seen =
     quiet-runs c.args.tape.now.entries (λ s. s.bus.now) (λ s. s.elapsed) (λ s. s.bus.ghost_name) (λ x a b h. (h.0, h.2)) (registers_of c.loop-goes_on.cpu) Opcode
-    c.loop-goes_on.quiet c.instruction-fetched.new.bus c.instruction-fetched.new.self c.instruction-fetched.ensures.runs in
+    c.loop-goes_on.quiet c.instruction-fetched.new.self c.instruction-fetched.new.cpu c.instruction-fetched.ensures.runs in
     let lines =
-    runs-keep (λ s. s.bus.now) (λ x a b h. h.1) (registers_of c.loop-goes_on.cpu) Opcode c.loop-goes_on.quiet c.instruction-fetched.new.bus
-    c.instruction-fetched.new.self c.instruction-fetched.ensures.runs in
-    let addresses = g.B.Breaks.addresses c.args.breaks.now in
-    let t = c.instruction-fetched.new.bus.bus.now in
-    let n = c.instruction-fetched.new.bus.elapsed in
-    let f = c.instruction-fetched.new.self in
+    runs-keep (λ s. s.bus.now) (λ x a b h. h.1) (registers_of c.loop-goes_on.cpu) Opcode c.loop-goes_on.quiet c.instruction-fetched.new.self
+    c.instruction-fetched.new.cpu c.instruction-fetched.ensures.runs in
+    let stops = g.B.Breaks.conditions c.args.breaks.now in
+    let t = c.instruction-fetched.new.self.bus.now in
+    let n = c.instruction-fetched.new.self.elapsed in
+    let f = c.instruction-fetched.new.cpu in
     let horizon = c.horizon_from-horizon.result in
     record {
       at =
-          horizon-goes c.args.tape.now c.args.limit addresses horizon c.args.cpu c.loop-goes_on.cpu f c.args.bus.now c.loop-goes_on.quiet.bus.now t c.loop-goes_on.quiet.elapsed n
+          horizon-goes c.args.tape.now c.args.limit stops horizon c.args.cpu c.loop-goes_on.cpu f c.args.bus.now c.loop-goes_on.quiet.bus.now t c.loop-goes_on.quiet.elapsed n
           c.loop-goes_on.goes_on _ c.loop-goes_on-test.true c.requires.ready.within c.loop-goes_on.invariant.at seen.1 c.instruction-fetched.ensures.boundary
           c.instruction-fetched.ensures.accepts lines (λ _. c.is_before.ensures.wrap)
-          (and-else (nat_lt (t.peripherals.clock + n) horizon.until && (is_none f.jam && (horizon.irq_idle || is_masked f.p))) c.is_before.result (is_at_any addresses (over_bus f (passed n t)))
+          (and-else (nat_lt (t.peripherals.clock + n) horizon.until && (is_none f.jam && (horizon.irq_idle || is_masked f.p))) c.is_before.result (stops_at stops (over_bus f (passed n t)))
           c.if-is_before.false);
       same = seen.0 ∙ c.loop-goes_on.invariant.same;
     }

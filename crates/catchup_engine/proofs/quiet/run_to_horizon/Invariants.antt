@@ -5,7 +5,7 @@ use Rattle.catchup_engine.proofs.quiet.run_to_horizon.Given as goal
 
 abbrev pub invariant-loop-goes_on : goal.invariant-loop-goes_on
 invariant-loop-goes_on g l = record {
-  at : AtHorizon l.tape l.limit (g.B.Breaks.addresses l.breaks) l.horizon l.fn.cpu l.fn.bus l.quiet.elapsed l.quiet.bus.now l.cpu l.goes_on;
+  at : AtHorizon l.tape l.limit (g.B.Breaks.conditions l.breaks) l.horizon l.fn.cpu l.fn.bus l.quiet.elapsed l.quiet.bus.now l.cpu l.goes_on;
   same : l.quiet.bus.ghost_name ≡ l.initial.quiet.bus.ghost_name;
 }
 

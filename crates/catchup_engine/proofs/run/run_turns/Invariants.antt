@@ -1,13 +1,16 @@
-use Rattle.std.proofs.Common.{◌-◌}
+use Rattle.std.proofs.Common.{◌≡◌, ◌-◌, ◌||◌}
+use Rattle.lockstep_board.specs.Run.{is_over}
 use Rattle.catchup_engine.specs.Bus.{Accepts}
-use Rattle.catchup_engine.specs.Runs.{TurnsOn}
+use Rattle.catchup_engine.specs.Runs.{TurnsOn, over_bus}
+use Rattle.catchup_engine.specs.StopConditions.{stops_at}
 use Rattle.catchup_engine.proofs.run.run_turns.Given as goal
 
-abbrev pub invariant-loop-cpu : goal.invariant-loop-cpu
-invariant-loop-cpu g l = record {
-  on : TurnsOn l.tape.entries l.limit (g.B.Breaks.addresses l.breaks) l.fn.cpu l.fn.bus l.bus l.cpu;
+abbrev pub invariant-loop-ended : goal.invariant-loop-ended
+invariant-loop-ended g l = record {
+  at : TurnsOn l.tape.entries l.limit (g.B.Breaks.conditions l.breaks) l.fn.cpu l.fn.bus l.bus l.cpu;
   accepts : Accepts l.tape l.bus;
+  told : l.ended ≡ is_over l.limit (over_bus l.cpu l.bus) || stops_at (g.B.Breaks.conditions l.breaks) (over_bus l.cpu l.bus);
 }
 
-abbrev pub decreases-loop-cpu : goal.decreases-loop-cpu
-decreases-loop-cpu g l = l.limit - l.bus.peripherals.clock
+abbrev pub decreases-loop-ended : goal.decreases-loop-ended
+decreases-loop-ended g l = l.limit - l.bus.peripherals.clock

@@ -1,13 +1,19 @@
-use Rattle.std.proofs.Common.{ℕ, List, get_or, ap, sym, ◌∙◌, arith}
-use Rattle.board_debug.proofs.WatchLaws.{watch-found, watch-none}
+use Rattle.std.proofs.Common.{find, ap, sym, ◌∙◌}
+use Rattle.std.specs.Option.{option_map}
+use Rattle.catchup_engine.specs.StopConditions.{has_changed}
+use Rattle.catchup_engine.specs.declared.stop_conditions.WatchedByte.{WatchedByte}
+use Rattle.board_debug.specs.declared.stop_reason.StopReason.TheVariants.{Watch}
+use Rattle.board_debug.proofs.WatchLaws.{watch-is}
 use Rattle.board_debug.proofs.looks.Before.look_at_watches.Goals as goal
 
-pub returns-then-watched_byte-deref : goal.returns-then-watched_byte-deref
-returns-then-watched_byte-deref g c = λ before are.
-    watch-found before (g.M.Machine.value c.args.synced.now.machine.now).board c.args.watches.now c.args.self.now.bytes.items are c.watches.i c.watches-test.true
-    c.watches.invariant.same
-    (λ e. c.if-watched_byte-deref.true (c.watched_byte.ensures ∙ e ∙ ap (λ (l : List ℕ). get_or l c.watches.i 0) (sym c.deref.ensures.0)))
+pub returns-in-Some : goal.returns-in-Some
+returns-in-Some g c = λ before watches are.
+    let board = (g.M.Machine.value c.args.synced.now.machine.now).board in
+    ap (option_map (λ (byte : WatchedByte). Watch byte.address)) (sym c.in-Some.is ∙ c.changed.ensures ∙ ap (find (has_changed board.peripherals)) are)
+    ∙ watch-is before board watches
 
-pub returns : goal.returns
-returns g c = λ before are.
-    watch-none before (g.M.Machine.value c.args.synced.now.machine.now).board c.args.watches.now c.args.self.now.bytes.items are (λ j inside. c.watches.invariant.same j (omega arith))
+pub returns-in-None : goal.returns-in-None
+returns-in-None g c = λ before watches are.
+    let board = (g.M.Machine.value c.args.synced.now.machine.now).board in
+    ap (option_map (λ (byte : WatchedByte). Watch byte.address)) (sym c.in-None.is ∙ c.changed.ensures ∙ ap (find (has_changed board.peripherals)) are)
+    ∙ watch-is before board watches

@@ -17,16 +17,16 @@ returns-clause-value g c =
     let sound2 = c.self.invariant.4 in
     let cells = c.self.invariant.5 in
     let divider = c.self.invariant.6 in
-    let vg = g.V.VectorUnit.device bus.vector.unit in
-    let pokey1 = g.P.SoundUnit.device bus.sound1.unit in
-    let pokey2 = g.P.SoundUnit.device bus.sound2.unit in
+    let vg = g.S.Vector.VectorUnit.device bus.vector.unit in
+    let pokey1 = g.S.Sound.SoundUnit.device bus.sound1.unit in
+    let pokey2 = g.S.Sound.SoundUnit.device bus.sound2.unit in
     rw (
       ← c.self.view_is,
-      times-later divider_tick bus.divider.done bus.clock n (g.D.DividerUnit.device bus.divider.unit) divider,
+      times-later divider_tick bus.divider.done bus.clock n (g.S.Divider.DividerUnit.device bus.divider.unit) divider,
       ticks-later (vg_tick bus.memory) bus.vector.done bus.clock n vg vector,
       times-later pokey_tick bus.sound1.done bus.clock n pokey1 sound1,
       times-later pokey_tick bus.sound2.done bus.clock n pokey2 sound2,
-      times-later earom_tick bus.cells.done bus.clock n (g.C.CellUnit.device bus.cells.unit) cells,
+      times-later earom_tick bus.cells.done bus.clock n (g.S.Cells.CellUnit.device bus.cells.unit) cells,
       made-later (vg_tick bus.memory) vg_gives bus.vector.done bus.clock n vg vector,
       levels-later bus.sound1.done bus.clock n pokey1 sound1,
       levels-later bus.sound2.done bus.clock n pokey2 sound2,

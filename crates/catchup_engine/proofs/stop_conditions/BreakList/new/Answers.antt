@@ -1,7 +1,7 @@
 use Rattle.std.proofs.Common.{◌≡◌, ◌%◌, get_or, arith}
 use Rattle.std.proofs.lemmas.Grind.{common_steps}
 use Rattle.catchup_engine.proofs.BreakMarks.{marked-more}
-use Rattle.catchup_engine.proofs.breaks.BreakList.new.Goals as goal
+use Rattle.catchup_engine.proofs.stop_conditions.BreakList.new.Goals as goal
 
 pub loop-address-preserved : goal.loop-address-preserved
 loop-address-preserved c = record {

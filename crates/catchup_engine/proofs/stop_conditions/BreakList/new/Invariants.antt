@@ -1,6 +1,6 @@
 use Rattle.std.proofs.Common.{◌≡◌, length, take}
 use Rattle.catchup_engine.specs.BreakMarks.{AreMarked}
-use Rattle.catchup_engine.proofs.breaks.BreakList.new.Given as goal
+use Rattle.catchup_engine.proofs.stop_conditions.BreakList.new.Given as goal
 
 abbrev pub invariant-loop-address : goal.invariant-loop-address
 invariant-loop-address l = record {
