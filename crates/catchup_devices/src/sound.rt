@@ -167,7 +167,7 @@ impl<P: SoundUnit> SoundCatchUp<P> {
         ensures { (self.now.wired ≡ true → AsksAt self.now.done self.now.request_at (P.device self.now.unit))
             → result ≡ (self.now.wired && has_request (times pokey_tick (clock - self.now.done) (P.device self.now.unit))) }
     {
-        self.wired && self.request_at <= clock
+        self.request_at <= clock && self.wired
     }
 
     /// Whether it asserts the interrupt line after the ticks of the clock that comes next after so
