@@ -6,14 +6,22 @@
 //! processor time that they took. With `pairs FROM TO` it compares the boards of more seeds.
 #![tactic(auto)]
 
+mod asked;
+mod board;
 mod busy;
 mod measure;
 mod pairs;
+mod picture;
 mod plays;
+mod processor;
 mod programs;
 mod report;
+mod shifts;
+mod sound;
+mod tally;
+mod work;
 
-use bench_work::Report;
+use asked::Report;
 use measure::Fault;
 use std::alloc::Global;
 use std::time::CpuClock;

@@ -1,7 +1,13 @@
 ghost use Rattle.std.specs.Prelude.{◌≡◌, ◌≤◌};
 
+use crate::board::{BoardTally, run_windows};
+use crate::picture::draw;
+use crate::processor::count;
+use crate::shifts::{Form, Registers};
+use crate::sound::play;
+use crate::tally::Tally;
+use crate::work::Work;
 use avg_device::VectorUnit;
-use bench_work::{BoardTally, Form, Registers, Tally, Work, count, draw, play, run_windows};
 use board_base::{CLOCK_LIMIT, CpuState, OutOfMemory, VectorMemory};
 use catchup_engine::Machine;
 use pokey_chip::SoundUnit;

@@ -1,14 +1,19 @@
 ghost use Rattle.std.specs.Prelude.{◌≤◌};
 
+use crate::asked::Report;
+use crate::board::BoardTally;
 use crate::measure::{
     Fault, Timed, timed_counting, timed_drawing, timed_playing, timed_running, timed_shifts,
 };
 use crate::pairs::plain_devices;
+use crate::picture::{long_vectors, short_vectors};
+use crate::processor::ROUND_CLOCKS;
 use crate::programs::Program;
+use crate::shifts::Form;
+use crate::sound::Tune;
+use crate::tally::Tally;
+use crate::work::SLICE;
 use avg_device::{FastVg, PlainVg, VectorUnit};
-use bench_work::{
-    BoardTally, Form, ROUND_CLOCKS, Report, SLICE, Tally, Tune, long_vectors, short_vectors,
-};
 use board_base::{BoardState, CLOCK_LIMIT, CpuState, VectorMemory};
 use catchup_engine::{Devices, Engine};
 use earom_cells::Earom;
