@@ -1,5 +1,5 @@
 -- The pieces of an answer, one after the other.
-use Rattle.std.proofs.Common.{◌≡◌, ◌≢◌, ℕ, ◌+◌, ◌^◌, ◌<◌, ◌≤◌, inl, List, [], ◌∷◌, ◌++◌, length, refl, ◌∙◌, ap, subst, append_assoc, length-append, arith}
+use Rattle.std.proofs.Common.{◌≡◌, ◌≢◌, ℕ, ◌+◌, ◌^◌, ◌<◌, ◌≤◌, inl, List, [], ◌++◌, length, refl, ◌∙◌, ap, subst, append_assoc, length-append, arith}
 use Rattle.board_calls.specs.Answers.{Call, call_of, put_in, report_of}
 use Rattle.board_calls.specs.declared.report.GravitarReport.{GravitarReport}
 use Rattle.command_calls.specs.Bytes.{number_bytes}
@@ -9,13 +9,6 @@ use Rattle.gravitar_commands.specs.Outcome.{Outcome}
 use Rattle.command_calls.specs.Performed.{Performed}
 use Rattle.command_calls.specs.Answers.{AnswersCommand, AnswersWith, answer_bytes, answer_of, laid_out}
 use Rattle.command_calls.specs.Counted.{counted}
-
-number_length : (n : ℕ) → length (number_bytes n) ≡ 8
-number_length n = refl
-
-assoc : (xs ys zs : List ℕ) → (xs ++ ys) ++ zs ≡ xs ++ (ys ++ zs)
-assoc [] ys zs = refl
-assoc (x ∷ xs) ys zs = ap (λ l. x ∷ l) (assoc xs ys zs)
 
 lengths : (a b c d t n s : List ℕ) → length a ≡ 8 → length b ≡ 8 → length c ≡ 8 → length d ≡ 8
     → length (a ++ (b ++ (c ++ (d ++ (t ++ (n ++ s)))))) ≡ 32 + length t + length n + length s

@@ -1,20 +1,14 @@
 -- One more piece of a request.
-use Rattle.std.proofs.Common.{◌≡◌, ℕ, suc, ◌+◌, ◌-◌, ◌<◌, ◌≤◌, List, [], ◌∷◌, ◌++◌, length, Some, None, Option, Result, Ok, Err, refl, sym, ◌∙◌, ap, subst, arith}
+use Rattle.std.proofs.Common.{◌≡◌, ℕ, suc, ◌+◌, ◌-◌, ◌<◌, ◌≤◌, List, [], ◌∷◌, ◌++◌, length, refl, sym, ◌∙◌, ap, subst, arith}
+use Rattle.std.proofs.Common.{Some, None, Option, Result, Ok, Err, append_assoc}
+use Rattle.std.proofs.lemmas.List.{append-nil}
 use Rattle.outside_io.specs.Shelf.{Kept}
 use Rattle.command_calls.specs.Requests.{after_read, in_front, pieces_read}
 use Rattle.command_calls.specs.Shelves.{RequestFiles}
 
-nothing : {A : Type 0} (xs : List A) → xs ++ [] ≡ xs
-nothing [] = refl
-nothing (x ∷ xs) = ap (λ l. x ∷ l) (nothing xs)
-
-assoc : {A : Type 0} (xs ys zs : List A) → (xs ++ ys) ++ zs ≡ xs ++ (ys ++ zs)
-assoc [] ys zs = refl
-assoc (x ∷ xs) ys zs = ap (λ l. x ∷ l) (assoc xs ys zs)
-
 in_front_twice : {A : Type 0} (xs ys : List A) (read : Result (List A × List ℕ) ℕ)
     → in_front xs (in_front ys read) ≡ in_front (xs ++ ys) read
-in_front_twice xs ys (Ok others) = ap (λ l. Ok (l, others.1)) (sym (assoc xs ys others.0))
+in_front_twice xs ys (Ok others) = ap (λ l. Ok (l, others.1)) (sym (append_assoc xs ys others.0))
 in_front_twice xs ys (Err left) = refl
 
 in_front_of_none : {A : Type 0} (read : Result (List A × List ℕ) ℕ) → read ≡ in_front [] read
@@ -66,7 +60,7 @@ pub all_read : {A : Type 0} (read : List ℕ → Option (A × List ℕ)) (count 
 unfolding pieces_read
 all_read read count done bytes before rest h most =
     let e : count - done ≡ 0 = omega arith in
-    h.so_far ∙ (ap (λ m. in_front before (pieces_read read m rest)) e ∙ ap (λ l. Ok (l, rest)) (nothing before))
+    h.so_far ∙ (ap (λ m. in_front before (pieces_read read m rest)) e ∙ ap (λ l. Ok (l, rest)) (append-nil before))
 
 -- a shelf that differs in its files alone, twice
 pub same_but_files : (first then now : RequestFiles) (files : List Kept)

@@ -1,7 +1,7 @@
 -- The parts of a request.
 use Rattle.std.proofs.Common.{◌≡◌, ℕ, ◌==◌, Bool, true, false, List, length, Some, None, Option, Result, Ok, Err, if◌then◌else◌, sym, ◌∙◌, ap, subst}
 use Rattle.outside_io.specs.Shelf.{Kept}
-use Rattle.command_calls.specs.Requests.{after_all, after_read, file_read, number_read, parts_read, pieces_read, request_read, text_read}
+use Rattle.command_calls.specs.Requests.{after_all, after_read, file_read, number_read, parts_read, pieces_read, request_of, request_read, text_read}
 use Rattle.command_calls.specs.Faults.{Answers}
 use Rattle.command_calls.specs.declared.reading.RequestFault.{RequestFault}
 use Rattle.command_calls.specs.declared.reading.RequestFault.TheVariants.{Malformed, NoMemory}
@@ -29,32 +29,27 @@ counted bytes n rest m behind is more =
 
 bad_words : (n m : ℕ) (behind : List ℕ) (fault : RequestFault) → Answers fault (pieces_read text_read n behind) → Answers fault (parts_read n m behind)
 bad_words n m behind (Malformed left) h =
-    ap (λ (r : Result (List (List ℕ) × List ℕ) ℕ). after_all r (λ words. after_all (pieces_read file_read m words.1) (λ files.
-    if length files.1 == 0 then Ok (record { words = words.0; files = files.0 }) else Err (length files.1)))) h
+    ap (λ (r : Result (List (List ℕ) × List ℕ) ℕ). after_all r (λ words. after_all (pieces_read file_read m words.1) (λ files. request_of words.0 files))) h
 bad_words n m behind NoMemory h = tt
 
 after_those : (n m : ℕ) (behind : List ℕ) (words : List (List ℕ)) (after : List ℕ) → pieces_read text_read n behind ≡ Ok (words, after)
-    → parts_read n m behind ≡ after_all (pieces_read file_read m after) (λ files.
-    if length files.1 == 0 then Ok (record { words = words; files = files.0 }) else Err (length files.1))
+    → parts_read n m behind ≡ after_all (pieces_read file_read m after) (λ files. request_of words files)
 after_those n m behind words after h =
-    ap (λ (r : Result (List (List ℕ) × List ℕ) ℕ). after_all r (λ words. after_all (pieces_read file_read m words.1) (λ files.
-    if length files.1 == 0 then Ok (record { words = words.0; files = files.0 }) else Err (length files.1)))) h
+    ap (λ (r : Result (List (List ℕ) × List ℕ) ℕ). after_all r (λ words. after_all (pieces_read file_read m words.1) (λ files. request_of words.0 files))) h
 
 bad_files : (n m : ℕ) (behind : List ℕ) (words : List (List ℕ)) (after : List ℕ) (fault : RequestFault) → pieces_read text_read n behind ≡ Ok (words, after)
     → Answers fault (pieces_read file_read m after) → Answers fault (parts_read n m behind)
 bad_files n m behind words after (Malformed left) is h =
     after_those n m behind words after is
-    ∙ ap (λ (r : Result (List Kept × List ℕ) ℕ). after_all r (λ files.
-    if length files.1 == 0 then Ok (record { words = words; files = files.0 }) else Err (length files.1))) h
+    ∙ ap (λ (r : Result (List Kept × List ℕ) ℕ). after_all r (λ files. request_of words files)) h
 bad_files n m behind words after NoMemory is h = tt
 
 all_parts : (n m : ℕ) (behind : List ℕ) (words : List (List ℕ)) (after : List ℕ) (files : List Kept) (end : List ℕ)
     → pieces_read text_read n behind ≡ Ok (words, after) → pieces_read file_read m after ≡ Ok (files, end)
-    → parts_read n m behind ≡ (if length end == 0 then Ok (record { words = words; files = files }) else Err (length end))
+    → parts_read n m behind ≡ request_of words (files, end)
 all_parts n m behind words after files end is more =
     after_those n m behind words after is
-    ∙ ap (λ (r : Result (List Kept × List ℕ) ℕ). after_all r (λ files.
-    if length files.1 == 0 then Ok (record { words = words; files = files.0 }) else Err (length files.1))) more
+    ∙ ap (λ (r : Result (List Kept × List ℕ) ℕ). after_all r (λ files. request_of words files)) more
 
 module _ (bytes : List ℕ) (n : ℕ) (rest : List ℕ) (m : ℕ) (behind : List ℕ) (is : Some (n, rest) ≡ number_read bytes) (more : Some (m, behind) ≡ number_read rest) where
   pub words_refused : (fault : RequestFault) → Answers fault (pieces_read text_read n behind) → Answers fault (request_read bytes)
@@ -66,7 +61,7 @@ module _ (bytes : List ℕ) (n : ℕ) (rest : List ℕ) (m : ℕ) (behind : List
 
   all_taken : (words : List (List ℕ)) (after : List ℕ) (files : List Kept) (end : List ℕ)
       → pieces_read text_read n behind ≡ Ok (words, after) → pieces_read file_read m after ≡ Ok (files, end)
-      → request_read bytes ≡ (if length end == 0 then Ok (record { words = words; files = files }) else Err (length end))
+      → request_read bytes ≡ request_of words (files, end)
   all_taken words after files end read others = counted bytes n rest m behind is more ∙ all_parts n m behind words after files end read others
 
   pub left_over : (words : List (List ℕ)) (after : List ℕ) (files : List Kept) (end : List ℕ)

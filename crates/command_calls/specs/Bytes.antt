@@ -1,5 +1,5 @@
 -- Numbers, pieces, names and files as bytes. This project's own.
-use Rattle.std.specs.Prelude.{ℕ, ◌^◌, ◌<◌, List, [], ◌∷◌, ◌++◌, length, flat_map}
+use Rattle.std.specs.Prelude.{ℕ, ◌^◌, ◌<◌, List, ◌++◌, length, flat_map, All}
 use Rattle.std.specs.Int.{w64, to_le_bytes}
 use Rattle.std.specs.Str.{IsUtf8}
 use Rattle.outside_io.specs.Shelf.{Kept}
@@ -16,14 +16,13 @@ sized bytes = number_bytes (length bytes) ++ bytes
 unfoldable pub named : Kept → List ℕ
 named file = sized file.0 ++ sized file.1
 
+-- the bytes of all, without their names
+unfoldable pub all_bytes : List Kept → List ℕ
+all_bytes pieces = flat_map (λ piece. piece.1) pieces
+
 -- files or stores, in order
 unfoldable pub all_named : List Kept → List ℕ
 all_named files = flat_map named files
-
--- each of a list
-abbrev pub AllOf : {A : Type 0} → (A → Type 0) → List A → Type 0
-AllOf P [] = Unit {0}
-AllOf P (x ∷ xs) = P x × AllOf P xs
 
 -- a request: how many words, how many files, the words and the files
 unfoldable pub request_bytes : List (List ℕ) → List Kept → List ℕ
@@ -42,7 +41,7 @@ pub record IsFile (file : Kept) : Type 0 where
 
 -- words and files that a request can have
 pub record AreWritable (words : List (List ℕ)) (files : List Kept) : Type 0 where
-  pub all_words : AllOf IsWord words
-  pub all_files : AllOf IsFile files
+  pub all_words : All IsWord words
+  pub all_files : All IsFile files
   pub few_words : length words < 2 ^ 64
   pub few_files : length files < 2 ^ 64

@@ -1,5 +1,6 @@
 -- How the bytes of a request are read. This project's own.
-use Rattle.std.specs.Prelude.{ℕ, zero, suc, ◌==◌, List, [], ◌∷◌, ◌++◌, length, take, drop, nat_le, Option, Some, None, option_and_then, option_map, Result, Ok, Err, if◌then◌else◌}
+use Rattle.std.specs.Prelude.{ℕ, zero, suc, ◌==◌, nat_le, if◌then◌else◌, List, [], ◌∷◌, ◌++◌, length, take, drop}
+use Rattle.std.specs.Prelude.{Option, Some, None, option_and_then, option_map, Result, Ok, Err}
 use Rattle.std.specs.Int.{w64, from_le_bytes}
 use Rattle.std.specs.Str.{is_utf8}
 use Rattle.outside_io.specs.Shelf.{Kept}
@@ -47,12 +48,15 @@ unfoldable pub pieces_read : {A : Type 0} → (List ℕ → Option (A × List �
 pieces_read read zero bytes = Ok ([], bytes)
 pieces_read read (suc n) bytes = after_read (length bytes) (read bytes) (λ found. in_front (found.0 ∷ []) (pieces_read read n found.1))
 
+-- a request of these words, where nothing stands after its files
+abbrev pub request_of : List (List ℕ) → List Kept × List ℕ → Result Request ℕ
+request_of words files = if length files.1 == 0 then Ok (record { words = words; files = files.0 }) else Err (length files.1)
+
 -- so many words, so many files, and nothing more
 abbrev pub parts_read : ℕ → ℕ → List ℕ → Result Request ℕ
 parts_read word_count file_count bytes =
     after_all (pieces_read text_read word_count bytes) (λ words.
-    after_all (pieces_read file_read file_count words.1) (λ files.
-    if length files.1 == 0 then Ok (record { words = words.0; files = files.0 }) else Err (length files.1)))
+    after_all (pieces_read file_read file_count words.1) (λ files. request_of words.0 files))
 
 -- a request: how many words and how many files, and then these; or how many bytes stand where it
 -- isn't well formed

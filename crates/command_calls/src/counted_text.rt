@@ -2,7 +2,7 @@
 ghost use Rattle.std.specs.Prelude.{◌≡◌, ◌++◌, [], IfOk, IfSome, Some, length};
 ghost use Rattle.command_calls.specs.Counted.{counted};
 
-use crate::written::{Piece, WrittenText};
+use crate::written::Written;
 use outside_io::{Sink, SinkFault};
 use std::alloc::{AllocError, Global};
 use std::marker::Model;
@@ -15,22 +15,25 @@ pub struct CountedText {
     bytes: Vec<u8>,
     is_whole: bool,
     count: u64,
-    written: WrittenText,
+    written: Written,
 }
 
 impl Model for CountedText {
     ghost use Rattle.std.specs.Prelude.{◌≡◌, ℕ, List, length, true};
+    ghost use Rattle.command_calls.specs.Bytes.{all_bytes};
     ghost use Rattle.command_calls.specs.Counted.{counted};
 
     ghost Value = { List ℕ };
 
-    ghost view = { λ t. t.written.text };
+    ghost view = { λ t. all_bytes t.written.pieces };
 
-    ghost invariant = { λ t. (t.is_whole ≡ true → t.bytes.items ≡ t.written.text) × (t.count ≡ counted (length t.written.text)) };
+    ghost invariant = { λ t. (t.is_whole ≡ true → t.bytes.items ≡ all_bytes t.written.pieces) × (t.count ≡ counted (length (all_bytes t.written.pieces))) };
 }
 
 impl CountedText {
-    /// An empty text that keeps as many bytes as there is room for. It takes its memory as it grows.
+    /// An empty text that keeps as many bytes as there is room for. It takes its memory as it
+    /// grows.
+    #[tactic(auto, unfolding(crate::specs::Bytes::all_bytes))]
     pub fn new(alloc: Global, room: usize) -> CountedText
         ensures { result ≡ [] }
     {
@@ -39,11 +42,12 @@ impl CountedText {
             bytes: Vec::new(alloc),
             is_whole: true,
             count: 0,
-            written: WrittenText::new(),
+            written: Written::new(),
         }
     }
 
     /// An empty text that keeps as many bytes as there is room for, with the memory for them.
+    #[tactic(auto, unfolding(crate::specs::Bytes::all_bytes))]
     pub fn with_room(alloc: Global, room: usize) -> Result<CountedText, AllocError>
         ensures { IfOk result (λ t. t ≡ []) }
     {
@@ -52,7 +56,7 @@ impl CountedText {
             bytes: Vec::with_capacity(alloc, room)?,
             is_whole: true,
             count: 0,
-            written: WrittenText::new(),
+            written: Written::new(),
         })
     }
 
@@ -78,7 +82,7 @@ impl CountedText {
     pub fn push(&mut self, more: &[u8])
         ensures { self.new ≡ self.old ++ more.now }
     {
-        self.written = self.written.then(&Piece { bytes: more });
+        self.written = self.written.then_bytes(more);
         self.count = self.count.saturating_add(more.len() as u64);
         if self.is_whole {
             self.is_whole = self.count <= self.room as u64

@@ -5,7 +5,7 @@ ghost use Rattle.outside_io.specs.Steady.{known_files};
 ghost use Rattle.command_calls.specs.Bytes.{all_named};
 
 use crate::counted_text::CountedText;
-use crate::written::{MadeStores, Named};
+use crate::written::{Piece, Written};
 use board_base::OutOfMemory;
 use outside_io::{Failed, Loaded, Shelf, ShelfFault, SteadyShelf};
 use std::alloc::Global;
@@ -15,7 +15,7 @@ use std::marker::Model;
 #[derive(Drop)]
 pub struct RequestShelf {
     files: SteadyShelf,
-    made: MadeStores,
+    made: Written,
     kept: CountedText,
 }
 
@@ -26,9 +26,9 @@ impl Model for RequestShelf {
 
     ghost Value = { RequestFiles };
 
-    ghost view = { λ s. record { files = s.files.files; changed = s.files.changed; absences = s.files.absences; stores = s.made.stores } };
+    ghost view = { λ s. record { files = s.files.files; changed = s.files.changed; absences = s.files.absences; stores = s.made.pieces } };
 
-    ghost invariant = { λ s. s.kept ≡ all_named s.made.stores };
+    ghost invariant = { λ s. s.kept ≡ all_named s.made.pieces };
 }
 
 impl RequestShelf {
@@ -39,7 +39,7 @@ impl RequestShelf {
     {
         Ok(RequestShelf {
             files: SteadyShelf::new(alloc),
-            made: MadeStores::new(),
+            made: Written::new(),
             kept: CountedText::with_room(alloc, room)?,
         })
     }
@@ -77,7 +77,7 @@ impl Shelf for RequestShelf {
     /// It never fails.
     #[tactic(auto, using(crate::proofs::StoreLaws::one_more))]
     fn store(&mut self, name: &str, bytes: &[u8]) -> Result<(), Failed> {
-        self.made = self.made.then(&Named { name, bytes });
+        self.made = self.made.then(&Piece { name, bytes });
         self.kept.push(&(name.len() as u64).to_le_bytes());
         self.kept.push(name.as_bytes());
         self.kept.push(&(bytes.len() as u64).to_le_bytes());

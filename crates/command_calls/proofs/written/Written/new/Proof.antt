@@ -24,11 +24,11 @@ use denote.Triple.Spec.{Meets, triple_of}
 use denote.Triple.Table.{entered}
 use denote.Triple.Walked.{says, Stays, walk_of, ends_at, walk_Meets}
 use Rattle.command_calls.proofs.Walks.{none, none_made}
-use Rattle.command_calls.specs.contracts.written.WrittenText as Log
-use Rattle.command_calls.specs.contracts.written.WrittenText.new as F
-use Rattle.command_calls.specs.contracts.written.WrittenText.new.Key.{name as #self}
-use Rattle.command_calls.proofs.written.WrittenText.new.Statement as stated
-use Rattle.command_calls.proofs.written.WrittenText.new.Code as code
+use Rattle.command_calls.specs.contracts.written.Written as Log
+use Rattle.command_calls.specs.contracts.written.Written.new as F
+use Rattle.command_calls.specs.contracts.written.Written.new.Key.{name as #self}
+use Rattle.command_calls.proofs.written.Written.new.Statement as stated
+use Rattle.command_calls.proofs.written.Written.new.Code as code
 
 abbrev function : Fn
 function = code.function
@@ -56,7 +56,7 @@ module _ {M : Type 1} {𝓤 : Ura M} (𝓛 : Logic 𝓤) (at_mem : Memory → SP
     walks =
         let a = z.0.3 in
         let vss = z.0.4 in
-        let log : (Log.the_row).Denot = record { text = [] } in
+        let log : (Log.the_row).Denot = record { pieces = [] } in
         qed 𝓛 ((raw toks ⊛ ‵ (owns (types_at ended.signature.params z.0.0) a vss)) ∷ raw ((held z.0.0 a).requires z.1) ∷ []) ∵
         keep ! (0 ∷ []) $ split ! $ move ! (1 ∷ []) $ drop ! $
         enter ! C Λ function [] Post $ alloc_all ! (λ l. pass_all ! refl tt $
