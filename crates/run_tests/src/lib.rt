@@ -9,6 +9,10 @@ mod catchup_engine_tests;
 #[cfg(test)]
 mod command_calls_tests;
 #[cfg(test)]
+mod cycle_profile_tests;
+#[cfg(test)]
+mod frame_list_tests;
+#[cfg(test)]
 mod gravitar_commands_tests;
 #[cfg(test)]
 mod keyframes_tests;
