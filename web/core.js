@@ -29,10 +29,13 @@
  * Functions     clock_of, ports_of, cells_of, levels_of, board_text: of a board
  *               words_of, clock_in, lines_of: of records
  *               sha256, text, string_of, bytes_of_base64, joined, hex
+ *               core: the function that is all of this file, for a worker
  */
 'use strict';
 
-(function (scope) {
+// A function with a name: a worker (worker.js) is made of its text, since a page of files can't
+// read its scripts.
+function gravitar_core(scope) {
 
 const HZ = 1512000, FRAME = 25200, BOARD_LEN = 4356, IMAGE_LEN = 43008, RECORD_LEN = 40;
 const CELLS_AT = 196, CELLS_LEN = 64, POKEYS_AT = [84, 137], CLOCK_LIMIT = 2 ** 48;
@@ -514,9 +517,10 @@ const Gravitar = {
     HZ, FRAME, BOARD_LEN, IMAGE_LEN, RECORD_LEN, CELLS_LEN, CLOCK_LIMIT, PORTS,
     STROKE, POKEY_1, POKEY_2, LATCH, WATCHDOG, Refused, Library, Session, Levels, Mixer,
     clock_of, ports_of, cells_of, levels_of, board_text, words_of, clock_in, lines_of,
-    sha256, text, string_of, bytes_of_base64, joined, hex,
+    sha256, text, string_of, bytes_of_base64, joined, hex, core: gravitar_core,
 };
 if (typeof module === 'object' && module.exports) module.exports = Gravitar;
 else scope.Gravitar = Gravitar;
 
-})(typeof globalThis === 'object' ? globalThis : this);
+}
+gravitar_core(typeof globalThis === 'object' ? globalThis : this);

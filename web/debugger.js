@@ -2,7 +2,10 @@
 // clocks where it stops are those of the program. Nothing of the page.
 'use strict';
 
-if (typeof require === 'function') globalThis.Gravitar ??= require('./core.js');
+if (typeof require === 'function') {
+    globalThis.Gravitar ??= require('./core.js');
+    Object.assign(globalThis, require('./writes.js'));
+}
 
 const LONGEST_TURN = 24;                        // clocks: more than an instruction takes
 const JSR = 0x20;
@@ -19,6 +22,14 @@ function registers_of(text) {
 function stops_of(text) {
     return [...text.matchAll(/^stop (.*) at (\d+)$/gm)]
         .map(it => ({why: it[1], clock: Number(it[2])}));
+}
+// What `regs` and `mem 0000 256` printed together, each time: registers with `zero_page`.
+function visits_of(text) {
+    return text.split(/^(?=clock )/m).slice(text.startsWith('clock ') ? 0 : 1).map(it => {
+        const bytes = [...it.matchAll(/^[0-9A-F]{4}:(.*)$/gm)]
+            .flatMap(row => row[1].trim().split(' '));
+        return {...registers_of(it), zero_page: bytes.map(byte => parseInt(byte, 16))};
+    });
 }
 // The registers and the byte at pc, from a board's own bytes.
 function place_of_board(board, image) {
@@ -148,30 +159,96 @@ class Debugger {
         }
         return all;
     }
-    /* "Who wrote this": the turn before a clock that changed a byte of RAM or vector RAM last,
-     * {clock, begin, pc}, or null. A write of the byte that is there already changes nothing, and
-     * isn't seen. Yields the clock that the search has come to. */
+    // The turn before a clock that changed a byte of RAM or vector RAM last, as `turn_at` has it,
+    // or null. Yields the clock that the search has come to.
     *last_change(clock, address) {
         const watch = [`watch ${address_words(address)}`];
         for (let end = clock; end > this.start;) {
             const from = Math.max(this.start, end - Gravitar.HZ / 4);
             const found = this.stops_between(from, end, watch).at(-1);
-            if (found) {
-                const begin = this.back_step(found.clock);
-                return {clock: found.clock, begin, pc: this.place(begin).pc};
-            }
+            if (found) return this.turn_at(this.back_step(found.clock));
             end = from;
             yield end;
         }
         return null;
     }
+    /* The turn before a clock that wrote a byte last, also where it wrote the byte that was there.
+     * Instructions of the ROM that may write it are breaks, and their registers say which byte they
+     * write. Code in RAM has no such breaks: of its writes those are found that change the byte. */
+    *last_write(clock, address) {
+        const places = writers_of(this.session.image, address);
+        const watch = [`watch ${address_words(address)}`];
+        let piece = Gravitar.HZ / 32;
+        for (let end = clock; end > this.start; piece = Math.min(2 * piece, Gravitar.HZ / 4)) {
+            const from = Math.max(this.start, end - piece);
+            const begins = this.writes_between(from, end, address, places)
+                .filter(it => it + LONGEST_TURN <= clock || this.step(it).clock <= clock);
+            const after = Math.max(from, begins.at(-1) ?? from);
+            const changes = this.stops_between(after, end, watch)
+                .filter(it => it.clock > after).map(it => this.back_step(it.clock));
+            const all = [...begins, ...changes];
+            if (all.length) return this.turn_at(Math.max(...all));
+            end = from;
+            yield end;
+        }
+        return null;
+    }
+    // A turn: {begin, clock, pc, is_interrupt}, from its first clock to the one behind its last.
+    turn_at(begin) {
+        const {clock} = this.step(begin), {pc, s, opcode} = this.place(begin);
+        const after = this.place_after(begin, clock), handler = irq_handler(this.session.image);
+        const has_pushed = after.pc === handler && (s - after.s & 255) === 3;
+        return {begin, clock, pc, is_interrupt: has_pushed && opcode !== BRK};
+    }
+    // The clocks in a stretch at which turns begin that write a byte, of instructions at `places`.
+    writes_between(from, to, address, places) {
+        const begins = new Set();
+        for (let i = 0; i < places.length; i += 16) {
+            const group = places.slice(i, i + 16);
+            for (const it of this.visits(from, to, group)) {
+                for (const begin of this.begins_of_write(it, address)) begins.add(begin);
+            }
+        }
+        return [...begins].filter(it => it >= from && it < to).sort((a, b) => a - b);
+    }
+    // The turn of an instruction in front of which the registers were read, and the one before it
+    // where that has led to the handler of interrupts.
+    begins_of_write(registers, address) {
+        const {image} = this.session, {pc, s, clock, zero_page} = registers, begins = [];
+        if (written_by(image, registers, zero_page).includes(address)) begins.push(clock);
+        const pushed = [1, 2, 3].map(it => 0x100 + (s + it & 255));
+        if (pc === irq_handler(image) && pushed.includes(address)) {
+            const before = this.back_step(clock);
+            if (before !== null && (this.place(before).s - s & 255) === 3) begins.push(before);
+        }
+        return begins;
+    }
+    // The registers, and the zero page where an instruction at `places` has a pointer in it, in
+    // front of each such instruction in a stretch.
+    visits(from, to, places) {
+        const has_pointers = places.some(it => is_indirect(this.session.image, it));
+        const shown = has_pointers ? ['regs', 'mem 0000 256'] : ['regs'], all = [];
+        const breaks = places.map(it => `break ${address_words(it)}`);
+        for (let at = from, many = 50; ; many = 500) {
+            const more = Array.from({length: many}, () => ['go', ...shown]).flat();
+            const text = this.script(at, [...breaks, ...shown, ...more], to + 1);
+            const found = visits_of(text), is_first = at === from;
+            if (is_first && !this.place(from).is_inside && places.includes(found[0].pc)) {
+                all.push(found[0]);
+            }
+            const stops = stops_of(text).filter(it => it.why.startsWith('break'));
+            all.push(...found.slice(1, 1 + stops.length));
+            if (stops.length < many) return all;
+            at = stops.at(-1).clock;
+        }
+    }
 
     // The first clock of a stretch at which the stack is at its highest: outside of what is called
-    // in it, as far as 20,000 turns show. A profile from there charges what waits to itself.
-    outermost(from, to) {
+    // in it, as far as 5,000 turns a round show. A profile from there charges what waits to itself.
+    outermost(from, to, rounds = 4) {
         const pair = ['step 1', 'regs'], lines = Array.from({length: 10000}, (_, i) => pair[i & 1]);
         let best = null;
-        for (let at = from, i = 0; i < 4 && at < to; i++) {
+        for (let at = from, i = 0; i < rounds && at < to; i++) {
             const text = this.script_after(from, at, lines);
             const all = (text.match(/^clock \d+\ncpu .*$/gm) ?? []).map(registers_of);
             for (const it of all) if (it.clock < to && !(best?.s >= it.s)) best = it;

@@ -34,21 +34,19 @@ class Desk {
             page.say(`${one.name}: ${other} is missing. Open both together.`);
             return false;
         }
-        if (processor && page.workshop.is_open) {
-            page.workshop.open_sources(stem_of(processor.name),
-                {processor: Gravitar.string_of(processor.bytes),
-                    generator: Gravitar.string_of(generator.bytes)});
+        const opened = processor && opened_sources(stem_of(processor.name),
+            {processor: Gravitar.string_of(processor.bytes),
+                generator: Gravitar.string_of(generator.bytes)});
+        if (opened && page.workshop.is_open) {
+            page.workshop.menu.open_sources(opened.name, opened.sources);
             return true;
         }
         const made = processor && page.library.assemble(processor.bytes, generator.bytes);
         const bytes = made ?? image?.bytes ?? this.player.image, named = processor ?? image;
         if (!bytes) return false;
-        const name = named ? stem_of(named.name) : page.name;
-        const options = {name, board: board?.bytes, cells: cells?.bytes, tape: tape?.bytes};
-        if (processor) {
-            options.sources = {processor: Gravitar.string_of(processor.bytes),
-                generator: Gravitar.string_of(generator.bytes)};
-        }
+        const name = opened?.name ?? (named ? stem_of(named.name) : page.name);
+        const options = {name, board: board?.bytes, cells: cells?.bytes, tape: tape?.bytes,
+            sources: opened?.sources};
         if (!page.begin(bytes, options, {4: tape})) return false;
         if (named) $('example').value = '';
         const what = [processor ? 'sources' : image, board, cells, tape].filter(Boolean)
@@ -101,7 +99,7 @@ class Desk {
 
     // ---- saving
 
-    get name() { return this.page.name.replace(/[^\w.-]+/g, '_'); }
+    get name() { return plain_name(this.page.name); }
 
     // The tape, and the board where the run begins if that isn't power-on; the command over them.
     save_tape() {

@@ -18,6 +18,18 @@ function moved_lines(lines, {line, by}) {
         .map(it => it >= line ? it + by : it);
 }
 
+// Marks of lines, a Map by their numbers, after an edit: each goes with its line, and those of
+// lines that were changed or taken away are gone.
+function moved_marks(marks, before, after) {
+    const most = Math.min(before.length, after.length), by = after.length - before.length;
+    let head = 0, tail = 0;
+    while (head < most && before[head] === after[head]) head++;
+    while (tail < most - head && before.at(-1 - tail) === after.at(-1 - tail)) tail++;
+    const behind = before.length - tail;
+    return new Map([...marks].filter(([line]) => line <= head || line > behind)
+        .map(([line, it]) => [line <= head ? line : line + by, it]));
+}
+
 // Makes rows the children of a box, and touches only those that aren't in their places.
 function replace_rows(box, rows) {
     rows.forEach((row, i) => {
@@ -65,6 +77,7 @@ class Editor {
     }
     edited() {
         const lines = this.area.value.split('\n'), edit = edit_of(this.lines, lines);
+        this.problems = moved_marks(this.problems, this.lines, lines);
         this.lines = lines;
         if (edit.by) this.breaks = new Set(moved_lines(this.breaks, edit));
         this.pc = 0;
@@ -159,4 +172,4 @@ class Editor {
     }
 }
 
-if (typeof module === 'object') module.exports = {edit_of, moved_lines};
+if (typeof module === 'object') module.exports = {edit_of, moved_lines, moved_marks};

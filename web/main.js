@@ -53,7 +53,7 @@ class Wires {
         click('fit', () => {
             page.set_fit(!page.screen.fits);
             page.screen.box = page.is_log ? page.viewer.box(0) : box_around(page.player.strokes);
-            if (!page.is_log) page.shelf.put('fit', page.sum, page.screen.fits);
+            if (!page.is_log) page.keep_fit();
         });
         click('open', () => $('files').click());
         click('forget-cells', () => page.forget_cells());
@@ -117,6 +117,7 @@ class Wires {
         Object.assign(page, {layout, on: layout.on});
         player.controls = layout.controls;
         page.shelf.put('layout', page.sum, layout);
+        page.workshop.menu.keep_settings();
         page.show_keys();
     }
     escape() {
@@ -222,8 +223,8 @@ class Wires {
 }
 
 // The game that `tools/web.sh --single` puts into the page.
-function begin_game(page, {name, image, tape, processor, generator, layout}) {
-    const options = {name, layout, tape: tape && Gravitar.bytes_of_base64(tape)};
+function begin_game(page, {name, image, tape, processor, generator, layout, fits}) {
+    const options = {name, layout, fits, tape: tape && Gravitar.bytes_of_base64(tape)};
     if (processor !== undefined) options.sources = {processor, generator};
     if (page.begin(Gravitar.bytes_of_base64(image), options)) $('example').value = '';
 }

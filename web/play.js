@@ -30,9 +30,11 @@ class Page {
             hears: (records, clock, levels) => this.hear(records, clock, levels),
             breaks: () => this.speaker.clear(),
         });
-        this.player.stops = (from, to) => this.workshop.stop_before(from, to);
-        this.player.stopped = stop => this.workshop.stopped(stop);
+        this.player.stops = (from, to) => this.workshop.stops.stop_before(from, to);
+        this.player.stopped = stop => this.workshop.moves.stopped(stop);
     }
+    // What a project keeps beside its sources.
+    get settings() { return {layout: {...this.layout, on: this.on}, fits: this.screen.fits}; }
     get is_log() { return document.body.dataset.mode === 'log'; }
     hear(records, clock, levels) { this.speaker.hear(records, clock, levels, this.speed); }
 
@@ -56,15 +58,14 @@ class Page {
 
     // ---- a game begins
 
-    // The layout is the one that the browser keeps for the image, else `layout`: an example's has a
-    // name, a shared game's is the table itself. `sources` are the image's texts, where it has
-    // them; `files` those whose lines a refusal shows.
-    begin(image, {name = this.name, layout, sources, ...options} = {}, files = {}) {
+    // The layout is that of `own`, which has the settings of a project, else the one that the
+    // browser keeps for the image, else `layout`: an example's has a name, a shared game's is the
+    // table itself. `sources` are the image's texts, where it has them; `files` those whose lines a
+    // refusal shows.
+    begin(image, {name = this.name, own, layout, fits, sources, ...options} = {}, files = {}) {
         this.keep_cells();
-        const sum = Gravitar.sha256(image), kept = this.shelf.get('layout', sum);
-        const example = this.example_by_sum(sum);
-        const chosen = [kept, layout].find(is_layout) ??
-            LAYOUTS[layout ?? example?.layout] ?? LAYOUTS['all of IN3 and IN4'];
+        const sum = Gravitar.sha256(image), example = this.example_by_sum(sum);
+        const chosen = this.chosen_layout(sum, own?.layout, layout ?? example?.layout);
         const ports = Object.fromEntries((chosen.on ?? []).map(it => [it, 255]));
         if (!options.board && !options.cells && !options.tape) options.cells = this.kept_cells(sum);
         const was = this.player.controls;
@@ -77,13 +78,17 @@ class Page {
         document.title = `${name} · gravitar`;
         this.screen.box = null;
         this.has_drawn = false;
-        this.set_fit(this.shelf.get('fit', sum) ?? Boolean(example));
+        this.set_fit(own?.fits ?? this.kept_fit(sum, name) ?? fits ?? Boolean(example));
         this.say('');
         this.show_mode('play');
         this.show_keys();
         this.workshop.begun(sources);
         this.player.go(performance.now());
         return true;
+    }
+    chosen_layout(sum, own, given) {
+        return [own, this.shelf.get('layout', sum), given].find(is_layout) ?? LAYOUTS[given] ??
+            LAYOUTS['all of IN3 and IN4'];
     }
     // Another image for the play that is under way (replay.js).
     exchange(session) {
@@ -102,7 +107,7 @@ class Page {
         $('example').value = name;
     }
     begin_again({replay = false} = {}) {
-        const {session} = this.player, options = {layout: {...this.layout, on: this.on}};
+        const {session} = this.player, options = {own: this.settings};
         if (!session.is_at_power_on && session.start.length) options.board = session.start;
         if (replay) options.tape = session.tape();
         else if (Gravitar.clock_of(session.start) === 0) {
@@ -129,7 +134,7 @@ class Page {
     forget_cells() {
         this.shelf.put('cells', this.sum, null);
         this.cells = this.player.session.cells();
-        this.begin(this.player.image, {layout: {...this.layout, on: this.on}});
+        this.begin(this.player.image, {own: this.settings});
     }
     keep_cells() {
         const session = this.player.session;
@@ -155,6 +160,16 @@ class Page {
         this.screen.fits = fits;
         if (this.second) this.second.fits = fits;
         $('fit').setAttribute('aria-pressed', fits);
+    }
+    // It is kept for the image, for other images of the game's name, and with a project.
+    keep_fit() {
+        const {fits} = this.screen;
+        this.shelf.put('fit', this.sum, fits);
+        this.shelf.put('fit', `of ${this.name}`, fits);
+        this.workshop.menu.keep_settings();
+    }
+    kept_fit(sum, name) {
+        return this.shelf.get('fit', sum) ?? this.shelf.get('fit', `of ${name}`) ?? undefined;
     }
     show_keys() {
         const cap = it => element('kbd', {}, source_words(it.source));
@@ -353,7 +368,7 @@ class Page {
         $('stroke').textContent = `${where}${line}\n${ink}, intensity ${s.intensity} of 15, ` +
             `${(s.clock / Gravitar.HZ).toFixed(4)} s`;
         if (this.is_log && !this.viewer.is_playing && s.line !== undefined) this.viewer.go(s.clock);
-        if (!this.is_log) this.workshop.choose(stroke);
+        if (!this.is_log) this.workshop.words.choose(stroke);
     }
     // The stroke before or after the chosen one, of those that are shown.
     choose_next(way) {

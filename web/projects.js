@@ -1,4 +1,5 @@
-// Projects that a browser keeps by name: two sources, the table of keys, and where they came from.
+// Projects that a browser keeps by name: two sources, the table of keys, and whether the picture is
+// fitted; and their sources as files.
 // Nothing of the page but, where there is one, its storage.
 'use strict';
 
@@ -8,6 +9,28 @@ const PROJECT = 'gravitar project ';
 
 function is_project(it) {
     return Boolean(it) && typeof it.processor === 'string' && typeof it.generator === 'string';
+}
+
+// What a file is called: letters, digits and `_.-` of a name alone.
+function plain_name(name) { return name.replace(/[^\w.-]+/g, '_'); }
+
+const NAME_LINE = /(^|\n); gravitar project: (.*)(\n?)$/;
+/* The two sources as files {name, text}. Where a file can't have the project's name, that stands in
+ * a comment behind the last line, so that no line has another number. The comment ends with the end
+ * of a line where the source does. */
+function saved_sources(name, {processor, generator}) {
+    const file = plain_name(name), is_ended = /(^|\n)$/.test(processor);
+    const line = `; gravitar project: ${name.replace(/[\0-\x1f]/g, ' ')}`;
+    const named = is_ended ? `${processor}${line}\n` : `${processor}\n${line}`;
+    return [{name: `${file}.s`, text: file === name ? processor : named},
+        {name: `${file}.v`, text: generator}];
+}
+// The name and the sources again, {name, sources}; `stem` is what the file is called.
+function opened_sources(stem, {processor, generator}) {
+    const found = NAME_LINE.exec(processor);
+    if (!found) return {name: stem, sources: {processor, generator}};
+    const [, before, name, ended] = found, text = processor.slice(0, found.index);
+    return {name, sources: {processor: ended ? text + before : text, generator}};
 }
 
 class Projects {
@@ -61,4 +84,6 @@ class Projects {
     }
 }
 
-if (typeof module === 'object') module.exports = {Projects, is_project};
+if (typeof module === 'object') {
+    module.exports = {Projects, is_project, plain_name, saved_sources, opened_sources};
+}

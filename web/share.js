@@ -21,11 +21,11 @@ function json_line(parts) {
 // Code in which nothing ends the element that it stands in.
 function in_script(code) { return code.replace(/<(?=\/script|!--)/gi, '<\\'); }
 
-// The script of a game {name, image, tape, processor, generator, layout}, of which all behind the
-// image may lack.
-function game_script({name, image, tape, processor, generator, layout}) {
+// The script of a game {name, image, tape, processor, generator, layout, fits}, of which all behind
+// the image may lack.
+function game_script({name, image, tape, processor, generator, layout, fits}) {
     const parts = {name, image: base64_of(image), tape: tape && base64_of(tape), processor,
-        generator, layout};
+        generator, layout, fits};
     return `<script>\n${in_script(`var GRAVITAR_GAME = ${json_line(parts)};\n`)}</script>\n`;
 }
 // The page's text with a game, in the place of one that it has.

@@ -52,7 +52,7 @@ class DebugTool {
             const is_on = it.p >> 7 - i & 1;
             return element('span', {className: is_on ? 'is-on' : ''}, name);
         });
-        const where = workshop.words_of(it.pc);
+        const where = workshop.view.words_of(it.pc);
         $('registers').replaceChildren(
             element('div', {className: 'cells'}, cell('PC', address_words(it.pc)),
                 cell('A', hex2(it.a)), cell('X', hex2(it.x)), cell('Y', hex2(it.y)),
@@ -70,16 +70,16 @@ class DebugTool {
             const text = line.slice(16), to = /\$([0-9A-F]{4}|[0-9A-F]{2})\b/.exec(text);
             const name = to && !text.includes('#') ? names?.name(parseInt(to[1], 16)) ?? '' : '';
             const kind = `${address === pc ? 'is-pc' : ''} ` +
-                `${workshop.breaks().includes(address) ? 'has-break' : ''}`;
+                `${workshop.stops.breaks().includes(address) ? 'has-break' : ''}`;
             rows.push({to: address, kind, cells: [element('span', {className: 'dot'}),
                 line.slice(0, 4), element('span', {className: 'bytes'}, line.slice(6, 15).trim()),
                 element('span', {className: 'text'}, text), element('i', {}, name)]});
         }
-        $('disassembly').replaceChildren(...rows_of(rows, it => workshop.reveal(it)));
+        $('disassembly').replaceChildren(...rows_of(rows, it => workshop.view.reveal(it)));
         $('disassembly').querySelectorAll('.dot').forEach(dot => {
             dot.onclick = event => {
                 event.stopPropagation();
-                workshop.toggle_address(parseInt(dot.nextSibling.textContent, 16));
+                workshop.stops.toggle_address(parseInt(dot.nextSibling.textContent, 16));
             };
         });
     }
@@ -90,17 +90,17 @@ class DebugTool {
                 ariaLabel: `forget ${kind} ${address_words(address)}`});
             remove.onclick = event => {
                 event.stopPropagation();
-                if (kind === 'break') workshop.toggle_address(address);
-                else workshop.watches = workshop.watches.filter(it => it !== address);
+                if (kind === 'break') workshop.stops.toggle_address(address);
+                else workshop.stops.remove_watch(address);
                 workshop.refresh();
             };
-            const words = kind === 'break' ? workshop.words_of(address) :
+            const words = kind === 'break' ? workshop.view.words_of(address) :
                 workshop.build?.names?.name(address) ?? '';
             return {to: address, cells: [kind, address_words(address), words, remove]};
         };
-        const rows = [...workshop.breaks().map(it => row('break', it)),
-            ...workshop.watches.map(it => row('watch', it))];
-        $('stops').replaceChildren(...rows_of(rows, it => workshop.reveal(it)));
+        const rows = [...workshop.stops.breaks().map(it => row('break', it)),
+            ...workshop.stops.watches.map(it => row('watch', it))];
+        $('stops').replaceChildren(...rows_of(rows, it => workshop.view.reveal(it)));
         if (!rows.length) {
             $('stops').append(element('p', {className: 'quiet'},
                 'Click a line’s number to stop there.'));
@@ -114,7 +114,7 @@ class MemoryTool {
         this.at = 0;
         $('memory-area').onchange = () => this.go(parseInt($('memory-area').value, 16));
         $('memory-at').onchange = () => {
-            const address = workshop.address($('memory-at').value);
+            const address = workshop.view.address($('memory-at').value);
             if (address === undefined) workshop.page.say(`no address ${$('memory-at').value}`);
             else this.go(address);
         };
@@ -137,7 +137,7 @@ class MemoryTool {
             return {to: address, cells: [it.slice(0, 4), it.slice(6), element('i', {}, where)]};
         });
         const shown = at < 0x800 ? this.data_rows(clock) : rows;
-        $('statements').replaceChildren(...rows_of(shown, it => workshop.reveal_word(it)));
+        $('statements').replaceChildren(...rows_of(shown, it => workshop.words.reveal(it)));
     }
     row(line) {
         const address = parseInt(line.slice(0, 4), 16), names = this.workshop.build?.names;
@@ -146,7 +146,7 @@ class MemoryTool {
             const it = element('span', {title: `${words} ${name}`}, byte);
             it.classList.toggle('has-name', Boolean(names?.data.has(address + i)));
             it.classList.toggle('is-zero', byte === '00' || byte === '--');
-            it.onclick = () => this.workshop.who(address + i);
+            it.onclick = () => this.workshop.moves.who(address + i);
             return it;
         });
         return element('div', {className: 'bytes'}, element('i', {}, line.slice(0, 4)), ...bytes);
@@ -171,29 +171,61 @@ function bar_scale(routines) {
 
 class ProfileTool {
     constructor(workshop) {
-        this.workshop = workshop;
-        this.profile = null;
+        Object.assign(this, {workshop, profile: null, job: null, words: ''});
         for (const it of document.querySelectorAll('[data-profile]')) {
-            it.onclick = () => { this.span = it.dataset.profile; this.measure(); };
+            it.onclick = () => this.measure(it.dataset.profile);
         }
+        $('profile-cancel').onclick = () => this.cancel();
     }
-    measure() {
-        const {workshop} = this, to = workshop.clock, {library, session} = workshop.debug;
-        const {start} = workshop.debug, second = Math.max(start, to - Gravitar.HZ);
-        if (to <= start) return;
-        const from = this.span === 'play' || second === start ? start :
-            workshop.debug.outermost(second, to);
-        const profile = this.profile = Profile.of(library, session, from, to);
-        const pictures = Pictures.of(library, session, from, to);
-        const near = Math.max(from, to - Gravitar.HZ / 2);
-        const halts = workshop.debug.stops_between(near, to, ['stopvg']).map(it => it.clock);
+    // The profile of an image, or of a play, that isn't there any more.
+    forget() {
+        Object.assign(this, {profile: null, words: ''});
+        this.cancel();
+    }
+    cancel() {
+        this.job?.cancel();
+        this.job = null;
+        $('profile-cancel').hidden = true;
+        $('profile-words').textContent = this.words;
+    }
+    measure(span) {
+        const {workshop} = this, to = workshop.clock, {debug} = workshop, {start} = debug;
+        this.cancel();
+        if (to <= start) return undefined;
+        if (span === 'play') return this.measure_play(start, to);
+        const second = Math.max(start, to - Gravitar.HZ);
+        const from = second === start ? start : debug.outermost(second, to);
+        const {library, session} = debug, rate = Pictures.of(library, session, from, to).rate();
+        this.take({profile: Profile.of(library, session, from, to), rate}, to);
+        return undefined;
+    }
+    // The page goes on meanwhile.
+    async measure_play(from, to) {
+        const {debug} = this.workshop, start_worker = () => CommandWorker.start(GRAVITAR_MODULE);
+        const job = this.job = new ProfileJob(debug.library, debug, from, to, start_worker);
+        $('profile-cancel').hidden = false;
+        const found = await job.run(share => {
+            if (job !== this.job) return;
+            $('profile-words').textContent =
+                `measures the whole play: about ${Math.round(100 * share)} %`;
+        }).catch(error => { this.workshop.page.say(error.message); });
+        if (job !== this.job) return;
+        this.cancel();
+        if (found) this.take(found, to, debug);
+    }
+    take({profile, rate}, to, debug = this.workshop.debug) {
+        const {library, session, start} = debug;
+        const near = Math.max(start, to - Gravitar.HZ / 2);
+        const halts = debug.stops_between(near, to, ['stopvg']).map(it => it.clock);
         const share = drawing_share(Pictures.of(library, session, near, to), halts);
         const accesses = profile.routines.reduce((sum, it) => sum + it.accesses, 0);
-        $('profile-words').textContent = `${number_words(profile.clocks)} clocks · ` +
-            `${pictures.rate().toFixed(1)} pictures a second · the generator draws ` +
-            `${(100 * share).toFixed(0)} % of the time · ${number_words(accesses)} device accesses`;
+        this.profile = profile;
+        this.words = `${number_words(profile.clocks)} clocks · ${rate.toFixed(1)} pictures a ` +
+            `second · the generator draws ${(100 * share).toFixed(0)} % of the time · ` +
+            `${number_words(accesses)} device accesses`;
+        $('profile-words').textContent = this.words;
         this.show_rows();
-        workshop.show_shares(profile);
+        this.workshop.view.show_shares(profile);
     }
     show_rows() {
         const {workshop} = this, scale = bar_scale(this.profile.routines);
@@ -203,13 +235,13 @@ class ProfileTool {
             bar.style.width = `${Math.min(100, 100 * it.clocks / scale)}%`;
             bar.classList.toggle('is-over', it.clocks > scale);
             const name = workshop.build?.names?.name(it.address) || address_words(it.address);
-            return {to: it.address, title: workshop.words_of(it.address), cells: [
+            return {to: it.address, title: workshop.view.words_of(it.address), cells: [
                 element('span', {className: 'name'}, name, bar), number_words(it.clocks),
                 (100 * it.share).toFixed(1), number_words(it.entries), number_words(it.accesses)]};
         });
-        $('profile').replaceChildren(...rows_of([head, ...rows], it => workshop.reveal(it)));
+        $('profile').replaceChildren(...rows_of([head, ...rows], it => workshop.view.reveal(it)));
     }
-    show() { if (!this.profile) { this.span = 'second'; this.measure(); } }
+    show() { if (!this.profile && !this.job) this.measure('second'); }
 }
 
 class PicturesTool {
@@ -228,6 +260,6 @@ class PicturesTool {
         const rows = list.reverse().map(it => ({to: it.clock, title: it.box?.join(' '),
             cells: [number_words(it.clock), number_words(it.clocks), String(it.strokes),
                 size(it.box)]}));
-        $('pictures').replaceChildren(...rows_of([head, ...rows], it => workshop.go_to(it)));
+        $('pictures').replaceChildren(...rows_of([head, ...rows], it => workshop.moves.go_to(it)));
     }
 }

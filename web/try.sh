@@ -80,6 +80,8 @@ else
         try "faults in core.js" node "$here/test/faults.mjs" "$program"
         try "faults in the page" node "$here/test/page_faults.mjs"
         try "faults in the workshop" node "$here/test/workshop_faults.mjs" "$program"
+        try "faults in the workshop's page" \
+            env GRAVITAR="$program" node "$here/test/workshop_page_faults.mjs"
     fi
     try browsers env GRAVITAR="$program" node "$here/test/browser.mjs" ${pictures:+"$pictures"}
 fi

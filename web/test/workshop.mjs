@@ -13,8 +13,9 @@ import {EXAMPLES, Program, Random, Checks, HERE, options} from './common.mjs';
 const WEB = path.resolve(process.env.WEB ?? path.dirname(HERE));
 const require = createRequire(import.meta.url), load = name => require(path.join(WEB, name));
 const Gravitar = globalThis.Gravitar = load('core.js');
-const SCRIPTS = ['picture', 'controls', 'names', 'build', 'highlight', 'refusals', 'debugger',
-    'profile', 'vector', 'replay', 'projects', 'share', 'editor', 'player'];
+const SCRIPTS = ['picture', 'controls', 'names', 'build', 'highlight', 'refusals', 'writes',
+    'debugger', 'profile', 'worker', 'profile_job', 'vector', 'replay', 'projects', 'share',
+    'editor', 'player'];
 for (const it of SCRIPTS) Object.assign(globalThis, load(`${it}.js`));
 const module_text = fs.readFileSync(path.join(WEB, 'module.js'), 'utf8');
 const MODULE = new Function(`${module_text}; return GRAVITAR_MODULE`)();
@@ -234,7 +235,64 @@ test('lines of breaks follow an edit', what => {
     }
 });
 
+test('marks of refused lines follow an edit', what => {
+    const random = new Random(9);
+    for (let i = 0; i < 300; i++) {
+        const before = Array.from({length: 20}, (_, k) => `line ${k}`), after = [...before];
+        const at = random.below(18), cut = random.below(3), put = random.below(3);
+        after.splice(at, cut, ...Array.from({length: put}, (_, k) => `new ${k}`));
+        const marks = new Map(before.map((it, k) => [k + 1, it]));
+        const want = [...marks].filter(it => after.includes(it[1]))
+            .map(it => `${after.indexOf(it[1]) + 1} ${it[1]}`).join('\n');
+        same(what, [...moved_marks(marks, before, after)].map(it => it.join(' ')).join('\n'), want);
+    }
+});
+// The page's list of keys has each key of main.js that is for a game, and those are in PLAY.
+test('the list of keys', what => {
+    const main = fs.readFileSync(path.join(WEB, 'main.js'), 'utf8');
+    const part = main.slice(main.indexOf('this.commands = {'), main.indexOf('this.fill();'));
+    const codes = [...part.matchAll(/\b(Key[A-Z]|[A-Z]\w+): \(\)/g)].map(it => it[1]);
+    const {source_words} = load('controls.js'), html = fs.readFileSync(
+        path.join(WEB, 'index.html'), 'utf8');
+    const list = /<kbd>Backspace<\/kbd>[^]*?<\/p>/.exec(html)[0];
+    const page = fs.readFileSync(path.join(HERE, '../../docs/PLAY.md'), 'utf8');
+    checks.holds(`${what}: ${codes}`, codes.length > 10);
+    for (const code of codes) {
+        const word = code === 'Equal' ? '=' : code === 'BracketRight' ? ']' : source_words(code);
+        const is_elsewhere = code === 'Escape' || code === 'Comma';
+        checks.holds(`${what}: ${word} on the page`,
+            is_elsewhere || list.includes(`<kbd>${word}</kbd>`));
+        checks.holds(`${what}: ${word} in PLAY`, new RegExp(`^\\|.*(^|[ |])${
+            word.replace(/[[\].]/g, '\\$&')}([ ,|]).*\\|`, 'm').test(page));
+    }
+});
+// Classes and functions of the page are short, but for what goes to a worker as one text.
+test('functions are below 40 lines', what => {
+    const made = ['core.js', 'module.js', 'single.js', 'examples.js'];
+    for (const name of fs.readdirSync(WEB).filter(it => it.endsWith('.js'))) {
+        if (made.includes(name)) continue;
+        const lines = fs.readFileSync(path.join(WEB, name), 'utf8').split('\n');
+        checks.holds(`${what}: ${name} has ${lines.length} lines`, lines.length < 420);
+        lines.forEach((line, i) => {
+            const head = /^( {4}|)(?!class |const |for |if |while )\S.*\) \{$/;
+            const [, blanks] = head.exec(line) ?? [];
+            if (blanks === undefined) return;
+            const end = lines.findIndex((it, k) => k > i && it.startsWith(`${blanks}}`));
+            checks.holds(`${what}: ${name}:${i + 1}`, end < 0 || end - i < 40);
+        });
+    }
+});
+
 // ---- the debugger
+
+// What a generator returns, or null where it has come to before a clock.
+function ended(going, oldest = -1) {
+    for (;;) {
+        const it = going.next();
+        if (it.done) return it.value;
+        if (it.value < oldest) return null;
+    }
+}
 
 test(`${STEPS} steps`, what => {
     const begin = 1209000, pair = ['step 1', 'regs'];
@@ -330,12 +388,80 @@ test('who wrote this', what => {
         const all = stops_of(script(`watch ${address_words(address)}`, ...Array(1500).fill('go')));
         const want = all.filter(it => it.clock <= clock && it.why.startsWith('watch')).at(-1);
         const search = bugs.last_change(clock, address);
-        let it = search.next();
-        while (!it.done) it = search.next();
-        same(`${what}: ${name}`, it.value.clock, want.clock);
-        const text = SHIP.sources.processor.split('\n')[SHIP.listing.at(it.value.pc).line - 1];
+        const it = ended(search);
+        same(`${what}: ${name}`, it.clock, want.clock);
+        const text = SHIP.sources.processor.split('\n')[SHIP.listing.at(it.pc).line - 1];
         checks.holds(`${what}: ${name}: ${text}`, /\b(sta|inc|dec)\b/.test(text));
-        same(what, bugs.step(it.value.begin).clock, want.clock);
+        same(what, bugs.step(it.begin).clock, want.clock);
+    }
+});
+/* Another way to see a write, of the same byte too: a turn is made twice, the second time with
+ * another byte there. Where that is another one afterwards, in either, it was written. The last
+ * such turn that ends at a clock or before, or null. */
+function last_written(run, turns, address, to) {
+    const at = address < 0x800 ? 260 + address : 2308 + address - 0x2000;
+    return turns.findLast(({board, clock}) => clock <= to && [0, 0xFF].some(flip => {
+        const other = board.slice();
+        other[at] ^= flip;
+        return run.step(other, clock).board[at] !== other[at];
+    })) ?? null;
+}
+// The turns of a stretch, each with the board in front of it.
+function turns_between(run, from, to) {
+    const lines = Array(2000).fill('step 1'), turns = [];
+    let {board} = run.look(from), begin = from;
+    for (const {clock} of stops_of(new Debugger(library, run).script(from, lines, to))) {
+        turns.push({begin, clock, board});
+        board = run.step(board, clock).board;
+        begin = clock;
+    }
+    return turns;
+}
+test('who wrote the same byte', what => {
+    const random = new Random(5);
+    let handler = stops_of(script('until 4990000', 'break 9027', 'go')).at(-1).clock;
+    for (let i = 0; i < 9; i++) handler = bugs.back_step(handler);      // before the interrupt
+    const areas = [[0x10, 24], [0x1F0, 16], [0x2000, 48]];
+    const turns = turns_between(session, handler, handler + 1600);
+    for (let i = 0; i < 90; i++) {
+        const [first, many] = areas[i % 3], address = first + random.below(many);
+        const clock = handler + 20 + random.below(1500);
+        const want = last_written(session, turns, address, clock);
+        const it = ended(bugs.last_write(clock, address), handler - 1e5);
+        const words = address_words(address);
+        if (want) same(`${what}: ${words} at ${clock}`, [it.begin, it.clock],
+            [want.begin, want.clock]);
+        else checks.holds(`${what}: ${words}`, !it || it.begin <= handler + 8);
+    }
+    const clock = 4999000, it = ended(bugs.last_write(clock, label('flame')));
+    same(`${what}: its own clock`, SHIP.listing.at(it.pc).line, SHIP.sources.processor.split('\n')
+        .findIndex(line => line.includes('sta flame')) + 1);
+    same(`${what}: its own clock`, bugs.place(it.begin).pc, it.pc);
+    checks.holds(what, ended(bugs.last_change(clock, label('flame'))).clock < it.clock - 100000);
+});
+// Each kind of an instruction that writes, with a byte that is there already, and an interrupt.
+test('who wrote, by each kind of instruction', what => {
+    const lines = ['ldx #2', 'ldy #3', 'sta $10', 'sta $0E,x', 'stx $0D,y', 'sta $0010',
+        'sta $000E,x', 'sta $000D,y', 'sta ($20,x)', 'sta ($22),y', 'stx $10', 'sty $10',
+        'asl $11', 'lsr $11', 'rol $0F,x', 'ror $0011', 'inc $12', 'dec $10,x', 'pha', 'php',
+        'jsr sub', 'brk', 'nop', 'sta $2010', 'sta ($24),y'];
+    const build = new Build(library, {generator: '', processor: '        .org $9000\n' +
+        'start:  ldx #$FF\n        txs\n        lda #$0D\n        sta $26\n        lda #$10\n' +
+        '        sta $22\n        sta $24\n        lda #$20\n        sta $25\n        lda #$0D\n' +
+        `        sta $22\n        lda #$10\n        sta $22\n${
+            lines.map(it => `        ${it}\n`).join('')}` +
+        'here:   brk\n        nop\n        jmp here\nsub:    rts\nback:   rti\n' +
+        '        .org $FFFC\n        .word start, back\n'});
+    const run = new Gravitar.Session(library, build.image);
+    run.run(600);
+    const it = new Debugger(library, run), turns = turns_between(run, 0, 400);
+    for (const address of [0x10, 0x11, 0x13, 0x22, 0x1FF, 0x1FE, 0x1FD, 0x1FC, 0x1FB, 0x2010]) {
+        for (const clock of turns.slice(6, 60).flatMap(it => [it.clock - 1, it.clock])) {
+            const want = last_written(run, turns, address, clock);
+            const got = ended(it.last_write(clock, address));
+            same(`${what}: ${address_words(address)} at ${clock}`,
+                `${got?.begin} ${got?.clock}`, `${want?.begin} ${want?.clock}`);
+        }
     }
 });
 test('a player stops at a break', what => {
@@ -380,6 +506,47 @@ test('the profile is that of the program', what => {
     same(`${what}: the whole`, Profile.of(library, session, 0, session.clock).text,
         printed('profile', 'ship.img', 'ship.tape', '--until', session.clock));
 });
+
+// A browser that makes no worker has the profile in slices, which together are the whole.
+test('a profile in slices', what => {
+    for (const name of ['ship', 'tune', 'score', 'square', 'latch', 'rubble']) {
+        const {image} = new Build(library, sources_of(name));
+        const run = new Gravitar.Session(library, image);
+        run.run(4000000);
+        const want = Profile.of(library, run, 0, run.clock), shares = [];
+        const going = profile_in_slices(library, new Debugger(library, run), 0, run.clock, 700000);
+        let step = going.next();
+        for (; !step.done; step = going.next()) shares.push(step.value);
+        same(`${what}: ${name}`, step.value.profile.text, want.text);
+        same(`${what}: ${name}: pictures`, step.value.rate,
+            Pictures.of(library, run, 0, run.clock).rate());
+        same(`${what}: ${name}: the last share`, shares.at(-1), 1);
+        checks.holds(`${what}: ${name}: slices`, run.clock < 1e6 || shares.length > 4);
+    }
+});
+test('a worker has the text of its library', what => {
+    const scope = {}, text = worker_text().replace(/\nworker_main\(self\);\n$/, '\n');
+    new Function('self', 'module', text)(scope, undefined);
+    same(what, Object.keys(scope.Gravitar).join(' '), Object.keys(Gravitar).join(' '));
+});
+await test_jobs();
+// With a worker, or without; and one that is cancelled.
+async function test_jobs() {
+    if (!'a job'.includes(given.only ?? '')) return;
+    const to = 6 * Gravitar.HZ, want = () => Profile.of(library, session, 0, session.clock).text;
+    const worker = {ends: 0, end() { this.ends++; },
+        printed: async ({words, files}) => Gravitar.string_of(library.command(words, files).out)};
+    for (const it of [worker, null]) {
+        const what = `a job, ${it ? 'with' : 'without'} a worker`, shares = [];
+        const job = new ProfileJob(library, bugs, 0, Math.min(to, session.clock), async () => it);
+        const found = await job.run(share => shares.push(share));
+        same(what, found.profile.text, want());
+        checks.holds(what, shares[0] === 0 && shares.every(share => share >= 0 && share <= 1));
+        const other = new ProfileJob(library, bugs, 0, session.clock, async () => it);
+        same(`${what}: cancelled`, await other.run(() => other.cancel()), null);
+    }
+    checks.holds('a job ends its worker', worker.ends >= 2);
+}
 
 // ---- strokes and their words
 
@@ -470,6 +637,31 @@ test('projects', what => {
     same(`${what}: full`, full.put('a', ship), false);
     same(`${what}: full`, full.get('a').processor, ship.processor);
     same(`${what}: none`, new Projects(null).put('a', ship), false);
+});
+test('a project has its name again', what => {
+    const {generator, processor} = sources_of('square');
+    const texts = [processor, `${processor}; no end`, '', '\n', 'x', 'x\n\n',
+        '; gravitar project: a', '; gravitar project: a\n', 'x\r\n', 'x\r\n ; gravitar project'];
+    const names = ['my ship', 'ship', 'Ö/ö', 'a: b; c', '; gravitar project: x', 'a.b', ' a '];
+    for (const name of names) {
+        for (const text of texts) {
+            const files = saved_sources(name, {processor: text, generator});
+            same(`${what}: files`, files.map(it => it.name).join(' '),
+                `${plain_name(name)}.s ${plain_name(name)}.v`);
+            if (plain_name(name) === name && /project/.test(text)) continue;
+            const it = opened_sources(plain_name(name),
+                {processor: files[0].text, generator: files[1].text});
+            same(`${what}: ${name}`, it.name, name);
+            same(`${what}: ${name}: source`, it.sources.processor, text);
+            same(`${what}: ${name}: source`, it.sources.generator, generator);
+        }
+    }
+    const files = saved_sources('my ship', sources_of('ship'));
+    const build = new Build(library, {processor: files[0].text, generator: files[1].text});
+    checks.same(`${what}: the same image`, build.image, SHIP.image);
+    same(`${what}: the same lines`, JSON.stringify(build.listing.entries),
+        JSON.stringify(SHIP.listing.entries));
+    same(what, saved_sources('ship', sources_of('ship'))[0].text, SHIP.sources.processor);
 });
 test('the shared file is that of web.sh --single', what => {
     const single = load('single.js'), page = whole_page(single, MODULE);
