@@ -1,15 +1,13 @@
 -- A step keeps a board in its range.
 use Rattle.std.proofs.Common.{◌≡◌, ◌≤◌, ℕ, ◌+◌, ◌%◌, ◌^◌, ◌<◌, ◌==◌, ◌++◌, nat_lt, Bool, true, false, if◌then◌else◌, List, []}
-use Rattle.std.proofs.Common.{◌∷◌, length, slice_set, Option, Some, None, All, IfSome, IsSomeAnd, zero, suc, refl, subst, ◌∙◌, arith, length-append}
-use Rattle.std.proofs.lemmas.List.{length-set}
-use Rattle.std.proofs.lemmas.List.Elements.{All-filter, All-head, All-push, All-set, All-tail, All-take}
+use Rattle.std.proofs.Common.{rules, ◌∷◌, length, Option, Some, None, All, IfSome, IsSomeAnd, zero, suc, refl, subst, arith, length-append}
+use Rattle.std.proofs.lemmas.List.Elements.{All-filter, All-head, All-push, All-tail, All-take}
 use Rattle.board_base.specs.declared.cpu.Sequence.{Sequence}
 use Rattle.board_base.specs.declared.cpu.Sequence.TheVariants.{Opcode, Interrupt, Reset}
 use Rattle.board_base.specs.declared.divider.Pending.{Pending}
 use Rattle.board_base.specs.declared.divider.Pending.TheVariants.{Nothing, Power, Watchdog}
 use Rattle.board_base.specs.declared.vector_memory.TheConstants.{VECTOR_RAM_LEN}
 use Rattle.board_base.specs.Cpu.{CpuValue, MidValue}
-use Rattle.board_base.specs.Divider.{IsDivider}
 use Rattle.board_base.specs.Pokey.{PokeyValue}
 use Rattle.board_map.specs.declared.map.Reads.{Reads}
 use Rattle.board_map.specs.declared.map.Reads.TheVariants as reads
@@ -33,96 +31,21 @@ use Rattle.tape_ports.specs.declared.entry.Port.TheVariants as port
 use Rattle.tape_ports.specs.declared.entry.TapeEntry.{TapeEntry}
 use Rattle.tape_ports.specs.Due.{due_at}
 use Rattle.lockstep_board.specs.Lockstep.{Board, accessed, accessed_by, after_access, at_fetch, begun, sequence_due, step}
-use Rattle.lockstep_board.specs.Ranges.{AreBytes, ArePeripheralsInRange, IsBoardInRange, IsPokeyInRange}
+use Rattle.lockstep_board.specs.Ranges.{ArePeripheralsInRange, IsBoardInRange, IsPokeyInRange}
 use Rattle.lockstep_board.specs.Run.{stepped}
 use Rattle.lockstep_board.specs.Peripherals.{Peripherals, applied, byte_in, byte_put, byte_read, devices_ticked, in0_byte, port_set, put_in, reset_begun, reset_by, ticked}
 use Rattle.lockstep_board.proofs.DividerRange.{divider_tick-in_range}
-use Rattle.lockstep_board.proofs.EaromRange.{byte_at, controlled-in_range, earom_tick-in_range, latched-in_range}
+use Rattle.lockstep_board.proofs.EaromRange.{byte_at, controlled-in_range, earom_tick-in_range, latched-in_range, set_bytes}
 use Rattle.lockstep_board.proofs.GeneratorRange.{vg_go-in_range, vg_reset-in_range, vg_tick-in_range}
 use Rattle.lockstep_board.proofs.PokeyRange.{pokey_tick-in_range, pot_set-in_range, register_written-in_range}
 
-set_bytes : (len : ℕ) (bytes : List ℕ) (k value : ℕ) → IsByte value → AreBytes len bytes → AreBytes len (slice_set bytes k value)
-set_bytes len bytes k value byte h = record {
-  count = length-set bytes k value ∙ h.count;
-  each = All-set IsByte bytes k value byte h.each;
-}
-
+-- Each case shows by a `let` what it changes, and `search` takes the rest of the range from h.
 port_set_in : (p : Port) (value : ℕ) (w : Peripherals) → IsByte value → ArePeripheralsInRange w → ArePeripheralsInRange (port_set p value w)
-port_set_in port.In0 value w byte h =
-    record {
-      out = h.out;
-      in0 = omega arith;
-      in3 = h.in3;
-      in4 = h.in4;
-      divider = h.divider;
-      vg = h.vg;
-      sound1 = h.sound1;
-      sound2 = h.sound2;
-      earom = h.earom;
-      ram = h.ram;
-      memory = h.memory;
-      program = h.program;
-    }
-port_set_in port.In3 value w byte h =
-    record {
-      out = h.out;
-      in0 = h.in0;
-      in3 = byte;
-      in4 = h.in4;
-      divider = h.divider;
-      vg = h.vg;
-      sound1 = h.sound1;
-      sound2 = h.sound2;
-      earom = h.earom;
-      ram = h.ram;
-      memory = h.memory;
-      program = h.program;
-    }
-port_set_in port.In4 value w byte h =
-    record {
-      out = h.out;
-      in0 = h.in0;
-      in3 = h.in3;
-      in4 = byte;
-      divider = h.divider;
-      vg = h.vg;
-      sound1 = h.sound1;
-      sound2 = h.sound2;
-      earom = h.earom;
-      ram = h.ram;
-      memory = h.memory;
-      program = h.program;
-    }
-port_set_in (port.Pot1 which) value w byte h =
-    record {
-      out = h.out;
-      in0 = h.in0;
-      in3 = h.in3;
-      in4 = h.in4;
-      divider = h.divider;
-      vg = h.vg;
-      sound1 = pot_set-in_range which value w.sound1 byte h.sound1;
-      sound2 = h.sound2;
-      earom = h.earom;
-      ram = h.ram;
-      memory = h.memory;
-      program = h.program;
-    }
-port_set_in (port.Pot2 which) value w byte h =
-    record {
-      out = h.out;
-      in0 = h.in0;
-      in3 = h.in3;
-      in4 = h.in4;
-      divider = h.divider;
-      vg = h.vg;
-      sound1 = h.sound1;
-      sound2 = pot_set-in_range which value w.sound2 byte h.sound2;
-      earom = h.earom;
-      ram = h.ram;
-      memory = h.memory;
-      program = h.program;
-    }
+port_set_in port.In0 value w byte h = search rules
+port_set_in port.In3 value w byte h = search rules
+port_set_in port.In4 value w byte h = search rules
+port_set_in (port.Pot1 which) value w byte h = let sound1 = pot_set-in_range which value w.sound1 byte h.sound1 in search rules
+port_set_in (port.Pot2 which) value w byte h = let sound2 = pot_set-in_range which value w.sound2 byte h.sound2 in search rules
 
 -- an entry's value is a byte
 abbrev HasByte : TapeEntry → Type 0
@@ -138,20 +61,12 @@ applied_in (entry ∷ entries) w all h =
 devices_ticked_in : (w : Peripherals) → ArePeripheralsInRange w → ArePeripheralsInRange (devices_ticked w)
 unfolding devices_ticked
 devices_ticked_in w h =
-    record {
-      out = h.out;
-      in0 = h.in0;
-      in3 = h.in3;
-      in4 = h.in4;
-      divider = divider_tick-in_range w.divider h.divider;
-      vg = vg_tick-in_range w.memory w.clock w.vg h.memory.each h.vg;
-      sound1 = pokey_tick-in_range w.sound1 h.sound1;
-      sound2 = pokey_tick-in_range w.sound2 h.sound2;
-      earom = earom_tick-in_range w.earom h.earom;
-      ram = h.ram;
-      memory = h.memory;
-      program = h.program;
-    }
+    let divider = divider_tick-in_range w.divider h.divider in
+    let vg = vg_tick-in_range w.memory w.clock w.vg h.memory.each h.vg in
+    let sound1 = pokey_tick-in_range w.sound1 h.sound1 in
+    let sound2 = pokey_tick-in_range w.sound2 h.sound2 in
+    let earom = earom_tick-in_range w.earom h.earom in
+    search rules
 
 ticked_in : (entries : List TapeEntry) (w : Peripherals) → All HasByte entries → ArePeripheralsInRange w → ArePeripheralsInRange (ticked entries w)
 unfolding ticked
@@ -207,173 +122,17 @@ unfolding byte_read
 byte_read_in address w h = byte_in_in (row_of address).reads (row_of address).offset w h
 
 put_in_in : (put : Writes) (k value : ℕ) (w : Peripherals) → IsWritable put k → IsByte value → ArePeripheralsInRange w → ArePeripheralsInRange (put_in put k value w)
-put_in_in writes.Ram k value w at byte h =
-    record {
-      out = h.out;
-      in0 = h.in0;
-      in3 = h.in3;
-      in4 = h.in4;
-      divider = h.divider;
-      vg = h.vg;
-      sound1 = h.sound1;
-      sound2 = h.sound2;
-      earom = h.earom;
-      ram = set_bytes _ w.ram k value byte h.ram;
-      memory = h.memory;
-      program = h.program;
-    }
-put_in_in writes.VectorRam k value w at byte h =
-    record {
-      out = h.out;
-      in0 = h.in0;
-      in3 = h.in3;
-      in4 = h.in4;
-      divider = h.divider;
-      vg = h.vg;
-      sound1 = h.sound1;
-      sound2 = h.sound2;
-      earom = h.earom;
-      ram = h.ram;
-      memory = set_bytes _ w.memory k value byte h.memory;
-      program = h.program;
-    }
-put_in_in writes.Sound1 reg value w at byte h =
-    record {
-      out = h.out;
-      in0 = h.in0;
-      in3 = h.in3;
-      in4 = h.in4;
-      divider = h.divider;
-      vg = h.vg;
-      sound1 = register_written-in_range reg value w.sound1 byte h.sound1;
-      sound2 = h.sound2;
-      earom = h.earom;
-      ram = h.ram;
-      memory = h.memory;
-      program = h.program;
-    }
-put_in_in writes.Sound2 reg value w at byte h =
-    record {
-      out = h.out;
-      in0 = h.in0;
-      in3 = h.in3;
-      in4 = h.in4;
-      divider = h.divider;
-      vg = h.vg;
-      sound1 = h.sound1;
-      sound2 = register_written-in_range reg value w.sound2 byte h.sound2;
-      earom = h.earom;
-      ram = h.ram;
-      memory = h.memory;
-      program = h.program;
-    }
-put_in_in writes.OutputLatch k value w at byte h =
-    record {
-      out = byte;
-      in0 = h.in0;
-      in3 = h.in3;
-      in4 = h.in4;
-      divider = h.divider;
-      vg = h.vg;
-      sound1 = h.sound1;
-      sound2 = h.sound2;
-      earom = h.earom;
-      ram = h.ram;
-      memory = h.memory;
-      program = h.program;
-    }
-put_in_in writes.Go k value w at byte h =
-    record {
-      out = h.out;
-      in0 = h.in0;
-      in3 = h.in3;
-      in4 = h.in4;
-      divider = h.divider;
-      vg = vg_go-in_range w.vg h.vg;
-      sound1 = h.sound1;
-      sound2 = h.sound2;
-      earom = h.earom;
-      ram = h.ram;
-      memory = h.memory;
-      program = h.program;
-    }
-put_in_in writes.VgReset k value w at byte h =
-    record {
-      out = h.out;
-      in0 = h.in0;
-      in3 = h.in3;
-      in4 = h.in4;
-      divider = h.divider;
-      vg = vg_reset-in_range w.vg h.vg;
-      sound1 = h.sound1;
-      sound2 = h.sound2;
-      earom = h.earom;
-      ram = h.ram;
-      memory = h.memory;
-      program = h.program;
-    }
-put_in_in writes.Acknowledge k value w at byte h =
-    let d : IsDivider w.divider = h.divider in
-    record {
-      out = h.out;
-      in0 = h.in0;
-      in3 = h.in3;
-      in4 = h.in4;
-      divider = record { phase = d.phase; dog = d.dog };
-      vg = h.vg;
-      sound1 = h.sound1;
-      sound2 = h.sound2;
-      earom = h.earom;
-      ram = h.ram;
-      memory = h.memory;
-      program = h.program;
-    }
-put_in_in writes.EaromControl k value w at byte h =
-    record {
-      out = h.out;
-      in0 = h.in0;
-      in3 = h.in3;
-      in4 = h.in4;
-      divider = h.divider;
-      vg = h.vg;
-      sound1 = h.sound1;
-      sound2 = h.sound2;
-      earom = controlled-in_range value w.earom h.earom;
-      ram = h.ram;
-      memory = h.memory;
-      program = h.program;
-    }
-put_in_in writes.EaromLatch cell value w at byte h =
-    record {
-      out = h.out;
-      in0 = h.in0;
-      in3 = h.in3;
-      in4 = h.in4;
-      divider = h.divider;
-      vg = h.vg;
-      sound1 = h.sound1;
-      sound2 = h.sound2;
-      earom = latched-in_range cell value w.earom at byte h.earom;
-      ram = h.ram;
-      memory = h.memory;
-      program = h.program;
-    }
-put_in_in writes.WatchdogClear k value w at byte h =
-    let d : IsDivider w.divider = h.divider in
-    record {
-      out = h.out;
-      in0 = h.in0;
-      in3 = h.in3;
-      in4 = h.in4;
-      divider = record { phase = d.phase; dog = omega arith };
-      vg = h.vg;
-      sound1 = h.sound1;
-      sound2 = h.sound2;
-      earom = h.earom;
-      ram = h.ram;
-      memory = h.memory;
-      program = h.program;
-    }
+put_in_in writes.Ram k value w at byte h = let ram = set_bytes _ w.ram k value byte h.ram in search rules
+put_in_in writes.VectorRam k value w at byte h = let memory = set_bytes _ w.memory k value byte h.memory in search rules
+put_in_in writes.Sound1 reg value w at byte h = let sound1 = register_written-in_range reg value w.sound1 byte h.sound1 in search rules
+put_in_in writes.Sound2 reg value w at byte h = let sound2 = register_written-in_range reg value w.sound2 byte h.sound2 in search rules
+put_in_in writes.OutputLatch k value w at byte h = search rules
+put_in_in writes.Go k value w at byte h = let vg = vg_go-in_range w.vg h.vg in search rules
+put_in_in writes.VgReset k value w at byte h = let vg = vg_reset-in_range w.vg h.vg in search rules
+put_in_in writes.Acknowledge k value w at byte h = search rules
+put_in_in writes.EaromControl k value w at byte h = let earom = controlled-in_range value w.earom h.earom in search rules
+put_in_in writes.EaromLatch cell value w at byte h = let earom = latched-in_range cell value w.earom at byte h.earom in search rules
+put_in_in writes.WatchdogClear k value w at byte h = search rules
 put_in_in _ k value w at byte h = h
 
 byte_put_in : (address value : ℕ) (w : Peripherals) → IsByte value → ArePeripheralsInRange w → ArePeripheralsInRange (byte_put address value w)
@@ -381,54 +140,9 @@ unfolding byte_put
 byte_put_in address value w byte h = put_in_in (row_of address).writes (row_of address).offset value w (writable address) byte h
 
 reset_by_in : (p : Pending) (w : Peripherals) → ArePeripheralsInRange w → ArePeripheralsInRange (reset_by p w)
-reset_by_in Watchdog w h =
-    let d : IsDivider w.divider = h.divider in
-    record {
-      out = omega arith;
-      in0 = h.in0;
-      in3 = h.in3;
-      in4 = h.in4;
-      divider = record { phase = d.phase; dog = d.dog };
-      vg = vg_reset-in_range w.vg h.vg;
-      sound1 = h.sound1;
-      sound2 = h.sound2;
-      earom = h.earom;
-      ram = h.ram;
-      memory = h.memory;
-      program = h.program;
-    }
-reset_by_in Power w h =
-    let d : IsDivider w.divider = h.divider in
-    record {
-      out = h.out;
-      in0 = h.in0;
-      in3 = h.in3;
-      in4 = h.in4;
-      divider = record { phase = d.phase; dog = d.dog };
-      vg = h.vg;
-      sound1 = h.sound1;
-      sound2 = h.sound2;
-      earom = h.earom;
-      ram = h.ram;
-      memory = h.memory;
-      program = h.program;
-    }
-reset_by_in Nothing w h =
-    let d : IsDivider w.divider = h.divider in
-    record {
-      out = h.out;
-      in0 = h.in0;
-      in3 = h.in3;
-      in4 = h.in4;
-      divider = record { phase = d.phase; dog = d.dog };
-      vg = h.vg;
-      sound1 = h.sound1;
-      sound2 = h.sound2;
-      earom = h.earom;
-      ram = h.ram;
-      memory = h.memory;
-      program = h.program;
-    }
+reset_by_in Watchdog w h = let vg = vg_reset-in_range w.vg h.vg in search rules
+reset_by_in Power w h = search rules
+reset_by_in Nothing w h = search rules
 
 begun_in : (q : Sequence) (b : Board) → IsBoardInRange b → IsBoardInRange (begun q b)
 unfolding reset_begun
@@ -495,24 +209,7 @@ pub step-in_range : (entries : List TapeEntry) (b : Board) → All (λ entry. Is
 unfolding step
 step-in_range entries b all h =
     let moved = after_access_in b.cpu.mid b.cpu (ticked entries b.peripherals) refl h.cpu (ticked_in entries b.peripherals all h.peripherals) in
-    let w = moved.peripherals in
-    record {
-      cpu = moved.cpu;
-      peripherals = record {
-        out = w.out;
-        in0 = w.in0;
-        in3 = w.in3;
-        in4 = w.in4;
-        divider = w.divider;
-        vg = w.vg;
-        sound1 = w.sound1;
-        sound2 = w.sound2;
-        earom = w.earom;
-        ram = w.ram;
-        memory = w.memory;
-        program = w.program;
-      };
-    }
+    search rules
 
 -- and so do n steps
 pub stepped-in_range : (entries : List TapeEntry) (n : ℕ) (b : Board) → All (λ entry. IsByte entry.value) entries → IsBoardInRange b

@@ -1,6 +1,6 @@
 -- A POKEY stays in its range.
 use Rattle.std.proofs.Common.{◌≡◌, ◌≤◌, ℕ, ◌+◌, ◌-◌, ◌*◌, ◌/◌, ◌%◌, ◌^◌, ◌<◌, ◌==◌, ◌&&◌, Bool, true, false}
-use Rattle.std.proofs.Common.{if◌then◌else◌, List, [], ◌∷◌, ◌++◌, nat_lt, nat_le, drop, length, slice_index, slice_set, All, refl, ◌∙◌, arith}
+use Rattle.std.proofs.Common.{rules, if◌then◌else◌, List, [], ◌∷◌, ◌++◌, nat_lt, nat_le, drop, length, slice_index, slice_set, All, refl, ◌∙◌, arith}
 use Rattle.std.proofs.Math.Nat.{pow-succ'}
 use Rattle.std.proofs.lemmas.Bool.{eqb-false}
 use Rattle.std.proofs.lemmas.Bool.Decides.{nat_tests}
@@ -22,7 +22,7 @@ use Rattle.pokey_chip.specs.Tick.{pokey_tick, pot_counted, pots_rise, prescaled,
 use Rattle.pokey_chip.proofs.BitLemmas.{with_bit_fits, with_bit_fits_two, with_bit_fits_three, bit_or_fits}
 use Rattle.pokey_chip.proofs.CountLaws.{left-is}
 use Rattle.cpu_core.specs.Ranges.{IsByte}
-use Rattle.lockstep_board.specs.Ranges.{AreChannels, ArePots, AreRegisters, AreRequests, IsPokeyInRange}
+use Rattle.lockstep_board.specs.Ranges.{ArePolynomials, IsPokeyInRange}
 use Rattle.lockstep_board.proofs.EaromRange.{byte_at}
 
 either_in : (P : PokeyValue → Type 0) (b : Bool) (p q : PokeyValue) → P p → P q → P (if b then p else q)
@@ -68,32 +68,14 @@ prescaled_below : (held : Bool) (period count : ℕ) → count < period → pres
 prescaled_below true period count h = omega arith
 prescaled_below false period count h = counted_below period count h
 
--- with one group anew, a POKEY stays in its range where that group is in its own
-with_registers : (p : PokeyValue) (f c : List ℕ) (ctl sk : ℕ) → AreRegisters f c ctl sk → IsPokeyInRange p
-    → IsPokeyInRange (record p { audf = f; audc = c; audctl = ctl; skctl = sk })
-with_registers p f c ctl sk is h = record { registers = is; requests = h.requests; polys = h.polys; prescalers = h.prescalers; channels = h.channels; pots = h.pots; levels = h.levels }
-
-with_requests : (p : PokeyValue) (en st : ℕ) → AreRequests en st → IsPokeyInRange p → IsPokeyInRange (record p { irqen = en; irqst = st })
-with_requests p en st is h = record { registers = h.registers; requests = is; polys = h.polys; prescalers = h.prescalers; channels = h.channels; pots = h.pots; levels = h.levels }
-
-with_channels : (p : PokeyValue) (counts : List ℕ) (tones passes : ℕ) → AreChannels counts tones passes → IsPokeyInRange p
-    → IsPokeyInRange (record p { left = counts; tone = tones; pass = passes })
-with_channels p counts tones passes is h = record { registers = h.registers; requests = h.requests; polys = h.polys; prescalers = h.prescalers; channels = is; pots = h.pots; levels = h.levels }
-
-with_pots : (p : PokeyValue) (n : ℕ) (ends : List ℕ) → ArePots n ends → IsPokeyInRange p → IsPokeyInRange (record p { pot = n; targets = ends })
-with_pots p n ends is h = record { registers = h.registers; requests = h.requests; polys = h.polys; prescalers = h.prescalers; channels = h.channels; pots = is; levels = h.levels }
-
 clocked_in : (p : PokeyValue) → IsPokeyInRange p → IsPokeyInRange (clocked p)
 unfolding clocked
-clocked_in p h = record {
-  registers = h.registers;
-  requests = h.requests;
-  polys = record { poly4 = rolled_below held Four p.poly4; poly5 = rolled_below held Five p.poly5; poly9 = rolled_below held Nine p.poly9; poly17 = rolled_below held Seventeen p.poly17 };
-  prescalers = record { pre28 = prescaled_below held 28 p.pre28 h.prescalers.pre28; pre114 = prescaled_below held 114 p.pre114 h.prescalers.pre114 };
-  channels = h.channels;
-  pots = h.pots;
-  levels = h.levels;
-}
+clocked_in p h =
+    let polys : ArePolynomials (rolled held Four p.poly4) (rolled held Five p.poly5) (rolled held Nine p.poly9) (rolled held Seventeen p.poly17) =
+    record { poly4 = rolled_below held Four p.poly4; poly5 = rolled_below held Five p.poly5; poly9 = rolled_below held Nine p.poly9; poly17 = rolled_below held Seventeen p.poly17 } in
+    let base = prescaled_below held 28 p.pre28 h.prescalers.pre28 in
+    let line = prescaled_below held 114 p.pre114 h.prescalers.pre114 in
+    search rules
   where
     held : Bool
     held = is_held p.skctl
@@ -109,7 +91,7 @@ pot_below rise pot h = by_test (rise && nat_lt pot 228) rise (nat_lt pot 228) re
 
 pot_counted_in : (rise : Bool) (p : PokeyValue) → IsPokeyInRange p → IsPokeyInRange (pot_counted rise p)
 unfolding pot_counted
-pot_counted_in rise p h = with_pots p _ p.targets (record { pot = pot_below rise p.pot h.pots.pot; count = h.pots.count; targets = h.pots.targets }) h
+pot_counted_in rise p h = let pot = pot_below rise p.pot h.pots.pot in search rules
 
 -- the pulses left of a channel, at any time
 abbrev IsLeft : ℕ → Type 0
@@ -174,8 +156,7 @@ unfolding with_left
 with_left_in c n p k h = by_channel c
   where
     four : (i j l m : ℕ) → IsLeft i → IsLeft j → IsLeft l → IsLeft m → IsPokeyInRange (record p { left = i ∷ j ∷ l ∷ m ∷ [] })
-    four i j l m a b c d =
-        with_channels p _ p.tone p.pass (record { left = refl; pulses = four_left i j l m a b c d; tone = h.channels.tone; pass = h.channels.pass }) h
+    four i j l m a b c d = let pulses = four_left i j l m a b c d in search rules
 
     by_channel : (c : Channel) → IsPokeyInRange (with_left c n p)
     by_channel First = four n _ _ _ k (left_of_in Second p h) (left_of_in Third p h) (left_of_in Fourth p h)
@@ -210,15 +191,10 @@ passed_below Fourth p h = with_bit_fits_two 1 (omega arith) p.pass h _
 underflow_effect_in : (underflow : Bool) (c : Channel) (p : PokeyValue) → IsPokeyInRange p → IsPokeyInRange (underflow_effect underflow c p)
 unfolding underflow_effect
 underflow_effect_in underflow c p h =
-    with_channels _ p.left _ _
-    (record {
-      left = h.channels.left;
-      pulses = h.channels.pulses;
-      tone = either_below 16 underflow (toned c p) p.tone (toned_below c p h.channels.tone) h.channels.tone;
-      pass = either_below 4 underflow (passed c p) p.pass (passed_below c p h.channels.pass) h.channels.pass;
-    })
-    (with_requests p p.irqen _
-    (record { irqen = h.requests.irqen; irqst = either_below 8 underflow (requested c p) p.irqst (requested_below c p h.requests.irqst) h.requests.irqst }) h)
+    let tone = either_below 16 underflow (toned c p) p.tone (toned_below c p h.channels.tone) h.channels.tone in
+    let pass = either_below 4 underflow (passed c p) p.pass (passed_below c p h.channels.pass) h.channels.pass in
+    let irqst = either_below 8 underflow (requested c p) p.irqst (requested_below c p h.requests.irqst) h.requests.irqst in
+    search rules
 
 channel_ticked_in : (base : Bool) (c : Channel) (p : PokeyValue) → IsPokeyInRange p → IsPokeyInRange (channel_ticked base c p)
 unfolding channel_ticked
@@ -253,15 +229,7 @@ unfolding levels_of
 four_levels p = refl
 
 levelled_in : (p : PokeyValue) → IsPokeyInRange p → IsPokeyInRange (levelled p)
-levelled_in p h = record {
-  registers = h.registers;
-  requests = h.requests;
-  polys = h.polys;
-  prescalers = h.prescalers;
-  channels = h.channels;
-  pots = h.pots;
-  levels = record { last = four_levels p; levels = levels_in p };
-}
+levelled_in p h = let last = four_levels p in let levels = levels_in p in search rules
 
 pub pokey_tick-in_range : (p : PokeyValue) → IsPokeyInRange p → IsPokeyInRange (pokey_tick p)
 unfolding pokey_tick
@@ -269,63 +237,36 @@ pokey_tick-in_range p h = levelled_in _ (channels_ticked_in (base_pulses p) _ (p
 
 pub pot_set-in_range : (which value : ℕ) (p : PokeyValue) → IsByte value → IsPokeyInRange p → IsPokeyInRange (pot_set which value p)
 pot_set-in_range which value p byte h =
-    with_pots p p.pot _
-    (record { pot = h.pots.pot; count = length-set p.targets which value ∙ h.pots.count; targets = All-set IsByte p.targets which value byte h.pots.targets }) h
+    let count = length-set p.targets which value ∙ h.pots.count in
+    let targets = All-set IsByte p.targets which value byte h.pots.targets in
+    search rules
 
 channel_written_in : (reg value : ℕ) (p : PokeyValue) → IsByte value → IsPokeyInRange p → IsPokeyInRange (channel_written reg value p)
 unfolding channel_written
 channel_written_in reg value p byte h =
     either_in IsPokeyInRange (reg % 2 == 0) (record p { audf = slice_set p.audf (reg / 2) value }) (record p { audc = slice_set p.audc (reg / 2) value })
-    (with_registers p _ p.audc p.audctl p.skctl
-    (record {
-      audf = length-set p.audf (reg / 2) value ∙ r.audf;
-      audc = r.audc;
-      audf_bytes = All-set IsByte p.audf (reg / 2) value byte r.audf_bytes;
-      audc_bytes = r.audc_bytes;
-      audctl = r.audctl;
-      skctl = r.skctl;
-    }) h)
-    (with_registers p p.audf _ p.audctl p.skctl
-    (record {
-      audf = r.audf;
-      audc = length-set p.audc (reg / 2) value ∙ r.audc;
-      audf_bytes = r.audf_bytes;
-      audc_bytes = All-set IsByte p.audc (reg / 2) value byte r.audc_bytes;
-      audctl = r.audctl;
-      skctl = r.skctl;
-    }) h)
-  where
-    r : AreRegisters p.audf p.audc p.audctl p.skctl
-    r = h.registers
+    (let audf = length-set p.audf (reg / 2) value ∙ h.registers.audf in let bytes = All-set IsByte p.audf (reg / 2) value byte h.registers.audf_bytes in search rules)
+    (let audc = length-set p.audc (reg / 2) value ∙ h.registers.audc in let bytes = All-set IsByte p.audc (reg / 2) value byte h.registers.audc_bytes in search rules)
 
 timers_started_in : (p : PokeyValue) → IsPokeyInRange p → IsPokeyInRange (timers_started p)
 unfolding timers_started
-timers_started_in p h =
-    with_channels p _ 0 p.pass
-    (record { left = refl; pulses = four_left _ _ _ _ (period First) (period Second) (period Third) (period Fourth); tone = omega arith; pass = h.channels.pass }) h
+timers_started_in p h = let pulses = four_left _ _ _ _ (period First) (period Second) (period Third) (period Fourth) in search rules
   where
     period : (c : Channel) → IsLeft (period_of p.audf p.audctl c)
     period c = period_in p.audf p.audctl c h.registers.audf_bytes
 
 requests_enabled_in : (value : ℕ) (p : PokeyValue) → IsPokeyInRange p → IsPokeyInRange (requests_enabled value p)
 unfolding requests_enabled
-requests_enabled_in value p h =
-    with_requests p _ _ (record { irqen = omega arith; irqst = bit_or_fits p.irqst (7 - value % 8) h.requests.irqst (omega arith) }) h
+requests_enabled_in value p h = let irqst = bit_or_fits p.irqst (7 - value % 8) h.requests.irqst (omega arith) in search rules
 
 audctl_in : (value : ℕ) (p : PokeyValue) → IsByte value → IsPokeyInRange p → IsPokeyInRange (record p { audctl = value })
-audctl_in value p byte h =
-    let r : AreRegisters p.audf p.audc p.audctl p.skctl = h.registers in
-    with_registers p p.audf p.audc value p.skctl
-    (record { audf = r.audf; audc = r.audc; audf_bytes = r.audf_bytes; audc_bytes = r.audc_bytes; audctl = byte; skctl = r.skctl }) h
+audctl_in value p byte h = search rules
 
 skctl_in : (value : ℕ) (p : PokeyValue) → IsByte value → IsPokeyInRange p → IsPokeyInRange (record p { skctl = value })
-skctl_in value p byte h =
-    let r : AreRegisters p.audf p.audc p.audctl p.skctl = h.registers in
-    with_registers p p.audf p.audc p.audctl value
-    (record { audf = r.audf; audc = r.audc; audf_bytes = r.audf_bytes; audc_bytes = r.audc_bytes; audctl = r.audctl; skctl = byte }) h
+skctl_in value p byte h = search rules
 
 pots_started_in : (p : PokeyValue) → IsPokeyInRange p → IsPokeyInRange (record p { pot = 0 })
-pots_started_in p h = with_pots p 0 p.targets (record { pot = omega arith; count = h.pots.count; targets = h.pots.targets }) h
+pots_started_in p h = search rules
 
 pub register_written-in_range : (reg value : ℕ) (p : PokeyValue) → IsByte value → IsPokeyInRange p → IsPokeyInRange (register_written reg value p)
 unfolding register_written
