@@ -4,6 +4,7 @@ pub mod EngineValue
 pub mod Events
 pub mod Lags
 pub mod Runs
+pub mod Stands
 pub mod StopConditions
 pub mod Turn
 pub mod Trace

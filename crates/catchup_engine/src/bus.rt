@@ -64,19 +64,14 @@ pub(crate) struct BoardBus<S: Units> {
 }
 
 impl<S: Units> Model for BoardBus<S> {
-    ghost use Rattle.std.specs.Prelude.{◌≡◌, ◌+◌, ◌-◌, ◌≤◌, ◌<◌, ◌^◌, ◌++◌, true, length, min};
-    ghost use Rattle.board_base.specs.declared.board.TheConstants.{CLOCK_END};
-    ghost use Rattle.board_base.specs.declared.board.TheConstants.{RAM_LEN};
-    ghost use Rattle.board_base.specs.declared.divider.TheConstants.{DIVIDER_PERIOD};
-    ghost use Rattle.board_base.specs.Ticks.{made, ticks, times};
-    ghost use Rattle.rom_image.specs.declared.image.TheConstants.{PROGRAM_ROM_LEN};
-    ghost use Rattle.avg_device.specs.Tick.{vg_gives, vg_tick};
+    ghost use Rattle.std.specs.Prelude.{◌≡◌, ◌+◌, ◌-◌, ◌≤◌, ◌<◌, ◌^◌, true, length, min};
     ghost use Rattle.earom_cells.specs.Tick.{earom_tick};
     ghost use Rattle.irq_watchdog.specs.Tick.{divider_tick};
-    ghost use Rattle.pokey_chip.specs.Tick.{levels_made, pokey_tick};
+    ghost use Rattle.pokey_chip.specs.Tick.{pokey_tick};
     ghost use Rattle.catchup_engine.specs.declared.bus.TheConstants.{TRAIL_ROOM};
     ghost use Rattle.catchup_engine.specs.Bus.{BusValue};
-    ghost use Rattle.catchup_devices.specs.Lags.{lags, AsksAt};
+    ghost use Rattle.catchup_engine.specs.Stands.{HasNoWrapInItsLag, HasSpareForLag, HoldsTheRest, IsKnownToAsk, IsNotAhead, after_lag, generator_after_lag, with_lags_levels, with_lags_strokes};
+    ghost use Rattle.catchup_devices.specs.Lags.{lags};
 
     ghost Value = { BusValue };
 
@@ -88,17 +83,17 @@ impl<S: Units> Model for BoardBus<S> {
         in0 = a.in0;
         in3 = a.in3;
         in4 = a.in4;
-        divider = times divider_tick (a.clock - a.divider.done) (S.Divider.device a.divider.unit);
-        vg = ticks (vg_tick a.memory) a.vector.done (a.clock - a.vector.done) (S.Vector.device a.vector.unit);
-        sound1 = times pokey_tick (a.clock - a.sound1.done) (S.Sound.device a.sound1.unit);
-        sound2 = times pokey_tick (a.clock - a.sound2.done) (S.Sound.device a.sound2.unit);
-        earom = times earom_tick (a.clock - a.cells.done) (S.Cells.device a.cells.unit);
+        divider = after_lag divider_tick a.divider.done a.clock (S.Divider.device a.divider.unit);
+        vg = generator_after_lag a.memory a.vector.done a.clock (S.Vector.device a.vector.unit);
+        sound1 = after_lag pokey_tick a.sound1.done a.clock (S.Sound.device a.sound1.unit);
+        sound2 = after_lag pokey_tick a.sound2.done a.clock (S.Sound.device a.sound2.unit);
+        earom = after_lag earom_tick a.cells.done a.clock (S.Cells.device a.cells.unit);
         ram = a.ram.items;
         memory = a.memory;
         program = a.program.items;
-        strokes = a.vector.trail.records ++ made (vg_tick a.memory) vg_gives a.vector.done (a.clock - a.vector.done) (S.Vector.device a.vector.unit);
-        levels1 = a.sound1.trail.records ++ levels_made a.sound1.done (a.clock - a.sound1.done) (S.Sound.device a.sound1.unit);
-        levels2 = a.sound2.trail.records ++ levels_made a.sound2.done (a.clock - a.sound2.done) (S.Sound.device a.sound2.unit);
+        strokes = with_lags_strokes a.memory a.vector.done a.clock (S.Vector.device a.vector.unit) a.vector.trail.records;
+        levels1 = with_lags_levels a.sound1.done a.clock (S.Sound.device a.sound1.unit) a.sound1.trail.records;
+        levels2 = with_lags_levels a.sound2.done a.clock (S.Sound.device a.sound2.unit) a.sound2.trail.records;
         written = a.written.records;
       };
       clock_open = a.clock_open;
@@ -110,17 +105,15 @@ impl<S: Units> Model for BoardBus<S> {
       calls = min (S.Vector.calls a.vector.unit + S.Sound.calls a.sound1.unit + S.Sound.calls a.sound2.unit + S.Cells.calls a.cells.unit + S.Divider.calls a.divider.unit) (2 ^ 64 - 1);
     } };
 
-    ghost invariant = { λ a. (a.clock ≤ CLOCK_END) × (a.in0 < 64)
-        × (a.vector.done ≤ a.clock) × (a.sound1.done ≤ a.clock) × (a.sound2.done ≤ a.clock) × (a.cells.done ≤ a.clock) × (a.divider.done ≤ a.clock)
-        × ((S.Divider.device a.divider.unit).phase + (a.wrap_at - a.divider.done) ≡ DIVIDER_PERIOD) × (a.clock < a.wrap_at) × (a.event_at < a.wrap_at)
+    ghost invariant = { λ a. HoldsTheRest a.clock a.in0 a.ram.items a.program.items
+        × IsNotAhead a.vector.done a.clock × IsNotAhead a.sound1.done a.clock × IsNotAhead a.sound2.done a.clock × IsNotAhead a.cells.done a.clock × IsNotAhead a.divider.done a.clock
+        × HasNoWrapInItsLag (S.Divider.device a.divider.unit).phase a.divider.done a.clock a.wrap_at × (a.event_at < a.wrap_at)
         × (a.clock_open ≡ true → (1 ≤ a.clock) × (a.event_at ≡ 0))
-        × (a.sound1.wired ≡ true → AsksAt a.sound1.done a.sound1.request_at (S.Sound.device a.sound1.unit))
-        × (a.sound2.wired ≡ true → AsksAt a.sound2.done a.sound2.request_at (S.Sound.device a.sound2.unit)) × (a.sound2.wired ≡ a.sound1.wired)
-        × (length a.ram.items ≡ RAM_LEN) × (length a.program.items ≡ PROGRAM_ROM_LEN)
-        × (a.clock ≤ a.vector.done + a.vector.trail.spare) × (a.clock ≤ a.sound1.done + a.sound1.trail.spare) × (a.clock ≤ a.sound2.done + a.sound2.trail.spare)
-        × (TRAIL_ROOM ≤ a.vector.trail.room) × (a.vector.trail.spare + length a.vector.trail.records ≡ a.vector.trail.room)
-        × (TRAIL_ROOM ≤ a.sound1.trail.room) × (a.sound1.trail.spare + length a.sound1.trail.records ≡ a.sound1.trail.room)
-        × (TRAIL_ROOM ≤ a.sound2.trail.room) × (a.sound2.trail.spare + length a.sound2.trail.records ≡ a.sound2.trail.room)
+        × IsKnownToAsk a.sound1.wired a.sound1.done a.sound1.request_at (S.Sound.device a.sound1.unit)
+        × IsKnownToAsk a.sound2.wired a.sound2.done a.sound2.request_at (S.Sound.device a.sound2.unit) × (a.sound2.wired ≡ a.sound1.wired)
+        × HasSpareForLag a.vector.done a.clock a.vector.trail.spare a.vector.trail.room a.vector.trail.records
+        × HasSpareForLag a.sound1.done a.clock a.sound1.trail.spare a.sound1.trail.room a.sound1.trail.records
+        × HasSpareForLag a.sound2.done a.clock a.sound2.trail.spare a.sound2.trail.room a.sound2.trail.records
         × (TRAIL_ROOM ≤ a.written.room) × (a.written.spare + length a.written.records ≡ a.written.room) };
 }
 

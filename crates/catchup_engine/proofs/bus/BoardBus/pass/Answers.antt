@@ -12,11 +12,11 @@ unfolding passed later
 returns-clause-value g c =
     let bus = c.self.inside in
     let n = c.args.clocks in
-    let vector = c.self.invariant.2 in
-    let sound1 = c.self.invariant.3 in
-    let sound2 = c.self.invariant.4 in
-    let cells = c.self.invariant.5 in
-    let divider = c.self.invariant.6 in
+    let vector = c.self.invariant.1 in
+    let sound1 = c.self.invariant.2 in
+    let sound2 = c.self.invariant.3 in
+    let cells = c.self.invariant.4 in
+    let divider = c.self.invariant.5 in
     let vg = g.S.Vector.VectorUnit.device bus.vector.unit in
     let pokey1 = g.S.Sound.SoundUnit.device bus.sound1.unit in
     let pokey2 = g.S.Sound.SoundUnit.device bus.sound2.unit in
