@@ -1,11 +1,13 @@
 -- Levels and weights at the clocks of a run.
-use Rattle.std.proofs.Common.{◌≡◌, ℕ, zero, suc, ◌+◌, ◌≤◌, ◌<◌, List, [], ◌∷◌, ◌++◌, map, replicate, ap, ◌∙◌, refl, arith, le-leb, nat_le, if◌then◌else◌}
+use Rattle.std.proofs.Common.{◌≡◌, ℕ, Bool, true, false, zero, suc, ◌+◌, ◌≤◌, ◌<◌, List, [], ◌∷◌, ◌++◌, map, replicate, ap, ◌∙◌, refl, arith, le-leb, nat_le, if◌then◌else◌}
 use Rattle.std.specs.Prelude.{All}
 use Rattle.std.specs.List.{sum, range_with_len}
 use Rattle.std.proofs.lemmas.Bool.{lt-leb}
 use Rattle.std.proofs.lemmas.List.{map-append}
 use Rattle.board_base.specs.declared.record.Record.{Record}
+use Rattle.board_base.specs.declared.record.Record.TheVariants.{Stroke, Levels, Latch, WatchdogReset}
 use Rattle.board_base.specs.Records.{clock_of}
+use Rattle.sound_pcm.specs.Mixing.{LevelsBetween}
 use Rattle.sound_pcm.specs.Samples.{levels_of, levels_after, levels_at, weight}
 use Rattle.sound_pcm.specs.WholeRun.{AreBefore, AreFrom}
 
@@ -53,6 +55,55 @@ pub at-first : (before : List ℕ) (made : Record) (others : List Record) (clock
     → levels_at before (made ∷ others) clock ≡ levels_at (levels_of before made) others clock
 unfolding levels_at
 at-first before made others clock come = rw (le-leb (clock_of made) clock come) refl
+
+-- a record that isn't of levels changes none
+abbrev pub IsOther : Record → Type 0
+IsOther (Levels clock l1 l2 l3 l4) = ⊥
+IsOther _ = Unit {0}
+
+pub other-of : (made : Record) → ((clock l1 l2 l3 l4 : ℕ) → made ≡ Levels clock l1 l2 l3 l4 → ⊥) → IsOther made
+other-of (Stroke clock x0 y0 x1 y1 colour intensity) not = tt
+other-of (Levels clock l1 l2 l3 l4) not = not clock l1 l2 l3 l4 refl
+other-of (Latch clock value) not = tt
+other-of (WatchdogReset clock) not = tt
+
+if-same : (test : Bool) (l : List ℕ) → (if test then l else l) ≡ l
+if-same true l = refl
+if-same false l = refl
+
+pub of-other : (before : List ℕ) (made : Record) → IsOther made → levels_of before made ≡ before
+of-other before (Stroke clock x0 y0 x1 y1 colour intensity) is = refl
+of-other before (Levels clock l1 l2 l3 l4) is = absurd is
+of-other before (Latch clock value) is = refl
+of-other before (WatchdogReset clock) is = refl
+
+pub at-other : (before : List ℕ) (made : Record) (others : List Record) (clock : ℕ) → IsOther made
+    → levels_at before (made ∷ others) clock ≡ levels_at before others clock
+unfolding levels_at
+at-other before made others clock is =
+    ap (λ (l : List ℕ). levels_at (if nat_le (clock_of made) clock then l else before) others clock) (of-other before made is)
+    ∙ ap (λ (l : List ℕ). levels_at l others clock) (if-same (nat_le (clock_of made) clock) before)
+
+pub after-other : (before : List ℕ) (made : Record) (others : List Record) → IsOther made
+    → levels_after before (made ∷ others) ≡ levels_after before others
+unfolding levels_after
+after-other before made others is = ap (λ (l : List ℕ). levels_after l others) (of-other before made is)
+
+-- no record of levels has come
+pub at-sooner : (before : List ℕ) (records : List Record) (from to clock : ℕ) → LevelsBetween from records to → clock < from
+    → levels_at before records clock ≡ before
+unfolding levels_at
+at-sooner before [] from to clock made order = refl
+at-sooner before (Levels at l1 l2 l3 l4 ∷ others) from to clock (low, high, rest) order =
+    let to_come : clock < at = omega (arith, low, order) in
+    rw (lt-leb at clock to_come)
+    (at-sooner before others at to clock rest to_come)
+at-sooner before (Stroke at x0 y0 x1 y1 colour intensity ∷ others) from to clock made order =
+    at-other before (Stroke at x0 y0 x1 y1 colour intensity) others clock tt ∙ at-sooner before others from to clock made order
+at-sooner before (Latch at value ∷ others) from to clock made order =
+    at-other before (Latch at value) others clock tt ∙ at-sooner before others from to clock made order
+at-sooner before (WatchdogReset at ∷ others) from to clock made order =
+    at-other before (WatchdogReset at) others clock tt ∙ at-sooner before others from to clock made order
 
 -- no record
 pub at-nothing : (before : List ℕ) (clock : ℕ) → levels_at before [] clock ≡ before

@@ -1,4 +1,5 @@
 mod AddLaws
+pub mod BetweenLaws
 mod FitLaws
 pub mod GatherLaws
 mod GroupLaws

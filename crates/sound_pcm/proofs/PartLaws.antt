@@ -16,7 +16,17 @@ pub mixer-same : (clock per : ℕ) (a a' b b' : List ℕ) (g g' : ℕ × ℕ) �
 mixer-same clock per a a' b b' g g' one two three =
     ap (λ (l : List ℕ). mixer clock per l b g) one ∙ ap (λ (l : List ℕ). mixer clock per a' l g) two ∙ ap (mixer clock per a' b') three
 
-module _ (m : MixerValue) (first1 first2 rest1 rest2 : List Record) (at upto : ℕ) (cut : IsCut m first1 first2 rest1 rest2 at upto) where
+-- a clock of the run up to which the levels are those of the first records, and from which on they
+-- are those of the rest after all of the first
+pub record Splits (m : MixerValue) (first1 first2 rest1 rest2 : List Record) (at upto : ℕ) : Type 0 where
+  pub from : m.clock ≤ at
+  pub to : at ≤ upto
+  pub before1 : (k : ℕ) → at ≤ k → levels_at m.sound1 first1 k ≡ levels_after m.sound1 first1
+  pub before2 : (k : ℕ) → at ≤ k → levels_at m.sound2 first2 k ≡ levels_after m.sound2 first2
+  pub after1 : (before : List ℕ) (k : ℕ) → k < at → levels_at before rest1 k ≡ before
+  pub after2 : (before : List ℕ) (k : ℕ) → k < at → levels_at before rest2 k ≡ before
+
+module _ (m : MixerValue) (first1 first2 rest1 rest2 : List Record) (at upto : ℕ) (cut : Splits m first1 first2 rest1 rest2 at upto) where
   all : ℕ → ℕ
   all = weight m.sound1 m.sound2 (first1 ++ rest1) (first2 ++ rest2)
 
@@ -30,14 +40,14 @@ module _ (m : MixerValue) (first1 first2 rest1 rest2 : List Record) (at upto : �
   unfolding all sooner
   is-sooner k low high =
       let before : k < at = omega (arith, high, cut.from) in
-      weight-by _ _ _ _ _ _ _ _ k (at-append m.sound1 first1 rest1 k ∙ at-none _ rest1 at k cut.after1 before)
-      (at-append m.sound2 first2 rest2 k ∙ at-none _ rest2 at k cut.after2 before)
+      weight-by _ _ _ _ _ _ _ _ k (at-append m.sound1 first1 rest1 k ∙ cut.after1 _ k before)
+      (at-append m.sound2 first2 rest2 k ∙ cut.after2 _ k before)
 
   is-later : (k : ℕ) → at ≤ k → k < at + (upto - at) → all k ≡ later k
   unfolding all later
   is-later k low high =
-      weight-by _ _ _ _ _ _ _ _ k (at-append m.sound1 first1 rest1 k ∙ ap (λ (l : List ℕ). levels_at l rest1 k) (at-all m.sound1 first1 at k cut.before1 low))
-      (at-append m.sound2 first2 rest2 k ∙ ap (λ (l : List ℕ). levels_at l rest2 k) (at-all m.sound2 first2 at k cut.before2 low))
+      weight-by _ _ _ _ _ _ _ _ k (at-append m.sound1 first1 rest1 k ∙ ap (λ (l : List ℕ). levels_at l rest1 k) (cut.before1 k low))
+      (at-append m.sound2 first2 rest2 k ∙ ap (λ (l : List ℕ). levels_at l rest2 k) (cut.before2 k low))
 
   split : map all (range_with_len m.clock (upto - m.clock)) ≡ map sooner (range_with_len m.clock (at - m.clock)) ++ map later (range_with_len at (upto - at))
   split =
@@ -61,7 +71,20 @@ module _ (m : MixerValue) (first1 first2 rest1 rest2 : List Record) (at upto : �
       (ap (group_after m.per m.sum m.count) split
       ∙ group-append m.per m.sum m.count (weights m.sound1 m.sound2 first1 first2 m.clock (at - m.clock)) _)
 
+pub split_in_parts : (m : MixerValue) → (first1 first2 rest1 rest2 : List Record) → (at upto : ℕ) → Splits m first1 first2 rest1 rest2 at upto
+    → IsTakenInParts m first1 first2 rest1 rest2 at upto
+split_in_parts m first1 first2 rest1 rest2 at upto cut =
+    record { made = is-made m first1 first2 rest1 rest2 at upto cut; state = is-state m first1 first2 rest1 rest2 at upto cut }
+
 pub taken_in_parts : (m : MixerValue) → (first1 first2 rest1 rest2 : List Record) → (at upto : ℕ) → IsCut m first1 first2 rest1 rest2 at upto
     → IsTakenInParts m first1 first2 rest1 rest2 at upto
 taken_in_parts m first1 first2 rest1 rest2 at upto cut =
-    record { made = is-made m first1 first2 rest1 rest2 at upto cut; state = is-state m first1 first2 rest1 rest2 at upto cut }
+    split_in_parts m first1 first2 rest1 rest2 at upto
+    record {
+      from = cut.from;
+      to = cut.to;
+      before1 = λ k low. at-all m.sound1 first1 at k cut.before1 low;
+      before2 = λ k low. at-all m.sound2 first2 at k cut.before2 low;
+      after1 = λ before k high. at-none before rest1 at k cut.after1 high;
+      after2 = λ before k high. at-none before rest2 at k cut.after2 high;
+    }

@@ -1,5 +1,5 @@
 -- A mixer, as contracts see it.
-use Rattle.std.specs.Prelude.{ℕ, ◌+◌, ◌-◌, ◌≤◌, List, All, replicate, sum}
+use Rattle.std.specs.Prelude.{ℕ, ◌+◌, ◌-◌, ◌≤◌, ◌<◌, List, [], ◌∷◌, All, replicate, sum}
 use Rattle.board_base.specs.declared.part.Part.{Part}
 use Rattle.board_base.specs.declared.part.Part.TheVariants.{Pokey1, Pokey2}
 use Rattle.board_base.specs.declared.record.Record.{Record}
@@ -25,6 +25,13 @@ AreLevels levels = All (λ level. level ≤ MAX_LEVEL) levels
 abbrev pub HoldsLevels : Record → Type 0
 HoldsLevels (Levels clock l1 l2 l3 l4) = (l1 ≤ MAX_LEVEL) × (l2 ≤ MAX_LEVEL) × (l3 ≤ MAX_LEVEL) × (l4 ≤ MAX_LEVEL)
 HoldsLevels _ = Unit {0}
+
+-- the records of levels came from one clock to another, which isn't in it any more, in the order of
+-- their clocks; any other record is passed over
+abbrev pub LevelsBetween : ℕ → List Record → ℕ → Type 0
+LevelsBetween from [] to = Unit {0}
+LevelsBetween from (Levels clock l1 l2 l3 l4 ∷ others) to = (from ≤ clock) × (clock < to) × LevelsBetween clock others to
+LevelsBetween from (_ ∷ others) to = LevelsBetween from others to
 
 -- the samples that a mixer makes of the records of both POKEYs up to a clock
 unfoldable pub samples_of : MixerValue → List Record → List Record → ℕ → List ℕ

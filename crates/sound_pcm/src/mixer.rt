@@ -1,12 +1,11 @@
 ghost use Rattle.std.specs.Prelude.{◌≡◌, ◌+◌, ◌-◌, ◌*◌, ◌≤◌, ◌++◌, OnOk, take, drop, sum, replicate};
-ghost use Rattle.board_base.specs.Records.{MadeBetween};
 ghost use Rattle.board_base.specs.declared.board.TheConstants.{CLOCK_END};
 ghost use Rattle.outside_io.specs.Causes.{HasCause};
 ghost use Rattle.outside_io.specs.Gathering.{Gathers};
 ghost use Rattle.outside_io.specs.Sink.{Takes};
-ghost use Rattle.sound_pcm.specs.Mixing.{AreLevels, samples_of, mixed, held, changed};
+ghost use Rattle.sound_pcm.specs.Mixing.{AreLevels, LevelsBetween, samples_of, mixed, held, changed};
 ghost use Rattle.sound_pcm.specs.Samples.{bytes_of, samples};
-ghost use Rattle.sound_pcm.specs.Sooner.{TakesSooner};
+ghost use Rattle.sound_pcm.specs.Sooner.{TakesSooner, comes_first};
 
 use crate::group::Group;
 use board_base::{Part, Record, Trails};
@@ -81,7 +80,7 @@ impl Mixer {
 
     /// Takes the clocks before `upto`, whose records these are, and writes the samples that become
     /// whole, each as four bytes, the lowest first. It writes them in blocks, and the first write
-    /// that fails is the last.
+    /// that fails is the last. It passes over records that aren't of levels, whatever their clocks.
     pub fn take<O: Sink>(
         &mut self,
         trails: &Trails<'_>,
@@ -90,8 +89,8 @@ impl Mixer {
     ) -> Result<(), SinkFault>
         requires from { self.old.clock ≤ upto }
         requires to { upto ≤ CLOCK_END }
-        requires made1 { MadeBetween Part.Pokey1 self.old.clock trails.now.sound1.now.records upto }
-        requires made2 { MadeBetween Part.Pokey2 self.old.clock trails.now.sound2.now.records upto }
+        requires made1 { LevelsBetween self.old.clock trails.now.sound1.now.records upto }
+        requires made2 { LevelsBetween self.old.clock trails.now.sound2.now.records upto }
         ensures taken { Takes (O.taken out.old) (O.taken out.new)
             (bytes_of (samples_of self.old trails.now.sound1.now.records trails.now.sound2.now.records upto)) result }
         ensures cause { HasCause (O.faults out.old) (O.faults out.new) result }
@@ -101,7 +100,10 @@ impl Mixer {
         let mut sound2 = trails.sound2.records();
         let mut block = BlockWriter::new();
         while let Some((part, made)) = take_sooner(&mut sound1, &mut sound2) {
-            self.hold(made.clock(), &mut block, out)?;
+            let Record::Levels { clock, .. } = made else {
+                continue;
+            };
+            self.hold(clock, &mut block, out)?;
             self.change(part, made);
         }
         self.hold(upto, &mut block, out)?;
@@ -142,7 +144,22 @@ impl Mixer {
     }
 }
 
-/// Takes the first record of the list whose first one came sooner, and says whose it is.
+/// Whether the first record of a list may be taken before that of the other: records of levels go
+/// by their clocks, and any other record goes before them.
+fn is_first(first: &Record, second: &Record) -> bool
+    ensures { result ≡ comes_first first.now second.now }
+{
+    match (first, second) {
+        (Record::Levels { clock: clock1, .. }, Record::Levels { clock: clock2, .. }) => {
+            *clock1 <= *clock2
+        }
+        (Record::Levels { .. }, _) => false,
+        _ => true,
+    }
+}
+
+/// Takes the first record of the list whose first one comes sooner, and says whose it is. A record
+/// that isn't of levels comes before any that is.
 pub(crate) fn take_sooner(sound1: &mut &[Record], sound2: &mut &[Record]) -> Option<(Part, Record)>
     ensures { TakesSooner sound1.old.now sound2.old.now sound1.new.now sound2.new.now result }
 {
@@ -156,7 +173,7 @@ pub(crate) fn take_sooner(sound1: &mut &[Record], sound2: &mut &[Record]) -> Opt
             Some((Part::Pokey2, *made))
         }
         (Some((first, others1)), Some((second, others2))) => {
-            if first.clock() <= second.clock() {
+            if is_first(first, second) {
                 *sound1 = others1;
                 return Some((Part::Pokey1, *first));
             }
