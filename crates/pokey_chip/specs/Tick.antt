@@ -1,5 +1,7 @@
--- One clock of a POKEY, in five steps (POKEY C012294 data sheet; the order within a clock, the pots
--- and what a joined pair does are this project's own profile).
+-- One clock of a POKEY, in five steps (POKEY C012294 data sheet). This project's own profile are
+-- the order within a clock, the pots, the joined pair, whose lower channel stands still, the
+-- high-pass bit, which is copied with the filter on or off, and SKCTL's bits 3 to 7, which do
+-- nothing.
 use Rattle.std.specs.Prelude.{ℕ, ◌+◌, ◌-◌, ◌*◌, ◌%◌, ◌^◌, Bool, false, not, ◌&&◌, ◌||◌, ◌==◌, nat_eq, nat_lt, if◌then◌else◌, List, [], ◌∷◌, slice_index}
 use Rattle.std.specs.Int.{bit_at, from_bool}
 use Rattle.std.specs.Cmp.Lexicographic.{pointwise}
