@@ -4,6 +4,7 @@ The first line of an edit of crates/*/must-fail says where it is refused:
 
     # refused at the clause calls of Engine::run
     # refused at the condition room of take in SyncedMachine::window
+    # refused at the law window-price of Budgets
 
 More words may follow behind a colon. `tools/mutants --clauses LOG` compares these lines with a log,
 and `--write` puts them into the edits.
@@ -14,9 +15,12 @@ import pathlib
 import re
 from typing import Iterator, NamedTuple, Optional
 
-LINE = re.compile(r"rt: must-fail (\w+)/(\w+)\.edit: refused, as it must be: (.*)")
+LINE = re.compile(
+    r"rt: must-fail (\w+)/(\w+)\.edit: refused, as it must be(?: \((only because.*?)\))?: (.*)"
+)
 PLACE = re.compile(r"(?:note: |error: )?(?:\./)?((?:src|proofs|specs)/[\w/.-]+):(\d+):\d+: ")
-GOAL = re.compile(r"\(?`((?:returns|loop|overflow|invariant_of|[\w-]+-requires)[\w-]*)`")
+LOOP = r"(?:loop|\w+-(?:init|preserved|smaller))"
+GOAL = re.compile(r"\(?`((?:returns|%s|overflow|invariant_of|[\w-]+-requires)[\w-]*)`" % LOOP)
 FUNCTION = re.compile(r"\s*(?:pub(?:\(\w+\))? )?(?:unsafe |const |extern \"C\" )*fn (\w+)")
 OWNER = re.compile(r"impl(?:<.*?>)? (?:[\w:]+(?:<.*?>)? for )?(\w+)|(?:pub )?trait (\w+)")
 INVARIANT = "`invariant` of the struct's `impl Model` holds"
@@ -29,6 +33,9 @@ BY_ACCIDENT = (
     "is not in scope",
 )
 HEADER = "# refused at "
+# A definition is no body, so what refuses a wrong one is a law about it.
+DEFINITION = re.compile(r"^file: specs/", re.M)
+LAW = re.compile(r"(?:\./)?proofs/(\w+)\.antt:\d+:\d+: error: `([\w-]+)`")
 
 
 class Refusal(NamedTuple):
@@ -80,11 +87,19 @@ def words_of(goal: str, function: str) -> str:
         clause = re.search(r"-clause-(\w+)", goal)
         name = clause.group(1) + " " if clause else ""
         return "the clause %sof %s" % (name, function)
-    if goal.startswith("loop"):
+    if re.match(LOOP, goal):
         return "the loop of %s" % function
     if goal.startswith("overflow"):
         return "the arithmetic of %s" % function
     return "the invariant of a value in %s" % function
+
+
+def law_of(top: pathlib.Path, edit: str, message: str) -> Optional[str]:
+    """The law that refused an edit of a definition, in words; none for an edit of a body."""
+    path, law = edit_file(top, edit), LAW.match(message)
+    if not law or not path.exists() or not DEFINITION.search(path.read_text()):
+        return None
+    return "the law %s of %s" % (law.group(2), law.group(1))
 
 
 def refusals(top: pathlib.Path, log: str) -> Iterator[Refusal]:
@@ -93,10 +108,15 @@ def refusals(top: pathlib.Path, log: str) -> Iterator[Refusal]:
         told = LINE.match(line)
         if not told:
             continue
-        crate, name, message = told.groups()
+        crate, name, because, message = told.groups()
         edit = "%s/%s" % (crate, name)
         place, goal = PLACE.match(message), GOAL.search(message)
-        if any(accident in message for accident in BY_ACCIDENT):
+        law = law_of(top, edit, message)
+        if law:
+            yield Refusal(edit, HEADER + law, "")
+        elif because:
+            yield Refusal(edit, None, because)
+        elif any(accident in message for accident in BY_ACCIDENT):
             reason = "by an answer that was written for the right body: %s" % message[:100]
             yield Refusal(edit, None, reason)
         elif not place or not (goal or INVARIANT in message):

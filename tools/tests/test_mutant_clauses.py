@@ -56,6 +56,21 @@ class Clauses(unittest.TestCase):
     def test_an_invariant(self) -> None:
         self.assertEqual(self.header(INVARIANT), "# refused at the invariant of a value in Engine::run")
 
+    def test_a_loop_with_and_without_a_label(self) -> None:
+        for goal in ("loop-n-preserved", "lines-preserved-then-eq", "vectors-init"):
+            message = "note: src/engine.rt:6:9: it is not proved that the loop keeps (`%s`)" % goal
+            self.assertEqual(self.header(message), "# refused at the loop of Engine::run")
+
+    def test_a_lost_name_is_wrong(self) -> None:
+        self.edit("a", "# refused at the clause calls of Engine::run\n")
+        because = REFUSED.replace("be:", "be (only because a proof file names what the edit took away):")
+        self.assertEqual(len(list(mutant_clauses.differences(self.top, because % ("a", CLAUSE)))), 1)
+
+    def test_a_definition_is_refused_by_a_law(self) -> None:
+        (self.top / "crates/engine/must-fail/a.edit").write_text("file: specs/Budget.antt\n")
+        message = "./proofs/Budgets.antt:9:5: error: `window-price`: as printed, the two types differ"
+        self.assertEqual(self.header(message), "# refused at the law window-price of Budgets")
+
     def test_an_accident_is_wrong(self) -> None:
         self.edit("a", "# refused at the clause calls of Engine::run\n")
         wrong = list(mutant_clauses.differences(self.top, REFUSED % ("a", ACCIDENT)))
