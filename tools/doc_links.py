@@ -1,5 +1,6 @@
 #!/usr/bin/env python3
-"""Looks for links of the pages that lead nowhere or to the wrong place, and for lines too long.
+"""Looks for links of the pages that lead nowhere or to the wrong place, lines too long, and tables
+whose rows differ in their cells.
 
     python3 tools/doc_links.py           prints what is wrong; the status is 1 where something is
     python3 tools/doc_links.py --mend    also puts the right line into each link whose line moved,
@@ -18,7 +19,7 @@ It reads README.md, CONTRIBUTING.md, CHANGELOG.md and docs/*.md.
   function.
 - No link leads through `examples`, which is itself a link: a forge doesn't follow it.
 - Prose has at most 100 columns, outside tables, code and images, and links count by their text;
-  a cell of a table has at most 160."""
+  a cell of a table has at most 160. All rows of a table have as many cells."""
 from __future__ import annotations
 
 import os
@@ -202,6 +203,17 @@ def long_lines(page: pathlib.Path, text: str) -> Iterator[str]:
             yield f"{at}: {len(seen)} columns"
 
 
+def uneven_rows(page: pathlib.Path, text: str) -> Iterator[str]:
+    """The rows of a table with more or fewer cells than its first one."""
+    wanted = 0
+    for number, line in enumerate(text.splitlines(), 1):
+        row = re.fullmatch(r"\|(.*?)(?:(?<!\\)\|)?\s*", line)
+        cells = len(re.split(r"(?<!\\)\|", row.group(1))) if row else 0
+        if cells and wanted and cells != wanted:
+            yield f"{page.relative_to(TOP)}:{number}: {cells} cells, not {wanted}"
+        wanted = wanted or cells if cells else 0
+
+
 def main(words: list[str]) -> int:
     """Looks at all pages, and mends them where it is asked to; the status."""
     pages = [TOP / "README.md", TOP / "CONTRIBUTING.md", *sorted((TOP / "docs").glob("*.md"))]
@@ -211,7 +223,7 @@ def main(words: list[str]) -> int:
         if words == ["--mend"] and mended(page, text) != text:
             text = mended(page, text)
             page.write_text(text)
-        wrong += [*dead_links(page, text), *long_lines(page, text)]
+        wrong += [*dead_links(page, text), *long_lines(page, text), *uneven_rows(page, text)]
         if page.name in WITH_LINES:
             wrong += [f"{page.relative_to(TOP)}: {link.text}: {what}{f' {place}' if place else ''}"
                       for link, place, what in wrong_lines(page, text)]

@@ -51,6 +51,13 @@ class Links(unittest.TestCase):
         self.assertEqual(len(list(doc_links.long_lines(self.page, "a" * 101))), 1)
         self.assertEqual(len(list(doc_links.long_lines(self.page, "| " + "a" * 161 + " |"))), 1)
 
+    def test_rows_of_a_table(self) -> None:
+        good = "| a | b |\n|---|---|\n| 1 | 2 |\n\n| c |\n|---|\n| x \\| y |\n"
+        self.assertEqual(list(doc_links.uneven_rows(self.page, good)), [])
+        for row in ("| 1 |", "| 1 | 2 | 3 |", "| a | b | c"):
+            planted = "| a | b |\n|---|---|\n" + row + "\n| 1 | 2 |\n"
+            self.assertEqual(len(list(doc_links.uneven_rows(self.page, planted))), 1, row)
+
 
 SOURCE = """/// Runs.
 pub fn run(&mut self) -> Stop
