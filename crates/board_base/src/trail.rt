@@ -57,6 +57,13 @@ impl Trail {
         self.records.as_slice()
     }
 
+    /// How many more records it takes.
+    pub fn spare(&self) -> usize
+        ensures { result ≡ self.now.spare }
+    {
+        self.records.capacity() - self.records.len()
+    }
+
     /// Forgets the records, and has the first room again.
     pub fn clear(&mut self)
         ensures empty { self.new.records ≡ [] }
