@@ -103,7 +103,7 @@ impl<'a, S: Units, U> QuietBus<'a, S, U> {
         ensures accepts { ⟦<QuietBus<'a, S, U> as Bus>⟧.accepts tape.now self.new }
         ensures room { ⟦<QuietBus<'a, S, U> as Bus>⟧.room self.old ≤ ⟦<QuietBus<'a, S, U> as Bus>⟧.room self.new + 7 }
     {
-        cpu.instruction(self, tape)
+        cpu.instruction_by_jump(self, tape)
     }
 
     /// Whether a run ends at this boundary, where its limit hasn't come. Where the generator is

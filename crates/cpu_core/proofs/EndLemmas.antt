@@ -1,5 +1,5 @@
 -- Each sequence ends between two sequences, or by a jam.
-use Rattle.std.proofs.Common.{◌≡◌, ◌<◌, ◌+◌, ◌/◌, ◌%◌, ◌==◌, ℕ, zero, suc, Bool, true, false, List, [], ◌∷◌, Option, Some, None, if◌then◌else◌, ◌||◌, nat_lt, refl, subst}
+use Rattle.std.proofs.Common.{◌≡◌, ◌+◌, ◌/◌, ◌%◌, ◌==◌, ℕ, Bool, true, false, List, [], ◌∷◌, Option, Some, None, if◌then◌else◌, ◌||◌, nat_lt, refl, subst}
 use Rattle.board_base.specs.declared.cpu.Sequence.{Sequence}
 use Rattle.board_base.specs.declared.cpu.Sequence.TheVariants.{Opcode, Interrupt, Reset}
 use Rattle.board_base.specs.Cpu.{CpuValue}
@@ -14,7 +14,7 @@ use Rattle.cpu_core.specs.declared.replay.Next.TheVariants.{End}
 use Rattle.cpu_core.specs.Registers.{RegistersValue}
 use Rattle.cpu_core.specs.BusCycles.{BusCycles, finish, read, write}
 use Rattle.cpu_core.specs.Operations.{is_taken}
-use Rattle.cpu_core.specs.Patterns.{address_of, load_cycles, store_cycles, indexed, directly_addressed, addressed, is_accumulator, executed_by, row_cycles, modify_a_cycles, read_modify_write_cycles, landed, target_of, ends_with, dummy_read}
+use Rattle.cpu_core.specs.Patterns.{address_of, indexed, directly_addressed, addressed, is_accumulator, executed_by, row_cycles, modify_a_cycles, read_modify_write_cycles, landed, target_of, ends_with, dummy_read}
 use Rattle.cpu_core.specs.Sequences.{cycles_of, after, head_of, next_of}
 
 -- whatever the bytes are, the processor is inside no sequence after the last bus cycle

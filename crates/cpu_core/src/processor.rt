@@ -10,7 +10,7 @@ use crate::fetched::Fetched;
 use crate::operations::masked;
 use crate::pause;
 use crate::registers::Registers;
-use crate::sequence::perform;
+use crate::sequence::{perform, perform_by_jump};
 use board_base::{CpuState, Sequence};
 use std::marker::Model;
 
@@ -72,6 +72,25 @@ impl Cpu {
         ensures room { B.room bus.old ≤ B.room bus.new + 7 }
     {
         self.state = perform(Registers::of(&self.state), Sequence::Opcode, bus, feed);
+        fetched(&self.state)
+    }
+
+    /// Executes the instruction at `pc`, as `instruction` does, with code of its own for each of the
+    /// commonest opcodes. It is for a loop that has the only call on its bus.
+    #[inline(always)]
+    pub fn instruction_by_jump<B: Bus>(&mut self, bus: &mut B, feed: &B::Feed) -> Fetched
+        requires running { self.old.jam ≡ None }
+        requires boundary { self.old.mid ≡ None }
+        requires accepts { B.accepts feed.now bus.old }
+        requires room { 7 ≤ B.room bus.old }
+        ensures runs { Runs (B.step feed.now) (registers_of self.old) Sequence.Opcode bus.old bus.new self.new }
+        ensures fetches { Fetches (B.step feed.now) self.old bus.old bus.new self.new }
+        ensures boundary { self.new.mid ≡ None }
+        ensures jammed { result ≡ fetched_of self.new.jam }
+        ensures accepts { B.accepts feed.now bus.new }
+        ensures room { B.room bus.old ≤ B.room bus.new + 7 }
+    {
+        self.state = perform_by_jump(&Registers::of(&self.state), bus, feed);
         fetched(&self.state)
     }
 

@@ -22,6 +22,10 @@ use lockstep_board::{DeviceSet, devices_read, devices_written};
 use pokey_chip::SoundUnit;
 use rom_image::PROGRAM_ROM_LEN;
 
+/// The first address that clears the watchdog, as a polling loop does in each turn. The rows of the
+/// map say what a write does; from here on LLVM compares with few of them.
+const WATCHDOG: u16 = 0x8980;
+
 impl<S: Units> BoardBus<S> {
     /// Moves the generator to the present clock: one call where it lags, and none where it doesn't.
     #[tactic(auto, using(board_base::proofs::TickLaws::level, crate::proofs::SettledLaws::synced))]
@@ -242,7 +246,11 @@ impl<S: Units> BoardBus<S> {
         ensures does { Does self.old self.new (at_clock self.old.peripherals.clock (byte_put addr value (at_clock (self.old.peripherals.clock - 1) self.old.peripherals))) (2 * from_bool (reaches_device (write_of addr value))) }
         ensures few { length self.new.peripherals.written ≤ length self.old.peripherals.written + 1 }
     {
-        self.put_by(addr, row(addr), value);
+        if addr >= WATCHDOG {
+            self.put_by(addr, row(addr), value);
+        } else {
+            self.put_by(addr, row(addr), value);
+        }
     }
 
     /// Writes a byte to an address, by the address's row of the map.
