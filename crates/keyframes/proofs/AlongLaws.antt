@@ -1,5 +1,6 @@
 -- Boards kept along a run, and the run's parts.
-use Rattle.std.proofs.Common.{◌≡◌, ℕ, ◌+◌, ◌-◌, ◌<◌, ◌≤◌, ◌||◌, nat_le, is_some, true, false, List, [], ◌∷◌, ◌++◌, Option, Some, None, length, get_or, take, drop, take-append-drop, zero, suc, refl, sym, ap, ◌∙◌, subst, arith}
+use Rattle.std.proofs.Common.{◌≡◌, ℕ, ◌+◌, ◌-◌, ◌<◌, ◌≤◌, ◌||◌, nat_le, is_some, true, false, List, [], ◌∷◌, ◌++◌, Option, Some, None, length, get_or, take, drop, take-append-drop}
+use Rattle.std.proofs.Common.{zero, suc, refl, sym, ap, ◌∙◌, subst, arith}
 use Rattle.std.proofs.lemmas.Bool.Decides.{nat_tests}
 use Rattle.std.proofs.Math.Seq.{drop-append_seam}
 use Rattle.std.proofs.lemmas.List.{append_cancel_left}

@@ -1,5 +1,6 @@
 -- The pages of a board, and the board of its pages.
-use Rattle.std.proofs.Common.{◌≡◌, ℕ, ◌+◌, ◌-◌, ◌*◌, ◌<◌, ◌≤◌, List, [], ◌∷◌, ◌++◌, Option, All, Bool, refl, sym, ◌∙◌, ap, length, flat_map, take, drop, get_or, if◌then◌else◌, zero, suc, inl, inr, arith, length-drop}
+use Rattle.std.proofs.Common.{◌≡◌, ℕ, ◌+◌, ◌-◌, ◌*◌, ◌<◌, ◌≤◌, List, [], ◌∷◌, ◌++◌, Option, All, Bool, refl, sym, ◌∙◌, ap, length, flat_map, take, drop, get_or, if◌then◌else◌}
+use Rattle.std.proofs.Common.{zero, suc, inl, inr, arith, length-drop}
 use Rattle.std.proofs.lemmas.List.{take-append-drop, take_at, get_or-drop, get_or-take, length-take-le}
 use Rattle.std.proofs.lemmas.List.Elements.{All-take, All-drop}
 use Rattle.std.proofs.Math.Seq.{drop-append-add}

@@ -10,9 +10,6 @@ pub record Written (f : ℕ → List ℕ) (pages : List ℕ) (n : ℕ) (old now 
   pub len : length (flat_map f (take n pages)) ≡ 256 * n
   pub bytes : now ≡ flat_map f (take n pages) ++ drop (256 * n) old
 
-pub written-none : (f : ℕ → List ℕ) (pages old : List ℕ) → Written f pages 0 old old
-written-none f pages old = record { len = refl; bytes = refl }
-
 flat_map-more : (f : ℕ → List ℕ) (pages : List ℕ) (n : ℕ) → n < length pages → flat_map f (take (n + 1) pages) ≡ flat_map f (take n pages) ++ f (get_or pages n 0)
 flat_map-more f pages n h =
     ap (flat_map f) (take_more pages n 0 h) ∙ flat_map-append f (take n pages) (get_or pages n 0 ∷ [])
@@ -40,11 +37,3 @@ written-more f pages n old now piece next w h len is put = record {
     back =
         let e : 256 * (n + 1) ≡ 256 * n + 256 = omega arith in
         rw (w.bytes, e) (drop-append-drop (256 * n) old (flat_map f (take n pages)) (256 * n + 256) (omega arith) w.len)
-
--- all pieces
-pub written-all : (f : ℕ → List ℕ) (pages : List ℕ) (old now : List ℕ) → Written f pages 8 old now → length pages ≡ 8 → length old ≡ 2048 → now ≡ flat_map f pages
-written-all f pages old now w len whole =
-    w.bytes
-    ∙ ap (λ (back : List ℕ). flat_map f (take 8 pages) ++ back) (drop_all (256 * 8) old (omega (arith, whole)))
-    ∙ append-nil (flat_map f (take 8 pages))
-    ∙ ap (flat_map f) (take_all 8 pages (omega (arith, len)))

@@ -1,5 +1,6 @@
 -- A row that is filled with the pages of a board.
-use Rattle.std.proofs.Common.{◌≡◌, ℕ, ◌+◌, ◌<◌, ◌≤◌, List, [], ◌∷◌, ◌++◌, Option, Some, None, IfSome, All, Bor, option_map, MatchBool, true, false, bytes_eq, refl, sym, subst, ap, zero, suc, ◌∙◌, length, get_or, eqb, inl, inr, arith, length-append, if◌then◌else◌, ◌^◌, ◌-◌}
+use Rattle.std.proofs.Common.{◌≡◌, ℕ, ◌+◌, ◌<◌, ◌≤◌, List, [], ◌∷◌, ◌++◌, Option, Some, None, IfSome, All, Bor, option_map, MatchBool, true, false, bytes_eq, refl, sym, subst, ap}
+use Rattle.std.proofs.Common.{zero, suc, ◌∙◌, length, get_or, eqb, inl, inr, arith, length-append, if◌then◌else◌, ◌^◌, ◌-◌}
 use Rattle.std.proofs.lemmas.List.{get_or_append_left, get_or_push}
 use Rattle.std.proofs.lemmas.List.Sums.{count_by-le-length, sum_by-append, sum_by-cons}
 use Rattle.std.proofs.lemmas.Bool.{cases_lt}
@@ -24,34 +25,12 @@ pub record Filling (old : List (Option Holding)) (frame : Option Frame) (b : Boa
   pub bytes : (k : ℕ) → k < n → IsLive pool (get_or row k 0) × (page_bytes pool (get_or row k 0) ≡ page_of b k)
   pub pages : (k : ℕ) → k < n → IsRowPage old (page_at frame k) (page_of b k) row k
 
-pub filling-none : (pool : List (Option Holding)) (frame : Option Frame) (b : BoardValue) (row : List ℕ) → AreHeld pool → row ≡ [] → Filling pool frame b pool row 0
-filling-none pool frame b row held none = rw none (record {
-  held = held;
-  len = refl;
-  holders = λ place. omega arith;
-  kept = λ place live. (live, refl);
-  count = refl;
-  room = omega arith;
-  live = omega arith;
-  bytes = λ k h. absurd (omega (arith, h));
-  pages = λ k h. absurd (omega (arith, h));
-})
-
 taken_for-le : (pool : List (Option Holding)) (before : Option ℕ) (bytes : List ℕ) → taken_for pool before bytes ≤ 1
 taken_for-le pool None bytes = omega arith
 taken_for-le pool (Some place) bytes = elim (bytes_eq (page_bytes pool place) bytes) as (λ b. (if b then 0 else 1) ≤ 1) [
   | true ↦ omega arith
   | false ↦ omega arith
 ]
-
--- a shareable page stays so while a row is filled
-pub filling-shareable : (old : List (Option Holding)) (frame : Option Frame) (b : BoardValue) (pool : List (Option Holding)) (row : List ℕ) (n place : ℕ) → Filling old frame b pool row n → n < 16
-    → IsShareable old place → IsLive pool place × (holders_of pool place < 2 ^ 32 - 1)
-filling-shareable old frame b pool row n place f h share =
-    let e = f.holders place in
-    let few = share.1 in
-    let len = f.count in
-    ((f.kept place share.0).0, omega (arith, e, few, len, h, count_by-le-length (eqb place) row))
 
 -- the pages of the frame before are live
 pub before-live : (pool : List (Option Holding)) (before : Option (Bor Frame)) (n : ℕ) → IfSome before (λ frame. length frame.now.pages.items ≡ 16)

@@ -1,5 +1,6 @@
 -- The holders of pages, as pages are taken, shared and given back.
-use Rattle.std.proofs.Common.{◌≡◌, ◌≢◌, ℕ, ◌+◌, ◌-◌, ◌<◌, ◌≤◌, ◌⊎◌, inl, inr, List, [], ◌∷◌, ◌++◌, Option, Some, None, IsSome, IfSome, is_some, option_map, option_and_then, Bool, true, false, cond, if◌then◌else◌, ◌==◌, eqb, refl, sym, ◌∙◌, ap, subst, length, slice_set, zero, suc, arith, length-set, bytes_eq}
+use Rattle.std.proofs.Common.{◌≡◌, ◌≢◌, ℕ, ◌+◌, ◌-◌, ◌<◌, ◌≤◌, ◌⊎◌, inl, inr, List, [], ◌∷◌, ◌++◌, Option, Some, None, IsSome, IfSome, is_some, option_map, option_and_then, Bool}
+use Rattle.std.proofs.Common.{true, false, cond, if◌then◌else◌, ◌==◌, eqb, refl, sym, ◌∙◌, ap, subst, length, slice_set, zero, suc, arith, length-set, bytes_eq}
 use Rattle.std.proofs.lemmas.List.{get_or-set_same, get_or-set_other}
 use Rattle.std.proofs.lemmas.List.Sums.{sum_by-append}
 use Rattle.std.proofs.lemmas.Bool.{cases_lt, eqb-true}
@@ -101,44 +102,6 @@ given-bytes pool at live place after = elim (cases_at at place) [
       (subst IsSome e after, ap bytes_in e)
 ]
 
--- a page taken
-pub taken-held : (pool : List (Option Holding)) (at : ℕ) (bytes : List ℕ) → at < length pool → AreHeld pool → AreHeld (pool_taken pool at bytes)
-taken-held pool at bytes h held = held-set pool at _ h held (omega arith)
-
-pub taken-holders : (pool : List (Option Holding)) (at : ℕ) (bytes : List ℕ) → at < length pool → held_at pool at ≡ None
-    → (place : ℕ) → holders_of (pool_taken pool at bytes) place ≡ holders_of pool place + times_in (at ∷ []) place
-taken-holders pool at bytes h none place = elim (cases_at at place) [
-  | inl same ↦ subst (λ (p : ℕ). holders_of (pool_taken pool at bytes) p ≡ holders_of pool p + times_in (at ∷ []) p) same
-      (rw (here pool at (Some (record { bytes = bytes; holders = 1 })) h, times-same at, none) refl)
-  | inr apart ↦ omega (arith, times-other at place apart, ap holders_in (there pool at place (Some (record { bytes = bytes; holders = 1 })) apart))
-]
-
-pub taken-kept : (pool : List (Option Holding)) (at : ℕ) (bytes : List ℕ) → held_at pool at ≡ None → KeepsBytes pool (pool_taken pool at bytes)
-taken-kept pool at bytes none place live =
-    let apart : at ≢ place = (λ e. let f : false ≡ true = ap is_some (sym none ∙ ap (held_at pool) e) ∙ live in cc) in
-    let e = there pool at place (Some (record { bytes = bytes; holders = 1 })) apart in
-    (subst IsSome (sym e) live, ap bytes_in e)
-
--- a page shared
-pub shared-held : (pool : List (Option Holding)) (at : ℕ) → AreHeld pool → IsLive pool at → AreHeld (pool_shared pool at)
-shared-held pool at held live = held-set pool at _ (live-within pool at live) held (more-held (held_at pool at))
-  where
-    more-held : (o : Option Holding) → IsHeld (option_map held_more o)
-    more-held None = tt
-    more-held (Some page) = omega arith
-
-pub shared-holders : (pool : List (Option Holding)) (at : ℕ) → IsLive pool at
-    → (place : ℕ) → holders_of (pool_shared pool at) place ≡ holders_of pool place + times_in (at ∷ []) place
-shared-holders pool at live place = elim (cases_at at place) [
-  | inl same ↦ subst (λ (p : ℕ). holders_of (pool_shared pool at) p ≡ holders_of pool p + times_in (at ∷ []) p) same
-      (rw (here pool at (option_map held_more (held_at pool at)) (live-within pool at live), times-same at) (more-holders (held_at pool at) live))
-  | inr apart ↦ omega (arith, times-other at place apart, ap holders_in (there pool at place (option_map held_more (held_at pool at)) apart))
-]
-  where
-    more-holders : (o : Option Holding) → IsSome o → holders_in (option_map held_more o) ≡ holders_in o + 1
-    more-holders None live = let f : false ≡ true = live in cc
-    more-holders (Some page) live = refl
-
 pub shared-kept : (pool : List (Option Holding)) (at : ℕ) → IsLive pool at → KeepsBytes pool (pool_shared pool at)
 shared-kept pool at at_live place live = elim (cases_at at place) [
   | inl same ↦ subst (λ (p : ℕ). IsLive (pool_shared pool at) p × (page_bytes (pool_shared pool at) p ≡ page_bytes pool p)) same
@@ -182,28 +145,6 @@ pub record Giving (initial : List (Option Holding)) (all : List ℕ) (pool : Lis
 
 pub giving-live : (initial pool : List (Option Holding)) (all rest : List ℕ) (at : ℕ) → Giving initial all pool (rest ++ at ∷ []) → IsLive pool at
 giving-live initial pool all rest at g = live-held pool at (let e = g.enough at in omega (arith, e, times-last rest at))
-
-pub giving-one : (initial pool : List (Option Holding)) (all rest : List ℕ) (at : ℕ) → Giving initial all pool (rest ++ at ∷ [])
-    → Giving initial all (pool_given pool at) rest
-giving-one initial pool all rest at g = record {
-  held = given-held pool at g.held live;
-  len = length-set pool at _ ∙ g.len;
-  holders = λ place.
-      let e = given-holders pool at g.held live place in
-      let f = g.holders place in
-      omega (arith, e, f, times-append rest (at ∷ []) place);
-  enough = λ place.
-      let e = given-holders pool at g.held live place in
-      let f = g.enough place in
-      omega (arith, e, f, times-append rest (at ∷ []) place);
-  bytes = λ place after.
-      let one = given-bytes pool at live place after in
-      let before = g.bytes place one.0 in
-      (before.0, one.1 ∙ before.1);
-}
-  where
-    live : IsLive pool at
-    live = giving-live initial pool all rest at g
 
 -- the bytes that were read of a live page
 pub read-bytes : (pool : List (Option Holding)) (at : ℕ) (got : List ℕ) → IsLive pool at → IfSome (held_at pool at) (λ page. got ≡ page.bytes) → page_bytes pool at ≡ got

@@ -1,5 +1,6 @@
 -- The pages of the last frame can be shared.
-use Rattle.std.proofs.Common.{◌≡◌, ℕ, ◌*◌, ◌-◌, ◌<◌, List, [], ◌∷◌, Option, Some, None, All, IfSome, slice_get, option_copied, option_map, ◌∙◌, ap, Bor, refl, sym, subst, length, get_or, eqb, zero, suc, arith, length-append}
+use Rattle.std.proofs.Common.{◌≡◌, ℕ, ◌*◌, ◌-◌, ◌<◌, List, [], ◌∷◌, Option, Some, None, All, IfSome, slice_get, option_copied, option_map, ◌∙◌, ap, Bor, refl, sym, subst, length}
+use Rattle.std.proofs.Common.{get_or, eqb, zero, suc, arith, length-append}
 use Rattle.std.proofs.lemmas.List.Sums.{count_by-le-length}
 use Rattle.page_pool.specs.Pool.{Holding}
 use Rattle.keyframes.specs.declared.frame.Frame.{Frame}

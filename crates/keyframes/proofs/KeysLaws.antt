@@ -1,5 +1,6 @@
 -- A board that is kept as the last of a store's.
-use Rattle.std.proofs.Common.{◌≡◌, ◌≢◌, ℕ, ◌+◌, ◌<◌, ◌≤◌, List, [], ◌∷◌, ◌++◌, Option, Some, None, IfSome, IsSome, All, MatchBool, MatchOption, Bool, true, false, not, bytes_eq, option_map, refl, sym, ◌∙◌, ap, subst, length, map, get_or, eqb, cond, if◌then◌else◌, zero, suc, inl, inr, arith, length-append}
+use Rattle.std.proofs.Common.{◌≡◌, ◌≢◌, ℕ, ◌+◌, ◌<◌, ◌≤◌, List, [], ◌∷◌, ◌++◌, Option, Some, None, IfSome, IsSome, All, MatchBool, MatchOption, Bool, true, false, not, bytes_eq}
+use Rattle.std.proofs.Common.{option_map, refl, sym, ◌∙◌, ap, subst, length, map, get_or, eqb, cond, if◌then◌else◌, zero, suc, inl, inr, arith, length-append}
 use Rattle.std.proofs.lemmas.List.{get_or_append_left, get_or_push, get_or_default, get_or-map, length-map}
 use Rattle.std.proofs.lemmas.List.Elements.{All-append, All-map}
 use Rattle.std.proofs.lemmas.List.Folds.{flat_map-map}

@@ -9,7 +9,8 @@ use Rattle.keyframes.specs.Holders.{holders_in, holders_of, times_in, AreHeld}
 pub any-times : (places : List ℕ) (place : ℕ) → (0 < times_in places place → list_any (eqb place) places ≡ true) × (list_any (eqb place) places ≡ true → 0 < times_in places place)
 any-times [] place = ((λ h. absurd (omega (arith, h))), (λ e. let f : false ≡ true = e in cc))
 any-times (x ∷ places) place = rw (sum_by-cons (λ (y : ℕ). cond (eqb place y) 1 0) x places)
-    (elim (eqb place x) as (λ b. (0 < cond b 1 0 + times_in places place → b || list_any (eqb place) places ≡ true) × (b || list_any (eqb place) places ≡ true → 0 < cond b 1 0 + times_in places place)) [
+    (elim (eqb place x) as (λ b. (0 < cond b 1 0 + times_in places place → b || list_any (eqb place) places ≡ true)
+    × (b || list_any (eqb place) places ≡ true → 0 < cond b 1 0 + times_in places place)) [
       | true ↦ ((λ h. refl), (λ e. omega arith))
       | false ↦
           let rest = any-times places place in
@@ -50,4 +51,5 @@ live-places pool places held holders = sym (count-range pool 0 (λ place. list_a
     has (Some page) some live = some
 
     same : (k : ℕ) → list_any (eqb (0 + k)) places ≡ is_some (held_at pool k)
-    same k = let e : 0 + k ≡ k = omega arith in rw e (any-live (held_at pool k) (list_any (eqb k) places) (times_in places k) (holders k) (has (held_at pool k) (held k)) (any-times places k).0 (any-times places k).1)
+    same k = let e : 0 + k ≡ k = omega arith in rw e (any-live (held_at pool k) (list_any (eqb k) places) (times_in places k) (holders k)
+        (has (held_at pool k) (held k)) (any-times places k).0 (any-times places k).1)

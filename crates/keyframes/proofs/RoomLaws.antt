@@ -1,5 +1,6 @@
 -- A store whose frames are thinned until there is room.
-use Rattle.std.proofs.Common.{◌≡◌, ℕ, ◌+◌, ◌*◌, ◌<◌, ◌≤◌, ◌||◌, List, [], ◌∷◌, Option, All, Bool, true, false, refl, sym, ◌∙◌, ap, subst, length, map, flat_map, take, drop, get_or, eqb, nat_lt, nat_le, cond, zero, suc, inl, inr, arith}
+use Rattle.std.proofs.Common.{◌≡◌, ℕ, ◌+◌, ◌*◌, ◌<◌, ◌≤◌, ◌||◌, List, [], ◌∷◌, Option, All, Bool, true, false, refl, sym, ◌∙◌, ap, subst, length, map, flat_map, take, drop, get_or}
+use Rattle.std.proofs.Common.{eqb, nat_lt, nat_le, cond, zero, suc, inl, inr, arith}
 use Rattle.std.proofs.lemmas.List.{get_or_default, length-map}
 use Rattle.std.proofs.lemmas.List.Folds.{flat_map-map}
 use Rattle.std.proofs.lemmas.List.Elements.{All-take, All-drop}
@@ -123,9 +124,6 @@ pub record Thinned (old now : KeyframesValue) : Type 0 where
   pub thinnings : ℕ
   pub thinned : now ≡ keys_thinned thinnings old
   pub crowded : (n : ℕ) → n < thinnings → is_crowded (keys_thinned n old) ≡ true
-
-pub thinned-none : (keys : KeyframesValue) → Thinned keys keys
-thinned-none keys = record { thinnings = 0; thinned = refl; crowded = λ n h. absurd (omega (arith, h)) }
 
 thinned-last : (n : ℕ) (keys : KeyframesValue) → keys_thinned n (record keys { kept = thinned keys.kept }) ≡ record (keys_thinned n keys) { kept = thinned (keys_thinned n keys).kept }
 thinned-last zero keys = refl

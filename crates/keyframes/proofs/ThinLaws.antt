@@ -77,14 +77,6 @@ pub record Thinning (old : List (Option Holding)) (all : List Frame) (pool : Lis
   pub bytes : LeavesBytes old pool
   pub len : length pool ≡ length old
 
-pub thinning-begins : (pool : List (Option Holding)) (all spare : List Frame) → HoldsFrames pool all → spare ≡ [] → Thinning pool all pool all spare
-thinning-begins pool all spare holds none = rw none (record {
-  holds = record { held = holds.held; holders = λ place. let e = holds.holders place in omega (arith, e) };
-  list = sym (append-nil (thinned all));
-  bytes = leaves-none pool;
-  len = refl;
-})
-
 pub thinning-stays : (old : List (Option Holding)) (all : List Frame) (pool : List (Option Holding)) (rest spare : List Frame) (frame : Frame)
     → Thinning old all pool (rest ++ frame ∷ []) spare → length rest % 2 ≡ 0 → Thinning old all pool rest (spare ++ frame ∷ [])
 thinning-stays old all pool rest spare frame t even = record {
@@ -112,15 +104,6 @@ pub record Restoring (old : List (Option Holding)) (all : List Frame) (pool : Li
   pub bytes : LeavesBytes old pool
   pub len : length pool ≡ length old
 
-pub restoring-begins : (old : List (Option Holding)) (all : List Frame) (pool : List (Option Holding)) (kept spare : List Frame)
-    → Thinning old all pool kept spare → kept ≡ [] → Restoring old all pool kept spare
-restoring-begins old all pool kept spare t none = record {
-  holds = t.holds;
-  list = rw none (t.list ∙ ap (λ (xs : List Frame). thinned xs ++ reverse spare) none);
-  bytes = t.bytes;
-  len = t.len;
-}
-
 pub restoring-one : (old : List (Option Holding)) (all : List Frame) (pool : List (Option Holding)) (kept rest : List Frame) (frame : Frame)
     → Restoring old all pool kept (rest ++ frame ∷ []) → Restoring old all pool (kept ++ frame ∷ []) rest
 restoring-one old all pool kept rest frame r = record {
@@ -129,8 +112,3 @@ restoring-one old all pool kept rest frame r = record {
   bytes = r.bytes;
   len = r.len;
 }
-
-pub restoring-ends : (old : List (Option Holding)) (all : List Frame) (pool : List (Option Holding)) (kept : List Frame)
-    → Restoring old all pool kept [] → (kept ≡ thinned all) × HoldsFrames pool kept
-restoring-ends old all pool kept r =
-    (sym (r.list ∙ append-nil kept), record { held = r.holds.held; holders = λ place. let e = r.holds.holders place in omega (arith, e) })

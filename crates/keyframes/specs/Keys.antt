@@ -1,5 +1,6 @@
 -- Boards kept along a run, in pages that they share. This project's own profile.
-use Rattle.std.specs.Prelude.{◌≡◌, ◌≢◌, ℕ, ◌+◌, ◌*◌, ◌<◌, ◌≤◌, ◌||◌, Bool, true, false, zero, suc, List, [], ◌∷◌, ◌++◌, Option, Some, None, length, take, drop, get_or, flat_map, eqb, nat_lt, nat_le, ◌-◌, if◌then◌else◌, MatchOption, not, bytes_eq}
+use Rattle.std.specs.Prelude.{◌≡◌, ◌≢◌, ℕ, ◌+◌, ◌*◌, ◌<◌, ◌≤◌, ◌||◌, Bool, true, false, zero, suc, List, [], ◌∷◌, ◌++◌, Option, Some, None, length, take, drop, get_or, flat_map}
+use Rattle.std.specs.Prelude.{eqb, nat_lt, nat_le, ◌-◌, if◌then◌else◌, MatchOption, not, bytes_eq}
 use Rattle.std.specs.List.{count_by, list_any, range_with_len}
 use Rattle.board_base.specs.Board.{BoardValue}
 use Rattle.page_pool.specs.declared.pool.TheConstants.{PAGE_LEN}

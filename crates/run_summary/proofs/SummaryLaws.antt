@@ -118,23 +118,3 @@ summary-tallied l strokes levels1 levels2 written e f g h = rw (e, f, g, h) refl
 pub together-none : (a : Summary) → together (summary_of no_records) a ≡ a
 unfolding summary_of no_records
 together-none a = summary-same _ _ _ _ _ _ _ _ _ _ _ _ (omega arith) (omega arith) (omega arith) (omega arith) (omega arith) (omega arith)
-
-pub small-later : (n m : ℕ) (s : Summary) → n ≤ m → IsSmall n s → IsSmall m s
-small-later n m s h small = record {
-  strokes = (let a = small.strokes in omega arith);
-  levels1 = (let a = small.levels1 in omega arith);
-  levels2 = (let a = small.levels2 in omega arith);
-  latches = (let a = small.latches in omega arith);
-  resets = (let a = small.resets in omega arith);
-  sum = (let a = small.sum in omega arith);
-}
-
-pub small-together : (n m : ℕ) (a b : Summary) → IsSmall n a → IsSmall m b → IsSmall (n + m) (together a b)
-small-together n m a b s t = record {
-  strokes = (let h = s.strokes in let k = t.strokes in omega arith);
-  levels1 = (let h = s.levels1 in let k = t.levels1 in omega arith);
-  levels2 = (let h = s.levels2 in let k = t.levels2 in omega arith);
-  latches = (let h = s.latches in let k = t.latches in omega arith);
-  resets = (let h = s.resets in let k = t.resets in omega arith);
-  sum = (let h = s.sum in let k = t.sum in omega arith);
-}

@@ -10,12 +10,14 @@ returns-clause-board g c =
     let found = c.start_index-nearest.ensures in
     c.run_on.ensures.board
     ∙ seek-board c.args.keys.now.kept _ c.start_index-nearest.result found.rising found.within found.nearest found.first
-    c.args.clock (omega arith) c.args.tape.now.entries (g.M.Machine.value c.args.synced.now.machine.now).board (g.M.Machine.value c.load_kept.new.synced.machine.now).board c.requires.along c.load_kept.ensures.board
+    c.args.clock (omega arith) c.args.tape.now.entries (g.M.Machine.value c.args.synced.now.machine.now).board
+    (g.M.Machine.value c.load_kept.new.synced.machine.now).board c.requires.along c.load_kept.ensures.board
 
 pub returns-clause-on_run : goal.returns-clause-on_run
 returns-clause-on_run g c =
     let begun =
-    begins c.args.keys.now.kept c.args.tape.now.entries (g.M.Machine.value c.args.synced.now.machine.now).board (g.M.Machine.value c.load_kept.new.synced.machine.now).board c.start_index-nearest.result
+    begins c.args.keys.now.kept c.args.tape.now.entries (g.M.Machine.value c.args.synced.now.machine.now).board
+    (g.M.Machine.value c.load_kept.new.synced.machine.now).board c.start_index-nearest.result
     c.requires.along c.start_index-nearest.ensures.within c.load_kept.ensures.board in
     subst (λ (b : Board). IsOnRun c.args.tape.now.entries b (g.M.Machine.value c.run_on.new.synced.machine.now).board) begun.start
     (c.run_on.ensures.on_run (run_start c.args.keys.now.kept (g.M.Machine.value c.load_kept.new.synced.machine.now).board) begun.on_run)
@@ -23,7 +25,8 @@ returns-clause-on_run g c =
 pub returns-clause-same : goal.returns-clause-same
 returns-clause-same g c =
     c.run_on.ensures.same c.args.keys.now.kept c.requires.along.some
-    ∙ (begins c.args.keys.now.kept c.args.tape.now.entries (g.M.Machine.value c.args.synced.now.machine.now).board (g.M.Machine.value c.load_kept.new.synced.machine.now).board c.start_index-nearest.result
+    ∙ (begins c.args.keys.now.kept c.args.tape.now.entries (g.M.Machine.value c.args.synced.now.machine.now).board
+    (g.M.Machine.value c.load_kept.new.synced.machine.now).board c.start_index-nearest.result
     c.requires.along c.start_index-nearest.ensures.within c.load_kept.ensures.board).start
 
 pub returns-clause-along : goal.returns-clause-along

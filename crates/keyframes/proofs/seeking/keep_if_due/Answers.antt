@@ -33,7 +33,12 @@ pub returns-then-saturating_sub-stride-clause-near : goal.returns-then-saturatin
 returns-then-saturating_sub-stride-clause-near g c =
     let clock = ap (λ (b : BoardValue). b.clock) c.state.ensures.board in
     last-is c.args.keys.now c.keep.ensures.0 c.keep.new.self c.state.new.into c.keep.ensures.1 c.keep.ensures.2
-    (λ last. (g.M.Machine.value c.args.synced.now.machine.now).board.peripherals.clock < last.board.clock + c.args.stride) (omega (arith, clock, c.requires.stride, ap (λ (e : EngineValue). e.board.peripherals.clock) c.machine-machine.ensures.value))
+    (λ last. (g.M.Machine.value c.args.synced.now.machine.now).board.peripherals.clock < last.board.clock + c.args.stride) (omega (
+      arith,
+      clock,
+      c.requires.stride,
+      ap (λ (e : EngineValue). e.board.peripherals.clock) c.machine-machine.ensures.value,
+    ))
 
 pub returns-else-saturating_sub-stride-clause-near : goal.returns-else-saturating_sub-stride-clause-near
 returns-else-saturating_sub-stride-clause-near g c =

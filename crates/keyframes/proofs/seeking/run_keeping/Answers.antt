@@ -60,7 +60,8 @@ returns-then-is_reached g c =
     let rest = part-rest entries now next c.min-next.result c.run_on.ensures.board c.args.clock (omega (arith, c.min-next.ensures)) ∙ inv.rest in
     record {
       loan = c.run_on.ensures.loan ∙ inv.loan;
-      board = part-last entries now next c.min-next.result c.run_on.ensures.board c.args.clock (g.M.Machine.value c.args.synced.now.machine.now).board (sym c.is_reached.ensures ∙ c.if-is_reached.true) rest;
+      board = part-last entries now next c.min-next.result c.run_on.ensures.board c.args.clock
+          (g.M.Machine.value c.args.synced.now.machine.now).board (sym c.is_reached.ensures ∙ c.if-is_reached.true) rest;
       same = c.keep_if_due.ensures.first next ∙ c.run_on.ensures.same c.strides.keys.kept inv.along.some ∙ inv.same;
       along = c.keep_if_due.ensures.along entries b inv.along on_run;
       done = omega (arith, before, more);

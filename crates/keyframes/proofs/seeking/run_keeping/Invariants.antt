@@ -13,7 +13,8 @@ invariant-strides g l = record {
   on_run : IsOnRun l.tape.entries (run_start l.fn.keys.kept (g.M.Machine.value l.fn.synced.machine.now).board) (g.M.Machine.value l.synced.machine.now).board;
   same : run_start l.keys.kept (g.M.Machine.value l.synced.machine.now).board ≡ run_start l.fn.keys.kept (g.M.Machine.value l.fn.synced.machine.now).board;
   rest : cleared (to_clock l.tape.entries l.clock (g.M.Machine.value l.synced.machine.now).board) ≡ cleared (to_clock l.tape.entries l.clock (g.M.Machine.value l.fn.synced.machine.now).board);
-  done : (g.M.Machine.value l.synced.machine.now).done + (g.M.Machine.value l.fn.synced.machine.now).board.peripherals.clock ≤ (g.M.Machine.value l.fn.synced.machine.now).done + (g.M.Machine.value l.synced.machine.now).board.peripherals.clock;
+  done : (g.M.Machine.value l.synced.machine.now).done + (g.M.Machine.value l.fn.synced.machine.now).board.peripherals.clock ≤
+      (g.M.Machine.value l.fn.synced.machine.now).done + (g.M.Machine.value l.synced.machine.now).board.peripherals.clock;
 }
 
 -- each stride but the last keeps a later board, and none is past the asked clock

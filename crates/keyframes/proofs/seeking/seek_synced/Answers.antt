@@ -20,12 +20,14 @@ returns-clause-board g c =
     let found = c.start_index-index.ensures in
     c.run_keeping.ensures.board
     ∙ seek-board c.args.keys.now.kept _ c.start_index-index.result found.rising found.within found.nearest found.first
-    c.args.clock (omega arith) c.args.tape.now.entries (g.M.Machine.value c.args.synced.now.machine.now).board (g.M.Machine.value c.load_kept.new.synced.machine.now).board c.requires.along c.load_kept.ensures.board
+    c.args.clock (omega arith) c.args.tape.now.entries (g.M.Machine.value c.args.synced.now.machine.now).board
+    (g.M.Machine.value c.load_kept.new.synced.machine.now).board c.requires.along c.load_kept.ensures.board
 
 pub returns-clause-same : goal.returns-clause-same
 returns-clause-same g c =
     c.run_keeping.ensures.same
-    ∙ (begins c.args.keys.now.kept c.args.tape.now.entries (g.M.Machine.value c.args.synced.now.machine.now).board (g.M.Machine.value c.load_kept.new.synced.machine.now).board c.start_index-index.result
+    ∙ (begins c.args.keys.now.kept c.args.tape.now.entries (g.M.Machine.value c.args.synced.now.machine.now).board
+    (g.M.Machine.value c.load_kept.new.synced.machine.now).board c.start_index-index.result
     c.requires.along c.start_index-index.ensures.within c.load_kept.ensures.board).start
 
 pub returns-clause-along : goal.returns-clause-along

@@ -33,7 +33,8 @@ loop-self-preserved c =
         least = is.least;
         most = is.most;
         frames =
-            frames-left store.pool new.pool new.kept.items (subst (λ (frames : List Frame). All (IsFrame store.pool) frames) (sym done.kept) (all-thinned (IsFrame store.pool) store.kept.items is.frames))
+            frames-left store.pool new.pool new.kept.items (subst (λ (frames : List Frame). All (IsFrame store.pool) frames) (sym done.kept)
+            (all-thinned (IsFrame store.pool) store.kept.items is.frames))
             done.bytes done.holders;
         frame_rows = subst AreFrames (sym done.kept) (all-thinned (λ (frame : Frame). BOARD_PAGES ≤ vec_capacity frame.pages) store.kept.items is.frame_rows);
         rising = subst AreRising (sym done.kept) (rising-thinned store.kept.items is.rising);

@@ -35,7 +35,8 @@ loop-frame-preserved-then-len-eq0 c =
 
 pub give-requires-clause-enough : goal.give-requires-clause-enough
 give-requires-clause-enough c =
-    let t = subst (λ (xs : List Frame). Thinning c.args.self.now.pool c.args.self.now.kept.items c.loop-frame.self.pool xs c.loop-frame.self.spare.items) c.in-Some.ensures.items c.loop-frame.invariant.0 in
+    let t = subst (λ (xs : List Frame). Thinning c.args.self.now.pool c.args.self.now.kept.items c.loop-frame.self.pool xs
+    c.loop-frame.self.spare.items) c.in-Some.ensures.items c.loop-frame.invariant.0 in
     both-enough c.loop-frame.self.pool c.pop.new.self.items c.loop-frame.self.spare.items c.in-Some.frame t.holds
 
 pub give-requires-clause-row : goal.give-requires-clause-row
@@ -79,7 +80,8 @@ loop-frame-2-preserved c =
     let len = c.in-Some-pop.ensures.len in
     let more = c.push_reserved-in-Some-pop.ensures.len in
     let r = subst (λ (xs : List Frame). Restoring c.args.self.now.pool c.args.self.now.kept.items c.loop-frame-2.self.pool c.loop-frame-2.self.kept.items xs) c.in-Some-pop.ensures.items i.0 in (
-      subst (λ (xs : List Frame). Restoring c.args.self.now.pool c.args.self.now.kept.items c.loop-frame-2.self.pool xs c.pop-in-loop-frame-2.new.self.items) (sym c.push_reserved-in-Some-pop.ensures.items)
+      subst (λ (xs : List Frame). Restoring c.args.self.now.pool c.args.self.now.kept.items c.loop-frame-2.self.pool xs
+          c.pop-in-loop-frame-2.new.self.items) (sym c.push_reserved-in-Some-pop.ensures.items)
           (restoring-one c.args.self.now.pool c.args.self.now.kept.items c.loop-frame-2.self.pool c.loop-frame-2.self.kept.items c.pop-in-loop-frame-2.new.self.items c.in-Some-pop.frame r),
       i.1,
       omega (arith, count, len, more),
