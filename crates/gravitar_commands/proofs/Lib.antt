@@ -1,3 +1,4 @@
 pub mod ReadingLaws
 pub mod StageLaws
 pub mod ReportLaws
+pub mod PlainLaws

@@ -9,6 +9,7 @@ mod cause;
 mod cause_text;
 mod debugging;
 mod failure;
+mod laws;
 mod load;
 mod parts;
 mod program;
@@ -19,6 +20,7 @@ mod steady;
 mod words;
 
 pub use answer::NO_MEMORY;
+pub use laws::plain_run;
 pub use program::{USAGE, gravitar};
 pub use reporting::sample_numbers;
 pub use run_log::{OutsideFault, run_slices};
