@@ -81,8 +81,7 @@ pub record IsBefore (stops : StopsValue) (b : Board) (before : Before) : Type 0 
   pub bytes : before.bytes.items ≡ map (watched b) stops.watches
   pub halted : before.halted ≡ b.peripherals.vg.halted
 
--- where turns from a board stop that are made at once: where a look after one of them would find
--- something
+-- where turns from a board stop that are made at once, beside a jam and the tape's END
 abbrev pub conditions_of : StopsValue → Board → ConditionsValue
 conditions_of stops b = record {
   addresses = stops.breaks;

@@ -104,7 +104,7 @@ impl Before {
         }
     }
 
-    /// Where turns from that board stop: where a look after one of them would find something.
+    /// Where turns from that board stop, beside a jam and the tape's END.
     pub fn conditions<'a>(&'a self, stops: &'a Breakpoints) -> StopConditions<'a>
         ensures { (b : lockstep.Board) → IsBefore stops.now b self.now → result ≡ conditions_of stops.now b }
     {

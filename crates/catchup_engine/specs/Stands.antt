@@ -1,6 +1,6 @@
 -- What it means that the engine stands for a board of the lockstep run, in six parts. It does at
 -- each boundary, and at each access inside an instruction. The view and the invariant of `BoardBus`
--- are made of these parts. All of it is this project's own.
+-- have these parts, beside what schedules events. All of it is this project's own.
 use Rattle.std.specs.Prelude.{◌≡◌, ℕ, ◌+◌, ◌-◌, ◌≤◌, ◌<◌, Bool, true, List, ◌++◌, length}
 use Rattle.board_base.specs.declared.board.TheConstants.{CLOCK_END, RAM_LEN}
 use Rattle.board_base.specs.declared.divider.TheConstants.{DIVIDER_PERIOD}
@@ -14,7 +14,8 @@ use Rattle.pokey_chip.specs.Tick.{levels_made}
 use Rattle.catchup_devices.specs.Lags.{AsksAt}
 use Rattle.catchup_engine.specs.declared.bus.TheConstants.{TRAIL_ROOM}
 
--- 1. what is no device, the engine has itself: it is the board's as it is
+-- 1. what is no device, the engine has itself: its clock and IN0 are in range, and the RAM and the
+-- program ROM have their lengths
 abbrev pub HoldsTheRest : ℕ → ℕ → List ℕ → List ℕ → Type 0
 HoldsTheRest clock in0 ram program = (clock ≤ CLOCK_END) × (in0 < 64) × (length ram ≡ RAM_LEN) × (length program ≡ PROGRAM_ROM_LEN)
 

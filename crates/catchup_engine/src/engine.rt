@@ -171,7 +171,7 @@ impl<V: VectorUnit, P: SoundUnit, C: CellUnit, D: DividerUnit> Engine<V, P, C, D
     /// Runs turn by turn, one turn at least, to the first boundary that isn't before the limit, at
     /// which it stops, or that comes after the divider's next wrap, whichever comes first. A board
     /// that is jammed takes no clock. Where the conditions ask the generator, each boundary may
-    /// call it once or twice.
+    /// call it once.
     #[tactic(auto, using(crate::proofs::Windows::windows))]
     pub fn run_to_stop(&mut self, tape: &Tape, limit: u64, stops: &StopConditions<'_>)
         requires limit { limit ≤ CLOCK_LIMIT }

@@ -51,7 +51,7 @@ pub trait Machine {
     /// Runs turn by turn, one turn at least, to the first boundary that isn't before the limit, at
     /// which it stops, or that comes after the divider's next wrap, whichever comes first. A board
     /// that is jammed takes no clock. Where the conditions ask the generator, each boundary may
-    /// call it once or twice.
+    /// call it once.
     fn run_to_stop(&mut self, tape: &Tape, limit: u64, stops: &StopConditions<'_>)
         requires limit { limit ≤ CLOCK_LIMIT }
         requires before { (value self.old).board.peripherals.clock < limit }

@@ -67,7 +67,7 @@ fn goes_fast<S: Units, B: Breaks>(cpu: &Cpu, bus: &mut BoardBus<S>, limit: u64, 
 
 /// Does instructions in whose clocks no event is due, up to the limit or to where the run stops.
 ///
-/// Every run makes most of its clocks here. As nothing that this loop calls takes the processor,
+/// A run without a tracer makes most of its clocks here. As nothing that this loop calls takes the processor,
 /// LLVM keeps its registers out of memory.
 #[inline(always)]
 fn run_fast<S: Units, B: Breaks>(
@@ -92,8 +92,8 @@ fn run_fast<S: Units, B: Breaks>(
 
 /// Does whole sequences up to the limit, or to where the run stops.
 ///
-/// All runs without stops share one such loop, since LLVM puts the processor into it only where it
-/// is called once. Runs to stops have a second.
+/// All runs without stops and tracers share one such loop, since LLVM puts the processor into it
+/// only where it is called once. Runs to stops have a second.
 #[inline(never)]
 fn run_turns<S: Units, B: Breaks>(
     mut cpu: Cpu,

@@ -1,4 +1,4 @@
--- The lockstep board turn by turn, and runs that end at an address too.
+-- The lockstep board turn by turn, and runs that also end at a board at which they stop.
 use Rattle.std.specs.Prelude.{◌≡◌, ℕ, ◌+◌, ◌==◌, ◌<◌, ◌≤◌, Bool, false, List, zero, suc}
 use Rattle.std.specs.List.{list_any}
 use Rattle.tape_ports.specs.declared.entry.TapeEntry.{TapeEntry}
