@@ -36,7 +36,8 @@ both-not true false e = cc
 both-not true true e = cc
 
 -- the boundaries from one on whose fetch reads an opcode
-pub horizon-since : (limit until : ℕ) (irq_idle : Bool) (s : BusValue) → until ≡ min limit (s.event_at - 6) → LeavesLines s.peripherals → (devices_ticked s.peripherals).divider.pending ≡ Nothing → irq_idle ≡ (not s.peripherals.wired && not s.peripherals.divider.irq)
+pub horizon-since : (limit until : ℕ) (irq_idle : Bool) (s : BusValue) → until ≡ min limit (s.event_at - 6) → LeavesLines s.peripherals
+    → (devices_ticked s.peripherals).divider.pending ≡ Nothing → irq_idle ≡ (not s.peripherals.wired && not s.peripherals.divider.irq)
     → IsHorizon limit (record { until = until; irq_idle = irq_idle }) s
 horizon-since limit until irq_idle s is leaves pending idle_is = λ early. record {
   before = omega arith;

@@ -112,7 +112,8 @@ module _ (tape : TapeValue) (limit : ℕ) (stops : ConditionsValue) where
       not-true false e = refl
       not-true true e = cc
 
-  pub horizon-goes : (horizon : Horizon) (c e f : CpuValue) (s t u : BusValue) (elapsed n : ℕ) (more then : Bool) → more ≡ true → limit ≤ CLOCK_LIMIT → AtHorizon tape limit stops horizon c s elapsed t e more
+  pub horizon-goes : (horizon : Horizon) (c e f : CpuValue) (s t u : BusValue) (elapsed n : ℕ) (more then : Bool) → more ≡ true → limit ≤ CLOCK_LIMIT
+      → AtHorizon tape limit stops horizon c s elapsed t e more
       → Runs (BusStep tape.entries) (registers_of e) Opcode (passed elapsed t) (passed n u) f → f.mid ≡ None → IsCounted tape n u → KeepsLines t u
       → (then ≡ true → u.peripherals.divider.phase + (u.event_at - u.peripherals.clock) < DIVIDER_PERIOD)
       → (then ≡ true → ((nat_lt (u.peripherals.clock + n) horizon.until && (is_none f.jam && (horizon.irq_idle || is_masked f.p))) && not (stops_at stops (over_bus f (passed n u)))) ≡ true)

@@ -104,7 +104,8 @@ module _ {T : Type 0} (next : T → TraceValue → ℕ → T) (enough : T → Bo
         turns =
             (turns-more next enough tape.entries limit (over_bus c s) (passed elapsed t) (passed n u) e f w v new turn.trace has last
             (subst (λ flag. NotedTurns next enough tape.entries limit (over_bus c s) (over_bus e (passed elapsed t)) w v flag) (at.open_yet on_yet) at.turns)
-            (or_parts (is_over limit (over_bus e (passed elapsed t))) (stops_at no_conditions (over_bus e (passed elapsed t))) goes.open_yet).0 at.at.on.range turn.turned turn.is (observed turn.trace note) asked).0;
+            (or_parts (is_over limit (over_bus e (passed elapsed t))) (stops_at no_conditions (over_bus e (passed elapsed t))) goes.open_yet).0
+            at.at.on.range turn.turned turn.is (observed turn.trace note) asked).0;
         open_yet = λ on. (parts has before_then (is_private f.pc) (sym goes_on ∙ on)).0;
         opcode = λ on. (parts has before_then (is_private f.pc) (sym goes_on ∙ on)).2;
       }

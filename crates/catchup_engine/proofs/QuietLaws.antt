@@ -76,7 +76,14 @@ pub lagging-later : (a b c d e clock n : ℕ) → a ≤ clock → b ≤ clock �
     → lags_at a b c d e (clock + n) ≡ (if n == 0 then lags_at a b c d e clock else all_lag)
 lagging-later a b c d e clock zero ha hb hc hd he = rw add-zero refl
 lagging-later a b c d e clock (suc n) ha hb hc hd he =
-    rw (lags-all a clock (suc n) ha (omega arith), lags-all b clock (suc n) hb (omega arith), lags-all c clock (suc n) hc (omega arith), lags-all d clock (suc n) hd (omega arith), lags-all e clock (suc n) he (omega arith), later-some n) refl
+    rw (
+      lags-all a clock (suc n) ha (omega arith),
+      lags-all b clock (suc n) hb (omega arith),
+      lags-all c clock (suc n) hc (omega arith),
+      lags-all d clock (suc n) hd (omega arith),
+      lags-all e clock (suc n) he (omega arith),
+      later-some n,
+    ) refl
 
 pub ruleset later_devices = (ticks-later, made-later, times-later, append_assoc, lagging-later)
 
@@ -412,7 +419,15 @@ entered-value tape s f h between =
 
 -- the clock of an access in which no event is due, on a bus that doesn't count
 pub record IsEntered (tape : TapeValue) (s t : BusValue) : Type 0 where
-  pub value : t ≡ record s { peripherals = done_clock (in_clock tape.entries s.clock_open s.peripherals); clock_open = false; tape_pos = t.tape_pos; event_at = t.event_at; lagging = t.lagging; until = t.until; calls = t.calls }
+  pub value : t ≡ record s {
+    peripherals = done_clock (in_clock tape.entries s.clock_open s.peripherals);
+    clock_open = false;
+    tape_pos = t.tape_pos;
+    event_at = t.event_at;
+    lagging = t.lagging;
+    until = t.until;
+    calls = t.calls;
+  }
   pub accepts : Accepts tape t
   pub until : s.until ≤ t.until
   pub calls : t.calls ≤ s.calls + begin_price tape.entries s.clock_open s.peripherals

@@ -146,7 +146,9 @@ one-applied es k d start now next inside h does =
       value =
           does.value
           ∙ ap (λ (w : Peripherals). let r : BusValue = record now { peripherals = w; lagging = next.lagging; until = next.until; calls = next.calls } in r) peripherals
-          ∙ ap (λ (b : BusValue). let r : BusValue = record b { peripherals = applied (take (k + 1) es) start.peripherals; lagging = next.lagging; until = next.until; calls = next.calls } in r) h.value;
+          ∙ ap (λ (b : BusValue).
+          let r : BusValue = record b { peripherals = applied (take (k + 1) es) start.peripherals; lagging = next.lagging; until = next.until; calls = next.calls } in r)
+          h.value;
       until = omega arith;
       calls = omega arith;
       more = omega arith;

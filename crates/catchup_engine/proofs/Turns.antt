@@ -342,7 +342,9 @@ reset-first entries c s b m n v x boundary begins due is did effects few goes =
       step =
           step-fetch entries c s.peripherals boundary
           ∙ ap (λ (p : Sequence). clocked (begun p (accessed (start_of p c) p [] w))) (sym due_then)
-          ∙ ap (λ (k : CpuValue). let d : Board = record { cpu = k; peripherals = at_clock ((reset_begun (accessed r Reset [] w).peripherals).clock + 1) (reset_begun (accessed r Reset [] w).peripherals) } in d) cpu
+          ∙ ap (λ (k : CpuValue).
+          let d : Board = record { cpu = k; peripherals = at_clock ((reset_begun (accessed r Reset [] w).peripherals).clock + 1) (reset_begun (accessed r Reset [] w).peripherals) } in d)
+          cpu
           ∙ ap (λ (u : Peripherals). let d : Board = record { cpu = standing r Reset (v ∷ []); peripherals = at_clock ((reset_begun u).clock + 1) (reset_begun u) } in d) (reset-read r w)
           ∙ ap (λ t. let d : Board = record { cpu = standing r Reset (v ∷ []); peripherals = at_clock (t + 1) (reset_begun w) } in d) (reset_begun-clock w)
           ∙ ap (λ (u : Peripherals). board_after r Reset (v ∷ []) u) (sym peripherals);

@@ -54,7 +54,8 @@ keeps_the_sum p trace pc is last fits adds room =
     let all : clocks_in p.counts + trace.count < 2 ^ 64 = rw adds room in
     let same : length (charged p trace.count (device_accesses trace)).counts ≡ ADDRESSES = length-set _ _ _ ∙ is.counts in
     let within : pc < length (charged p trace.count (device_accesses trace)).counts = rw same fits in
-    let turned : clocks_in (entered turn pc (charged p trace.count (device_accesses trace)).counts) ≡ clocks_in (charged p trace.count (device_accesses trace)).counts = turn-keeps turn pc (charged p trace.count (device_accesses trace)) within in
+    let turned : clocks_in (entered turn pc (charged p trace.count (device_accesses trace)).counts)
+    ≡ clocks_in (charged p trace.count (device_accesses trace)).counts = turn-keeps turn pc (charged p trace.count (device_accesses trace)) within in
     let charge : clocks_in (charged p trace.count (device_accesses trace)).counts ≡ clocks_in p.counts + trace.count
     = charge-adds p.counts address trace.count (device_accesses trace) whole all in
     let sum : clocks_in p.counts + trace.count ≡ raised p.clocks trace.count = omega (arith, adds, room) in

@@ -6,7 +6,8 @@ use Rattle.std.specs.Option.{option_map_or}
 use Rattle.asm_cpu.specs.Mnemonics.{name_of}
 use Rattle.cpu_table.specs.declared.instruction.Op.{Op}
 use Rattle.cpu_table.specs.declared.instruction.Mode.{Mode}
-use Rattle.cpu_table.specs.declared.instruction.Mode.TheVariants.{Implied, Accumulator, Immediate, ZeroPage, ZeroPageX, ZeroPageY, Absolute, AbsoluteX, AbsoluteY, Indirect, IndirectX, IndirectY, Relative}
+use Rattle.cpu_table.specs.declared.instruction.Mode.TheVariants.{Implied, Accumulator, Immediate, ZeroPage, ZeroPageX, ZeroPageY, Absolute, AbsoluteX, AbsoluteY, Indirect}
+use Rattle.cpu_table.specs.declared.instruction.Mode.TheVariants.{IndirectX, IndirectY, Relative}
 use Rattle.cpu_table.specs.Decoding.{decoded, length_of}
 use Rattle.text_line.specs.Words.{hex_byte, hex_word}
 use Rattle.debug_lines.specs.Bytes.{Seen, further}

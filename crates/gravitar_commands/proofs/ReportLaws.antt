@@ -1,5 +1,6 @@
 -- The outcome of a command that reports a run otherwise than by its log.
-use Rattle.std.proofs.Common.{◌≡◌, ℕ, ◌+◌, ◌<◌, ◌≤◌, [], ◌∷◌, ◌++◌, length, drop, get_or, map, min, add-one, append-nil, append_assoc, Bool, List, Option, Some, None, Result, Ok, Err, take, refl, sym, ap, subst, ◌∙◌, inr, arith}
+use Rattle.std.proofs.Common.{◌≡◌, ℕ, ◌+◌, ◌<◌, ◌≤◌, [], ◌∷◌, ◌++◌, length, drop, get_or, map, min, add-one, append-nil, append_assoc, Bool, List, Option, Some, None, Result, Ok}
+use Rattle.std.proofs.Common.{Err, take, refl, sym, ap, subst, ◌∙◌, inr, arith}
 use Rattle.std.proofs.Math.Seq.{drop-cons}
 use Rattle.std.proofs.lemmas.List.{drop_all}
 use Rattle.std.proofs.lemmas.List.Elements.{All-nil, All-cons}
@@ -127,7 +128,8 @@ seek-reported None holds seek comes = tt
 seek-reported (Some files) holds seek comes = λ reading is. record { calls = 0; within_budget = tt; of_outcome = comes reading is }
 
 -- a new engine has the board that was kept first
-pub start-is : (image : List ℕ) (wired : Bool) (state : BoardValue) (e s : Board) → IsBoard state → e ≡ (let b : Board = record { cpu = state.cpu; peripherals = peripherals_of image wired state } in b)
+pub start-is : (image : List ℕ) (wired : Bool) (state : BoardValue) (e s : Board) → IsBoard state → e
+    ≡ (let b : Board = record { cpu = state.cpu; peripherals = peripherals_of image wired state } in b)
     → s ≡ over_image e state → s ≡ e
 start-is image wired state e s board made start =
     start
@@ -157,7 +159,8 @@ lowered-few limit most (clock ∷ clocks) low =
 
 -- the words as they lie in their type
 pub pcm-reported-as : (known : Option Files) (holds : Outcome → Type 0) (pcm inner : PcmValue) → inner ≡ pcm
-    → IfSome known (λ files. ForReading inner.run.settings.state files (λ reading. holds (finished (run_files files inner.run reading) (report_outcome inner.run.settings (report_text (Samples inner.per))))))
+    → IfSome known (λ files. ForReading inner.run.settings.state files
+    (λ reading. holds (finished (run_files files inner.run reading) (report_outcome inner.run.settings (report_text (Samples inner.per))))))
     → ComesOver (pcm_of pcm) known holds
 pcm-reported-as known holds pcm inner is comes =
     subst (λ (w : PcmValue). ComesOver (pcm_of w) known holds) is

@@ -1,5 +1,6 @@
 -- Laws of the answers of a command.
-use Rattle.std.proofs.Common.{◌≡◌, ◌≢◌, ℕ, ◌*◌, ◌≤◌, Bool, false, nat_lt, List, [], ◌∷◌, length, take, Option, Some, None, Result, Ok, Err, IfSome, IfOk, Contains, ◌⊎◌, inl, inr, refl, sym, ap, ◌∙◌, subst, arith}
+use Rattle.std.proofs.Common.{◌≡◌, ◌≢◌, ℕ, ◌*◌, ◌≤◌, Bool, false, nat_lt, List, [], ◌∷◌, length, take, Option, Some, None, Result, Ok, Err, IfSome, IfOk, Contains, ◌⊎◌, inl, inr}
+use Rattle.std.proofs.Common.{refl, sym, ap, ◌∙◌, subst, arith}
 use Rattle.std.proofs.Math.Seq.{take-length}
 use Rattle.board_base.specs.Board.{BoardValue, board_at_power_on}
 use Rattle.board_base.specs.Cpu.{CpuValue}
@@ -39,7 +40,9 @@ use Rattle.gravitar_commands.specs.declared.failure.Failure.TheVariants.{Bad, Ab
 use Rattle.outside_io.specs.Events.{Did, DidFirst, Event, sending, stored, storing, text_of, stores_of}
 use Rattle.outside_io.specs.Seen.{Seen, SameLoans, HostDid, HostDidFirst, HostDidNothing, HostStores, HostWrites, NoFault}
 use Rattle.gravitar_commands.specs.Endings.{ending_by, status_of_ending}
-use Rattle.gravitar_commands.specs.Outcome.{Comes, ComesOf, ComesOver, asm_files, asm_outcome, RunWithinBudget, ForReading, Outcome, and_then, command_outcome, debug_files, debug_outcome, outside_text, finished, first_board, limit_of, memory_text, refused, read_as, run_files, run_outcome, script_file, script_read, show_outcome, soak_outcome, state_file, usage_text, wanted_by, note_text, workload_of}
+use Rattle.gravitar_commands.specs.Outcome.{Comes, ComesOf, ComesOver, asm_files, asm_outcome, RunWithinBudget, ForReading, Outcome, and_then, command_outcome, debug_files}
+use Rattle.gravitar_commands.specs.Outcome.{debug_outcome, outside_text, finished, first_board, limit_of, memory_text, refused, read_as, run_files, run_outcome, script_file}
+use Rattle.gravitar_commands.specs.Outcome.{script_read, show_outcome, soak_outcome, state_file, usage_text, wanted_by, note_text, workload_of}
 use Rattle.run_log.specs.Slices.{WithinBudget, StopsIn, Wanted, last_board, run_events}
 use Rattle.gravitar_commands.specs.Sources.{both_listings}
 use Rattle.gravitar_commands.specs.Stages.{status_of, note_of, HostEnds, HostFaults, WroteNothing, IsBadOrMemory, Keeps, Noted, Performs, Refuses, RunEnds, StageAbsences, session_outcome}

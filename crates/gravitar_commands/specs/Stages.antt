@@ -15,7 +15,8 @@ use Rattle.gravitar_commands.specs.declared.failure.Failure.TheVariants.{Bad, Ab
 use Rattle.gravitar_commands.specs.declared.failure.Ending.{Ending}
 use Rattle.gravitar_commands.specs.declared.failure.Ending.TheVariants.{Done}
 use Rattle.gravitar_commands.specs.Endings.{status_of_ending}
-use Rattle.gravitar_commands.specs.Outcome.{ComesOf, ForReading, Outcome, RunWithinBudget, debug_outcome, outside_text, finished, memory_text, read_as, refused, run_files, run_outcome, script_file, script_read, report_outcome}
+use Rattle.gravitar_commands.specs.Outcome.{ComesOf, ForReading, Outcome, RunWithinBudget, debug_outcome, outside_text, finished, memory_text, read_as, refused, run_files}
+use Rattle.gravitar_commands.specs.Outcome.{run_outcome, script_file, script_read, report_outcome}
 
 -- the status of a command that stopped
 abbrev pub status_of : Failure → ℕ

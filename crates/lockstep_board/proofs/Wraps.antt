@@ -88,7 +88,8 @@ wrapped-phase : (d : DividerValue) → (wrapped d).phase ≡ 0
 unfolding wrapped
 wrapped-phase d = by_dog (d.dog + 1 == WATCHDOG_WRAPS)
   where
-    by_dog : (last : Bool) → (if last then (let r : DividerValue = record d { phase = 0; irq = true; dog = 0; pending = Watchdog } in r) else record d { phase = 0; irq = true; dog = d.dog + 1 }).phase ≡ 0
+    by_dog : (last : Bool) → (if last then (let r : DividerValue = record d { phase = 0; irq = true; dog = 0; pending = Watchdog } in r)
+        else record d { phase = 0; irq = true; dog = d.dog + 1 }).phase ≡ 0
     by_dog true = refl
     by_dog false = refl
 

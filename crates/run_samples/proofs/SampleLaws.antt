@@ -42,10 +42,14 @@ eight-levels xs ys first second =
     let l7 = All-cons (λ level. level ≤ MAX_LEVEL) (slice_index_or ys 2 0) (slice_index_or ys 3 0 ∷ []) (or-low ys second 2) (l8) in
     let l6 = All-cons (λ level. level ≤ MAX_LEVEL) (slice_index_or ys 1 0) (slice_index_or ys 2 0 ∷ slice_index_or ys 3 0 ∷ []) (or-low ys second 1) (l7) in
     let l5 = All-cons (λ level. level ≤ MAX_LEVEL) (slice_index_or ys 0 0) (slice_index_or ys 1 0 ∷ slice_index_or ys 2 0 ∷ slice_index_or ys 3 0 ∷ []) (or-low ys second 0) (l6) in
-    let l4 = All-cons (λ level. level ≤ MAX_LEVEL) (slice_index_or xs 3 0) (slice_index_or ys 0 0 ∷ slice_index_or ys 1 0 ∷ slice_index_or ys 2 0 ∷ slice_index_or ys 3 0 ∷ []) (or-low xs first 3) (l5) in
-    let l3 = All-cons (λ level. level ≤ MAX_LEVEL) (slice_index_or xs 2 0) (slice_index_or xs 3 0 ∷ slice_index_or ys 0 0 ∷ slice_index_or ys 1 0 ∷ slice_index_or ys 2 0 ∷ slice_index_or ys 3 0 ∷ []) (or-low xs first 2) (l4) in
-    let l2 = All-cons (λ level. level ≤ MAX_LEVEL) (slice_index_or xs 1 0) (slice_index_or xs 2 0 ∷ slice_index_or xs 3 0 ∷ slice_index_or ys 0 0 ∷ slice_index_or ys 1 0 ∷ slice_index_or ys 2 0 ∷ slice_index_or ys 3 0 ∷ []) (or-low xs first 1) (l3) in
-    let l1 = All-cons (λ level. level ≤ MAX_LEVEL) (slice_index_or xs 0 0) (slice_index_or xs 1 0 ∷ slice_index_or xs 2 0 ∷ slice_index_or xs 3 0 ∷ slice_index_or ys 0 0 ∷ slice_index_or ys 1 0 ∷ slice_index_or ys 2 0 ∷ slice_index_or ys 3 0 ∷ []) (or-low xs first 0) (l2) in
+    let l4 = All-cons (λ level. level ≤ MAX_LEVEL) (slice_index_or xs 3 0) (slice_index_or ys 0 0 ∷ slice_index_or ys 1 0 ∷ slice_index_or ys 2 0
+    ∷ slice_index_or ys 3 0 ∷ []) (or-low xs first 3) (l5) in
+    let l3 = All-cons (λ level. level ≤ MAX_LEVEL) (slice_index_or xs 2 0) (slice_index_or xs 3 0 ∷ slice_index_or ys 0 0 ∷ slice_index_or ys 1 0
+    ∷ slice_index_or ys 2 0 ∷ slice_index_or ys 3 0 ∷ []) (or-low xs first 2) (l4) in
+    let l2 = All-cons (λ level. level ≤ MAX_LEVEL) (slice_index_or xs 1 0) (slice_index_or xs 2 0 ∷ slice_index_or xs 3 0 ∷ slice_index_or ys 0 0
+    ∷ slice_index_or ys 1 0 ∷ slice_index_or ys 2 0 ∷ slice_index_or ys 3 0 ∷ []) (or-low xs first 1) (l3) in
+    let l1 = All-cons (λ level. level ≤ MAX_LEVEL) (slice_index_or xs 0 0) (slice_index_or xs 1 0 ∷ slice_index_or xs 2 0 ∷ slice_index_or xs 3 0
+    ∷ slice_index_or ys 0 0 ∷ slice_index_or ys 1 0 ∷ slice_index_or ys 2 0 ∷ slice_index_or ys 3 0 ∷ []) (or-low xs first 0) (l2) in
     l1
 
 -- records that have all come

@@ -130,7 +130,8 @@ module _ {F : Type 0} (next : F → TraceValue → ℕ → F) (enough : F → Bo
   part-smaller entries limit now c after v u phase part is boundary open_yet = elim (cases_lt part.count 1) [
     | inl less ↦ absurd (no-turn (omega (arith, less)))
     | inr not_less ↦ (let some : 1 ≤ part.count = omega (arith, not_less) in
-        let off = over-part (window_limit limit now) limit now (omega arith) (subst (λ (b : Board). is_over (window_limit limit now) b ≡ false) (turned-none entries now) (part.over 0 (omega (arith, some)))) in
+        let off = over-part (window_limit limit now) limit now (omega arith) (subst (λ (b : Board). is_over (window_limit limit now) b
+        ≡ false) (turned-none entries now) (part.over 0 (omega (arith, some)))) in
         let later : now.peripherals.clock < c.peripherals.clock = subst (λ (b : Board). now.peripherals.clock < b.peripherals.clock) (sym part.board)
         (turned-later entries part.count now some (not-jammed limit now off)) in
         let clock : after.peripherals.clock ≡ c.peripherals.clock = ap (λ (b : Board). b.peripherals.clock) is in

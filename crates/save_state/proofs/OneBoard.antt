@@ -1,5 +1,7 @@
 -- A board in range and the bytes that spell it, which spell no other board.
-use Rattle.std.proofs.Common.{zero, suc, ◌≢◌, ◌≡◌, ℕ, ℤ, ◌≤◌, ◌^◌, sym, subst, arith, ◌+◌, ◌==◌, ◌<◌, Bool, true, false, cond, List, [], ◌∷◌, ◌++◌, All, length, Option, Some, None, refl, ◌&&◌, take, drop, map, ap, ◌∙◌, append_assoc, get_or, inl, inr, ◌⊎◌, w32, w16, w64, IfSome, IsSome, unwrap_or, is_some, slice_index, eqb-true, length-take-le, length-drop, take_at, drop_at, take-append-drop, drop-drop, length-append, append-nil}
+use Rattle.std.proofs.Common.{zero, suc, ◌≢◌, ◌≡◌, ℕ, ℤ, ◌≤◌, ◌^◌, sym, subst, arith, ◌+◌, ◌==◌, ◌<◌, Bool, true, false, cond, List, [], ◌∷◌, ◌++◌, All, length, Option, Some, None}
+use Rattle.std.proofs.Common.{refl, ◌&&◌, take, drop, map, ap, ◌∙◌, append_assoc, get_or, inl, inr, ◌⊎◌, w32, w16, w64, IfSome, IsSome, unwrap_or, is_some, slice_index, eqb-true}
+use Rattle.std.proofs.Common.{length-take-le, length-drop, take_at, drop_at, take-append-drop, drop-drop, length-append, append-nil}
 use Rattle.std.specs.Int.{cast_signed, cast_unsigned, from_le_bytes, from_bool}
 use Rattle.std.proofs.lemmas.Int.{to_z-of_z, ints}
 use Rattle.board_base.specs.Ranges.{IsWithin}
@@ -20,7 +22,9 @@ use Rattle.board_base.specs.declared.divider.Pending.TheVariants.{Nothing, Power
 use Rattle.cpu_table.specs.Opcodes.{row_of}
 use Rattle.cpu_core.specs.Places.{IsMiddle}
 use Rattle.save_state.specs.Fields.{Facts, IsInFieldRange, Row, u16_bytes, u32_bytes, u64_bytes, i32_bytes, pieces_of, rows_of, letters}
-use Rattle.save_state.specs.StateBytes.{opcode_of, head_rows, clock_rows, register_rows, jam_rows, port_rows, divider_rows, sequence_rows, place_rows, zero_rows, eight_rows, vg_rows, pokey_rows, earom_rows, left_range, number_of, sequence_number, table, front_rows, middle_rows, back_rows, processor_of, facts_of, sequence_of, last_clock, middle_at, state_bytes, first_state_bytes, count_range, bytes_range}
+use Rattle.save_state.specs.StateBytes.{opcode_of, head_rows, clock_rows, register_rows, jam_rows, port_rows, divider_rows, sequence_rows, place_rows, zero_rows, eight_rows}
+use Rattle.save_state.specs.StateBytes.{vg_rows, pokey_rows, earom_rows, left_range, number_of, sequence_number, table, front_rows, middle_rows, back_rows, processor_of, facts_of}
+use Rattle.save_state.specs.StateBytes.{sequence_of, last_clock, middle_at, state_bytes, first_state_bytes, count_range, bytes_range}
 use Rattle.std.proofs.lemmas.List.{drop_all}
 use Rattle.save_state.specs.Reading.{Holds, HasFields, IsWhole, Spells}
 use Rattle.save_state.specs.Check.{pieces_in, IsDecoded}
@@ -83,7 +87,9 @@ left_by cpu false n least most none = u16_most n 0 (omega arith) (omega (arith, 
 
 vg_spelled : (cpu : CpuValue) (facts : Facts) (v : VgValue) → IsVg v → facts.drawing ≡ (v.phase == 5) → AreSpelled cpu facts vg_rows v
 vg_spelled cpu facts v h e =
-    let left : IsInFieldRange cpu (left_range facts.drawing) (u16_bytes v.left) = rw e (left_by cpu (v.phase == 5) v.left (λ e. h.drawing (eqb-true _ _ e)) h.longest (λ e. h.resting (not_from_Decides (v.phase == 5) (Decides-eqb v.phase 5) e))) in
+    let left : IsInFieldRange cpu (left_range facts.drawing) (u16_bytes v.left) = rw e
+    (left_by cpu (v.phase == 5) v.left (λ e. h.drawing (eqb-true _ _ e)) h.longest
+    (λ e. h.resting (not_from_Decides (v.phase == 5) (Decides-eqb v.phase 5) e))) in
     let x : IsWithin 1073741824 (cast_signed w32 (from_le_bytes w32 (i32_bytes v.x))) = signed_fits (2 ^ 30) v.x (omega arith) h.x in
     let y : IsWithin 1073741824 (cast_signed w32 (from_le_bytes w32 (i32_bytes v.y))) = signed_fits (2 ^ 30) v.y (omega arith) h.y in
     let dx : IsWithin 134217728 (cast_signed w32 (from_le_bytes w32 (i32_bytes v.dx))) = signed_fits (2 ^ 27) v.dx (omega arith) h.dx in
@@ -112,7 +118,8 @@ sequence_most q = elim q as (λ (q : Sequence). sequence_number q ≤ 3) [ Opcod
 
 -- the place of a processor that stands inside no sequence, or inside one, where the file's
 -- processor does so too
-middle_by : (c cpu : CpuValue) (facts : Facts) (mid : Option MidValue) → c.mid ≡ mid → facts.jammed ≡ is_some c.jam → facts.idle ≡ (number_of mid == 0) → IfSome mid IsMid → IfSome mid (λ _. IsMiddle c) → IfSome mid (λ _. IsMiddle cpu) → AreSpelled cpu facts (sequence_rows ++ place_rows) mid
+middle_by : (c cpu : CpuValue) (facts : Facts) (mid : Option MidValue) → c.mid ≡ mid → facts.jammed ≡ is_some c.jam → facts.idle
+    ≡ (number_of mid == 0) → IfSome mid IsMid → IfSome mid (λ _. IsMiddle c) → IfSome mid (λ _. IsMiddle cpu) → AreSpelled cpu facts (sequence_rows ++ place_rows) mid
 middle_by c cpu facts None s e f range place told = rw f (search arith)
 middle_by c cpu facts (Some m) s e f range place told =
     let here : IsMiddle (record c { mid = Some m }) = subst (λ (x : Option MidValue). IsMiddle (record c { mid = x })) s place in
@@ -136,7 +143,8 @@ back_spelled cpu facts b h drawing =
     (spelled_append cpu facts b first_rows (second_rows ++ end_rows) (pokey_spelled cpu facts b.sound1 h.sound1)
     (spelled_append cpu facts b second_rows end_rows (pokey_spelled cpu facts b.sound2 h.sound2) ends))
 
-whole_spelled : (version : ℕ) (cpu : CpuValue) (facts : Facts) (b : BoardValue) → IsWhole b → b.clock ≤ facts.last → facts.jammed ≡ is_some b.cpu.jam → facts.drawing ≡ (b.vg.phase == 5) → AreSpelled cpu facts (middle_rows (version == 1)) b → AreSpelled cpu facts (table version) b
+whole_spelled : (version : ℕ) (cpu : CpuValue) (facts : Facts) (b : BoardValue) → IsWhole b → b.clock ≤ facts.last → facts.jammed ≡ is_some b.cpu.jam
+    → facts.drawing ≡ (b.vg.phase == 5) → AreSpelled cpu facts (middle_rows (version == 1)) b → AreSpelled cpu facts (table version) b
 whole_spelled version cpu facts b h clock jammed drawing middle =
     spelled_append cpu facts b (front_rows version ++ middle_rows (version == 1)) back_rows
     (spelled_append cpu facts b (front_rows version) (middle_rows (version == 1)) (front_spelled version cpu facts b h clock jammed) middle)
@@ -161,14 +169,16 @@ abbrev Has : List ℕ → BoardValue → Row BoardValue → Type 0
 Has file b r = take r.width (drop r.at file) ≡ r.spelled b
 
 -- the bytes of a board stand at the offsets of its rows
-stand : (cpu : CpuValue) (facts : Facts) (b : BoardValue) (rs : Rows) (front : List ℕ) (from : ℕ) → length front ≡ from → are_in_order from 4356 rs ≡ true → AreSpelled cpu facts rs b → All (Has (front ++ concat (pieces_of rs b)) b) rs
+stand : (cpu : CpuValue) (facts : Facts) (b : BoardValue) (rs : Rows) (front : List ℕ) (from : ℕ) → length front ≡ from → are_in_order from 4356 rs
+    ≡ true → AreSpelled cpu facts rs b → All (Has (front ++ concat (pieces_of rs b)) b) rs
 stand cpu facts b [] front from len h spelled = All-nil (Has (front ++ []) b)
 stand cpu facts b (r ∷ rs) front from len h spelled =
     let file : List ℕ = front ++ (r.spelled b ++ concat (pieces_of rs b)) in
     let two = both (r.at == from) (are_in_order (from + r.width) 4356 rs) h in
     let at : r.at ≡ from = eqb-true r.at from two.0 in
     let long : length (front ++ r.spelled b) ≡ from + r.width = omega (arith, length-append front (r.spelled b), len, spelled.0.0) in
-    let here : take r.width (drop r.at file) ≡ r.spelled b = rw (at, drop_at front (r.spelled b ++ concat (pieces_of rs b)) from len) (take_at (r.spelled b) (concat (pieces_of rs b)) r.width spelled.0.0) in
+    let here : take r.width (drop r.at file) ≡ r.spelled b = rw (at, drop_at front (r.spelled b ++ concat (pieces_of rs b)) from len)
+    (take_at (r.spelled b) (concat (pieces_of rs b)) r.width spelled.0.0) in
     All-cons (Has file b) r rs here
     (subst (λ (x : List ℕ). All (Has x b) rs) (append_assoc front (r.spelled b) (concat (pieces_of rs b))) (stand cpu facts b rs (front ++ r.spelled b) (from + r.width) long two.1 spelled.1))
 
@@ -200,7 +210,8 @@ has_fields version file b held has = λ k d lt. (held k d lt, has k d lt)
 
 held_from : (version : ℕ) (file : List ℕ) (b : BoardValue) (rs : Rows) → AreSpelled (processor_of file) (facts_of version file) rs b → All (Has file b) rs → All (Holds version file) rs
 held_from version file b [] spelled has = All-nil (Holds version file)
-held_from version file b (r ∷ rs) spelled has = All-cons (Holds version file) r rs (rw (All-head (Has file b) r rs has) spelled.0.1) (held_from version file b rs spelled.1 (All-tail (Has file b) r rs has))
+held_from version file b (r ∷ rs) spelled has = All-cons (Holds version file) r rs (rw (All-head (Has file b) r rs has) spelled.0.1)
+    (held_from version file b rs spelled.1 (All-tail (Has file b) r rs has))
 
 -- a value from its pieces
 abbrev piece : List (List ℕ) → ℕ → List ℕ
@@ -233,24 +244,87 @@ items_all (suc n) front [] e = absurd (omega (arith, e))
 items_all (suc n) front (x ∷ xs) e =
     let more : items (length (front ++ x ∷ [])) n ((front ++ x ∷ []) ++ xs) ≡ xs = items_all n (front ++ x ∷ []) xs (omega (arith, e)) in
     let long : length (front ++ x ∷ []) ≡ suc (length front) = omega (arith, length-append front (x ∷ [])) in
-    let next : items (suc (length front)) n (front ++ x ∷ xs) ≡ xs = subst (λ (k : ℕ). items k n (front ++ x ∷ xs) ≡ xs) long (subst (λ (ys : List ℕ). items (length (front ++ x ∷ [])) n ys ≡ xs) (append_assoc front (x ∷ []) xs) more) in
+    let next : items (suc (length front)) n (front ++ x ∷ xs) ≡ xs = subst (λ (k : ℕ). items k n (front ++ x ∷ xs)
+    ≡ xs) long (subst (λ (ys : List ℕ). items (length (front ++ x ∷ [])) n ys ≡ xs) (append_assoc front (x ∷ []) xs) more) in
     rw (get_or-append_seam front x xs 0, next) refl
 
 abbrev vg_of : List (List ℕ) → VgValue
-vg_of ps = record { halted = one ps 0 == 1; phase = one ps 1; pc = u16_in ps 2; sp = one ps 3; colour = one ps 4; intensity = one ps 5; lin = one ps 6; bin = one ps 7; pen = one ps 8; bytes = piece ps 9; stack = u16_in ps 10 ∷ u16_in ps 11 ∷ u16_in ps 12 ∷ u16_in ps 13 ∷ []; x = signed_in ps 14; y = signed_in ps 15; dx = signed_in ps 16; dy = signed_in ps 17; left = u16_in ps 18 }
+vg_of ps = record {
+  halted = one ps 0 == 1;
+  phase = one ps 1;
+  pc = u16_in ps 2;
+  sp = one ps 3;
+  colour = one ps 4;
+  intensity = one ps 5;
+  lin = one ps 6;
+  bin = one ps 7;
+  pen = one ps 8;
+  bytes = piece ps 9;
+  stack = u16_in ps 10 ∷ u16_in ps 11 ∷ u16_in ps 12 ∷ u16_in ps 13 ∷ [];
+  x = signed_in ps 14;
+  y = signed_in ps 15;
+  dx = signed_in ps 16;
+  dy = signed_in ps 17;
+  left = u16_in ps 18;
+}
 
 vg_back : (v : VgValue) → IsVg v → vg_of (pieces_of vg_rows v) ≡ v
 vg_back v h =
-    let word : (i : ℕ) → i < 4 → from_le_bytes w16 (u16_bytes (slice_index v.stack i)) ≡ slice_index v.stack i = λ i small. from_le_bytes-to_le_bytes_2 (slice_index v.stack i) (omega (arith, to_at v.stack i h.stack h.words small)) in
-    rw (flag_back v.halted, from_le_bytes-to_le_bytes_2 v.pc (omega (arith, h.pc)), word 0 (omega arith), word 1 (omega arith), word 2 (omega arith), word 3 (omega arith), items_all 4 [] v.stack h.stack, signed_again (2 ^ 30) v.x (omega arith) h.x, signed_again (2 ^ 30) v.y (omega arith) h.y, signed_again (2 ^ 27) v.dx (omega arith) h.dx, signed_again (2 ^ 27) v.dy (omega arith) h.dy, from_le_bytes-to_le_bytes_2 v.left (omega (arith, h.longest))) refl
+    let word : (i : ℕ) → i < 4 → from_le_bytes w16 (u16_bytes (slice_index v.stack i))
+    ≡ slice_index v.stack i = λ i small. from_le_bytes-to_le_bytes_2 (slice_index v.stack i) (omega (arith, to_at v.stack i h.stack h.words small)) in
+    rw (
+      flag_back v.halted,
+      from_le_bytes-to_le_bytes_2 v.pc (omega (arith, h.pc)),
+      word 0 (omega arith),
+      word 1 (omega arith),
+      word 2 (omega arith),
+      word 3 (omega arith),
+      items_all 4 [] v.stack h.stack,
+      signed_again (2 ^ 30) v.x (omega arith) h.x,
+      signed_again (2 ^ 30) v.y (omega arith) h.y,
+      signed_again (2 ^ 27) v.dx (omega arith) h.dx,
+      signed_again (2 ^ 27) v.dy (omega arith) h.dy,
+      from_le_bytes-to_le_bytes_2 v.left (omega (arith, h.longest)),
+    ) refl
 
 abbrev pokey_of : List (List ℕ) → PokeyValue
-pokey_of ps = record { audf = piece ps 0; audc = piece ps 1; audctl = one ps 2; skctl = one ps 3; irqen = one ps 4; irqst = one ps 5; poly4 = one ps 6; poly5 = one ps 7; poly9 = u16_in ps 8; poly17 = u32_in ps 9; pre28 = one ps 10; pre114 = one ps 11; left = u32_in ps 12 ∷ u32_in ps 13 ∷ u32_in ps 14 ∷ u32_in ps 15 ∷ []; tone = one ps 16; pass = one ps 17; pot = one ps 18; targets = piece ps 19; last = one ps 20 ∷ one ps 21 ∷ one ps 22 ∷ one ps 23 ∷ [] }
+pokey_of ps = record {
+  audf = piece ps 0;
+  audc = piece ps 1;
+  audctl = one ps 2;
+  skctl = one ps 3;
+  irqen = one ps 4;
+  irqst = one ps 5;
+  poly4 = one ps 6;
+  poly5 = one ps 7;
+  poly9 = u16_in ps 8;
+  poly17 = u32_in ps 9;
+  pre28 = one ps 10;
+  pre114 = one ps 11;
+  left = u32_in ps 12
+      ∷ u32_in ps 13 ∷ u32_in ps 14 ∷ u32_in ps 15 ∷ [];
+  tone = one ps 16;
+  pass = one ps 17;
+  pot = one ps 18;
+  targets = piece ps 19;
+  last = one ps 20
+      ∷ one ps 21 ∷ one ps 22 ∷ one ps 23 ∷ [];
+}
 
 pokey_back : (p : PokeyValue) → IsPokey p → pokey_of (pieces_of pokey_rows p) ≡ p
 pokey_back p h =
-    let pulses : (i : ℕ) → i < 4 → from_le_bytes w32 (u32_bytes (slice_index p.left i)) ≡ slice_index p.left i = λ i small. from_le_bytes-to_le_bytes_4 (slice_index p.left i) (omega (arith, (pulse_at p.left i h.left h.pulses small).1)) in
-    rw (from_le_bytes-to_le_bytes_2 p.poly9 (omega (arith, h.poly9)), from_le_bytes-to_le_bytes_4 p.poly17 (omega (arith, h.poly17)), pulses 0 (omega arith), pulses 1 (omega arith), pulses 2 (omega arith), pulses 3 (omega arith), items_all 4 [] p.left h.left, items_all 4 [] p.last h.last) refl
+    let pulses : (i : ℕ) → i < 4 → from_le_bytes w32 (u32_bytes (slice_index p.left i))
+    ≡ slice_index p.left i = λ i small. from_le_bytes-to_le_bytes_4 (slice_index p.left i) (omega (arith, (pulse_at p.left i h.left h.pulses small).1)) in
+    rw (
+      from_le_bytes-to_le_bytes_2 p.poly9 (omega (arith, h.poly9)),
+      from_le_bytes-to_le_bytes_4 p.poly17 (omega (arith, h.poly17)),
+      pulses 0 (omega arith),
+      pulses 1 (omega arith),
+      pulses 2 (omega arith),
+      pulses 3 (omega arith),
+      items_all 4 [] p.left h.left,
+      items_all 4 [] p.last h.last,
+    ) refl
 
 abbrev earom_of : List (List ℕ) → EaromValue
 earom_of ps = record { addr = one ps 0; value = one ps 1; control = one ps 2; hold = u16_in ps 3; out = one ps 4; cells = piece ps 5 }
@@ -300,14 +374,32 @@ with_both d jam mid f g = rw (f, g) refl
 same_cpu : (c d : CpuValue) → record c { jam = None; mid = None } ≡ record d { jam = None; mid = None } → c.jam ≡ d.jam → c.mid ≡ d.mid → c ≡ d
 same_cpu c d e f g = ap (λ (x : CpuValue). record x { jam = c.jam; mid = c.mid }) e ∙ with_both d c.jam c.mid f g
 
-rebuilt : (b : BoardValue) (clock : ℕ) (cpu : CpuValue) (out in0 in3 in4 : ℕ) (divider : DividerValue) (vg : VgValue) (sound1 sound2 : PokeyValue) (earom : EaromValue) (ram vram : List ℕ) → clock ≡ b.clock → cpu ≡ b.cpu → out ≡ b.out → in0 ≡ b.in0 → in3 ≡ b.in3 → in4 ≡ b.in4 → divider ≡ b.divider → vg ≡ b.vg → sound1 ≡ b.sound1 → sound2 ≡ b.sound2 → earom ≡ b.earom
-    → ram ≡ b.ram → vram ≡ b.vram → record { clock = clock; cpu = cpu; out = out; in0 = in0; in3 = in3; in4 = in4; divider = divider; vg = vg; sound1 = sound1; sound2 = sound2; earom = earom; ram = ram; vram = vram } ≡ b
+rebuilt : (b : BoardValue) (clock : ℕ) (cpu : CpuValue) (out in0 in3 in4 : ℕ) (divider : DividerValue) (vg : VgValue) (sound1 sound2
+    : PokeyValue) (earom : EaromValue) (ram vram : List ℕ) → clock ≡ b.clock → cpu ≡ b.cpu → out ≡ b.out → in0 ≡ b.in0 → in3 ≡ b.in3 → in4 ≡ b.in4
+    → divider ≡ b.divider → vg ≡ b.vg → sound1 ≡ b.sound1 → sound2 ≡ b.sound2 → earom ≡ b.earom
+    → ram ≡ b.ram → vram ≡ b.vram → record {
+      clock = clock;
+      cpu = cpu;
+      out = out;
+      in0 = in0;
+      in3 = in3;
+      in4 = in4;
+      divider = divider;
+      vg = vg;
+      sound1 = sound1;
+      sound2 = sound2;
+      earom = earom;
+      ram = ram;
+      vram = vram;
+    } ≡ b
 rebuilt b clock cpu out in0 in3 in4 divider vg sound1 sound2 earom ram vram e1 e2 e3 e4 e5 e6 e7 e8 e9 e10 e11 e12 e13 = rw (e1, e2, e3, e4, e5, e6, e7, e8, e9, e10, e11, e12, e13) refl
 
-same_pieces : (version : ℕ) (b c : BoardValue) → IsWhole b → IsWhole c → pieces_of (front_rows version) b ≡ pieces_of (front_rows version) c → b.cpu.mid ≡ c.cpu.mid → pieces_of back_rows b ≡ pieces_of back_rows c → b ≡ c
+same_pieces : (version : ℕ) (b c : BoardValue) → IsWhole b → IsWhole c → pieces_of (front_rows version) b ≡ pieces_of (front_rows version) c
+    → b.cpu.mid ≡ c.cpu.mid → pieces_of back_rows b ≡ pieces_of back_rows c → b ≡ c
 same_pieces version b c g h front mid back =
     rebuilt c b.clock b.cpu b.out b.in0 b.in3 b.in4 b.divider b.vg b.sound1 b.sound2 b.earom b.ram b.vram
-    (same_of (λ ps. from_le_bytes w64 (piece ps 2)) _ _ b.clock c.clock (from_le_bytes-to_le_bytes_8 b.clock (omega (arith, g.board.clock))) (from_le_bytes-to_le_bytes_8 c.clock (omega (arith, h.board.clock))) front)
+    (same_of (λ ps. from_le_bytes w64 (piece ps 2)) _ _ b.clock c.clock (from_le_bytes-to_le_bytes_8 b.clock (omega (arith, g.board.clock)))
+    (from_le_bytes-to_le_bytes_8 c.clock (omega (arith, h.board.clock))) front)
     (same_cpu b.cpu c.cpu (same_of (λ ps. registers_of (drop 3 ps)) _ _ _ _ (registers_back b.cpu g.cpu.pc) (registers_back c.cpu h.cpu.pc) front)
     (same_of (λ ps. jam_of (drop 9 ps)) _ _ _ _ (jam_back b.cpu.jam) (jam_back c.cpu.jam) front) mid)
     (ap (λ (ps : List (List ℕ)). one ps 11) front) (ap (λ (ps : List (List ℕ)). one ps 12) front) (ap (λ (ps : List (List ℕ)). one ps 13) front) (ap (λ (ps : List (List ℕ)). one ps 14) front)
@@ -346,7 +438,8 @@ middle_told b None e h = tt
 middle_told b (Some m) e h =
     let here : IsMiddle (record b.cpu { mid = Some m }) = subst (λ (x : Option MidValue). IfSome x (λ _. IsMiddle (record b.cpu { mid = x }))) e h.cpu.stands.place in
     let range : IsMid m = subst (λ (x : Option MidValue). IfSome x IsMid) e h.cpu.mid in
-    subst (λ (x : Option MidValue). IsMiddle (processor_of (state_bytes (record b { cpu = record b.cpu { mid = x } })))) (sym e) (subst (λ (c : CpuValue). IsMiddle c) (sym (processor_told b m h.cpu.pc range.bytes)) here)
+    subst (λ (x : Option MidValue). IsMiddle (processor_of (state_bytes (record b { cpu = record b.cpu { mid = x } })))) (sym e)
+    (subst (λ (c : CpuValue). IsMiddle c) (sym (processor_told b m h.cpu.pc range.bytes)) here)
 
 -- what spells a board in range has its fields: version 2
 pub second_has : (b : BoardValue) → IsWhole b → HasFields 2 (state_bytes b) b
@@ -354,7 +447,8 @@ second_has b h =
     let file : List ℕ = state_bytes b in
     let most : b.clock ≤ last_clock 2 (number_of b.cpu.mid) = last_by b.cpu.mid b.clock h.board.clock h.board.middle in
     let facts : Facts = record { last = last_clock 2 (number_of b.cpu.mid); jammed = is_some b.cpu.jam; idle = number_of b.cpu.mid == 0; drawing = b.vg.phase == 5 } in
-    let long : AreSpelled b.cpu facts (table 2) b = whole_spelled 2 b.cpu facts b h most refl refl (middle_by b.cpu b.cpu facts b.cpu.mid refl refl refl h.cpu.mid h.cpu.stands.place h.cpu.stands.place) in
+    let long : AreSpelled b.cpu facts (table 2) b = whole_spelled 2 b.cpu facts b h most refl refl
+    (middle_by b.cpu b.cpu facts b.cpu.mid refl refl refl h.cpu.mid h.cpu.stands.place h.cpu.stands.place) in
     let has : All (Has file b) (table 2) = stand b.cpu facts b (table 2) [] 0 refl (offsets 2) long in
     let phase : slice_index file 45 ≡ b.vg.phase = sym (byte_is file 45) ∙ ap (λ (x : List ℕ). slice_index x 0) (has 29 no_row (omega arith)) in
     let told : AreSpelled (processor_of file) (facts_of 2 file) (table 2) b =
@@ -366,7 +460,8 @@ second_has b h =
 first_has : (b : BoardValue) → IsWhole b → HasFields 1 (first_state_bytes b) b
 first_has b h =
     let file : List ℕ = first_state_bytes b in
-    let told : AreSpelled (processor_of file) (facts_of 1 file) (table 1) b = whole_spelled 1 (processor_of file) (facts_of 1 file) b h h.board.clock (flag_back (is_some b.cpu.jam)) refl (zeros_spelled (processor_of file) (facts_of 1 file)).1 in
+    let told : AreSpelled (processor_of file) (facts_of 1 file) (table 1) b = whole_spelled 1 (processor_of file) (facts_of 1 file) b h h.board.clock
+    (flag_back (is_some b.cpu.jam)) refl (zeros_spelled (processor_of file) (facts_of 1 file)).1 in
     let has : All (Has file b) (table 1) = stand (processor_of file) (facts_of 1 file) b (table 1) [] 0 refl (offsets 1) told in
     has_fields 1 file b (held_from 1 file b (table 1) told has) has
 
@@ -395,7 +490,8 @@ same_table : (version : ℕ) (file : List ℕ) (b c : BoardValue) → HasFields 
 same_table version file b c f g = sym (has_pieces version file b f) ∙ has_pieces version file c g
 
 pub one_board : (file : List ℕ) (b c : BoardValue) → IsWhole b → IsWhole c → Spells file b → Spells file c → b ≡ c
-one_board file b c g h (inl e) (inl f) = same_second b c g h (same_table 2 file b c (subst (λ (x : List ℕ). HasFields 2 x b) (sym e) (second_has b g)) (subst (λ (x : List ℕ). HasFields 2 x c) (sym f) (second_has c h)))
+one_board file b c g h (inl e) (inl f) = same_second b c g h (same_table 2 file b c
+    (subst (λ (x : List ℕ). HasFields 2 x b) (sym e) (second_has b g)) (subst (λ (x : List ℕ). HasFields 2 x c) (sym f) (second_has c h)))
 one_board file b c g h (inr e) (inr f) =
     same_first b c g h e.1 f.1 (same_table 1 file b c (subst (λ (x : List ℕ). HasFields 1 x b) (sym e.0) (first_has b g)) (subst (λ (x : List ℕ). HasFields 1 x c) (sym f.0) (first_has c h)))
 one_board file b c g h (inl e) (inr f) = absurd (omega (arith, second_version file b e, first_version file c f.0))
@@ -432,20 +528,26 @@ most_three : (jammed : Bool) (n : ℕ) → n ≤ cond jammed 0 3 → n ≤ 3
 most_three true n h = omega (arith, h)
 most_three false n h = h
 
-place_by : (file : List ℕ) (mid : Option MidValue) (jammed idle : Bool) → length file ≡ 4356 → (slice_index file 30 == 0) ≡ idle → slice_index (take 1 (drop 30 file)) 0 ≤ cond jammed 0 3 → IsInFieldRange (processor_of file) (count_range idle) (take 1 (drop 31 file)) → IsInFieldRange (processor_of file) (bytes_range idle) (take 6 (drop 32 file))
+place_by : (file : List ℕ) (mid : Option MidValue) (jammed idle : Bool) → length file ≡ 4356 → (slice_index file 30 == 0) ≡ idle
+    → slice_index (take 1 (drop 30 file)) 0 ≤ cond jammed 0 3 → IsInFieldRange (processor_of file) (count_range idle) (take 1 (drop 31 file))
+    → IsInFieldRange (processor_of file) (bytes_range idle) (take 6 (drop 32 file))
     → (slice_index file 30 ≡ 0 → mid ≡ None) → (slice_index file 30 ≢ 0 → mid ≡ Some (middle_at file)) → pieces_of (sequence_rows ++ place_rows) mid ≡ pieces_in 0 file (sequence_rows ++ place_rows)
 place_by file mid jammed true len e number count six outside inside =
     let zero : slice_index file 30 ≡ 0 = eqb-true (slice_index file 30) 0 e in
-    let bytes : take 6 (drop 32 file) ≡ 0 ∷ 0 ∷ 0 ∷ 0 ∷ 0 ∷ 0 ∷ [] = sym (items_all 6 [] (take 6 (drop 32 file)) (piece_length file 32 6 (omega (arith, len)))) ∙ rw (six.0, six.1, six.2, six.3, six.4, six.5) refl in
-    rw (outside zero) (three_same (0 ∷ []) (0 ∷ []) (0 ∷ 0 ∷ 0 ∷ 0 ∷ 0 ∷ 0 ∷ []) _ _ _ (byte_piece file 30 0 (omega (arith, len)) (byte_is file 30 ∙ zero)) (byte_piece file 31 0 (omega (arith, len)) (omega (arith, count))) (sym bytes))
+    let bytes : take 6 (drop 32 file) ≡ 0 ∷ 0 ∷ 0 ∷ 0 ∷ 0 ∷ 0 ∷ [] = sym
+    (items_all 6 [] (take 6 (drop 32 file)) (piece_length file 32 6 (omega (arith, len)))) ∙ rw (six.0, six.1, six.2, six.3, six.4, six.5) refl in
+    rw (outside zero) (three_same (0 ∷ []) (0 ∷ []) (0 ∷ 0 ∷ 0 ∷ 0 ∷ 0 ∷ 0
+    ∷ []) _ _ _ (byte_piece file 30 0 (omega (arith, len)) (byte_is file 30 ∙ zero)) (byte_piece file 31 0 (omega (arith, len)) (omega (arith, count))) (sym bytes))
 place_by file mid jammed false len e number count six outside inside =
     let other : slice_index file 30 ≢ 0 = not_from_Decides (slice_index file 30 == 0) (Decides-eqb (slice_index file 30) 0) e in
     let most : slice_index file 30 ≤ 3 = subst (λ (k : ℕ). k ≤ 3) (byte_is file 30) (most_three jammed _ number) in
     rw (inside other)
     (three_same (sequence_number (sequence_of (slice_index file 30)) ∷ []) (slice_index file 31 ∷ []) (take 6 (drop 32 file)) _ _ _
-    (byte_piece file 30 (sequence_number (sequence_of (slice_index file 30))) (omega (arith, len)) (byte_is file 30 ∙ sym (sequence_at (slice_index file 30) other most))) (byte_piece file 31 (slice_index file 31) (omega (arith, len)) (byte_is file 31)) refl)
+    (byte_piece file 30 (sequence_number (sequence_of (slice_index file 30))) (omega (arith, len)) (byte_is file 30
+    ∙ sym (sequence_at (slice_index file 30) other most))) (byte_piece file 31 (slice_index file 31) (omega (arith, len)) (byte_is file 31)) refl)
 
-head_told : (version : ℕ) (file : List ℕ) → length file ≡ 4356 → slice_index file 0 ≡ version → IsInFieldRange (processor_of file) letters (take 3 (drop 1 file)) → pieces_of head_rows version ≡ pieces_in 0 file head_rows
+head_told : (version : ℕ) (file : List ℕ) → length file ≡ 4356 → slice_index file 0 ≡ version
+    → IsInFieldRange (processor_of file) letters (take 3 (drop 1 file)) → pieces_of head_rows version ≡ pieces_in 0 file head_rows
 head_told version file len first h =
     let one : version ∷ [] ≡ take 1 (drop 0 file) = byte_piece file 0 version (omega (arith, len)) (byte_is file 0 ∙ first) in
     let three : take 3 (drop 1 file) ≡ 0x47 ∷ 0x56 ∷ 0x53 ∷ [] = sym (items_all 3 [] (take 3 (drop 1 file)) (piece_length file 1 3 (omega (arith, len)))) ∙ rw (h.0, h.1, h.2) refl in
@@ -455,7 +557,8 @@ back_told : (file : List ℕ) (b : BoardValue) → IsDecoded file b → pieces_o
 back_told file b d zeros =
     let same = appended _ _ _ _ zeros (appended _ _ _ _ d.vg (appended _ _ _ _ d.sound1 (appended _ _ _ _ d.sound2 (appended _ _ _ _ d.earom d.memory)))) in same
 
-front_told : (version : ℕ) (file : List ℕ) (b : BoardValue) → IsDecoded file b → pieces_of head_rows version ≡ pieces_in 0 file head_rows → pieces_of (front_rows version) b ≡ map (λ r. take r.width (drop r.at file)) (front_rows version)
+front_told : (version : ℕ) (file : List ℕ) (b : BoardValue) → IsDecoded file b → pieces_of head_rows version ≡ pieces_in 0 file head_rows
+    → pieces_of (front_rows version) b ≡ map (λ r. take r.width (drop r.at file)) (front_rows version)
 front_told version file b d head =
     let same = appended _ _ _ _ head (appended _ _ _ _ d.clock (appended _ _ _ _ d.registers (appended _ _ _ _ d.jam (appended _ _ _ _ d.ports d.divider)))) in same
 
@@ -463,8 +566,14 @@ front_told version file b d head =
 decoded_second : (file : List ℕ) (b : BoardValue) → length file ≡ 4356 → slice_index file 0 ≡ 2 → All (Holds 2 file) (table 2) → IsDecoded file b → HasFields 2 file b
 decoded_second file b len first held d =
     let zeros : pieces_of zero_rows tt ≡ pieces_in 0 file zero_rows =
-    zero_cons file 38 _ _ (omega (arith, len)) (held 22 no_row (omega arith)) (zero_cons file 39 _ _ (omega (arith, len)) (held 23 no_row (omega arith)) (zero_cons file 40 _ _ (omega (arith, len)) (held 24 no_row (omega arith)) (zero_cons file 41 _ _ (omega (arith, len)) (held 25 no_row (omega arith)) (zero_cons file 42 _ _ (omega (arith, len)) (held 26 no_row (omega arith)) (zero_cons file 43 _ _ (omega (arith, len)) (held 27 no_row (omega arith)) refl))))) in
-    let place : pieces_of (sequence_rows ++ place_rows) b.cpu.mid ≡ pieces_in 0 file (sequence_rows ++ place_rows) = place_by file b.cpu.mid (slice_index file 19 == 1) (slice_index file 30 == 0) len refl (held 19 no_row (omega arith)) (held 20 no_row (omega arith)) (held 21 no_row (omega arith)) d.outside (λ h. ap (λ (c : CpuValue). c.mid) (d.inside h)) in
+    zero_cons file 38 _ _ (omega (arith, len)) (held 22 no_row (omega arith))
+    (zero_cons file 39 _ _ (omega (arith, len)) (held 23 no_row (omega arith))
+    (zero_cons file 40 _ _ (omega (arith, len)) (held 24 no_row (omega arith))
+    (zero_cons file 41 _ _ (omega (arith, len)) (held 25 no_row (omega arith))
+    (zero_cons file 42 _ _ (omega (arith, len)) (held 26 no_row (omega arith)) (zero_cons file 43 _ _ (omega (arith, len)) (held 27 no_row (omega arith)) refl))))) in
+    let place : pieces_of (sequence_rows ++ place_rows) b.cpu.mid ≡ pieces_in 0 file (sequence_rows
+    ++ place_rows) = place_by file b.cpu.mid (slice_index file 19 == 1) (slice_index file 30 == 0) len refl (held 19 no_row (omega arith))
+    (held 20 no_row (omega arith)) (held 21 no_row (omega arith)) d.outside (λ h. ap (λ (c : CpuValue). c.mid) (d.inside h)) in
     let same = appended _ _ _ _ (front_told 2 file b d (head_told 2 file len first (held 1 no_row (omega arith)))) (appended _ _ _ _ place (back_told file b d zeros)) in
     has_fields 2 file b held (has_from b file (table 2) same)
 
@@ -472,9 +581,20 @@ decoded_second file b len first held d =
 decoded_first : (file : List ℕ) (b : BoardValue) → length file ≡ 4356 → slice_index file 0 ≡ 1 → All (Holds 1 file) (table 1) → IsDecoded file b → HasFields 1 file b
 decoded_first file b len first held d =
     let zeros : pieces_of zero_rows tt ≡ pieces_in 0 file zero_rows =
-    zero_cons file 38 _ _ (omega (arith, len)) (held 27 no_row (omega arith)) (zero_cons file 39 _ _ (omega (arith, len)) (held 28 no_row (omega arith)) (zero_cons file 40 _ _ (omega (arith, len)) (held 29 no_row (omega arith)) (zero_cons file 41 _ _ (omega (arith, len)) (held 30 no_row (omega arith)) (zero_cons file 42 _ _ (omega (arith, len)) (held 31 no_row (omega arith)) (zero_cons file 43 _ _ (omega (arith, len)) (held 32 no_row (omega arith)) refl))))) in
+    zero_cons file 38 _ _ (omega (arith, len)) (held 27 no_row (omega arith))
+    (zero_cons file 39 _ _ (omega (arith, len)) (held 28 no_row (omega arith))
+    (zero_cons file 40 _ _ (omega (arith, len)) (held 29 no_row (omega arith))
+    (zero_cons file 41 _ _ (omega (arith, len)) (held 30 no_row (omega arith))
+    (zero_cons file 42 _ _ (omega (arith, len)) (held 31 no_row (omega arith)) (zero_cons file 43 _ _ (omega (arith, len)) (held 32 no_row (omega arith)) refl))))) in
     let eight : pieces_of eight_rows tt ≡ pieces_in 0 file eight_rows =
-    zero_cons file 30 _ _ (omega (arith, len)) (held 19 no_row (omega arith)) (zero_cons file 31 _ _ (omega (arith, len)) (held 20 no_row (omega arith)) (zero_cons file 32 _ _ (omega (arith, len)) (held 21 no_row (omega arith)) (zero_cons file 33 _ _ (omega (arith, len)) (held 22 no_row (omega arith)) (zero_cons file 34 _ _ (omega (arith, len)) (held 23 no_row (omega arith)) (zero_cons file 35 _ _ (omega (arith, len)) (held 24 no_row (omega arith)) (zero_cons file 36 _ _ (omega (arith, len)) (held 25 no_row (omega arith)) (zero_cons file 37 _ _ (omega (arith, len)) (held 26 no_row (omega arith)) refl))))))) in
+    zero_cons file 30 _ _ (omega (arith, len)) (held 19 no_row (omega arith))
+    (zero_cons file 31 _ _ (omega (arith, len)) (held 20 no_row (omega arith))
+    (zero_cons file 32 _ _ (omega (arith, len)) (held 21 no_row (omega arith))
+    (zero_cons file 33 _ _ (omega (arith, len)) (held 22 no_row (omega arith))
+    (zero_cons file 34 _ _ (omega (arith, len)) (held 23 no_row (omega arith))
+    (zero_cons file 35 _ _ (omega (arith, len)) (held 24 no_row (omega arith))
+    (zero_cons file 36 _ _ (omega (arith, len)) (held 25 no_row (omega arith))
+    (zero_cons file 37 _ _ (omega (arith, len)) (held 26 no_row (omega arith)) refl))))))) in
     let same = appended _ _ _ _ (front_told 1 file b d (head_told 1 file len first (held 1 no_row (omega arith)))) (appended _ _ _ _ eight (back_told file b d zeros)) in
     has_fields 1 file b held (has_from b file (table 1) same)
 
@@ -482,7 +602,8 @@ decoded_mid : (file : List ℕ) (b : BoardValue) → All (Holds 1 file) (table 1
 decoded_mid file b held d = d.outside (omega (arith, byte_is file 30, held 19 no_row (omega arith)))
 
 -- and spells the file
-pub decoded_has : (file : List ℕ) (b : BoardValue) → length file ≡ 4356 → (slice_index file 0 ≡ 1) ⊎ (slice_index file 0 ≡ 2) → All (Holds (slice_index file 0) file) (table (slice_index file 0)) → IsDecoded file b → HasFields (slice_index file 0) file b × Spells file b
+pub decoded_has : (file : List ℕ) (b : BoardValue) → length file ≡ 4356 → (slice_index file 0 ≡ 1) ⊎ (slice_index file 0 ≡ 2)
+    → All (Holds (slice_index file 0) file) (table (slice_index file 0)) → IsDecoded file b → HasFields (slice_index file 0) file b × Spells file b
 decoded_has file b len (inl one) held d =
     let first : All (Holds 1 file) (table 1) = subst (λ (v : ℕ). All (Holds v file) (table v)) one held in
     let has : HasFields 1 file b = decoded_first file b len one first d in
@@ -492,7 +613,8 @@ decoded_has file b len (inr two) held d =
     (subst (λ (v : ℕ). HasFields v file b) (sym two) has, inl (has_bytes 2 file b len has))
 
 -- its processor stands inside a sequence where the file's does
-pub decoded_place : (file : List ℕ) (b : BoardValue) (mid : Option MidValue) → b.cpu.mid ≡ mid → (slice_index file 0 ≡ 1) ⊎ (slice_index file 0 ≡ 2) → All (Holds (slice_index file 0) file) (table (slice_index file 0)) → IsDecoded file b → IfSome mid (λ _. IsMiddle b.cpu)
+pub decoded_place : (file : List ℕ) (b : BoardValue) (mid : Option MidValue) → b.cpu.mid ≡ mid → (slice_index file 0 ≡ 1) ⊎ (slice_index file 0 ≡ 2)
+    → All (Holds (slice_index file 0) file) (table (slice_index file 0)) → IsDecoded file b → IfSome mid (λ _. IsMiddle b.cpu)
 decoded_place file b None e two held d = tt
 decoded_place file b (Some m) e (inl one) held d =
     let none : b.cpu.mid ≡ None = decoded_mid file b (subst (λ (v : ℕ). All (Holds v file) (table v)) one held) d in
@@ -500,7 +622,8 @@ decoded_place file b (Some m) e (inl one) held d =
 decoded_place file b (Some m) e (inr two) held d =
     let all : All (Holds 2 file) (table 2) = subst (λ (v : ℕ). All (Holds v file) (table v)) two held in
     let other : slice_index file 30 ≢ 0 = λ zero. let none : b.cpu.mid ≡ None = d.outside zero in absurd cc in
-    subst (λ (c : CpuValue). IsMiddle c) (sym (d.inside other)) (subst (λ (idle : Bool). IsInFieldRange (processor_of file) (bytes_range idle) (take 6 (drop 32 file))) (not_equal (slice_index file 30) 0 other) (all 21 no_row (omega arith)))
+    subst (λ (c : CpuValue). IsMiddle c) (sym (d.inside other)) (subst (λ (idle
+    : Bool). IsInFieldRange (processor_of file) (bytes_range idle) (take 6 (drop 32 file))) (not_equal (slice_index file 30) 0 other) (all 21 no_row (omega arith)))
 
 -- one of the two versions, as the code's tests leave them
 pub one_of_two : (version : ℕ) → ((version ≡ 1 → ⊥) × (version ≡ 2)) ⊎ (version ≡ 1) → (version ≡ 1) ⊎ (version ≡ 2)
@@ -512,13 +635,19 @@ all_parts : (p o d i z v k l e : List (List ℕ)) (r s : List ℕ) → (((((((((
     ≡ concat (p ++ ((((o ++ d) ++ i) ++ z) ++ ((((v ++ k) ++ l) ++ e) ++ (r ∷ s ∷ []))))
 all_parts p o d i z v k l e r s = simp (concat-append, append_assoc, append-nil)
 
-pub board_parts : (b : BoardValue) → (((((((((concat (pieces_of head_rows 2 ++ (pieces_of clock_rows b.clock ++ pieces_of register_rows b.cpu) ++ pieces_of jam_rows b.cpu.jam) ++ (b.out ∷ b.in0 ∷ b.in3 ∷ b.in4 ∷ [])) ++ concat (pieces_of divider_rows b.divider)) ++ concat (pieces_of (sequence_rows ++ place_rows) b.cpu.mid)) ++ (0 ∷ 0 ∷ 0 ∷ 0 ∷ 0 ∷ 0 ∷ []))
-    ++ concat (pieces_of vg_rows b.vg)) ++ concat (pieces_of pokey_rows b.sound1)) ++ concat (pieces_of pokey_rows b.sound2)) ++ concat (pieces_of earom_rows b.earom)) ++ b.ram) ++ b.vram ≡ state_bytes b
+pub board_parts : (b : BoardValue) → (((((((((concat (pieces_of head_rows 2 ++ (pieces_of clock_rows b.clock ++ pieces_of register_rows b.cpu)
+    ++ pieces_of jam_rows b.cpu.jam) ++ (b.out ∷ b.in0 ∷ b.in3 ∷ b.in4 ∷ [])) ++ concat (pieces_of divider_rows b.divider))
+    ++ concat (pieces_of (sequence_rows ++ place_rows) b.cpu.mid)) ++ (0 ∷ 0 ∷ 0 ∷ 0 ∷ 0 ∷ 0 ∷ []))
+    ++ concat (pieces_of vg_rows b.vg)) ++ concat (pieces_of pokey_rows b.sound1)) ++ concat (pieces_of pokey_rows b.sound2))
+    ++ concat (pieces_of earom_rows b.earom)) ++ b.ram) ++ b.vram ≡ state_bytes b
 board_parts b =
-    all_parts (pieces_of head_rows 2 ++ (pieces_of clock_rows b.clock ++ pieces_of register_rows b.cpu) ++ pieces_of jam_rows b.cpu.jam) (pieces_of port_rows (record { out = b.out; in0 = b.in0; in3 = b.in3; in4 = b.in4 })) (pieces_of divider_rows b.divider) (pieces_of (sequence_rows ++ place_rows) b.cpu.mid) (pieces_of zero_rows tt)
+    all_parts (pieces_of head_rows 2 ++ (pieces_of clock_rows b.clock ++ pieces_of register_rows b.cpu)
+    ++ pieces_of jam_rows b.cpu.jam) (pieces_of port_rows (record { out = b.out; in0 = b.in0; in3 = b.in3; in4 = b.in4 }))
+    (pieces_of divider_rows b.divider) (pieces_of (sequence_rows ++ place_rows) b.cpu.mid) (pieces_of zero_rows tt)
     (pieces_of vg_rows b.vg) (pieces_of pokey_rows b.sound1) (pieces_of pokey_rows b.sound2) (pieces_of earom_rows b.earom) b.ram b.vram
 
-pub pokey_parts : (t p1 p2 p3 p4 p5 p6 p7 p8 p9 p10 p11 p12 p13 p14 p15 : List ℕ) → ((((((((((((((t ++ p1) ++ p2) ++ p3) ++ p4) ++ p5) ++ p6) ++ p7) ++ p8) ++ p9) ++ p10) ++ p11) ++ p12) ++ p13) ++ p14) ++ p15
+pub pokey_parts : (t p1 p2 p3 p4 p5 p6 p7 p8 p9 p10 p11 p12 p13 p14 p15 : List ℕ)
+    → ((((((((((((((t ++ p1) ++ p2) ++ p3) ++ p4) ++ p5) ++ p6) ++ p7) ++ p8) ++ p9) ++ p10) ++ p11) ++ p12) ++ p13) ++ p14) ++ p15
     ≡ t ++ (p1 ++ (p2 ++ (p3 ++ (p4 ++ (p5 ++ (p6 ++ (p7 ++ (p8 ++ (p9 ++ (p10 ++ (p11 ++ (p12 ++ (p13 ++ (p14 ++ p15))))))))))))))
 pokey_parts t p1 p2 p3 p4 p5 p6 p7 p8 p9 p10 p11 p12 p13 p14 p15 = simp append_assoc
 

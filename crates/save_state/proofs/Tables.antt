@@ -1,12 +1,15 @@
 -- The code's tables have the fields of the definition's.
-use Rattle.std.proofs.Common.{zero, suc, ◌<◌, length, ◌≡◌, ◌≢◌, ◌+◌, ◌==◌, ◌≤◌, ℕ, Bool, true, false, List, [], ◌∷◌, All, take, drop, refl, sym, ap, subst, ◌∙◌, arith, ◌++◌, map, get_or, Result, Ok, Err, append_assoc, rules, ◌^◌, cond, Option, Some, None, IfSome, IsSome, slice_index, w16, w64, get_or-drop, get_or-take, eqb-true, MatchResult, IsErrAnd}
+use Rattle.std.proofs.Common.{zero, suc, ◌<◌, length, ◌≡◌, ◌≢◌, ◌+◌, ◌==◌, ◌≤◌, ℕ, Bool, true, false, List, [], ◌∷◌, All, take, drop, refl, sym, ap, subst, ◌∙◌, arith, ◌++◌, map}
+use Rattle.std.proofs.Common.{get_or, Result, Ok, Err, append_assoc, rules, ◌^◌, cond, Option, Some, None, IfSome, IsSome, slice_index, w16, w64, get_or-drop, get_or-take}
+use Rattle.std.proofs.Common.{eqb-true, MatchResult, IsErrAnd}
 use Rattle.std.specs.Bool.{then_some}
 use Rattle.std.specs.Int.{from_le_bytes}
 use Rattle.std.proofs.lemmas.List.Elements.{All-map, All-cons, All-nil, All-head, All-tail, All-append, All-from_recursion, recursion_from_All}
 use Rattle.board_base.specs.Board.{BoardValue}
 use Rattle.board_base.specs.Cpu.{CpuValue, MidValue}
 use Rattle.save_state.specs.Fields.{Row, IsInFieldRange, flag, pieces_of, anything, Facts, Range, rows_of, rows_at}
-use Rattle.save_state.specs.StateBytes.{count_range, left_range, opcode_range, jam_rows, processor_of, facts_of, table, front_rows, middle_rows, zero_rows, vg_rows, pokey_rows, earom_rows, memory_rows, back_rows, last_clock}
+use Rattle.save_state.specs.StateBytes.{count_range, left_range, opcode_range, jam_rows, processor_of, facts_of, table, front_rows, middle_rows, zero_rows, vg_rows, pokey_rows}
+use Rattle.save_state.specs.StateBytes.{earom_rows, memory_rows, back_rows, last_clock}
 use Rattle.save_state.specs.Check.{width_of, range_of, IsInRange, AreInRange, BreaksIn}
 use Rattle.cpu_table.specs.Opcodes.{row_of}
 use Rattle.save_state.specs.declared.table.Field.{Field}
@@ -35,11 +38,13 @@ done_most cpu true file h = omega (arith, h, byte_is file 31)
 done_most cpu false file h = omega (arith, h.1, byte_is file 31)
 
 -- the clocks that are left of a vector, by whether one is drawn
-left_by : (cpu : CpuValue) (b : Bool) (piece : List ℕ) → IsInFieldRange cpu (left_range b) piece → (b ≡ true → 1 ≤ from_le_bytes w16 piece) × (from_le_bytes w16 piece ≤ 8192) × (b ≡ false → from_le_bytes w16 piece ≡ 0)
+left_by : (cpu : CpuValue) (b : Bool) (piece : List ℕ) → IsInFieldRange cpu (left_range b) piece → (b ≡ true → 1 ≤ from_le_bytes w16 piece)
+    × (from_le_bytes w16 piece ≤ 8192) × (b ≡ false → from_le_bytes w16 piece ≡ 0)
 left_by cpu true piece h = ((λ e. h.0), h.1, (λ (e : true ≡ false). absurd cc))
 left_by cpu false piece h = ((λ (e : false ≡ true). absurd cc), omega (arith, h), (λ e. omega (arith, h)))
 
-pub left_told : (file : List ℕ) (phase left : ℕ) → phase ≡ slice_index (take 1 (drop 45 file)) 0 → left ≡ from_le_bytes w16 (take 2 (drop 82 file)) → IsInFieldRange (processor_of file) (left_range (slice_index file 45 == 5)) (take 2 (drop 82 file)) → (phase ≡ 5 → 1 ≤ left) × (left ≤ 8192) × (phase ≢ 5 → left ≡ 0)
+pub left_told : (file : List ℕ) (phase left : ℕ) → phase ≡ slice_index (take 1 (drop 45 file)) 0 → left ≡ from_le_bytes w16 (take 2 (drop 82 file))
+    → IsInFieldRange (processor_of file) (left_range (slice_index file 45 == 5)) (take 2 (drop 82 file)) → (phase ≡ 5 → 1 ≤ left) × (left ≤ 8192) × (phase ≢ 5 → left ≡ 0)
 left_told file phase left e f h =
     let told = left_by (processor_of file) (slice_index file 45 == 5) (take 2 (drop 82 file)) h in
     let here : phase ≡ slice_index file 45 = e ∙ byte_is file 45 in (
@@ -63,7 +68,9 @@ flag_told (suc zero) piece e h = e
 flag_told (suc (suc n)) piece e h =
     let most : suc (suc n) ≤ 1 = subst (λ (p : List ℕ). slice_index p 0 ≤ 1) (sym e) h in absurd (omega (arith, most))
 
-pub jam_told : (cpu : CpuValue) (flag opcode : ℕ) (p q : List ℕ) → flag ∷ [] ≡ p → opcode ∷ [] ≡ q → flag ≤ 1 → IsInFieldRange cpu (opcode_range (flag == 1)) q → (pieces_of jam_rows (then_some (flag == 1) opcode) ≡ p ∷ q ∷ []) × IfSome (then_some (flag == 1) opcode) (λ o. row_of o ≡ None)
+pub jam_told : (cpu : CpuValue) (flag opcode : ℕ) (p q : List ℕ) → flag ∷ [] ≡ p → opcode ∷ [] ≡ q → flag ≤ 1
+    → IsInFieldRange cpu (opcode_range (flag == 1)) q → (pieces_of jam_rows (then_some (flag == 1) opcode) ≡ p ∷ q ∷ [])
+    × IfSome (then_some (flag == 1) opcode) (λ o. row_of o ≡ None)
 jam_told cpu zero opcode p q e f h fit =
     let none : slice_index (opcode ∷ []) 0 ≤ 0 = subst (λ (x : List ℕ). slice_index x 0 ≤ 0) (sym f) fit in
     let zero : opcode ≡ 0 = omega (arith, none) in
@@ -119,12 +126,31 @@ held version file base fs rs e h =
 
 -- and the first row that isn't is the first field that isn't
 pub sooner : (version : ℕ) (file : List ℕ) (xs ys : Rows) (o : ℕ) → IsFirstBroken version file xs o → IsFirstBroken version file (xs ++ ys) o
-sooner version file xs ys o b = record { before = b.before; broken = b.broken; after = b.after ++ ys; order = ap (λ (rs : Rows). rs ++ ys) b.order ∙ append_assoc b.before (b.broken ∷ b.after) ys; good = b.good; bad = b.bad; here = b.here }
+sooner version file xs ys o b = record {
+  before = b.before;
+  broken = b.broken;
+  after = b.after ++ ys;
+  order = ap (λ (rs : Rows). rs ++ ys) b.order
+      ∙ append_assoc b.before (b.broken ∷ b.after) ys;
+  good = b.good;
+  bad = b.bad;
+  here = b.here;
+}
 
 pub later : (version : ℕ) (file : List ℕ) (xs ys : Rows) (o : ℕ) → All (Holds version file) xs → IsFirstBroken version file ys o → IsFirstBroken version file (xs ++ ys) o
-later version file xs ys o good b = record { before = xs ++ b.before; broken = b.broken; after = b.after; order = ap (λ (rs : Rows). xs ++ rs) b.order ∙ sym (append_assoc xs b.before (b.broken ∷ b.after)); good = All-append (Holds version file) xs b.before good b.good; bad = b.bad; here = b.here }
+later version file xs ys o good b = record {
+  before = xs ++ b.before;
+  broken = b.broken;
+  after = b.after;
+  order = ap (λ (rs : Rows). xs ++ rs) b.order ∙ sym (append_assoc xs b.before (b.broken ∷ b.after));
+  good = All-append (Holds version file) xs b.before good b.good;
+  bad = b.bad;
+  here = b.here;
+}
 
-broken_at : (version : ℕ) (file : List ℕ) (base : ℕ) (before : List Field) (f : Field) (after : List Field) (rs : Rows) → AreSame (facts_of version file) base (before ++ f ∷ after) rs → AreInRange version file base before → ¬ IsInRange version file (base + f.0) f.1 → IsFirstBroken version file rs (base + f.0)
+broken_at : (version : ℕ) (file : List ℕ) (base : ℕ) (before : List Field) (f : Field) (after : List Field) (rs : Rows)
+    → AreSame (facts_of version file) base (before ++ f ∷ after) rs → AreInRange version file base before → ¬ IsInRange version file (base + f.0) f.1
+    → IsFirstBroken version file rs (base + f.0)
 broken_at version file base [] f after [] e good bad = absurd cc
 broken_at version file base (g ∷ before) f after [] e good bad = absurd cc
 broken_at version file base [] f after (r ∷ rs) e good bad =
@@ -139,7 +165,8 @@ broken_at version file base (g ∷ before) f after (r ∷ rs) e good bad =
     later version file (r ∷ []) rs (base + f.0) (All-cons (Holds version file) r [] (subst (SpotHolds version file) one (All-head P g before good)) (All-nil (Holds version file)))
     (broken_at version file base before f after rs more (All-tail P g before good) bad)
 
-pub first_broken : (version : ℕ) (file : List ℕ) (base : ℕ) (fs : List Field) (rs : Rows) (o : ℕ) → AreSame (facts_of version file) base fs rs → BreaksIn version file base fs o → IsFirstBroken version file rs o
+pub first_broken : (version : ℕ) (file : List ℕ) (base : ℕ) (fs : List Field) (rs : Rows) (o : ℕ) → AreSame (facts_of version file) base fs rs
+    → BreaksIn version file base fs o → IsFirstBroken version file rs o
 first_broken version file base fs rs o e b =
     let facts : Facts = facts_of version file in
     subst (λ (k : ℕ). IsFirstBroken version file rs k) (sym b.here)
@@ -159,19 +186,25 @@ start_broken version file o other b =
     subst (λ (b : Bool). IsFirstBroken version file (middle_rows b) o) (sym other)
     (sooner version file place_start (place_row ∷ []) o (first_broken version file 0 PLACE place_start o refl b))
 
-pub place_broken : (version : ℕ) (file : List ℕ) → (version == 1) ≡ false → AreInRange version file 0 PLACE → ¬ Holds version file place_row → IsFirstBroken version file (middle_rows (version == 1)) 32
+pub place_broken : (version : ℕ) (file : List ℕ) → (version == 1) ≡ false → AreInRange version file 0 PLACE → ¬ Holds version file place_row
+    → IsFirstBroken version file (middle_rows (version == 1)) 32
 place_broken version file other start bad =
     subst (λ (b : Bool). IsFirstBroken version file (middle_rows b) 32) (sym other)
     (later version file place_start (place_row ∷ []) 32 (held version file 0 PLACE place_start refl start)
     (record { before = []; broken = place_row; after = []; order = refl; good = All-nil (Holds version file); bad = bad; here = refl }))
 
 -- what the check of a table says of its rows
-pub told : {T : Type 0} (version : ℕ) (file : List ℕ) (base : ℕ) (fs : List Field) (rs : Rows) (r : Result T ℕ) → AreSame (facts_of version file) base fs rs → MatchResult r (λ _. AreInRange version file base fs) (λ at. BreaksIn version file base fs at) → MatchResult r (λ _. All (Holds version file) rs) (λ at. IsFirstBroken version file rs at)
+pub told : {T : Type 0} (version : ℕ) (file : List ℕ) (base : ℕ) (fs : List Field) (rs : Rows) (r : Result T ℕ)
+    → AreSame (facts_of version file) base fs rs → MatchResult r (λ _. AreInRange version file base fs) (λ at. BreaksIn version file base fs at)
+    → MatchResult r (λ _. All (Holds version file) rs) (λ at. IsFirstBroken version file rs at)
 told version file base fs rs (Ok x) e h = held version file base fs rs e h
 told version file base fs rs (Err at) e h = first_broken version file base fs rs at e h
 
-pub first_told : {T : Type 0} (version : ℕ) (file : List ℕ) (r : Result T ℕ) → (version == 1) ≡ true → MatchResult r (λ _. AreInRange version file 0 NO_PLACE) (λ at. BreaksIn version file 0 NO_PLACE at) → MatchResult r (λ _. All (Holds version file) (middle_rows (version == 1))) (λ at. IsFirstBroken version file (middle_rows (version == 1)) at)
-first_told version file r same h = subst (λ (b : Bool). MatchResult r (λ _. All (Holds version file) (middle_rows b)) (λ at. IsFirstBroken version file (middle_rows b) at)) (sym same) (told version file 0 NO_PLACE (middle_rows true) r refl h)
+pub first_told : {T : Type 0} (version : ℕ) (file : List ℕ) (r : Result T ℕ) → (version == 1) ≡ true
+    → MatchResult r (λ _. AreInRange version file 0 NO_PLACE) (λ at. BreaksIn version file 0 NO_PLACE at)
+    → MatchResult r (λ _. All (Holds version file) (middle_rows (version == 1))) (λ at. IsFirstBroken version file (middle_rows (version == 1)) at)
+first_told version file r same h = subst (λ (b : Bool). MatchResult r (λ _. All (Holds version file) (middle_rows b))
+    (λ at. IsFirstBroken version file (middle_rows b) at)) (sym same) (told version file 0 NO_PLACE (middle_rows true) r refl h)
 
 -- the error that a `?` returns
 pub early : {T : Type 0} (r : Result T ℕ) (P : T → Type 0) (Q : ℕ → Type 0) (e : ℕ) → IsErrAnd r (λ y. y ≡ e) → Q e → MatchResult r P Q
@@ -187,20 +220,23 @@ all_rows [] = []
 all_rows (s ∷ ss) = s ++ all_rows ss
 
 table_is : (version : ℕ) → table version ≡ all_rows (sections version)
-table_is version = elim (version == 1) as (λ (one : Bool). front_rows version ++ middle_rows one ++ back_rows ≡ front_rows version ++ (middle_rows one ++ (generator_rows ++ (first_rows ++ (second_rows ++ end_rows))))) [ true ↦ refl | false ↦ refl ]
+table_is version = elim (version == 1) as (λ (one : Bool). front_rows version ++ middle_rows one ++ back_rows ≡ front_rows version
+    ++ (middle_rows one ++ (generator_rows ++ (first_rows ++ (second_rows ++ end_rows))))) [ true ↦ refl | false ↦ refl ]
 
 -- all fields of these sections are in their ranges
 abbrev pub HoldIn : ℕ → List ℕ → List Rows → Type 0
 HoldIn version file [] = Unit {0}
 HoldIn version file (s ∷ ss) = All (Holds version file) s × HoldIn version file ss
 
-broken_in : (version : ℕ) (file : List ℕ) (o k : ℕ) (ss : List Rows) → HoldIn version file (take k ss) → k < length ss → IsFirstBroken version file (get_or ss k []) o → IsFirstBroken version file (all_rows ss) o
+broken_in : (version : ℕ) (file : List ℕ) (o k : ℕ) (ss : List Rows) → HoldIn version file (take k ss) → k < length ss
+    → IsFirstBroken version file (get_or ss k []) o → IsFirstBroken version file (all_rows ss) o
 broken_in version file o k [] h lt b = absurd (omega (arith, lt))
 broken_in version file o zero (s ∷ ss) h lt b = sooner version file s (all_rows ss) o b
 broken_in version file o (suc k) (s ∷ ss) h lt b = later version file s (all_rows ss) o h.0 (broken_in version file o k ss h.1 (omega (arith, lt)) b)
 
 -- where the sections before one are, its first field that isn't is the table's
-pub breaks : (version : ℕ) (file : List ℕ) (o k : ℕ) → HoldIn version file (take k (sections version)) → k < 6 → IsFirstBroken version file (get_or (sections version) k []) o → BreaksFirst version file o
+pub breaks : (version : ℕ) (file : List ℕ) (o k : ℕ) → HoldIn version file (take k (sections version)) → k < 6
+    → IsFirstBroken version file (get_or (sections version) k []) o → BreaksFirst version file o
 unfolding BreaksFirst
 breaks version file o k h lt b = subst (λ (rs : Rows). IsFirstBroken version file rs o) (sym (table_is version)) (broken_in version file o k (sections version) h lt b)
 
@@ -208,9 +244,14 @@ joined : (version : ℕ) (file : List ℕ) (ss : List Rows) → HoldIn version f
 joined version file [] h = All-nil (Holds version file)
 joined version file (s ∷ ss) h = All-append (Holds version file) s (all_rows ss) h.0 (joined version file ss h.1)
 
-pub all_held : {T : Type 0} (version : ℕ) (file : List ℕ) (r : Result T ℕ) → HoldIn version file (take 5 (sections version)) → MatchResult r (λ _. AreInRange version file 0 BACK) (λ at. BreaksIn version file 0 BACK at) → MatchResult r (λ _. All (Holds version file) (table version)) (λ at. BreaksFirst version file at)
+pub all_held : {T : Type 0} (version : ℕ) (file : List ℕ) (r : Result T ℕ) → HoldIn version file (take 5 (sections version))
+    → MatchResult r (λ _. AreInRange version file 0 BACK) (λ at. BreaksIn version file 0 BACK at)
+    → MatchResult r (λ _. All (Holds version file) (table version)) (λ at. BreaksFirst version file at)
 all_held version file (Ok x) h last =
-    subst (All (Holds version file)) (sym (table_is version)) (joined version file (sections version) (h.0, (h.1.0, (h.1.1.0, (h.1.1.1.0, (h.1.1.1.1.0, (held version file 0 BACK end_rows refl last, tt)))))))
+    subst (All (Holds version file)) (sym (table_is version)) (joined version file (sections version) (
+      h.0,
+      (h.1.0, (h.1.1.0, (h.1.1.1.0, (h.1.1.1.1.0, (held version file 0 BACK end_rows refl last, tt))))),
+    ))
 all_held version file (Err at) h last = breaks version file at 5 h (omega arith) (first_broken version file 0 BACK end_rows at refl last)
 
 -- and back: of a whole both parts
@@ -233,7 +274,8 @@ vg_of version file h = (parts (Holds version file) (rows_of (λ b. tt) zero_rows
 
 -- ranges go by no value
 pub second_of : (version : ℕ) (file : List ℕ) → All (Holds version file) (table version) → All (Holds version file) (rows_at 137 (rows_of (λ b. b.sound1) pokey_rows))
-second_of version file h = All-from_recursion (Holds version file) (rows_at 137 (rows_of (λ b. b.sound1) pokey_rows)) (recursion_from_All (Holds version file) second_rows (sections_of version file h).1.1.1.1.0)
+second_of version file h = All-from_recursion (Holds version file) (rows_at 137 (rows_of (λ b. b.sound1) pokey_rows))
+    (recursion_from_All (Holds version file) second_rows (sections_of version file h).1.1.1.1.0)
 
 pub earom_of : (version : ℕ) (file : List ℕ) → All (Holds version file) (table version) → All (Holds version file) (rows_of (λ b. b.earom) earom_rows)
 earom_of version file h = (parts (Holds version file) (rows_of (λ b. b.earom) earom_rows) memory_rows (sections_of version file h).1.1.1.1.1.0).0
@@ -254,12 +296,14 @@ idle_by : (version : ℕ) (file : List ℕ) (one : Bool) → All (Holds version 
 idle_by version file true h e = omega (arith, h 0 no_row (omega arith), byte_is file 30)
 idle_by version file false h e = absurd cc
 
-clock_by : (a b : Bool) (clock : ℕ) (mid : Option MidValue) → clock ≤ cond a (2 ^ 48 + 16) (cond b (2 ^ 48 + 16) (2 ^ 48)) → (a ≡ true → mid ≡ None) → (b ≡ true → mid ≡ None) → (clock ≤ 2 ^ 48 + 16) × (IsSome mid → clock ≤ 2 ^ 48)
+clock_by : (a b : Bool) (clock : ℕ) (mid : Option MidValue) → clock ≤ cond a (2 ^ 48 + 16) (cond b (2 ^ 48 + 16) (2 ^ 48)) → (a ≡ true → mid ≡ None)
+    → (b ≡ true → mid ≡ None) → (clock ≤ 2 ^ 48 + 16) × (IsSome mid → clock ≤ 2 ^ 48)
 clock_by true b clock mid h f g = (h, λ s. absurd (none_some mid (f refl) s))
 clock_by false true clock mid h f g = (h, λ s. absurd (none_some mid (g refl) s))
 clock_by false false clock mid h f g = (omega (arith, h), λ s. h)
 
-pub clock_told : (version : ℕ) (file : List ℕ) (clock : ℕ) (mid : Option MidValue) → All (Holds version file) (table version) → clock ≡ from_le_bytes w64 (take 8 (drop 4 file)) → (slice_index file 30 ≡ 0 → mid ≡ None) → (clock ≤ 2 ^ 48 + 16) × (IsSome mid → clock ≤ 2 ^ 48)
+pub clock_told : (version : ℕ) (file : List ℕ) (clock : ℕ) (mid : Option MidValue) → All (Holds version file) (table version) → clock
+    ≡ from_le_bytes w64 (take 8 (drop 4 file)) → (slice_index file 30 ≡ 0 → mid ≡ None) → (clock ≤ 2 ^ 48 + 16) × (IsSome mid → clock ≤ 2 ^ 48)
 clock_told version file clock mid h e outside =
     let most : clock ≤ last_clock version (slice_index file 30) = subst (λ (n : ℕ). n ≤ last_clock version (slice_index file 30)) (sym e) ((sections_of version file h).0 2 no_row (omega arith)) in
     clock_by (version == 1) (slice_index file 30 == 0) clock mid most

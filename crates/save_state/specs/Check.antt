@@ -6,7 +6,8 @@ use Rattle.save_state.specs.declared.table.Kind.{Kind}
 use Rattle.save_state.specs.declared.table.Kind.TheVariants.{Any, Byte, Word, Long, Count, Signed, Letters, Flags, Clock, JamOpcode, SequenceNumber, ClocksDone, ClocksLeft}
 use Rattle.save_state.specs.declared.table.Field.{Field}
 use Rattle.save_state.specs.Fields.{Range, anything, byte_at_most, number_at_most, number_from_1, signed_within, letters, flags, IsInFieldRange, Facts, Row, pieces_of}
-use Rattle.save_state.specs.StateBytes.{opcode_range, count_range, left_range, processor_of, facts_of, clock_rows, register_rows, jam_rows, port_rows, divider_rows, vg_rows, pokey_rows, earom_rows, memory_rows}
+use Rattle.save_state.specs.StateBytes.{opcode_range, count_range, left_range, processor_of, facts_of, clock_rows, register_rows, jam_rows, port_rows, divider_rows, vg_rows}
+use Rattle.save_state.specs.StateBytes.{pokey_rows, earom_rows, memory_rows}
 
 -- the number of bytes of a field
 abbrev pub width_of : Kind → ℕ

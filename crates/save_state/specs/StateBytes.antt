@@ -18,7 +18,8 @@ use Rattle.board_base.specs.declared.vg.TheConstants.{BEAM_EDGE, DELTA_EDGE}
 use Rattle.board_base.specs.declared.cpu.Sequence.{Sequence}
 use Rattle.board_base.specs.declared.cpu.Sequence.TheVariants.{Opcode, Interrupt, Reset}
 use Rattle.board_base.specs.declared.phase.TheConstants.{DRAW}
-use Rattle.save_state.specs.Fields.{Range, letters, six_zeros, flags, undocumented_opcode, byte_at_most, byte_from_1, number_at_most, number_from_1, place, any, byte_to, number_to, count_to, signed_to, flag, u16_bytes, u32_bytes, u64_bytes, i32_bytes, Facts, Row, row, row_by, rows_of, rows_at, pieces_of}
+use Rattle.save_state.specs.Fields.{Range, letters, six_zeros, flags, undocumented_opcode, byte_at_most, byte_from_1, number_at_most, number_from_1, place, any, byte_to, number_to}
+use Rattle.save_state.specs.Fields.{count_to, signed_to, flag, u16_bytes, u32_bytes, u64_bytes, i32_bytes, Facts, Row, row, row_by, rows_of, rows_at, pieces_of}
 
 -- the number of a sequence, none being 0
 abbrev pub sequence_number : Sequence → ℕ

@@ -12,7 +12,8 @@ loop-next-init g c = record {
   same = refl;
   along = c.requires.along;
   way = λ room.
-      way-begins c.args.tape.now.entries c.args.clocks.now (run_start c.args.keys.now.kept (g.M.Machine.value c.args.synced.now.machine.now).board) (g.M.Machine.value c.args.synced.now.machine.now).done c.args.keys.now
+      way-begins c.args.tape.now.entries c.args.clocks.now (run_start c.args.keys.now.kept (g.M.Machine.value c.args.synced.now.machine.now).board)
+      (g.M.Machine.value c.args.synced.now.machine.now).done c.args.keys.now
       c.clock_of-last.result room c.requires.along c.clock_of-last.ensures;
 }
 
@@ -31,10 +32,14 @@ loop-next-preserved g c =
           let start' = run_start c.args.keys.now.kept (g.M.Machine.value c.args.synced.now.machine.now).board in
           let board = c.go_to.ensures.board ∙ ap (λ (from : Board). cleared (to_clock entries c.in-Some.next from)) inv.same in
           let found = c.in-Some.ensures in
-          way-on entries c.args.clocks.now start' (g.M.Machine.value c.go_to.new.synced.machine.now).board (g.M.Machine.value c.args.synced.now.machine.now).done (g.M.Machine.value c.loop-next.synced.machine.now).done (g.M.Machine.value c.go_to.new.synced.machine.now).done
+          way-on entries c.args.clocks.now start' (g.M.Machine.value c.go_to.new.synced.machine.now).board
+          (g.M.Machine.value c.args.synced.now.machine.now).done (g.M.Machine.value c.loop-next.synced.machine.now).done
+          (g.M.Machine.value c.go_to.new.synced.machine.now).done
           c.loop-next.last c.in-Some.next c.loop-next.keys c.keep_board.new.keys way found board c.go_to.ensures.done
           (c.keep_board.ensures.roomy
-          (roomy entries c.args.clocks.now start' (g.M.Machine.value c.go_to.new.synced.machine.now).board (g.M.Machine.value c.args.synced.now.machine.now).done (g.M.Machine.value c.loop-next.synced.machine.now).done (g.M.Machine.value c.go_to.new.synced.machine.now).done
+          (roomy entries c.args.clocks.now start' (g.M.Machine.value c.go_to.new.synced.machine.now).board
+          (g.M.Machine.value c.args.synced.now.machine.now).done (g.M.Machine.value c.loop-next.synced.machine.now).done
+          (g.M.Machine.value c.go_to.new.synced.machine.now).done
           c.loop-next.last c.in-Some.next c.loop-next.keys c.keep_board.new.keys way found board c.go_to.ensures.done));
     }
 

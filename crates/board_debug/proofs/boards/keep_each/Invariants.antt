@@ -11,7 +11,9 @@ invariant-loop-next g l = record {
   loan : l.synced.machine.ghost_name ≡ l.fn.synced.machine.ghost_name;
   same : run_start l.keys.kept (g.M.Machine.value l.synced.machine.now).board ≡ run_start l.fn.keys.kept (g.M.Machine.value l.fn.synced.machine.now).board;
   along : Along l.keys.kept l.fn.tape.entries (run_start l.keys.kept (g.M.Machine.value l.synced.machine.now).board);
-  way : HasRoom l.fn.keys (length l.fn.clocks) → Way l.fn.tape.entries l.fn.clocks (run_start l.fn.keys.kept (g.M.Machine.value l.fn.synced.machine.now).board) (g.M.Machine.value l.fn.synced.machine.now).done l.keys (g.M.Machine.value l.synced.machine.now).done l.last;
+  way : HasRoom l.fn.keys (length l.fn.clocks) → Way l.fn.tape.entries l.fn.clocks
+      (run_start l.fn.keys.kept (g.M.Machine.value l.fn.synced.machine.now).board) (g.M.Machine.value l.fn.synced.machine.now).done l.keys
+      (g.M.Machine.value l.synced.machine.now).done l.last;
 }
 
 abbrev pub decreases-loop-next : goal.decreases-loop-next

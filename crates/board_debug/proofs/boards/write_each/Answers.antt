@@ -27,7 +27,8 @@ returns-in_err-write_board-clause-taken g c =
     let p = err_from_is_err_and c.from_residual.result c.from_residual.ensures.1 in
     rw p.1 (piece-cut _ _ _ _ _ _ _
     (board-on c.args.tape.now.entries c.args.clocks.now c.loop-clock.clock-index 0 (run_start c.args.keys.now.kept (g.M.Machine.value c.args.synced.now.machine.now).board)
-    (run_start c.keep_each.new.keys.kept (g.M.Machine.value c.loop-clock.synced.machine.now).board) (g.M.Machine.value c.go_to.new.synced.machine.now).board c.state.new.into c.loop-clock-test.true c.go_to.ensures.board
+    (run_start c.keep_each.new.keys.kept (g.M.Machine.value c.loop-clock.synced.machine.now).board)
+    (g.M.Machine.value c.go_to.new.synced.machine.now).board c.state.new.into c.loop-clock-test.true c.go_to.ensures.board
     c.loop-clock.invariant.same
     (c.state.ensures.board ∙ ap (λ (e : EngineValue). board_of e.board.cpu e.board.peripherals) c.machine.ensures.value))
     c.in_err-write_board.ensures.taken c.loop-clock.invariant.text)
@@ -36,7 +37,8 @@ pub loop-clock-preserved : goal.loop-clock-preserved
 loop-clock-preserved g c = record {
   text = piece-taken _ _ _ _ _ _ _
       (board-on c.args.tape.now.entries c.args.clocks.now c.loop-clock.clock-index 0 (run_start c.args.keys.now.kept (g.M.Machine.value c.args.synced.now.machine.now).board)
-      (run_start c.keep_each.new.keys.kept (g.M.Machine.value c.loop-clock.synced.machine.now).board) (g.M.Machine.value c.go_to.new.synced.machine.now).board c.state.new.into c.loop-clock-test.true c.go_to.ensures.board
+      (run_start c.keep_each.new.keys.kept (g.M.Machine.value c.loop-clock.synced.machine.now).board)
+      (g.M.Machine.value c.go_to.new.synced.machine.now).board c.state.new.into c.loop-clock-test.true c.go_to.ensures.board
       c.loop-clock.invariant.same
       (c.state.ensures.board ∙ ap (λ (e : EngineValue). board_of e.board.cpu e.board.peripherals) c.machine.ensures.value))
       c.in_ok-write_board.ensures.taken c.loop-clock.invariant.text;
@@ -53,7 +55,8 @@ loop-clock-preserved g c = record {
       let board = c.go_to.ensures.board ∙ ap (λ (from : Board). cleared (to_clock entries clock from)) inv.same in
       let start = ap (λ (from : Board). from.peripherals.clock) inv.same in
       let free =
-      reached-free entries b (g.M.Machine.value c.go_to.new.synced.machine.now).board c.keep_each.new.keys.kept clock (g.M.Machine.value c.loop-clock.synced.machine.now).done (g.M.Machine.value c.go_to.new.synced.machine.now).done
+      reached-free entries b (g.M.Machine.value c.go_to.new.synced.machine.now).board c.keep_each.new.keys.kept clock
+      (g.M.Machine.value c.loop-clock.synced.machine.now).done (g.M.Machine.value c.go_to.new.synced.machine.now).done
       (inv.reached room c.loop-clock.clock-index 0 c.loop-clock-test.true) board c.go_to.ensures.done
       (λ below. c.go_to.ensures.before (omega (arith, below, start))) in
       let old = inv.done room most all in
@@ -74,7 +77,8 @@ returns-in_err-write_board-clause-done g c = λ room most all.
     let board = c.go_to.ensures.board ∙ ap (λ (from : Board). cleared (to_clock entries clock from)) inv.same in
     let start = ap (λ (from : Board). from.peripherals.clock) inv.same in
     let free =
-    reached-free entries b (g.M.Machine.value c.go_to.new.synced.machine.now).board c.keep_each.new.keys.kept clock (g.M.Machine.value c.loop-clock.synced.machine.now).done (g.M.Machine.value c.go_to.new.synced.machine.now).done
+    reached-free entries b (g.M.Machine.value c.go_to.new.synced.machine.now).board c.keep_each.new.keys.kept clock
+    (g.M.Machine.value c.loop-clock.synced.machine.now).done (g.M.Machine.value c.go_to.new.synced.machine.now).done
     (inv.reached room c.loop-clock.clock-index 0 c.loop-clock-test.true) board c.go_to.ensures.done
     (λ below. c.go_to.ensures.before (omega (arith, below, start))) in
     let old = inv.done room most all in

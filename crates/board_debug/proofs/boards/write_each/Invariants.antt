@@ -17,5 +17,6 @@ invariant-loop-clock g l = record {
   reached : HasRoom l.fn.keys (length l.fn.clocks) → All (λ clock. (run_start l.fn.keys.kept (g.M.Machine.value l.fn.synced.machine.now).board).peripherals.clock ≤ clock
       → IsReached l.fn.tape.entries (run_start l.fn.keys.kept (g.M.Machine.value l.fn.synced.machine.now).board) l.keys.kept clock) l.fn.clocks;
   done : HasRoom l.fn.keys (length l.fn.clocks) → (most : ℕ) → All (λ clock. clock ≤ most) l.fn.clocks
-      → (g.M.Machine.value l.synced.machine.now).done ≤ (g.M.Machine.value l.fn.synced.machine.now).done + (most - (run_start l.fn.keys.kept (g.M.Machine.value l.fn.synced.machine.now).board).peripherals.clock);
+      → (g.M.Machine.value l.synced.machine.now).done ≤ (g.M.Machine.value l.fn.synced.machine.now).done +
+      (most - (run_start l.fn.keys.kept (g.M.Machine.value l.fn.synced.machine.now).board).peripherals.clock);
 }

@@ -11,7 +11,8 @@ loop-init g c = record {
 
 pub returns-in-Some-clause-reached : goal.returns-in-Some-clause-reached
 returns-in-Some-clause-reached g c =
-    step-found c.args.tape.now (c.args.count - c.loop.counter) c.end.result (g.M.Machine.value c.loop.synced.machine.now).board c.in-Some.found (omega arith) c.end.ensures.end (sym c.in-Some.is ∙ c.look_before.ensures)
+    step-found c.args.tape.now (c.args.count - c.loop.counter) c.end.result (g.M.Machine.value c.loop.synced.machine.now).board c.in-Some.found
+    (omega arith) c.end.ensures.end (sym c.in-Some.is ∙ c.look_before.ensures)
     ∙ sym c.loop.invariant.same
 
 pub loop-preserved : goal.loop-preserved

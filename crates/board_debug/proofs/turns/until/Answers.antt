@@ -38,6 +38,7 @@ windows-preserved g c =
       same =
           c.windows.invariant.same
           ∙ until-window c.args.tape.now.entries (g.M.Machine.value c.windows.synced.machine.now).board (record { placed = ready.placed; empty = ready.empty }) c.args.tape.now
-          c.end.result c.args.clock (window_limit c.min.result (g.M.Machine.value c.windows.synced.machine.now).board) (g.M.Machine.value c.turns.new.self.machine.now).board refl first (omega arith) (omega arith)
+          c.end.result c.args.clock (window_limit c.min.result (g.M.Machine.value c.windows.synced.machine.now).board)
+          (g.M.Machine.value c.turns.new.self.machine.now).board refl first (omega arith) (omega arith)
           (sym c.in_default.is ∙ c.look_until.ensures) c.turns.ensures.board;
     }

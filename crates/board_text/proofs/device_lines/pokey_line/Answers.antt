@@ -30,5 +30,6 @@ returns c =
     let w17 = said _ _ _ _ _ c.word-6.ensures.text w16 in
     let w18 = said _ _ _ _ _ c.small-2.ensures.text w17 in
     let w19 = said _ _ _ _ _ c.word-7.ensures.text w18 in
-    let w20 = said _ _ _ _ _ (c.hex_byte-11.ensures.text ∙ ap (λ n. c.word-7.result ++ 32 ∷ hex_byte n) (c.random.ensures ∙ ap (λ (p : PokeyValue). register_read RANDOM p) (sym c.pokey.view_is))) w19 in
+    let w20 = said _ _ _ _ _ (c.hex_byte-11.ensures.text ∙ ap (λ n. c.word-7.result ++ 32 ∷ hex_byte n) (c.random.ensures
+    ∙ ap (λ (p : PokeyValue). register_read RANDOM p) (sym c.pokey.view_is))) w19 in
     rw (← c.pokey.view_is) (line-said _ _ _ _ c.end.ensures w20)

@@ -3,7 +3,8 @@ use Rattle.std.specs.Prelude.{Ok}
 use Rattle.outside_io.specs.Hosts.{seen}
 use Rattle.gravitar_commands.specs.Outcome.{IsRun}
 use Rattle.command_line.specs.CommandWords.{command_value}
-use Rattle.gravitar_commands.proofs.StageLaws.{done-note, done-outcome, ending-contained, failure-stopped, fault-note, jam-ending, jam-failure, memory-note, noted, failure-note, failure-outcome, failure-status, note-lent, outcome-lent, stopped-lent, usage-note, usage-outcome, usage-status}
+use Rattle.gravitar_commands.proofs.StageLaws.{done-note, done-outcome, ending-contained, failure-stopped, fault-note, jam-ending, jam-failure, memory-note, noted, failure-note}
+use Rattle.gravitar_commands.proofs.StageLaws.{failure-outcome, failure-status, note-lent, outcome-lent, stopped-lent, usage-note, usage-outcome, usage-status}
 use Rattle.gravitar_commands.proofs.program.gravitar.Goals as goal
 
 pub returns-in_default-clause-outcome : goal.returns-in_default-clause-outcome

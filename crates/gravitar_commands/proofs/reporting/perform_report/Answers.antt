@@ -14,7 +14,8 @@ pub returns-clause-outcome : goal.returns-clause-outcome
 returns-clause-outcome g c =
     let asked = c.has_timers-wired.ensures ∙ ap (λ (r : RunValue). r.settings.timers) c.run.view_is in
     let lowered = c.limit_by-limit.ensures.limit ∙ ap (λ (r : RunValue). limit_of r.settings.until c.end.result) c.run.view_is in
-    let same = report-asked c.args.run.now.settings c.has_timers-wired.result c.limit_by-limit.result c.end.result (g.R.Report.text c.args.report.now) c.in_ok-parts.parts asked lowered c.end.ensures.end in
+    let same = report-asked c.args.run.now.settings c.has_timers-wired.result c.limit_by-limit.result c.end.result
+    (g.R.Report.text c.args.report.now) c.in_ok-parts.parts asked lowered c.end.ensures.end in
     report-comes c.args.run.now (g.R.Report.text c.args.report.now) c.in_ok-parts.parts _ _ _ c.in_ok-parts.ensures.content
     (rw (sym same) (report-ends _ _ c.load_run.ensures.stores c.has_timers-wired.result c.limit_by-limit.result (g.R.Report.text c.args.report.now) c.in_ok-parts.parts _
     c.report.ensures.taken))

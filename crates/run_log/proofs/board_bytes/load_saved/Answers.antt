@@ -7,7 +7,8 @@ use Rattle.run_log.proofs.board_bytes.load_saved.Goals as goal
 pub unreachable-requires : goal.unreachable-requires
 unfolding saved_bytes
 unreachable-requires g c =
-    let read = c.read.ensures.again (board_of (g.M.Machine.value c.args.synced.now.machine.now).board.cpu (g.M.Machine.value c.args.synced.now.machine.now).board.peripherals) c.requires.whole (inl c.requires.bytes) in
+    let read = c.read.ensures.again (board_of (g.M.Machine.value c.args.synced.now.machine.now).board.cpu
+    (g.M.Machine.value c.args.synced.now.machine.now).board.peripherals) c.requires.whole (inl c.requires.bytes) in
     cc
 
 pub returns : goal.returns

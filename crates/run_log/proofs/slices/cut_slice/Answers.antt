@@ -46,7 +46,8 @@ returns-clause-done g c =
     let out1 = g.O.Sink.taken c.run_slice.new.out in
     let stores0 = g.S.Shelf.stores c.args.host.now.shelf.now in
     let stores1 = g.S.Shelf.stores c.store_under.new.shelf in
-    let is = at-cut c.args.tape.now.entries c.args.cut (g.M.Machine.value c.args.synced.now.machine.now).board (g.M.Machine.value c.run_slice.new.synced.machine.now).board c.in_ok-run_slice.ensures.board in
+    let is = at-cut c.args.tape.now.entries c.args.cut (g.M.Machine.value c.args.synced.now.machine.now).board
+    (g.M.Machine.value c.run_slice.new.synced.machine.now).board c.in_ok-run_slice.ensures.board in
     let held = saved-cleared last (g.M.Machine.value c.run_slice.new.synced.machine.now).board c.save.new.self.bytes is c.save.ensures.bytes in
     did-then (sending lines) (storing name (saved_bytes last)) out0 out1 out1 stores0 stores0 stores1
     (did-sending lines out0 out1 stores0 stores0 c.in_ok-run_slice.ensures.taken refl)

@@ -36,7 +36,8 @@ returns-in_err-write_ending-clause-stopped g c =
     let out1 = g.O.Sink.taken c.run_slice.new.out in
     let out2 = g.O.Sink.taken c.write_ending.new.out in
     let stores0 = g.S.Shelf.stores c.args.host.now.shelf.now in
-    let is = at-end c.args.tape.now.entries c.args.limit (g.M.Machine.value c.args.synced.now.machine.now).board (g.M.Machine.value c.run_slice.new.synced.machine.now).board c.in_ok-run_slice.ensures.board in
+    let is = at-end c.args.tape.now.entries c.args.limit (g.M.Machine.value c.args.synced.now.machine.now).board
+    (g.M.Machine.value c.run_slice.new.synced.machine.now).board c.in_ok-run_slice.ensures.board in
     let text = ending-cleared (wanted_in c.args.wanted) (g.M.Machine.value c.run_slice.new.synced.machine.now).calls last (g.M.Machine.value c.run_slice.new.synced.machine.now).board is in
     let p = err_from_is_err_and c.from_residual-in_err-write_ending.result c.from_residual-in_err-write_ending.ensures.1 in
     rw p.1 (did-then-first (sending lines) (sending ending ++ (board ++ cells)) out0 out1 out2 stores0 stores0 stores0
@@ -57,7 +58,8 @@ returns-in_err-store_under-clause-stopped g c =
     let out2 = g.O.Sink.taken c.write_ending.new.out in
     let stores0 = g.S.Shelf.stores c.args.host.now.shelf.now in
     let stores1 = g.S.Shelf.stores c.store_under.new.shelf in
-    let is = at-end c.args.tape.now.entries c.args.limit (g.M.Machine.value c.args.synced.now.machine.now).board (g.M.Machine.value c.run_slice.new.synced.machine.now).board c.in_ok-run_slice.ensures.board in
+    let is = at-end c.args.tape.now.entries c.args.limit (g.M.Machine.value c.args.synced.now.machine.now).board
+    (g.M.Machine.value c.run_slice.new.synced.machine.now).board c.in_ok-run_slice.ensures.board in
     let text = ending-cleared (wanted_in c.args.wanted) (g.M.Machine.value c.run_slice.new.synced.machine.now).calls last (g.M.Machine.value c.run_slice.new.synced.machine.now).board is in
     let p = err_from_is_err_and c.from_residual-in_err-store_under.result c.from_residual-in_err-store_under.ensures.1 in
     rw p.1 (did-then-first (sending lines) (sending ending ++ (board ++ cells)) out0 out1 out2 stores0 stores0 stores1
@@ -80,7 +82,8 @@ returns-in_err-store_under-2-clause-stopped g c =
     let stores0 = g.S.Shelf.stores c.args.host.now.shelf.now in
     let stores1 = g.S.Shelf.stores c.store_under.new.shelf in
     let stores2 = g.S.Shelf.stores c.store_under-2.new.shelf in
-    let is = at-end c.args.tape.now.entries c.args.limit (g.M.Machine.value c.args.synced.now.machine.now).board (g.M.Machine.value c.run_slice.new.synced.machine.now).board c.in_ok-run_slice.ensures.board in
+    let is = at-end c.args.tape.now.entries c.args.limit (g.M.Machine.value c.args.synced.now.machine.now).board
+    (g.M.Machine.value c.run_slice.new.synced.machine.now).board c.in_ok-run_slice.ensures.board in
     let text = ending-cleared (wanted_in c.args.wanted) (g.M.Machine.value c.run_slice.new.synced.machine.now).calls last (g.M.Machine.value c.run_slice.new.synced.machine.now).board is in
     let held = saved-cleared last (g.M.Machine.value c.run_slice.new.synced.machine.now).board c.of.result.bytes is c.of.ensures.bytes in
     let p = err_from_is_err_and c.from_residual-in_err-store_under-2.result c.from_residual-in_err-store_under-2.ensures.1 in
@@ -106,7 +109,8 @@ returns-clause-done g c =
     let stores0 = g.S.Shelf.stores c.args.host.now.shelf.now in
     let stores1 = g.S.Shelf.stores c.store_under.new.shelf in
     let stores2 = g.S.Shelf.stores c.store_under-2.new.shelf in
-    let is = at-end c.args.tape.now.entries c.args.limit (g.M.Machine.value c.args.synced.now.machine.now).board (g.M.Machine.value c.run_slice.new.synced.machine.now).board c.in_ok-run_slice.ensures.board in
+    let is = at-end c.args.tape.now.entries c.args.limit (g.M.Machine.value c.args.synced.now.machine.now).board
+    (g.M.Machine.value c.run_slice.new.synced.machine.now).board c.in_ok-run_slice.ensures.board in
     let text = ending-cleared (wanted_in c.args.wanted) (g.M.Machine.value c.run_slice.new.synced.machine.now).calls last (g.M.Machine.value c.run_slice.new.synced.machine.now).board is in
     let held = saved-cleared last (g.M.Machine.value c.run_slice.new.synced.machine.now).board c.of.result.bytes is c.of.ensures.bytes in
     let held_cells = cells-cleared last (g.M.Machine.value c.run_slice.new.synced.machine.now).board c.cells_of.result is c.cells_of.ensures in
@@ -119,4 +123,5 @@ returns-clause-done g c =
     (did-storing (wanted_in c.args.wanted).earom last.peripherals.earom.cells c.cells_of.result out2 out2 stores1 stores2 held_cells refl c.in_ok-store_under-2.ensures.stored)))
 
 pub returns-clause-board : goal.returns-clause-board
-returns-clause-board g c = at-end c.args.tape.now.entries c.args.limit (g.M.Machine.value c.args.synced.now.machine.now).board (g.M.Machine.value c.run_slice.new.synced.machine.now).board c.in_ok-run_slice.ensures.board
+returns-clause-board g c = at-end c.args.tape.now.entries c.args.limit (g.M.Machine.value c.args.synced.now.machine.now).board
+    (g.M.Machine.value c.run_slice.new.synced.machine.now).board c.in_ok-run_slice.ensures.board

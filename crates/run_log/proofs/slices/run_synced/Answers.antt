@@ -44,7 +44,8 @@ returns-clause-stopped g c =
     let all : c.loop-cut.cut-index ≡ length c.args.cuts.now = (let low = c.loop-cut-test.false in let high = c.loop-cut.auto.cut-index-end in omega arith) in
     on_err c.end_slice.result
     (cuts-cut c.args.tape.now.entries c.args.limit (wanted_in c.args.wanted) c.args.cuts.now (g.M.Machine.value c.args.synced.now.machine.now)
-    (g.M.Machine.value c.loop-cut.synced.machine.now) c.loop-cut.cut-index _ _ c.loop-cut.invariant.1 all (g.M.Machine.value c.end_slice.new.synced.machine.now) (seen c.end_slice.new.host) c.end_slice.ensures.calls
+    (g.M.Machine.value c.loop-cut.synced.machine.now) c.loop-cut.cut-index _ _ c.loop-cut.invariant.1 all
+    (g.M.Machine.value c.end_slice.new.synced.machine.now) (seen c.end_slice.new.host) c.end_slice.ensures.calls
     c.end_slice.ensures.more)
     c.end_slice.ensures.stopped
 

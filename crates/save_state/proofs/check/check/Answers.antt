@@ -12,7 +12,15 @@ loop-at-preserved c =
     c.loop-at-test.true c.loop-at.invariant (c.is_in_range.ensures.0 c.if-not-is_in_range.false)
 
 pub returns-then-not-is_in_range : goal.returns-then-not-is_in_range
-returns-then-not-is_in_range c = record { before = take c.loop-at.at-index c.args.fields.now; broken = get_or c.args.fields.now c.loop-at.at-index (0, Any 0); after = drop (suc c.loop-at.at-index) c.args.fields.now; order = split_at c.args.fields.now c.loop-at.at-index (0, Any 0) c.loop-at-test.true; good = c.loop-at.invariant; bad = λ h. let e = c.is_in_range.ensures.1 h in absurd cc; here = refl }
+returns-then-not-is_in_range c = record {
+  before = take c.loop-at.at-index c.args.fields.now;
+  broken = get_or c.args.fields.now c.loop-at.at-index (0, Any 0);
+  after = drop (suc c.loop-at.at-index) c.args.fields.now;
+  order = split_at c.args.fields.now c.loop-at.at-index (0, Any 0) c.loop-at-test.true;
+  good = c.loop-at.invariant;
+  bad = λ h. let e = c.is_in_range.ensures.1 h in absurd cc;
+  here = refl;
+}
 
 pub returns : goal.returns
 returns c = subst (λ (fs : List Field). AreInRange c.args.version c.args.file.now c.args.base fs) (take_all c.loop-at.at-index c.args.fields.now (omega arith)) c.loop-at.invariant

@@ -8,7 +8,8 @@ pub returns-then-version-eq1 : goal.returns-then-version-eq1
 returns-then-version-eq1 c = first_told c.args.version c.args.file.now c.check.result (rw c.if-version-eq1.true refl) c.check.ensures
 
 pub returns-in_err-check : goal.returns-in_err-check
-returns-in_err-check c = early c.from_residual.result _ _ _ c.from_residual.ensures.1 (start_broken c.args.version c.args.file.now _ (not_equal c.args.version 1 c.if-version-eq1.false) c.in_err-check.ensures)
+returns-in_err-check c = early c.from_residual.result _ _ _ c.from_residual.ensures.1
+    (start_broken c.args.version c.args.file.now _ (not_equal c.args.version 1 c.if-version-eq1.false) c.in_err-check.ensures)
 
 pub is_place-requires-clause-count : goal.is_place-requires-clause-count
 is_place-requires-clause-count c = done_most (processor_of c.args.file.now) (slice_index c.args.file.now 30 == 0) c.args.file.now (c.in_ok-check.ensures 1 (0, Any 0) (omega arith))

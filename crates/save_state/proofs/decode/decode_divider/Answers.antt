@@ -5,7 +5,10 @@ use Rattle.save_state.proofs.decode.decode_divider.Goals as goal
 use Rattle.save_state.proofs.decode.decode_divider.Goals.{in-0, in-1, in_default}
 
 pub invariant_of-result : goal.invariant_of-result
-invariant_of-result c = record { phase = omega (arith, c.u16_at.ensures.number, c.requires.1 15 no_row (omega arith)); dog = omega (arith, c.byte_at-2.ensures.number, c.requires.1 17 no_row (omega arith)) }
+invariant_of-result c = record {
+  phase = omega (arith, c.u16_at.ensures.number, c.requires.1 15 no_row (omega arith));
+  dog = omega (arith, c.byte_at-2.ensures.number, c.requires.1 17 no_row (omega arith));
+}
 
 pub returns : goal.returns
 returns c =

@@ -16,7 +16,8 @@ invariant_of-result c = record {
   pre114 = omega (arith, c.byte_at-8.ensures.number, c.requires.range.1 11 no_row (omega arith));
   left = search rules;
   pulses =
-      all_four (λ (left : ℕ). (1 ≤ left) × (left ≤ 65542)) _ _ _ _ (count_told _ _ c.u32_at-2.ensures.number (c.requires.range.1 12 no_row (omega arith))) (count_told _ _ c.u32_at-3.ensures.number (c.requires.range.1 13 no_row (omega arith)))
+      all_four (λ (left : ℕ). (1 ≤ left) × (left ≤ 65542)) _ _ _ _ (count_told _ _ c.u32_at-2.ensures.number
+      (c.requires.range.1 12 no_row (omega arith))) (count_told _ _ c.u32_at-3.ensures.number (c.requires.range.1 13 no_row (omega arith)))
       (count_told _ _ c.u32_at-4.ensures.number (c.requires.range.1 14 no_row (omega arith))) (count_told _ _ c.u32_at-5.ensures.number (c.requires.range.1 15 no_row (omega arith)));
   tone = omega (arith, c.byte_at-9.ensures.number, c.requires.range.1 16 no_row (omega arith));
   pass = omega (arith, c.byte_at-10.ensures.number, c.requires.range.1 17 no_row (omega arith));
@@ -24,6 +25,7 @@ invariant_of-result c = record {
   targets = search rules;
   last = search rules;
   levels =
-      all_four (λ (level : ℕ). level < 16) _ _ _ _ (omega (arith, c.byte_at-12.ensures.number, c.requires.range.1 20 no_row (omega arith))) (omega (arith, c.byte_at-13.ensures.number, c.requires.range.1 21 no_row (omega arith)))
+      all_four (λ (level : ℕ). level < 16) _ _ _ _ (omega (arith, c.byte_at-12.ensures.number, c.requires.range.1 20 no_row (omega arith)))
+      (omega (arith, c.byte_at-13.ensures.number, c.requires.range.1 21 no_row (omega arith)))
       (omega (arith, c.byte_at-14.ensures.number, c.requires.range.1 22 no_row (omega arith))) (omega (arith, c.byte_at-15.ensures.number, c.requires.range.1 23 no_row (omega arith)));
 }

@@ -21,7 +21,8 @@ returns-in_err-stop-clause-taken g c =
 pub parts-smaller : goal.parts-smaller
 parts-smaller g c =
     let p = c.in_ok-stop.ensures.part in
-    part-smaller _ _ c.args.tape.now.entries c.args.limit (g.M.Machine.value c.parts.self.machine.now).board p.0 (g.M.Machine.value c.part.new.self.machine.now).board c.parts.observer p.1 c.parts.self.is_synced.phase
+    part-smaller _ _ c.args.tape.now.entries c.args.limit (g.M.Machine.value c.parts.self.machine.now).board p.0
+    (g.M.Machine.value c.part.new.self.machine.now).board c.parts.observer p.1 c.parts.self.is_synced.phase
     p.2 p.5 c.part.ensures.boundary (window-open c.args.limit (g.M.Machine.value c.part.new.self.machine.now).board (sym c.in_ok-stop.ensures.stop ∙ c.in-Window.is))
 
 pub parts-preserved : goal.parts-preserved
@@ -30,7 +31,8 @@ parts-preserved g c =
     record {
       same = c.part.ensures.same ∙ c.parts.invariant.same;
       followed =
-          followed-part _ _ _ _ _ _ _ _ g.met.F.TurnObserver.in_parts c.args.tape.now.entries c.args.limit _ (g.M.Machine.value c.parts.self.machine.now).board p.0 (g.M.Machine.value c.part.new.self.machine.now).board
+          followed-part _ _ _ _ _ _ _ _ g.met.F.TurnObserver.in_parts c.args.tape.now.entries c.args.limit _
+          (g.M.Machine.value c.parts.self.machine.now).board p.0 (g.M.Machine.value c.part.new.self.machine.now).board
           _ _ p.1 c.part.new.observer _ _ _ _ _ _ c.parts.invariant.followed c.parts.self.is_synced.placed c.parts.self.is_synced.empty p.2 p.5 p.4 p.3 c.in_ok-stop.ensures.cause;
     }
 
