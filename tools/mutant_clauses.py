@@ -1,4 +1,4 @@
-"""The clause at which the prover refuses a wrong body, as `rt must-fail` or `rt ci` printed it.
+"""The clause at which the prover refuses a mutant, as `rt must-fail` or `rt ci` printed it.
 
 The first line of an edit of crates/*/must-fail says where it is refused:
 
@@ -103,7 +103,7 @@ def law_of(top: pathlib.Path, edit: str, message: str) -> Optional[str]:
 
 
 def refusals(top: pathlib.Path, log: str) -> Iterator[Refusal]:
-    """The refusals that a log tells."""
+    """The refusals in a log."""
     for line in log.splitlines():
         told = LINE.match(line)
         if not told:
@@ -149,7 +149,7 @@ def with_first_line(text: str, header: str) -> str:
 
 
 def differences(top: pathlib.Path, log: str) -> Iterator[str]:
-    """What is wrong with the first lines of the edits that a log tells of."""
+    """What is wrong with the first lines of the edits in a log."""
     for refusal in refusals(top, log):
         path = edit_file(top, refusal.edit)
         if not path.exists():
@@ -166,7 +166,7 @@ def differences(top: pathlib.Path, log: str) -> Iterator[str]:
 
 
 def write(top: pathlib.Path, log: str) -> int:
-    """Puts the first lines into the edits that a log tells of, and returns how many changed."""
+    """Puts the first lines into the edits in a log, and returns how many changed."""
     changed = 0
     for refusal in refusals(top, log):
         path = edit_file(top, refusal.edit)

@@ -48,7 +48,12 @@ class Stops {
     add_watch(words) {
         const {page, view} = this.workshop, address = view.address(words);
         if (!is_watchable(address)) { page.say('Only RAM and vector RAM can be watched.'); return; }
-        if (!this.watches.includes(address)) this.watches.push(address);
+        const is_new = !this.watches.includes(address);
+        if (is_new && this.watches.length >= MOST_STOPS) {
+            page.say(`${MOST_STOPS} bytes are watched already.`);
+            return;
+        }
+        if (is_new) this.watches.push(address);
         $('watch').value = '';
         this.workshop.refresh();
     }

@@ -31,6 +31,7 @@ class CommandWorker {
             const it = new CommandWorker(new Worker(url));
             const is_ready = await it.ready(module);
             URL.revokeObjectURL(url);
+            if (!is_ready) it.end();
             return is_ready ? it : null;
         } catch { return null; }
     }

@@ -98,7 +98,7 @@ for (const [what, check, name, good, bad] of program ? FAULTS : []) {
         const words = [join(TEST, 'workshop.mjs'), '--steps', '40', '--only', check, program];
         const it = spawnSync(process.execPath, words,
             {env: {...process.env, WEB: copy}, encoding: 'utf8', timeout: 120000});
-        const said = it.stdout.split('\n').find(line => line.startsWith('FAILED ')) ?? it.stderr;
+        const said = it.stdout.split('\n').find(line => line.startsWith('FAILED '));
         if (it.status === 1 && said) { refused++; console.log(`${what}: refused by "${check}"`); }
         else { passed++; console.log(`${what}: NOT REFUSED`); }
     }
