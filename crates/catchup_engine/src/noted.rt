@@ -136,7 +136,7 @@ impl<'a, S: Units, T: Tracer> NotedBus<'a, S, T> {
         ensures accepts { ⟦<NotedBus<'a, S, T> as Bus>⟧.accepts tape.now self.new }
         ensures room { ⟦<NotedBus<'a, S, T> as Bus>⟧.room self.old ≤ ⟦<NotedBus<'a, S, T> as Bus>⟧.room self.new + 7 }
     {
-        cpu.instruction(self, tape)
+        cpu.instruction_by_jump(self, tape)
     }
 
     /// Whether a tracer has not enough, and the fetch at this boundary surely reads an opcode, from

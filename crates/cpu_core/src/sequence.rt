@@ -15,6 +15,9 @@ use crate::registers::Registers;
 use board_base::{CpuState, Sequence};
 use cpu_table::{Mode, Op};
 
+/// The arm of the opcodes that have none of their own. It is no documented opcode.
+const ANY_OTHER: u8 = 0xFF;
+
 /// Whether the operand is A.
 fn is_accumulator(mode: Mode) -> bool
     ensures { result ≡ is_accumulator mode }
@@ -22,9 +25,16 @@ fn is_accumulator(mode: Mode) -> bool
     matches!(mode, Mode::Accumulator)
 }
 
-/// Executes what follows the opcode of a documented instruction.
+/// Executes what follows the opcode of a documented instruction. Each `ARM` has a function of its
+/// own, which is called once: so LLVM puts it there.
 #[inline(always)]
-fn execute<B: Bus>(r: &mut Registers, op: Op, mode: Mode, bus: &mut B, feed: &B::Feed)
+fn execute<const ARM: u8, B: Bus>(
+    r: &mut Registers,
+    op: Op,
+    mode: Mode,
+    bus: &mut B,
+    feed: &B::Feed,
+)
     requires accepts { B.accepts feed.now bus.old }
     requires room { 6 ≤ B.room bus.old }
     ensures performs { Performs (B.step feed.now) (executed_by (kind_of op) op mode r.old) bus.old bus.new (at_boundary r.new) }
@@ -51,7 +61,12 @@ fn execute<B: Bus>(r: &mut Registers, op: Op, mode: Mode, bus: &mut B, feed: &B:
 /// Executes an opcode after its fetch, from the registers at the fetch, and gives the processor
 /// after it. An undocumented opcode jams it.
 #[inline(always)]
-fn execute_opcode<B: Bus>(r: &Registers, opcode: u8, bus: &mut B, feed: &B::Feed) -> CpuState
+fn execute_opcode<const ARM: u8, B: Bus>(
+    r: &Registers,
+    opcode: u8,
+    bus: &mut B,
+    feed: &B::Feed,
+) -> CpuState
     requires accepts { B.accepts feed.now bus.old }
     requires room { 6 ≤ B.room bus.old }
     ensures performs { Performs (B.step feed.now) (row_cycles r.now opcode (row_of opcode)) bus.old bus.new result }
@@ -67,7 +82,7 @@ fn execute_opcode<B: Bus>(r: &Registers, opcode: u8, bus: &mut B, feed: &B::Feed
         pc: r.pc.wrapping_add(1),
         ..*r
     };
-    execute(&mut after, op, mode, bus, feed);
+    execute::<ARM, B>(&mut after, op, mode, bus, feed);
     after.at_boundary()
 }
 
@@ -82,7 +97,7 @@ fn execute_one<const OPCODE: u8, B: Bus>(r: &Registers, bus: &mut B, feed: &B::F
     ensures accepts { B.accepts feed.now bus.new }
     ensures room { B.room bus.old ≤ B.room bus.new + 6 }
 {
-    execute_opcode(r, OPCODE, bus, feed)
+    execute_opcode::<OPCODE, B>(r, OPCODE, bus, feed)
 }
 
 /// Executes an opcode after its fetch: the commonest ones by one jump, each to code of its own.
@@ -148,7 +163,7 @@ fn execute_by_jump<B: Bus>(r: &Registers, opcode: u8, bus: &mut B, feed: &B::Fee
         0xE6 => execute_one::<0xE6, B>(r, bus, feed),
         0xE8 => execute_one::<0xE8, B>(r, bus, feed),
         0xF0 => execute_one::<0xF0, B>(r, bus, feed),
-        _ => execute_opcode(r, opcode, bus, feed),
+        _ => execute_opcode::<ANY_OTHER, B>(r, opcode, bus, feed),
     }
 }
 
@@ -165,7 +180,7 @@ fn perform_instruction<B: Bus>(r: &Registers, bus: &mut B, feed: &B::Feed) -> Cp
     ensures room { B.room bus.old ≤ B.room bus.new + 7 }
 {
     let opcode = bus.read(feed, r.pc);
-    execute_opcode(r, opcode, bus, feed)
+    execute_opcode::<ANY_OTHER, B>(r, opcode, bus, feed)
 }
 
 /// The same by one jump, for the loop of a run.
