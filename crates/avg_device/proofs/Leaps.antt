@@ -1,5 +1,6 @@
 -- Many clocks at once are as many ticks.
-use Rattle.std.proofs.Common.{◌≡◌, ℕ, zero, suc, ◌+◌, ◌-◌, ◌*◌, ◌/◌, ◌<◌, ◌≤◌, ◌==◌, Bool, true, false, List, [], ◌∷◌, length, if◌then◌else◌, slice_index_or, slice_set, ℤ, pos, refl, ◌∙◌, inl, inr, add-zero, arith}
+use Rattle.std.proofs.Common.{◌≡◌, ℕ, zero, suc, ◌+◌, ◌-◌, ◌*◌, ◌/◌, ◌<◌, ◌≤◌, ◌==◌, Bool, true, false, List, [], ◌∷◌, length}
+use Rattle.std.proofs.Common.{if◌then◌else◌, slice_index_or, slice_set, ℤ, pos, refl, ◌∙◌, inl, inr, add-zero, arith}
 use Rattle.std.proofs.Math.Nat.{sub-zero}
 use Rattle.std.proofs.lemmas.Bool.Decides.{eqb_tells, nat_tests}
 use Rattle.avg_decode.specs.declared.word.VgWord.{VgWord}
@@ -12,7 +13,8 @@ use Rattle.board_base.specs.Ticks.{made, ticks}
 use Rattle.board_base.specs.Vg.{VgValue}
 use Rattle.board_base.specs.declared.phase.TheConstants.{LOW_BYTE, HIGH_BYTE, SECOND_LOW, SECOND_HIGH, EXECUTE, DRAW}
 use Rattle.avg_device.specs.Leap.{drawn_for, long_done, memory_word, short_done, strokes_for}
-use Rattle.avg_device.specs.Tick.{drawn, ended, executed, high_byte, high_read, low_byte, low_read, next_word, word_executed, phase_after, phase_done, second_high_read, second_low_read, stroke_at, strokes_at, vg_gives, vg_tick, word_at}
+use Rattle.avg_device.specs.Tick.{drawn, ended, executed, high_byte, high_read, low_byte, low_read, next_word, word_executed, phase_after}
+use Rattle.avg_device.specs.Tick.{phase_done, second_high_read, second_low_read, stroke_at, strokes_at, vg_gives, vg_tick, word_at}
 
 -- one tick
 pub ticks_one : (m : List ℕ) (t : ℕ) (v : VgValue) → ticks (vg_tick m) t 1 v ≡ vg_tick m t v
@@ -256,6 +258,15 @@ draw_made m t (suc n) v h p some few =
     elim (eqb_tells (suc n) v.left) [
       | inl w ↦ let last : suc n - 1 ≡ n = omega arith in rw (w.0, last) (ending_stroke m t n v h p w.1)
       | inr w ↦ rw w.0 (drawing_silent m t (suc n) v h p (omega (arith, w.1)))
+    ]
+
+-- a draw for all its clocks ends
+pub drawn_whole : (n : ℕ) (v : VgValue) → n ≡ v.left → drawn_for n v ≡ ended v
+unfolding drawn_for
+drawn_whole n v all =
+    elim (eqb_tells n v.left) [
+      | inl w ↦ rw w.0 refl
+      | inr w ↦ absurd (omega (arith, w.1, all))
     ]
 
 -- for a step of many clocks

@@ -57,6 +57,7 @@ fn do_long(state: &mut VgState, memory: &VectorMemory, word: u16)
 /// Reads a word and does it, where its clocks are there, and else does one clock of it. Gives the
 /// clocks done.
 #[tactic(auto, using(crate::proofs::Leaps::words))]
+#[inline(always)]
 fn read_on(
     state: &mut VgState,
     memory: &VectorMemory,
@@ -107,8 +108,33 @@ fn draw_on(state: &mut VgState, clock: u64, most: u64, trail: &mut Trail) -> u64
     left
 }
 
-/// Does the next clocks that go together, at most `most` of them: a whole halt, the rest of a draw,
-/// a whole word, or else one clock. Gives the clocks done.
+/// Draws on, and where the draw ends reads on. Gives the clocks done.
+fn draw_and_read(
+    state: &mut VgState,
+    memory: &VectorMemory,
+    clock: u64,
+    most: u64,
+    trail: &mut Trail,
+) -> u64
+    requires running { state.old.halted ≡ false }
+    requires phase { state.old.phase ≡ DRAW }
+    requires some { 1 ≤ most }
+    requires room { most ≤ trail.old.spare }
+    requires clocks { clock + most ≤ CLOCK_END }
+    ensures some { 1 ≤ result }
+    ensures within { result ≤ most }
+    ensures state { state.new ≡ ticks (vg_tick memory.now) clock result state.old }
+    ensures records { Extended trail.old trail.new (made (vg_tick memory.now) vg_gives clock result state.old) }
+{
+    let drawn = draw_on(state, clock, most, trail);
+    if drawn == most {
+        return most;
+    }
+    drawn + read_on(state, memory, clock + drawn, most - drawn, trail)
+}
+
+/// Does the next clocks that go together, at most `most` of them: a whole halt, the rest of a draw
+/// with the word after it, a whole word, or else one clock. Gives the clocks done.
 #[tactic(auto, using(crate::proofs::Leaps::leaps))]
 pub(crate) fn leap(
     state: &mut VgState,
@@ -130,7 +156,7 @@ pub(crate) fn leap(
     }
     match state.phase {
         LOW_BYTE => read_on(state, memory, clock, most, trail),
-        DRAW => draw_on(state, clock, most, trail),
+        DRAW => draw_and_read(state, memory, clock, most, trail),
         _ => {
             tick(state, memory, clock, trail);
             1
