@@ -44,18 +44,6 @@ fn pending_after(pending: Pending, count: u64) -> Pending
     }
 }
 
-/// The state after `n` clocks without a wrap.
-#[tactic(auto, using(crate::proofs::Moves::moves_within_a_round))]
-fn moved_within_a_round(state: DividerState, n: u64) -> DividerState
-    requires { state.phase + n < DIVIDER_PERIOD }
-    ensures { result ≡ times divider_tick n state }
-{
-    DividerState {
-        phase: state.phase + n as u16,
-        ..state
-    }
-}
-
 /// The state after `n` clocks, with any number of wraps among them.
 #[tactic(auto, using(crate::proofs::Moves::moves), unfolding(crate::proofs::Moves::divided))]
 fn moved_over_wraps(state: DividerState, n: u64) -> DividerState
@@ -71,17 +59,6 @@ fn moved_over_wraps(state: DividerState, n: u64) -> DividerState
     }
 }
 
-/// The state after `n` clocks.
-fn moved(state: DividerState, n: u64) -> DividerState
-    ensures { result ≡ times divider_tick n state }
-{
-    if n < PERIOD - u64::from(state.phase) {
-        moved_within_a_round(state, n)
-    } else {
-        moved_over_wraps(state, n)
-    }
-}
-
 impl DividerUnit for Divider {
     ghost device = { λ d. d.device };
 
@@ -89,9 +66,14 @@ impl DividerUnit for Divider {
         *self.change() = *state;
     }
 
+    #[tactic(auto, using(crate::proofs::Moves::moves_within_a_round))]
     fn advance(&mut self, n: u64) {
         let state = self.change();
-        *state = moved(*state, n);
+        if n < PERIOD - u64::from(state.phase) {
+            state.phase += n as u16;
+        } else {
+            *state = moved_over_wraps(*state, n);
+        }
     }
 
     fn irq(&self) -> bool {
