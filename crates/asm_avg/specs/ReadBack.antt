@@ -2,6 +2,7 @@
 use Rattle.std.specs.Prelude.{◌≡◌, ℕ, ◌+◌, ◌-◌, ◌*◌, ◌/◌, ◌%◌, ◌<◌, ◌==◌, ◌&&◌, nat_le, List, [], ◌∷◌, map, Option, Some, None, if◌then◌else◌, ℤ, pos}
 use Rattle.std.specs.Option.{option_and_then, option_map}
 use Rattle.avg_decode.specs.declared.word.VgWord.{VgWord}
+use Rattle.board_map.specs.declared.address.TheConstants.{VECTOR_RAM_START}
 use Rattle.avg_decode.specs.declared.word.VgWord.TheVariants as vg
 use Rattle.avg_decode.specs.Word.{IsInRange, IsLong, second_of, spelling_of, word_of}
 use Rattle.asm_core.specs.declared.word.Word.{Word}
@@ -21,7 +22,7 @@ Said = VgWord × Option (ℤ × ℕ)
 
 -- the number of the word at an even address, from the start of the generator's memory
 abbrev pub word_at : ℕ → Option ℕ
-word_at address = if nat_le 0x2000 address && address % 2 == 0 then Some ((address - 0x2000) / 2) else None
+word_at address = if nat_le VECTOR_RAM_START address && address % 2 == 0 then Some ((address - VECTOR_RAM_START) / 2) else None
 
 -- what a statement with these values says
 abbrev pub said_by : Mnemonic → List (Option ℤ) → Option Said

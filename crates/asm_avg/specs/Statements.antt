@@ -1,6 +1,7 @@
 -- The statements of the vector generator. This project's own profile.
 use Rattle.std.specs.Prelude.{ℕ, ◌-◌, ◌^◌, true, false, List, [], ◌∷◌, Option, find, codes, pos, neg_ℤ}
 use Rattle.std.specs.Str.{str_eq_ignore_ascii_case}
+use Rattle.board_map.specs.declared.address.TheConstants.{VECTOR_RAM_START}
 use Rattle.asm_core.specs.declared.cell.Place.{Place}
 use Rattle.asm_avg.specs.declared.mnemonic.Mnemonic.{Mnemonic}
 use Rattle.asm_avg.specs.declared.mnemonic.Mnemonic.TheVariants.{Vctr, Svec, Stat, Scal, Cntr, Halt, Jsrl, Rtsl, Jmpl}
@@ -62,9 +63,9 @@ mnemonic_origin Stat = 0
 mnemonic_origin Scal = 0
 mnemonic_origin Cntr = 0
 mnemonic_origin Halt = 0
-mnemonic_origin Jsrl = 0x2000
+mnemonic_origin Jsrl = VECTOR_RAM_START
 mnemonic_origin Rtsl = 0
-mnemonic_origin Jmpl = 0x2000
+mnemonic_origin Jmpl = VECTOR_RAM_START
 
 -- the number of a statement whose fields are all 0
 abbrev pub base_of : Mnemonic → ℕ

@@ -6,6 +6,7 @@ use crate::layout::{
     SHORT_Z, TARGET,
 };
 use asm_core::Place;
+use board_map::VECTOR_RAM_START;
 
 /// What a statement of the generator's own does.
 #[derive(Clone, Copy, Debug, PartialEq, Eq)]
@@ -103,7 +104,7 @@ impl Mnemonic {
         ensures { result ≡ mnemonic_origin self }
     {
         match self {
-            Mnemonic::Jsrl | Mnemonic::Jmpl => 0x2000,
+            Mnemonic::Jsrl | Mnemonic::Jmpl => u32::from(VECTOR_RAM_START),
             _ => 0,
         }
     }

@@ -8,6 +8,8 @@ ghost use Rattle.outside_io.specs.Sink.{Takes};
 ghost use Rattle.board_debug.specs.Session.{seen_in};
 
 use arrayvec::ArrayVec;
+use board_base::VECTOR_LEN;
+use board_map::VECTOR_RAM_START;
 use catchup_engine::Machine;
 use debug_lines::{ROW, dis_line, mem_line, vdis_line};
 use debug_script::Span;
@@ -79,7 +81,7 @@ fn word_at<M: Machine>(machine: &M, address: u16) -> u16
 fn further_on(address: u16, n: u8) -> u16
     ensures { result ≡ vg_further address n }
 {
-    0x2000 + (address.saturating_sub(0x2000) + u16::from(n)) % 0x4000
+    VECTOR_RAM_START + (address.saturating_sub(VECTOR_RAM_START) + u16::from(n)) % VECTOR_LEN as u16
 }
 
 /// Writes instructions of the vector generator, a line each.

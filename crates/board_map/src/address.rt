@@ -4,6 +4,15 @@ ghost use Rattle.board_map.specs.Map.{region_at, region_of, row_of, IsInside, Is
 
 use crate::map::{Reads, Region, Row, Writes};
 
+/// The first address of the vector RAM, with which the generator's memory begins.
+pub const VECTOR_RAM_START: u16 = 0x2000;
+
+/// The address of input port 0.
+pub const IN0: u16 = 0x7800;
+
+/// The first address that clears the watchdog.
+pub const WATCHDOG_START: u16 = 0x8980;
+
 /// A row.
 #[inline(always)]
 fn entry(offset: u16, reads: Reads, writes: Writes) -> Row
@@ -25,12 +34,16 @@ pub fn row(addr: u16) -> Row
 {
     match addr {
         0x0000..=0x07FF => entry(addr, Reads::Ram, Writes::Ram),
-        0x2000..=0x27FF => entry(addr - 0x2000, Reads::VectorRam, Writes::VectorRam),
+        VECTOR_RAM_START..=0x27FF => entry(
+            addr - VECTOR_RAM_START,
+            Reads::VectorRam,
+            Writes::VectorRam,
+        ),
         0x2800..=0x5FFF => entry(addr - 0x2800, Reads::VectorRom, Writes::Ignored),
         0x6000..=0x67FF => entry(addr % 16, Reads::Sound1, Writes::Sound1),
         0x6800..=0x6FFF => entry(addr % 16, Reads::Sound2, Writes::Sound2),
         0x7000 => entry(0, Reads::EaromOut, Writes::Ignored),
-        0x7800 => entry(0, Reads::In0, Writes::Ignored),
+        IN0 => entry(0, Reads::In0, Writes::Ignored),
         0x8000 => entry(0, Reads::In3, Writes::Ignored),
         0x8800 => entry(0, Reads::In4, Writes::OutputLatch),
         0x8840 => entry(0, Reads::Open, Writes::Go),
@@ -38,7 +51,7 @@ pub fn row(addr: u16) -> Row
         0x88C0 => entry(0, Reads::Open, Writes::Acknowledge),
         0x8900 => entry(0, Reads::Open, Writes::EaromControl),
         0x8940..=0x897F => entry(addr - 0x8940, Reads::Open, Writes::EaromLatch),
-        0x8980..=0x89ED => entry(addr - 0x8980, Reads::Open, Writes::WatchdogClear),
+        WATCHDOG_START..=0x89ED => entry(addr - WATCHDOG_START, Reads::Open, Writes::WatchdogClear),
         0x9000..=0xFFFF => entry(addr - 0x9000, Reads::ProgramRom, Writes::Ignored),
         _ => entry(0, Reads::Open, Writes::Ignored),
     }

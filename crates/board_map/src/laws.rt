@@ -2,11 +2,13 @@
 ghost use Rattle.std.specs.Prelude.{◌≡◌};
 ghost use Rattle.board_map.specs.Map.{region_of};
 
+use crate::address::{IN0, VECTOR_RAM_START, WATCHDOG_START};
 use crate::map::Region;
 
 /// The first and the last address of each region, and those of the gaps between them.
 #[tactic(auto, unfolding(crate::specs::Map::row_of))]
 pub fn region_edges()
+    ensures starts { (VECTOR_RAM_START ≡ 0x2000) × (IN0 ≡ 0x7800) × (WATCHDOG_START ≡ 0x8980) }
     ensures ram { (region_of 0x0000 ≡ Region.Ram 0) × (region_of 0x07FF ≡ Region.Ram 2047) }
     ensures vector_ram { (region_of 0x2000 ≡ Region.VectorRam 0) × (region_of 0x27FF ≡ Region.VectorRam 2047) }
     ensures vector_rom { (region_of 0x2800 ≡ Region.VectorRom 0) × (region_of 0x5FFF ≡ Region.VectorRom 14335) }

@@ -18,6 +18,7 @@ use crate::bus::{BoardBus, PROGRAM_START};
 use crate::devices::Units;
 use crate::stop_conditions::{Breaks, is_stop};
 use board_base::{CLOCK_END, RAM_LEN, Sequence};
+use board_map::IN0;
 use cpu_alu::Flags;
 use cpu_core::{Bus, Cpu, Fetched};
 use std::marker::PhantomData;
@@ -169,6 +170,9 @@ impl<'a, S: Units, U> Bus for QuietBus<'a, S, U> {
             self.bus.program_at(addr)
         } else if addr < RAM_LEN as u16 {
             self.bus.ram_byte(addr)
+        } else if addr == IN0 {
+            self.flush();
+            self.bus.byte_of_in0(addr)
         } else {
             self.flush();
             self.bus.byte(addr)

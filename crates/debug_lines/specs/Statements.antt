@@ -7,6 +7,8 @@ use Rattle.asm_avg.specs.Statements.{text_of}
 use Rattle.avg_decode.specs.declared.word.VgWord.{VgWord}
 use Rattle.avg_decode.specs.declared.word.VgWord.TheVariants.{Vctr, Halt, Svec, Stat, Scal, Cntr, Jsrl, Rtsl, Jmpl}
 use Rattle.avg_decode.specs.Word.{second_of, word_of}
+use Rattle.board_base.specs.declared.vector_memory.TheConstants.{VECTOR_LEN}
+use Rattle.board_map.specs.declared.address.TheConstants.{VECTOR_RAM_START}
 use Rattle.text_line.specs.Words.{hex_word}
 use Rattle.debug_lines.specs.Bytes.{Seen, further}
 use Rattle.debug_lines.specs.Columns.{listed}
@@ -19,7 +21,7 @@ operands (first ∷ others) = (32 ∷ first) ++ flat_map (λ operand. 44 ∷ 32 
 
 -- the address of a word, which counts from the start of the generator's memory
 abbrev pub jump_text : ℕ → List ℕ
-jump_text to = codes "$" ++ hex_word (0x2000 + 2 * to)
+jump_text to = codes "$" ++ hex_word (VECTOR_RAM_START + 2 * to)
 
 -- the statement of a word, with the second word of a long vector
 abbrev pub statement_text : VgWord → ℕ → List ℕ
@@ -50,7 +52,7 @@ statement_size _ = 2
 
 -- the address so many bytes further in the generator's memory, whose first comes after its last
 abbrev pub vg_further : ℕ → ℕ → ℕ
-vg_further address n = 0x2000 + ((address - 0x2000) + n) % 0x4000
+vg_further address n = VECTOR_RAM_START + ((address - VECTOR_RAM_START) + n) % VECTOR_LEN
 
 -- the word at an address, the low byte first
 abbrev pub word_seen : Seen → ℕ → ℕ

@@ -6,6 +6,7 @@ ghost use Rattle.debug_lines.specs.Statements.{jump_text, operands, statement_te
 
 use crate::operand::with_word;
 use avg_decode::{VgWord, second};
+use board_map::VECTOR_RAM_START;
 use text_line::Line;
 
 /// A vector: its word, its distances, and how bright it is.
@@ -40,7 +41,7 @@ fn with_jump(line: Line, to: u16) -> Line
     ensures text { result ≡ line ++ operands (jump_text to ∷ []) }
     ensures len { length result ≤ length line + 6 }
 {
-    with_word(line.text(b" $"), 0x2000 + 2 * to)
+    with_word(line.text(b" $"), VECTOR_RAM_START + 2 * to)
 }
 
 /// The statement of a word, with the second word of a long vector.

@@ -1,5 +1,8 @@
 -- The commands of a debugger's script, as their lines give them. This project's own profile.
-use Rattle.std.specs.Prelude.{ℕ, ◌+◌, ◌*◌, ◌%◌, ◌==◌, Bool, ◌&&◌, ◌||◌, List, [], ◌∷◌, nat_le, Option, Some, None, option_and_then, option_map, bytes_eq, codes, if◌then◌else◌}
+use Rattle.std.specs.Prelude.{ℕ, ◌+◌, ◌*◌, ◌%◌, ◌==◌, Bool, true, false, ◌&&◌, List, [], ◌∷◌, nat_le, Option, Some, None, option_and_then, option_map, bytes_eq, codes, if◌then◌else◌}
+use Rattle.board_map.specs.declared.map.Reads.{Reads}
+use Rattle.board_map.specs.declared.map.Reads.TheVariants.{Ram, VectorRam, VectorRom}
+use Rattle.board_map.specs.Map.{row_of}
 use Rattle.command_line.specs.Numbers.{number_of}
 use Rattle.plain_text.specs.Numbers.{value_of}
 use Rattle.debug_script.specs.declared.command.Command.{Command}
@@ -24,13 +27,25 @@ count_up_to most word = where_it (λ n. nat_le 1 n && nat_le n most) (number_of 
 abbrev pub span_of : ℕ → List ℕ → List ℕ → Option Span
 span_of most from count = option_and_then (λ address. option_map (λ n. record { from = address; count = n }) (count_up_to most count)) (address_of from)
 
--- a byte of the RAM or of the vector RAM may be watched
-abbrev pub is_watchable : ℕ → Bool
-is_watchable address = nat_le address 0x7FF || (nat_le 0x2000 address && nat_le address 0x27FF)
+-- a byte of the RAM or of the vector RAM
+abbrev pub is_ram : Reads → Bool
+is_ram Ram = true
+is_ram VectorRam = true
+is_ram _ = false
 
--- the vector generator's words stand at the even addresses of its memory
+-- may be watched
+abbrev pub is_watchable : ℕ → Bool
+is_watchable address = is_ram (row_of address).reads
+
+-- a byte of the generator's memory
+abbrev pub is_vector_byte : Reads → Bool
+is_vector_byte VectorRam = true
+is_vector_byte VectorRom = true
+is_vector_byte _ = false
+
+-- its words stand at the even addresses
 abbrev pub is_word_address : ℕ → Bool
-is_word_address address = (nat_le 0x2000 address && nat_le address 0x5FFF) && address % 2 == 0
+is_word_address address = is_vector_byte (row_of address).reads && address % 2 == 0
 
 -- the commands of one word
 abbrev pub plain_command : List ℕ → Option Command

@@ -7,6 +7,7 @@ ghost use Rattle.debug_script.specs.Commands.{address_of, argument_command, comm
 use crate::command::{Command, Span};
 use crate::fault::ScriptFault;
 use crate::stops::Breakpoints;
+use board_map::{Reads, row};
 use command_line::read_number;
 use plain_text::{read_line, read_value, read_word};
 use std::alloc::Global;
@@ -57,7 +58,7 @@ fn read_span(most: u64, from: &[u8], count: &[u8]) -> Option<Span>
 fn is_watchable(address: u16) -> bool
     ensures { result ≡ is_watchable address }
 {
-    matches!(address, 0..=0x7FF | 0x2000..=0x27FF)
+    matches!(row(address).reads, Reads::Ram | Reads::VectorRam)
 }
 
 /// The address of a byte that may be watched.
@@ -76,7 +77,7 @@ fn read_watched(word: &[u8]) -> Option<u16>
 fn is_word_address(address: u16) -> bool
     ensures { result ≡ is_word_address address }
 {
-    matches!(address, 0x2000..=0x5FFF) && address % 2 == 0
+    matches!(row(address).reads, Reads::VectorRam | Reads::VectorRom) && address % 2 == 0
 }
 
 /// So many instructions of the vector generator, from an address on at which a word begins.

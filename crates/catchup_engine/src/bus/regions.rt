@@ -15,16 +15,12 @@ use crate::bus::{BoardBus, PROGRAM_START};
 use crate::devices::Units;
 use avg_device::VectorUnit;
 use board_base::{RAM_LEN, Record, VECTOR_RAM_LEN};
-use board_map::{Reads, Row, Writes, row};
+use board_map::{IN0, Reads, Row, WATCHDOG_START, Writes, row};
 use earom_cells::CellUnit;
 use irq_watchdog::DividerUnit;
 use lockstep_board::{DeviceSet, devices_read, devices_written};
 use pokey_chip::SoundUnit;
 use rom_image::PROGRAM_ROM_LEN;
-
-/// The first address that clears the watchdog, as a polling loop does in each turn. The rows of the
-/// map say what a write does; from here on LLVM compares with few of them.
-const WATCHDOG: u16 = 0x8980;
 
 impl<S: Units> BoardBus<S> {
     /// Moves the generator to the present clock: one call where it lags, and none where it doesn't.
@@ -212,6 +208,18 @@ impl<S: Units> BoardBus<S> {
         self.byte_by(addr, row(addr))
     }
 
+    /// The byte that a read of IN0 returns, in the clock that counts as done. It does what `byte`
+    /// does, without a look at the map.
+    #[inline(never)]
+    pub fn byte_of_in0(&mut self, addr: u16) -> u8
+        requires in0 { addr ≡ IN0 }
+        ensures byte { result ≡ byte_read addr (at_clock (self.old.peripherals.clock - 1) self.old.peripherals) }
+        ensures does { Does self.old self.new self.old.peripherals (2 * from_bool (reaches_device (read_of addr result))) }
+        ensures current { lagging_at (row_of addr).reads self.new.lagging ≡ 0 }
+    {
+        self.byte_by(addr, row(IN0))
+    }
+
     /// The byte that a read of an address returns, by the address's row of the map.
     #[inline(always)]
     #[tactic(auto, using(board_base::proofs::TickLaws::level, crate::proofs::SettledLaws::settled, crate::proofs::SettledLaws::synced), unfolding(lockstep_board::specs::Peripherals::byte_read, lockstep_board::specs::Budget::reaches_device))]
@@ -246,7 +254,8 @@ impl<S: Units> BoardBus<S> {
         ensures does { Does self.old self.new (at_clock self.old.peripherals.clock (byte_put addr value (at_clock (self.old.peripherals.clock - 1) self.old.peripherals))) (2 * from_bool (reaches_device (write_of addr value))) }
         ensures few { length self.new.peripherals.written ≤ length self.old.peripherals.written + 1 }
     {
-        if addr >= WATCHDOG {
+        // a polling loop clears the watchdog: from there on LLVM compares with few rows of the map
+        if addr >= WATCHDOG_START {
             self.put_by(addr, row(addr), value);
         } else {
             self.put_by(addr, row(addr), value);

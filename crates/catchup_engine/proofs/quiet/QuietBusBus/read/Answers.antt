@@ -12,6 +12,12 @@ flush-requires-clause-clock g c = (counted-more c.args._tape.now c.args.self.now
 pub flush-requires-clause-room : goal.flush-requires-clause-room
 flush-requires-clause-room g c = (counted-more c.args._tape.now c.args.self.now.elapsed c.args.self.now.bus.now c.requires.accepts c.requires.room).until
 
+pub flush-requires-else-addr-eq-IN0-clause-clock : goal.flush-requires-else-addr-eq-IN0-clause-clock
+flush-requires-else-addr-eq-IN0-clause-clock g c = (counted-more c.args._tape.now c.args.self.now.elapsed c.args.self.now.bus.now c.requires.accepts c.requires.room).last
+
+pub flush-requires-else-addr-eq-IN0-clause-room : goal.flush-requires-else-addr-eq-IN0-clause-room
+flush-requires-else-addr-eq-IN0-clause-room g c = (counted-more c.args._tape.now c.args.self.now.elapsed c.args.self.now.bus.now c.requires.accepts c.requires.room).until
+
 pub returns-then-addr-ge-PROGRAM_START : goal.returns-then-addr-ge-PROGRAM_START
 returns-then-addr-ge-PROGRAM_START g c =
     let is =
@@ -26,16 +32,33 @@ returns-then-addr g c =
     c.if-addr.true c.ram_byte.ensures in
     record { step = (refl, keeps-refl c.args.self.now.bus.now, is.step); accepts = is.accepts; room = is.room }
 
-pub returns-else-addr : goal.returns-else-addr
-returns-else-addr g c =
+pub returns-then-addr-eq-IN0 : goal.returns-then-addr-eq-IN0
+returns-then-addr-eq-IN0 g c =
     let is =
-    device-reads c.args._tape.now c.args.self.now.elapsed c.flush.new.self.elapsed c.args.addr c.byte.result c.args.self.now.bus.now c.flush.new.self.bus.now c.byte.new.self
-    c.requires.accepts c.requires.room c.flush.ensures.flushed c.flush.ensures.none c.byte.ensures.does c.byte.ensures.byte c.byte.ensures.current in
+    device-reads c.args._tape.now c.args.self.now.elapsed c.flush.new.self.elapsed c.args.addr c.byte_of_in0.result c.args.self.now.bus.now c.flush.new.self.bus.now c.byte_of_in0.new.self
+    c.requires.accepts c.requires.room c.flush.ensures.flushed c.flush.ensures.none c.byte_of_in0.ensures.does c.byte_of_in0.ensures.byte c.byte_of_in0.ensures.current in
     record {
       step = (
         c.flush.ensures.same_reference,
-        keeps-then c.args.self.now.bus.now c.flush.new.self.bus.now c.byte.new.self c.flush.ensures.lines
-            (read-keeps c.flush.new.self.bus.now c.byte.new.self (2 * from_bool (reaches_device (read_of c.args.addr c.byte.result))) c.byte.ensures.does),
+        keeps-then c.args.self.now.bus.now c.flush.new.self.bus.now c.byte_of_in0.new.self c.flush.ensures.lines
+            (read-keeps c.flush.new.self.bus.now c.byte_of_in0.new.self (2 * from_bool (reaches_device (read_of c.args.addr c.byte_of_in0.result))) c.byte_of_in0.ensures.does),
+        is.step,
+      );
+      accepts = is.accepts;
+      room = is.room;
+    }
+
+pub returns-else-addr-eq-IN0 : goal.returns-else-addr-eq-IN0
+returns-else-addr-eq-IN0 g c =
+    let is =
+    device-reads c.args._tape.now c.args.self.now.elapsed c.flush-else-addr-eq-IN0.new.self.elapsed c.args.addr c.byte.result
+    c.args.self.now.bus.now c.flush-else-addr-eq-IN0.new.self.bus.now c.byte.new.self
+    c.requires.accepts c.requires.room c.flush-else-addr-eq-IN0.ensures.flushed c.flush-else-addr-eq-IN0.ensures.none c.byte.ensures.does c.byte.ensures.byte c.byte.ensures.current in
+    record {
+      step = (
+        c.flush-else-addr-eq-IN0.ensures.same_reference,
+        keeps-then c.args.self.now.bus.now c.flush-else-addr-eq-IN0.new.self.bus.now c.byte.new.self c.flush-else-addr-eq-IN0.ensures.lines
+            (read-keeps c.flush-else-addr-eq-IN0.new.self.bus.now c.byte.new.self (2 * from_bool (reaches_device (read_of c.args.addr c.byte.result))) c.byte.ensures.does),
         is.step,
       );
       accepts = is.accepts;
