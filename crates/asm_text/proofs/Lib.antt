@@ -1,8 +1,4 @@
-pub mod Apart
-pub mod Covering
-pub mod Digits
-pub mod Numbering
+pub mod LinePieces
 pub mod Parting
-pub mod Passing
-pub mod Refusing
 pub mod Standing
+pub mod TextLines

@@ -1,7 +1,10 @@
 -- A text parted after its first LF, and a line parted after its first piece.
-use Rattle.std.proofs.Common.{◌≡◌, ℕ, ◌+◌, ◌-◌, ◌<◌, ◌≤◌, ◌⊎◌, inl, inr, zero, Bool, true, false, eqb, ltb, List, [], ◌∷◌, Some, None, length, get_or, take, drop, refl, sym, subst, ap, add-one, arith}
-use Rattle.std.specs.List.{before_first, position, position_or_len}
-use Rattle.std.proofs.lemmas.Bool.{cases_lt, cond_both, eqb-true, ltb-false, ltb-true}
+use Prim.Native.Nat.{suc}
+use Rattle.std.proofs.Common.{◌≡◌, ℕ, ◌+◌, ◌-◌, ◌<◌, ◌≤◌, ◌⊎◌, inl, inr, Bool, true, false, not, eqb, List, [], ◌∷◌, Some, None, length, get_or, take, drop, refl}
+use Rattle.std.proofs.Common.{sym, ap, min, add-one, one-add, arith}
+use Rattle.std.specs.List.{before_first, position, position_or_len, slice_range}
+use Rattle.std.proofs.Math.Seq.{drop-length, take-length}
+use Rattle.std.proofs.lemmas.Bool.Decides.{nat_tests}
 use Rattle.std.proofs.lemmas.List.{take_all}
 use Rattle.asm_text.specs.Lines.{lines_with_ends}
 use Rattle.asm_text.specs.Pieces.{ends_line, is_word_byte, joins, pieces_of, takes_word}
@@ -13,17 +16,11 @@ bool_cases false = inr refl
 
 -- a place that was found is the first that passes
 pub position_some : {X : Type 0} (p : X → Bool) (xs : List X) (n : ℕ) → Some n ≡ position p xs → (n ≡ position_or_len p xs) × (n < length xs)
-position_some p xs n = cond_both (ltb (position_or_len p xs) (length xs)) (Some (position_or_len p xs)) None
-    (λ found. Some n ≡ found → (n ≡ position_or_len p xs) × (n < length xs))
-    (λ inside e. let here : n ≡ position_or_len p xs = cc in let low : position_or_len p xs < length xs = ltb-true (position_or_len p xs) (length xs) inside in (here, omega arith))
-    (λ outside e. absurd (cc))
+position_some p xs n found = grind (arith, nat_tests)
 
 -- where none was found, none passes
 pub position_none : {X : Type 0} (p : X → Bool) (xs : List X) → None ≡ position p xs → length xs ≤ position_or_len p xs
-position_none p xs = cond_both (ltb (position_or_len p xs) (length xs)) (Some (position_or_len p xs)) None
-    (λ found. None ≡ found → length xs ≤ position_or_len p xs)
-    (λ inside e. absurd (cc))
-    (λ outside e. ltb-false (position_or_len p xs) (length xs) outside)
+position_none p xs none = grind (arith, nat_tests)
 
 -- what stands before a place that was found, and all where none was
 pub before_first_some : {X : Type 0} (p : X → Bool) (xs : List X) (n : ℕ) → Some n ≡ position p xs → take n xs ≡ before_first p xs
@@ -34,140 +31,105 @@ before_first_none p xs none = sym (take_all (position_or_len p xs) xs (position_
 
 pub ruleset comments = (before_first_some, before_first_none)
 
-lines_with_ends-place : (text : List ℕ) (n : ℕ) → n ≡ position_or_len (λ byte. eqb byte 10) text → n < length text
-    → lines_with_ends text ≡ take (n + 1) text ∷ lines_with_ends (drop (n + 1) text)
+-- the length of the first line with its LF
+abbrev pub line_len : List ℕ → ℕ
+line_len text = min (length text) (position_or_len (λ byte. eqb byte 10) text + 1)
+
+pub lines_with_ends-first : (text : List ℕ) → 0 < length text → lines_with_ends text ≡ take (line_len text) text ∷ lines_with_ends (drop (line_len text) text)
 unfolding lines_with_ends
-lines_with_ends-place [] n here inside = absurd (omega arith)
-lines_with_ends-place (byte ∷ text) n here inside = elim (bool_cases (eqb byte 10)) [
-  | inl feed ↦
-      let none : n ≡ 0 = rw feed at here in
-      rw (feed, none) refl
+lines_with_ends-first [] some = absurd (omega arith)
+lines_with_ends-first (byte ∷ []) some =
+    let one : line_len (byte ∷ []) ≡ 1 = omega arith in
+    elim (bool_cases (eqb byte 10)) [ inl feed ↦ rw (one, feed) refl | inr other ↦ rw (one, other) refl ]
+lines_with_ends-first (byte ∷ next ∷ text) some = elim (bool_cases (eqb byte 10)) [
+  | inl feed ↦ let one : line_len (byte ∷ next ∷ text) ≡ 1 = simp feed (omega arith) in rw (one, feed) refl
   | inr other ↦
-      let more : n ≡ 1 + position_or_len (λ c. eqb c 10) text = rw other at here in
-      let within : position_or_len (λ c. eqb c 10) text < length text = omega arith in
-      let rest = lines_with_ends-place text (position_or_len (λ c. eqb c 10) text) refl within in
-      let next : n + 1 ≡ Prim.Native.Nat.suc (position_or_len (λ c. eqb c 10) text + 1) = omega arith in
-      rw (other, next, rest) refl
+      let more : line_len (byte ∷ next ∷ text) ≡ suc (line_len (next ∷ text)) = simp other (omega arith) in
+      rw (more, other, lines_with_ends-first (next ∷ text) (omega arith)) refl
 ]
 
-lines_with_ends-whole : (text : List ℕ) → 0 < length text → length text ≤ position_or_len (λ byte. eqb byte 10) text → lines_with_ends text ≡ text ∷ []
-unfolding lines_with_ends
-lines_with_ends-whole [] some none = absurd (omega arith)
-lines_with_ends-whole (byte ∷ []) some none = elim (bool_cases (eqb byte 10)) [
-  | inl feed ↦ let low : 1 ≤ 0 = rw feed at none in absurd (omega arith)
-  | inr other ↦ rw other refl
-]
-lines_with_ends-whole (byte ∷ next ∷ text) some none = elim (bool_cases (eqb byte 10)) [
-  | inl feed ↦ let low : length (byte ∷ next ∷ text) ≤ 0 = rw feed at none in absurd (omega arith)
-  | inr other ↦
-      let high : length (byte ∷ next ∷ text) ≤ 1 + position_or_len (λ c. eqb c 10) (next ∷ text) = rw other at none in
-      let rest = lines_with_ends-whole (next ∷ text) (omega arith) (omega arith) in
-      rw (other, rest) refl
-]
+pub lines_found : (text : List ℕ) (n : ℕ) → Some n ≡ position (λ byte. eqb byte 10) text → lines_with_ends text ≡ take (n + 1) text ∷ lines_with_ends (drop (n + 1) text)
+lines_found text n found =
+    let here = position_some (λ byte. eqb byte 10) text n found in
+    let all : line_len text ≡ n + 1 = omega (arith, here.0, here.1) in
+    rw all at (lines_with_ends-first text (omega (arith, here.1)))
 
--- the first line ends with the first LF
-pub lines_with_ends-first : (text : List ℕ) (n : ℕ) → Some n ≡ position (λ byte. eqb byte 10) text
-    → lines_with_ends text ≡ take (n + 1) text ∷ lines_with_ends (drop (n + 1) text)
-lines_with_ends-first text n found = let here = position_some (λ byte. eqb byte 10) text n found in lines_with_ends-place text n here.0 here.1
-
--- a text with no LF is one line
-pub lines_with_ends-last : (text : List ℕ) → 0 < length text → None ≡ position (λ byte. eqb byte 10) text → lines_with_ends text ≡ text ∷ []
-lines_with_ends-last text some none = lines_with_ends-whole text some (position_none (λ byte. eqb byte 10) text none)
+pub lines_one : (text : List ℕ) → 0 < length text → None ≡ position (λ byte. eqb byte 10) text → lines_with_ends text ≡ text ∷ lines_with_ends []
+lines_one text some none =
+    let low = position_none (λ byte. eqb byte 10) text none in
+    let all : line_len text ≡ length text = omega arith in
+    rw (lines_with_ends-first text some, all, take-length, drop-length) refl
 
 -- there are no lines in no text
 pub lines_with_ends-nil : lines_with_ends [] ≡ []
 unfolding lines_with_ends
 lines_with_ends-nil = refl
 
-pub ruleset lines = (lines_with_ends-first, lines_with_ends-last, lines_with_ends-nil)
+pub ruleset lines = (lines_found, lines_one)
 
--- the first n bytes are of one piece
-pub record IsJoined (code : List ℕ) (n : ℕ) : Type 0 where
-  pub joined : (k : ℕ) → k + 1 < n → joins (get_or code k 0) (get_or code (k + 1) 0) ≡ true
+-- the first piece of code ends with the byte at this place, and no word goes on behind it
+pub record IsFirst (code : List ℕ) (n : ℕ) : Type 0 where
+  pub within : n < length code
+  pub pieces : pieces_of code ≡ take (suc n) code ∷ pieces_of (drop (suc n) code)
+  pub ends : suc n < length code → is_word_byte (get_or code n 0) ≡ true → is_word_byte (get_or code (suc n) 0) ≡ false
 
-pub IsJoined-one : (code : List ℕ) → IsJoined code 1
-IsJoined-one code = record { joined = λ k inside. absurd (omega arith) }
-
-pub IsJoined-more : (code : List ℕ) (n : ℕ) → 0 < n → IsJoined code n → joins (get_or code (n - 1) 0) (get_or code n 0) ≡ true → IsJoined code (n + 1)
-IsJoined-more code n some whole next = record {
-  joined = λ k inside. elim (cases_lt (k + 1) n) [
-    | inl before ↦ whole.joined k before
-    | inr not_before ↦
-        let here : k ≡ n - 1 = omega arith in
-        let there : k + 1 ≡ n = omega arith in
-        rw (there, here) next
-  ];
-}
-
-IsJoined-tail : (byte : ℕ) (code : List ℕ) (n : ℕ) → IsJoined (byte ∷ code) (Prim.Native.Nat.suc n) → IsJoined code n
-IsJoined-tail byte code n whole = record {
-  joined = λ k inside.
-      let next : k + 1 ≡ Prim.Native.Nat.suc k = add-one k in
-      let here : joins (get_or (byte ∷ code) (Prim.Native.Nat.suc k) 0) (get_or (byte ∷ code) (Prim.Native.Nat.suc k + 1) 0) ≡ true = whole.joined (Prim.Native.Nat.suc k) (omega arith) in
-      let after : Prim.Native.Nat.suc k + 1 ≡ Prim.Native.Nat.suc (k + 1) = omega arith in
-      rw after at here;
-}
-
--- the first piece ends where two neighbours aren't of one
-pub pieces_of_first : (code : List ℕ) (n : ℕ) → 0 < n → n ≤ length code → IsJoined code n
-    → (n < length code → joins (get_or code (n - 1) 0) (get_or code n 0) ≡ false)
-    → pieces_of code ≡ take n code ∷ pieces_of (drop n code)
+IsFirst-more : (byte next n : ℕ) (code : List ℕ) → joins byte next ≡ true → IsFirst (next ∷ code) n → IsFirst (byte ∷ next ∷ code) (suc n)
 unfolding pieces_of
-pieces_of_first code zero some within whole last = absurd (omega arith)
-pieces_of_first [] (Prim.Native.Nat.suc n) some within whole last = absurd (omega arith)
-pieces_of_first (byte ∷ []) (Prim.Native.Nat.suc zero) some within whole last = refl
-pieces_of_first (byte ∷ []) (Prim.Native.Nat.suc (Prim.Native.Nat.suc n)) some within whole last = absurd (omega arith)
-pieces_of_first (byte ∷ next ∷ code) (Prim.Native.Nat.suc zero) some within whole last =
-    let apart : joins byte next ≡ false = last (omega arith) in
-    rw apart refl
-pieces_of_first (byte ∷ next ∷ code) (Prim.Native.Nat.suc (Prim.Native.Nat.suc n)) some within whole last =
-    let together : joins byte next ≡ true = whole.joined 0 (omega arith) in
-    let rest : pieces_of (next ∷ code) ≡ take (Prim.Native.Nat.suc n) (next ∷ code) ∷ pieces_of (drop (Prim.Native.Nat.suc n) (next ∷ code)) =
-    pieces_of_first (next ∷ code) (Prim.Native.Nat.suc n) (omega arith) (omega arith) (IsJoined-tail byte (next ∷ code) (Prim.Native.Nat.suc n) whole) (λ inside. let apart = last (omega arith) in let before : Prim.Native.Nat.suc (Prim.Native.Nat.suc n) - 1 ≡ Prim.Native.Nat.suc (Prim.Native.Nat.suc n - 1) = omega arith in rw before at apart) in
-    rw together (rw rest refl)
+IsFirst-more byte next n code together first =
+    record { within = omega (arith, first.within); pieces = rw (together, first.pieces) refl; ends = λ more. first.ends (omega arith) }
+
+IsFirst-one : (byte next : ℕ) (code : List ℕ) → joins byte next ≡ false → IsFirst (byte ∷ next ∷ code) 0
+unfolding pieces_of joins
+IsFirst-one byte next code apart = record { within = omega arith; pieces = rw apart refl; ends = λ more word. grind (arith, nat_tests) }
+
+IsFirst-last : (byte : ℕ) → IsFirst (byte ∷ []) 0
+unfolding pieces_of
+IsFirst-last byte = record { within = omega arith; pieces = refl; ends = λ more. absurd (omega arith) }
+
+pub first_piece : (code : List ℕ) → 0 < length code → (n : ℕ) × IsFirst code n
+first_piece [] some = absurd (omega arith)
+first_piece (byte ∷ []) some = (0, IsFirst-last byte)
+first_piece (byte ∷ next ∷ code) some =
+    let rest : (n : ℕ) × IsFirst (next ∷ code) n = first_piece (next ∷ code) (omega arith) in
+    elim (bool_cases (joins byte next)) [
+      | inl together ↦ (suc rest.0, IsFirst-more byte next rest.0 code together rest.1)
+      | inr apart ↦ (0, IsFirst-one byte next code apart)
+    ]
 
 -- a word goes on with its bytes, and ends with another
-pub word-on : (before byte : ℕ) → takes_word before ≡ true → is_word_byte byte ≡ true → joins before byte ≡ true
+word_first : (byte : ℕ) (rest : List ℕ) → takes_word byte ≡ true → IsFirst (byte ∷ rest) (position_or_len (λ b. not (is_word_byte b)) rest)
 unfolding joins
-word-on before byte takes on = rw (takes, on) refl
-
-pub word-end : (before byte : ℕ) → takes_word before ≡ true → is_word_byte byte ≡ false → joins before byte ≡ false
-unfolding joins
-word-end before byte takes end = elim (bool_cases (eqb before 13)) [
-  | inl same ↦
-      let is : before ≡ 13 = eqb-true before 13 same in
-      let no : takes_word 13 ≡ true = rw is at takes in
-      absurd (cc)
-  | inr other ↦ rw (takes, end, other) refl
+word_first byte [] word = IsFirst-last byte
+word_first byte (next ∷ rest) word = elim (bool_cases (is_word_byte next)) [
+  | inl on ↦ rw (on, one-add) (IsFirst-more byte next (position_or_len (λ b. not (is_word_byte b)) rest) rest (rw (word, on) refl) (word_first next rest (rw on refl)))
+  | inr other ↦ rw other (IsFirst-one byte next rest (grind (arith, nat_tests)))
 ]
 
-pub word-byte : (byte : ℕ) → is_word_byte byte ≡ true → takes_word byte ≡ true
-word-byte byte on = rw on refl
+pub word_found : (code : List ℕ) (n : ℕ) → 0 < length code → takes_word (get_or code 0 0) ≡ true → Some n ≡ position (λ b. not (is_word_byte b)) (slice_range code 1 (length code))
+    → (take (n + 1) code ∷ pieces_of (drop (n + 1) code) ≡ pieces_of code) × (n + 1 ≤ length code)
+word_found [] n some word found = absurd (omega arith)
+word_found (byte ∷ rest) n some word found =
+    let all : slice_range (byte ∷ rest) 1 (length (byte ∷ rest)) ≡ rest = take_all (length (byte ∷ rest) - 1) rest (omega arith) in
+    let here = position_some (λ b. not (is_word_byte b)) rest n (rw all at found) in
+    (rw (add-one, here.0) (sym (word_first byte rest word).pieces), omega (arith, here.1))
 
-pub ruleset pieces = (IsJoined-one, IsJoined-more, pieces_of_first, word-on, word-end, word-byte)
+pub word_whole : (code : List ℕ) → 0 < length code → takes_word (get_or code 0 0) ≡ true → None ≡ position (λ b. not (is_word_byte b)) (slice_range code 1 (length code))
+    → take (length code) code ∷ pieces_of (drop (length code) code) ≡ pieces_of code
+word_whole [] some word none = absurd (omega arith)
+word_whole (byte ∷ rest) some word none =
+    let all : slice_range (byte ∷ rest) 1 (length (byte ∷ rest)) ≡ rest = take_all (length (byte ∷ rest) - 1) rest (omega arith) in
+    let first = word_first byte rest word in
+    let end : position_or_len (λ b. not (is_word_byte b)) rest ≡ length rest = omega (arith, position_none (λ b. not (is_word_byte b)) rest (rw all at none), first.within) in
+    sym (rw end at first.pieces)
 
 -- the end of a line
 pub pieces-feed : (code : List ℕ) → ends_line code ≡ true → (2 ≤ length code) × (pieces_of code ≡ take 2 code ∷ pieces_of (drop 2 code))
-unfolding pieces_of joins
+unfolding joins
 pieces-feed [] feed = absurd (cc)
 pieces-feed (byte ∷ []) feed = absurd (cc)
-pieces-feed (byte ∷ next ∷ code) feed = elim (bool_cases (eqb byte 13)) [
-  | inl same ↦ elim (bool_cases (eqb next 10)) [
-    | inl line ↦ let b : byte ≡ 13 = eqb-true byte 13 same in let n : next ≡ 10 = eqb-true next 10 line in (omega arith, told byte next code b n)
-    | inr other ↦ let no : false ≡ true = rw (same, other) at feed in absurd (cc)
-  ]
-  | inr other ↦ let no : false ≡ true = rw other at feed in absurd (cc)
-]
-  where
-    parted : (code : List ℕ) → pieces_of (13 ∷ 10 ∷ code) ≡ (13 ∷ 10 ∷ []) ∷ pieces_of code
-    parted [] = refl
-    parted (byte ∷ code) = refl
-
-    told : (byte next : ℕ) (code : List ℕ) → byte ≡ 13 → next ≡ 10 → pieces_of (byte ∷ next ∷ code) ≡ (byte ∷ next ∷ []) ∷ pieces_of code
-    told byte next code b n =
-        let P : ℕ → Type 0 = λ x. pieces_of (13 ∷ x ∷ code) ≡ (13 ∷ x ∷ []) ∷ pieces_of code in
-        let Q : ℕ → Type 0 = λ x. pieces_of (x ∷ next ∷ code) ≡ (x ∷ next ∷ []) ∷ pieces_of code in
-        subst Q (sym b) (subst P (sym n) (parted code))
+pieces-feed (byte ∷ next ∷ []) feed = (omega arith, (IsFirst-more byte next 0 [] (grind (arith, nat_tests)) (IsFirst-last next)).pieces)
+pieces-feed (byte ∷ next ∷ third ∷ code) feed =
+    (omega arith, (IsFirst-more byte next 0 (third ∷ code) (grind (arith, nat_tests)) (IsFirst-one next third code (grind (arith, nat_tests)))).pieces)
 
 -- a byte that no other follows in its piece
 pub pieces-lone : (code : List ℕ) → 0 < length code → takes_word (get_or code 0 0) ≡ false → ends_line code ≡ false → pieces_of code ≡ take 1 code ∷ pieces_of (drop 1 code)
@@ -175,3 +137,5 @@ unfolding pieces_of joins
 pieces-lone [] some lone other = absurd (omega arith)
 pieces-lone (byte ∷ []) some lone other = refl
 pieces-lone (byte ∷ next ∷ code) some lone other = rw (lone, other) refl
+
+pub ruleset pieces = (word_found, word_whole, pieces-feed, pieces-lone)

@@ -1,5 +1,5 @@
-ghost use Rattle.std.specs.Prelude.{◌≡◌, ◌<◌, ◌≤◌, ◌∷◌, ◌++◌, true, drop, length, slice_index_or, take};
-ghost use Rattle.std.specs.List.{list_all};
+ghost use Rattle.std.specs.Prelude.{◌≡◌, ◌<◌, ◌≤◌, ◌∷◌, ◌++◌, drop, length, not, take};
+ghost use Rattle.std.specs.List.{list_all, position};
 ghost use Rattle.asm_text.specs.Pieces.{ends_line, is_blank, is_dotted_name, is_mark, is_name, is_name_start, is_number_start, is_register, is_word_byte, kind_of, pieces_of, takes_word};
 
 use crate::fault::AsmCause;
@@ -20,20 +20,11 @@ pub fn takes_word(byte: u8) -> bool
     is_word_byte(byte) || matches!(byte, b'$' | b'%' | b'.')
 }
 
-/// How many bytes of code belong to its first piece, where a word may go on behind its first byte.
-#[tactic(auto, using(crate::proofs::Parting::pieces))]
-fn word_len(code: &[u8]) -> usize
-    requires some { 0 < length code.now }
-    requires word { takes_word (slice_index_or code.now 0 0) ≡ true }
-    ensures some { 0 < result }
-    ensures within { result ≤ length code.now }
-    ensures pieces { pieces_of code.now ≡ take result code.now ∷ pieces_of (drop result code.now) }
+/// The place of the first byte that is no letter, no digit and no `_`.
+fn find_word_end(bytes: &[u8]) -> Option<usize>
+    ensures { result ≡ position (λ byte. not (is_word_byte byte)) bytes.now }
 {
-    let mut end = 1;
-    'word: while end < code.len() && is_word_byte(code[end]) {
-        end += 1;
-    }
-    end
+    bytes.iter().position(|byte| !is_word_byte(*byte))
 }
 
 /// Whether code begins with CR and LF.
@@ -44,6 +35,7 @@ fn ends_line(code: &[u8]) -> bool
 }
 
 /// How many bytes of code belong to its first piece.
+#[tactic(auto, using(crate::proofs::Parting::pieces))]
 fn piece_len(code: &[u8]) -> usize
     requires { 0 < length code.now }
     ensures some { 0 < result }
@@ -51,7 +43,10 @@ fn piece_len(code: &[u8]) -> usize
     ensures pieces { pieces_of code.now ≡ take result code.now ∷ pieces_of (drop result code.now) }
 {
     if takes_word(code[0]) {
-        return word_len(code);
+        return match find_word_end(&code[1..]) {
+            Some(end) => end + 1,
+            None => code.len(),
+        };
     }
     if ends_line(code) { 2 } else { 1 }
 }

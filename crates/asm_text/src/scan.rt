@@ -77,10 +77,12 @@ pub fn tokens(alloc: Global, text: &[u8]) -> Result<Vec<Token>, AsmFault>
     }
     let mut tokens = Vec::new(alloc);
     let mut rest = text;
+    let mut place = 0;
     let mut line = 1;
     'lines: while !rest.is_empty() {
         let (first, after) = split_line(rest);
-        push_line(&mut tokens, first, line, text.len() - rest.len())?;
+        push_line(&mut tokens, first, line, place)?;
+        place += first.len();
         rest = after;
         line += 1;
     }
