@@ -1,4 +1,3 @@
+mod CallLaws
 pub mod FreeLaws
 pub mod SlotLaws
-pub mod CallLaws
-mod HolderLaws

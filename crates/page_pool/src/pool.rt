@@ -62,6 +62,7 @@ impl Model for PagePool {
 
 impl PagePool {
     /// A pool of this many pages, 1 to `POOL_LIMIT`, of which none is held, with all its memory.
+    #[tactic(auto, using(crate::proofs::SlotLaws::new))]
     pub fn new(alloc: Global, capacity: u32) -> Result<PagePool, OutOfMemory>
         requires some { 1 ≤ capacity }
         requires limit { capacity ≤ POOL_LIMIT }
@@ -78,6 +79,7 @@ impl PagePool {
 
     /// A page with these bytes and one holder, at a place that was free. It is refused where all
     /// places are held, and then nothing changes.
+    #[tactic(auto, using(crate::proofs::SlotLaws::taken))]
     pub fn take(&mut self, bytes: &[u8; PAGE_LEN]) -> Result<Page, Full>
         ensures refused { IsErr result ↔ (live_of self.old ≡ length self.old) }
         ensures full { IfErr result (λ full. full.capacity ≡ length self.old) }
@@ -99,6 +101,7 @@ impl PagePool {
     }
 
     /// The same page for one holder more.
+    #[tactic(auto, using(crate::proofs::SlotLaws::shared))]
     pub fn share(&mut self, page: &Page) -> Page
         requires live { IsLive self.old page.now }
         requires few { IfSome (held_at self.old page.now) (λ held. held.holders < 2 ^ 32 - 1) }
@@ -111,6 +114,7 @@ impl PagePool {
     }
 
     /// One holder less. The place is free once none is left.
+    #[tactic(auto, using(crate::proofs::SlotLaws::given))]
     pub fn give(&mut self, page: Page)
         requires live { IsLive self.old page }
         ensures given { self.new ≡ pool_given self.old page }
