@@ -1,8 +1,9 @@
 -- The greatest sample.
-use Rattle.std.proofs.Common.{ℕ, ◌+◌, ◌-◌, ◌*◌, ◌≤◌, ◌<◌, List, [], ◌∷◌, Bool, true, false, nat_le, if◌then◌else◌, inl, inr, get_or, refl, arith}
+use Rattle.std.proofs.Common.{ℕ, ◌+◌, ◌-◌, ◌*◌, ◌≤◌, ◌<◌, List, [], ◌∷◌, inl, inr, get_or, refl, arith}
 use Rattle.std.specs.Prelude.{All}
 use Rattle.std.specs.List.{sum, range_with_len}
-use Rattle.std.proofs.lemmas.Bool.Decides.{eqb_tells}
+use Rattle.std.proofs.lemmas.Bool.Decides.{eqb_tells, leb_tells}
+use Rattle.std.proofs.lemmas.Grind.{elements}
 use Rattle.std.proofs.lemmas.List.Elements.{All-nil, All-cons, All-head, All-tail, All-map}
 use Rattle.std.proofs.lemmas.List.Sums.{sum_by-le}
 use Rattle.board_base.specs.declared.record.Record.{Record}
@@ -21,29 +22,20 @@ four-sum levels four =
     omega (arith, most, count)
 
 record-four : (before : List ℕ) (made : Record) → AreFourLevels before → HoldsLevels made → AreFourLevels (levels_of before made)
-record-four before (Levels clock a b c d) four (la, lb, lc, ld) = record {
-  count = refl;
-  each =
-      All-cons (λ level. level ≤ MAX_LEVEL) a (b ∷ c ∷ d ∷ []) la
-      (All-cons (λ level. level ≤ MAX_LEVEL) b (c ∷ d ∷ []) lb
-      (All-cons (λ level. level ≤ MAX_LEVEL) c (d ∷ []) lc
-      (All-cons (λ level. level ≤ MAX_LEVEL) d [] ld (All-nil (λ level. level ≤ MAX_LEVEL)))));
-}
+record-four before (Levels clock a b c d) four (la, lb, lc, ld) = record { count = refl; each = grind (arith, elements) }
 record-four before (Stroke clock x0 y0 x1 y1 colour intensity) four holds = four
 record-four before (Latch clock value) four holds = four
 record-four before (WatchdogReset clock) four holds = four
-
-chosen-four : (test : Bool) (one other : List ℕ) → AreFourLevels one → AreFourLevels other → AreFourLevels (if test then one else other)
-chosen-four true one other a b = a
-chosen-four false one other a b = b
 
 at-four : (before : List ℕ) (records : List Record) (clock : ℕ) → AreFourLevels before → All HoldsLevels records → AreFourLevels (levels_at before records clock)
 unfolding levels_at
 at-four before [] clock four holds = four
 at-four before (made ∷ others) clock four holds =
-    at-four (if nat_le (clock_of made) clock then levels_of before made else before) others clock
-    (chosen-four (nat_le (clock_of made) clock) (levels_of before made) before (record-four before made four (All-head HoldsLevels made others holds)) four)
-    (All-tail HoldsLevels made others holds)
+    let rest = All-tail HoldsLevels made others holds in
+    elim (leb_tells (clock_of made) clock) [
+      | inl (test, _) ↦ rw test (at-four (levels_of before made) others clock (record-four before made four (All-head HoldsLevels made others holds)) rest)
+      | inr (test, _) ↦ rw test (at-four before others clock four rest)
+    ]
 
 -- a clock weighs 120 at most
 weight-most : (before1 before2 : List ℕ) (sound1 sound2 : List Record) (clock : ℕ) → AreFourLevels before1 → AreFourLevels before2

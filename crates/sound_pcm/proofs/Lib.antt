@@ -1,4 +1,3 @@
-mod AddLaws
 pub mod BetweenLaws
 mod FitLaws
 pub mod GatherLaws
@@ -7,4 +6,3 @@ pub mod LevelLaws
 pub mod MixLaws
 pub mod PartLaws
 pub mod RunLaws
-mod TakeLaws
