@@ -18,7 +18,8 @@ use Rattle.asm_core.specs.Expressions.{NameValues, value_of}
 use Rattle.asm_core.specs.Images.{at_the_start}
 use Rattle.asm_core.specs.Laws.{HasNoOrigin, IsAddressAfter, IsInPlace, ReadLine, body_size, lines_read, line_origin, origin_value, sizes_of}
 use Rattle.asm_core.specs.Lines.{Language}
-use Rattle.asm_core.specs.Passes.{Known, body_looked_at, pass_one, found_before, is_in_rom, is_named, line_read, looked_at, meets, ranged, room_for, text_looked_at, then_on, unless, with_label, with_name}
+use Rattle.asm_core.specs.Passes.{Known, body_looked_at, pass_one, found_before, is_in_rom, is_named, line_read, looked_at}
+use Rattle.asm_core.specs.Passes.{meets, ranged, room_for, text_looked_at, then_on, unless, with_label, with_name}
 use Rattle.asm_core.proofs.Apart.{fine, ok-same, then-ok, unless-ok}
 
 -- the address behind a line, by its `.org` or by its size

@@ -1,5 +1,6 @@
 -- No two lines of a source share a byte, and what stands behind a line changes nothing before it.
-use Rattle.std.proofs.Common.{◌≡◌, ℕ, ◌+◌, ◌<◌, ◌≤◌, ◌⊎◌, inl, inr, Bool, true, false, not, List, [], ◌∷◌, ◌++◌, Result, Ok, Err, Option, length, get_or, refl, sym, ap, ◌∙◌, arith, leb, ℤ, pos, neg_ℤ, nat_abs}
+use Rattle.std.proofs.Common.{◌≡◌, ℕ, ◌+◌, ◌<◌, ◌≤◌, ◌⊎◌, inl, inr, Bool, true, false, not, List, [], ◌∷◌, ◌++◌, Result}
+use Rattle.std.proofs.Common.{Ok, Err, Option, length, get_or, refl, sym, ap, ◌∙◌, arith, leb, ℤ, pos, neg_ℤ, nat_abs}
 use Rattle.std.specs.List.{list_any}
 use Rattle.std.specs.Cmp.Derive.{both_true}
 use Rattle.std.proofs.lemmas.Bool.{leb-true, lt-ltb}
@@ -21,7 +22,8 @@ use Rattle.asm_core.specs.Expressions.{NameValues}
 use Rattle.asm_core.specs.PassOne.{gives}
 use Rattle.asm_core.specs.Laws.{AreApart, AreInRom, IsInRom}
 use Rattle.asm_core.specs.Lines.{Language}
-use Rattle.asm_core.specs.Passes.{Known, body_looked_at, pass_one, found_before, is_in_rom, is_named, line_read, looked_at, meets, ranged, room_for, text_looked_at, then_on, unless, with_label, with_name}
+use Rattle.asm_core.specs.Passes.{Known, body_looked_at, pass_one, found_before, is_in_rom, is_named, line_read, looked_at}
+use Rattle.asm_core.specs.Passes.{meets, ranged, room_for, text_looked_at, then_on, unless, with_label, with_name}
 use Rattle.asm_core.proofs.Covering.{both_pass, given-by}
 
 -- what is known where nothing was refused
@@ -141,8 +143,10 @@ pass-prefix language rom number known (text ∷ texts) more =
     go (text_looked_at language rom number known text) refl (λ next. pass-prefix language rom (number + 1) next texts more)
   where
     go : (looked : Result Known AsmFault) → text_looked_at language rom number known text ≡ looked
-        → ((next : Known) → pass_one language rom (number + 1) next (texts ++ more) ≡ then_on (λ after. pass_one language rom (number + 1 + length texts) after more) (pass_one language rom (number + 1) next texts))
-        → pass_one language rom number known ((text ∷ texts) ++ more) ≡ then_on (λ next. pass_one language rom (number + length (text ∷ texts)) next more) (pass_one language rom number known (text ∷ texts))
+        → ((next : Known) → pass_one language rom (number + 1) next (texts ++ more)
+        ≡ then_on (λ after. pass_one language rom (number + 1 + length texts) after more) (pass_one language rom (number + 1) next texts))
+        → pass_one language rom number known ((text ∷ texts) ++ more)
+        ≡ then_on (λ next. pass_one language rom (number + length (text ∷ texts)) next more) (pass_one language rom number known (text ∷ texts))
     go (Ok next) is rest =
         let count : number + 1 + length texts ≡ number + length (text ∷ texts) = omega arith in
         rw is (rest next ∙ ap (λ n. then_on (λ after. pass_one language rom n after more) (pass_one language rom (number + 1) next texts)) count)

@@ -1,5 +1,6 @@
 -- Which bytes of the ROM the earlier lines give.
-use Rattle.std.proofs.Common.{◌≡◌, ℕ, ◌+◌, ◌-◌, ◌<◌, ◌≤◌, ◌⊎◌, inl, inr, Bool, true, false, ◌&&◌, ◌||◌, List, [], ◌∷◌, ◌++◌, Ok, length, get_or, take, drop, replicate, refl, sym, ap, ◌∙◌, arith, ltb, leb, Vec, Global}
+use Rattle.std.proofs.Common.{◌≡◌, ℕ, ◌+◌, ◌-◌, ◌<◌, ◌≤◌, ◌⊎◌, inl, inr, Bool, true, false, ◌&&◌, ◌||◌, List, [], ◌∷◌, ◌++◌}
+use Rattle.std.proofs.Common.{Ok, length, get_or, take, drop, replicate, refl, sym, ap, ◌∙◌, arith, ltb, leb, Vec, Global}
 use Rattle.std.specs.List.{All, list_any}
 use Rattle.std.specs.Cmp.Derive.{both_true}
 use Rattle.std.proofs.Math.Bool.{and-false, or-false, or-true}
@@ -103,7 +104,7 @@ given-meets rom taken placed at count covers each low some inside =
     let whole = each line.0 line.1 line.2 in
     let size = rw line.3 at (size-some _ whole.cells) in
     let byte = met-byte at count line.1 some size line.4 in
-    let given : list_any (gives (at + byte.0)) placed ≡ true = list_any_at (gives (at + byte.0)) placed line.0 line.1 line.2 (given-there (at + byte.0) (get_or placed line.0 line.1) line.1 line.3 byte.2) in
+    let given : list_any (gives (at + byte.0)) placed ≡ true = list_any_at _ placed line.0 line.1 line.2 (given-there (at + byte.0) (get_or placed line.0 line.1) line.1 line.3 byte.2) in
     list_any_at (λ given. given) part byte.0 false (omega (arith, byte.1, part_len)) (item byte.0 byte.1 ∙ given))
 
 -- the bytes that are given once a line is placed
@@ -152,8 +153,9 @@ pub pass-next : (rom : Rom) (pass : PassOne) (line : ℕ) (cells : List Cell) (g
     → IsPassOne rom (record { names = pass.names; at = pass.at + size; placed = placed; taken = given })
 pass-next rom pass line cells given placed size is_rom whole are here low high new more =
     let p : Placed = record { line = line; at = pass.at; cells = cells } in
-    let size_len : (pass.at - rom.low) + size_of cells ≤ length pass.taken.items = omega (arith, whole.whole, here, low, high) in
-    let given_len : length (take (pass.at - rom.low) pass.taken.items ++ replicate (size_of cells) true ++ drop ((pass.at - rom.low) + size_of cells) pass.taken.items) ≡ length pass.taken.items = grind (arith, common_steps) in
+    let from = pass.at - rom.low in
+    let size_len : from + size_of cells ≤ length pass.taken.items = omega (arith, whole.whole, here, low, high) in
+    let given_len : length (take from pass.taken.items ++ replicate (size_of cells) true ++ drop (from + size_of cells) pass.taken.items) ≡ length pass.taken.items = grind (arith, common_steps) in
     let pushed = Covers-push rom pass.taken.items pass.placed p whole.covers low size_len in
     record {
       at = omega (arith, is_rom.high, high);

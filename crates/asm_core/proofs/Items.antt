@@ -1,5 +1,6 @@
 -- A list of items parted after its first comma, and words before the `)` that ends them.
-use Rattle.std.proofs.Common.{◌≡◌, ℕ, ◌+◌, ◌-◌, ◌<◌, inl, inr, ◌↔◌, zero, Bool, true, false, not, eqb, List, [], ◌∷◌, ◌++◌, Some, None, length, length-append, take, drop, get_or, refl, sym, ap, ◌∙◌, arith}
+use Rattle.std.proofs.Common.{◌≡◌, ℕ, ◌+◌, ◌-◌, ◌<◌, inl, inr, ◌↔◌, zero, Bool, true, false, not, eqb, List, [], ◌∷◌, ◌++◌}
+use Rattle.std.proofs.Common.{Some, None, length, length-append, take, drop, get_or, refl, sym, ap, ◌∙◌, arith}
 use Rattle.std.specs.List.{list_all, position}
 use Rattle.std.proofs.Math.Seq.{drop-append_seam, take-append_seam}
 use Rattle.std.proofs.lemmas.List.{take_rest}

@@ -1,5 +1,6 @@
 -- The bytes of the lines stand at their addresses, and no other byte changes.
-use Rattle.std.proofs.Common.{◌≡◌, ◌≢◌, ℕ, ◌+◌, ◌-◌, ◌<◌, ◌≤◌, ◌⊎◌, inl, inr, false, not, ◌&&◌, List, [], ◌∷◌, Result, Ok, Option, Some, None, IsSome, zero, length, length-append, get_or, refl, sym, ap, ◌∙◌, arith, ltb, leb}
+use Rattle.std.proofs.Common.{◌≡◌, ◌≢◌, ℕ, ◌+◌, ◌-◌, ◌<◌, ◌≤◌, ◌⊎◌, inl, inr, false, not, ◌&&◌, List, [], ◌∷◌, Result, Ok, Option}
+use Rattle.std.proofs.Common.{Some, None, IsSome, zero, suc, length, length-append, get_or, refl, sym, ap, ◌∙◌, arith, ltb, leb}
 use Rattle.std.specs.List.{list_any}
 use Rattle.std.specs.Option.{option_map}
 use Rattle.std.proofs.lemmas.Bool.{cases_lt, leb-true, ltb-true, or_parts}
@@ -107,8 +108,8 @@ bytes-here [] at i image whole inside within = absurd (omega arith)
 bytes-here (byte ∷ bytes) at zero image whole inside within =
     let here : at + 0 ≡ at = omega arith in
     rw here (bytes-there bytes (at + 1) at (put_at (offset_of at) image byte) (inl (omega arith)) ∙ put-here at image byte whole (inside at (omega arith) (omega arith)))
-bytes-here (byte ∷ bytes) at (Prim.Native.Nat.suc i) image whole inside within =
-    let there : at + Prim.Native.Nat.suc i ≡ at + 1 + i = omega arith in
+bytes-here (byte ∷ bytes) at (suc i) image whole inside within =
+    let there : at + suc i ≡ at + 1 + i = omega arith in
     rw there (bytes-here bytes (at + 1) i (put_at (offset_of at) image byte) (put-len (offset_of at) image byte ∙ whole)
     (λ addr low high. inside addr (omega arith) (omega arith)) (omega arith))
 
@@ -161,8 +162,8 @@ lines-have names rom (p ∷ ps) image after is_rom whole inside apart is =
     let here : IsInRom rom p = inside 0 p (omega arith) in
     let len = cells-len names p.cells in
     let same_len : length then.0 ≡ IMAGE_LEN = ap length (sym wrote) ∙ bytes-len (cells_bytes names p.cells) p.at image ∙ whole in
-    let later = lines-have names rom ps then.0 after is_rom same_len (λ k d within. inside (Prim.Native.Nat.suc k) d (omega arith))
-    (λ i j d less within. apart (Prim.Native.Nat.suc i) (Prim.Native.Nat.suc j) d (omega arith) (omega arith)) then.2 in
+    let later = lines-have names rom ps then.0 after is_rom same_len (λ k d within. inside (suc k) d (omega arith))
+    (λ i j d less within. apart (suc i) (suc j) d (omega arith) (omega arith)) then.2 in
     record {
       each = λ k d within. go k d within wrote len here later;
       others = λ addr none.
@@ -171,10 +172,10 @@ lines-have names rom (p ∷ ps) image after is_rom whole inside apart is =
           later.others addr parts.1 ∙ ap (λ i. byte_of i addr) (sym wrote) ∙ bytes-there (cells_bytes names p.cells) p.at addr image outside;
     }
   where
-    go : (k : ℕ) (d : Placed) → k < length (p ∷ ps) → {next : List ℕ} → with_bytes p.at (cells_bytes names p.cells) image ≡ next → length (cells_bytes names p.cells) ≡ size_of p.cells → IsInRom rom p → HasBytes names ps next after
-        → Stands names after (get_or (p ∷ ps) k d)
+    go : (k : ℕ) (d : Placed) → k < length (p ∷ ps) → {next : List ℕ} → with_bytes p.at (cells_bytes names p.cells) image ≡ next
+        → length (cells_bytes names p.cells) ≡ size_of p.cells → IsInRom rom p → HasBytes names ps next after → Stands names after (get_or (p ∷ ps) k d)
     go zero d within wrote len here later = λ i less.
-        let none : list_any (gives (p.at + i)) ps ≡ false = list_any_none (gives (p.at + i)) ps (λ j e within_ps. apart 0 (Prim.Native.Nat.suc j) e (omega arith) (omega arith) (p.at + i) (gives-byte (p.at + i) p (omega arith) (omega arith))) in
+        let none : list_any (gives (p.at + i)) ps ≡ false = list_any_none _ ps (λ j e below. apart 0 (suc j) e (omega arith) (omega arith) _ (gives-byte (p.at + i) p (omega arith) (omega arith))) in
         later.others (p.at + i) none ∙ ap (λ image. byte_of image (p.at + i)) (sym wrote)
-        ∙ bytes-here (cells_bytes names p.cells) p.at i image whole (λ addr low high. is_rom.inside addr (omega (arith, here.low, low)) (omega (arith, here.high, high, len))) (omega (arith, len, less))
-    go (Prim.Native.Nat.suc k) d within wrote len here later = later.each k d (omega arith)
+        ∙ bytes-here (cells_bytes names p.cells) p.at i image whole (λ at low high. is_rom.inside at (omega (arith, here.low, low)) (omega (arith, here.high, high, len))) (omega (arith, len, less))
+    go (suc k) d within wrote len here later = later.each k d (omega arith)

@@ -1,5 +1,6 @@
 -- The words of a part of a line's code: its first word, and where a mark parts it.
-use Rattle.std.proofs.Common.{◌≡◌, ℕ, ◌+◌, ◌-◌, ◌<◌, ◌≤◌, ◌↔◌, inl, inr, Bool, true, false, not, ◌&&◌, ◌||◌, eqb, List, [], ◌∷◌, ◌++◌, Option, Some, None, length, take, drop, get_or, if◌then◌else◌, refl, sym, ap, ◌∙◌, add-one, arith}
+use Rattle.std.proofs.Common.{◌≡◌, ℕ, ◌+◌, ◌-◌, ◌<◌, ◌≤◌, ◌↔◌, inl, inr, Bool, true, false, not, ◌&&◌, ◌||◌, eqb, List, [], ◌∷◌, ◌++◌}
+use Rattle.std.proofs.Common.{Option, Some, None, length, take, drop, get_or, if◌then◌else◌, refl, sym, ap, ◌∙◌, add-one, arith}
 use Rattle.std.proofs.Math.Seq.{drop-cons}
 use Rattle.std.specs.List.{cons_option, filter_map, list_all, onto_first, position_or_len}
 use Rattle.std.proofs.lemmas.Bool.{cond_both, eqb-true}
@@ -240,7 +241,7 @@ words-empty [] ws empty solid whole is = (λ _. sym whole ∙ words-none, λ _. 
 words-empty (first ∷ code) ws empty solid whole is =
     let here = first_piece first code in
     let some : ws ≡ word_by first (first ∷ here.0) ∷ filter_map piece_word here.1 = sym whole ∙ rw (here.2, solid) refl in
-    (λ holds. let zero_len : length (first ∷ code) ≡ 0 = eqb-true (length (first ∷ code)) 0 (sym is ∙ holds) in absurd (omega arith), λ none. let clash : word_by first (first ∷ here.0) ∷ filter_map piece_word here.1 ≡ [] = sym some ∙ none in absurd (cc))
+    (λ holds. let zero_len : length (first ∷ code) ≡ 0 = eqb-true (length (first ∷ code)) 0 (sym is ∙ holds) in absurd (omega arith), λ none. absurd (cc))
 
 -- the words behind a blank at the front
 pub words-skip : (code : List ℕ) → 1 ≤ length code → is_blank_byte (get_or code 0 0) ≡ true → words_in (take (length code - 1) (drop 1 code)) ≡ words_in code

@@ -1,5 +1,6 @@
 -- The bytes of an instruction, and what they are decoded to.
-use Rattle.std.proofs.Common.{◌≡◌, ℕ, ◌+◌, ◌-◌, ◌*◌, ◌/◌, ◌%◌, ◌<◌, true, false, List, [], ◌∷◌, length, take, All, Option, Some, None, unwrap_or, nat_lt, Bool, ◌&&◌, is_some, cond, refl, sym, ap, ◌∙◌, subst, arith, ℤ, pos, negsuc, neg_ℤ, ◌-ℤ◌, append-nil}
+use Rattle.std.proofs.Common.{◌≡◌, ℕ, ◌+◌, ◌-◌, ◌*◌, ◌/◌, ◌%◌, ◌<◌, true, false, List, [], ◌∷◌, length, take, All, Option, Some, None, unwrap_or}
+use Rattle.std.proofs.Common.{nat_lt, Bool, ◌&&◌, is_some, cond, refl, sym, ap, ◌∙◌, subst, arith, ℤ, pos, negsuc, neg_ℤ, ◌-ℤ◌, append-nil}
 use Rattle.std.proofs.lemmas.List.{take_all}
 use Rattle.std.proofs.lemmas.List.Elements.{All-cons, All-head, All-nil, All-tail}
 use Rattle.std.proofs.lemmas.Bool.{false≢true}
@@ -14,7 +15,8 @@ use Rattle.asm_core.specs.Cells.{all_known, cell_bytes, cells_bytes, cell_number
 use Rattle.asm_core.specs.Expressions.{NameValues, expression_of, value_of}
 use Rattle.cpu_table.specs.declared.instruction.Op.{Op}
 use Rattle.cpu_table.specs.declared.instruction.Mode.{Mode}
-use Rattle.cpu_table.specs.declared.instruction.Mode.TheVariants.{Implied, Accumulator, Immediate, ZeroPage, ZeroPageX, ZeroPageY, Absolute, AbsoluteX, AbsoluteY, Indirect, IndirectX, IndirectY, Relative}
+use Rattle.cpu_table.specs.declared.instruction.Mode.TheVariants.{Implied, Accumulator, Immediate, ZeroPage, ZeroPageX, ZeroPageY, Absolute}
+use Rattle.cpu_table.specs.declared.instruction.Mode.TheVariants.{AbsoluteX, AbsoluteY, Indirect, IndirectX, IndirectY, Relative}
 use Rattle.cpu_table.specs.Decoding.{decoded, decoded_row, length_of, little_endian}
 use Rattle.cpu_table.specs.Opcodes.{opcode_of, row_of}
 use Rattle.cpu_table.proofs.Rows.{opcode_is_byte, opcode_of_row, row_of_opcode}
@@ -130,8 +132,9 @@ encodes-three opcode operand op mode found long word =
     let same : operand % 256 + 256 * (operand / 256 % 256) ≡ operand = omega arith in
     let low : operand % 256 < 256 = omega arith in
     let high : operand / 256 % 256 < 256 = omega arith in
+    let behind = All-cons IsByte (operand % 256) (operand / 256 % 256 ∷ []) low (All-cons IsByte (operand / 256 % 256) [] high (All-nil IsByte)) in
     record {
-      small = All-cons IsByte opcode (operand % 256 ∷ operand / 256 % 256 ∷ []) (opcode_is_byte opcode op mode found) (All-cons IsByte (operand % 256) (operand / 256 % 256 ∷ []) low (All-cons IsByte (operand / 256 % 256) [] high (All-nil IsByte)));
+      small = All-cons IsByte opcode (operand % 256 ∷ operand / 256 % 256 ∷ []) (opcode_is_byte opcode op mode found) behind;
       whole = sym long;
       says = decoded-three opcode (operand % 256) (operand / 256 % 256) op mode (row_of_opcode opcode op mode found) long ∙ ap (λ n. Some (op, mode, n)) same;
     }

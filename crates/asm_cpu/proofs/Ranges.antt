@@ -6,7 +6,8 @@ use Rattle.std.proofs.lemmas.Int.{ints}
 use Rattle.bit_words.specs.Residues.{residue}
 use Rattle.asm_core.specs.Cells.{takes}
 use Rattle.cpu_table.specs.declared.instruction.Mode.{Mode}
-use Rattle.cpu_table.specs.declared.instruction.Mode.TheVariants.{Implied, Accumulator, Immediate, ZeroPage, ZeroPageX, ZeroPageY, Absolute, AbsoluteX, AbsoluteY, Indirect, IndirectX, IndirectY, Relative}
+use Rattle.cpu_table.specs.declared.instruction.Mode.TheVariants.{Implied, Accumulator, Immediate, ZeroPage, ZeroPageX, ZeroPageY, Absolute}
+use Rattle.cpu_table.specs.declared.instruction.Mode.TheVariants.{AbsoluteX, AbsoluteY, Indirect, IndirectX, IndirectY, Relative}
 use Rattle.cpu_table.specs.Decoding.{length_of}
 use Rattle.asm_cpu.specs.Encodings.{is_taken, operand_number, signed_byte}
 use Rattle.asm_cpu.specs.Modes.{address_place, branch_place, place_of, zero_page_place}

@@ -6,7 +6,8 @@ use Rattle.asm_core.specs.declared.expression.Expression.{Expression}
 use Rattle.asm_core.specs.Expressions.{NameValues, value_of}
 use Rattle.cpu_table.specs.declared.instruction.Op.{Op}
 use Rattle.cpu_table.specs.declared.instruction.Mode.{Mode}
-use Rattle.cpu_table.specs.declared.instruction.Mode.TheVariants.{Implied, Accumulator, Immediate, ZeroPage, ZeroPageX, ZeroPageY, Absolute, AbsoluteX, AbsoluteY, Indirect, IndirectX, IndirectY, Relative}
+use Rattle.cpu_table.specs.declared.instruction.Mode.TheVariants.{Implied, Accumulator, Immediate, ZeroPage, ZeroPageX, ZeroPageY, Absolute}
+use Rattle.cpu_table.specs.declared.instruction.Mode.TheVariants.{AbsoluteX, AbsoluteY, Indirect, IndirectX, IndirectY, Relative}
 use Rattle.cpu_table.specs.Opcodes.{opcode_of}
 use Rattle.asm_cpu.specs.declared.operand.Shape.{Shape}
 use Rattle.asm_cpu.specs.declared.operand.Shape.TheVariants as shape

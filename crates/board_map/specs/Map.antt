@@ -7,7 +7,8 @@ use Rattle.board_map.specs.declared.map.Reads.{Reads}
 use Rattle.board_map.specs.declared.map.Reads.TheVariants as reads
 use Rattle.board_map.specs.declared.map.Reads.TheVariants.{Open}
 use Rattle.board_map.specs.declared.map.Region.{Region}
-use Rattle.board_map.specs.declared.map.Region.TheVariants.{Ram, VectorRam, VectorRom, Sound1, Sound2, EaromOut, In0, In3, In4, Go, VgReset, Acknowledge, EaromControl, EaromLatch, Watchdog, ProgramRom, Nothing}
+use Rattle.board_map.specs.declared.map.Region.TheVariants.{Ram, VectorRam, VectorRom, Sound1, Sound2, EaromOut, In0, In3, In4, Go, VgReset}
+use Rattle.board_map.specs.declared.map.Region.TheVariants.{Acknowledge, EaromControl, EaromLatch, Watchdog, ProgramRom, Nothing}
 use Rattle.board_map.specs.declared.map.Row.{Row}
 use Rattle.board_map.specs.declared.map.Writes.{Writes}
 use Rattle.board_map.specs.declared.map.Writes.TheVariants as writes

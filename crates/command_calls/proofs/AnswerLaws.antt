@@ -1,5 +1,5 @@
 -- The pieces of an answer, one after the other.
-use Rattle.std.proofs.Common.{◌≡◌, ◌≢◌, ℕ, ◌+◌, ◌^◌, ◌<◌, ◌≤◌, inl, List, [], ◌++◌, length, refl, ◌∙◌, ap, subst, append_assoc, length-append, arith}
+use Rattle.std.proofs.Common.{◌≡◌, ◌≢◌, ℕ, ◌+◌, ◌^◌, ◌<◌, ◌≤◌, inl, List, [], ◌++◌, length, refl, ◌∙◌, ap, subst, append_assoc, arith}
 use Rattle.board_calls.specs.Answers.{Call, call_of, put_in, report_of}
 use Rattle.board_calls.specs.declared.report.GravitarReport.{GravitarReport}
 use Rattle.command_calls.specs.Bytes.{number_bytes}
@@ -9,16 +9,6 @@ use Rattle.gravitar_commands.specs.Outcome.{Outcome}
 use Rattle.command_calls.specs.Performed.{Performed}
 use Rattle.command_calls.specs.Answers.{AnswersCommand, AnswersWith, answer_bytes, answer_of, laid_out}
 use Rattle.command_calls.specs.Counted.{counted}
-
-lengths : (a b c d t n s : List ℕ) → length a ≡ 8 → length b ≡ 8 → length c ≡ 8 → length d ≡ 8
-    → length (a ++ (b ++ (c ++ (d ++ (t ++ (n ++ s)))))) ≡ 32 + length t + length n + length s
-lengths a b c d t n s la lb lc ld = simp length-append (omega arith)
-
--- an answer has 32 bytes in front of its three parts
-pub answer_length : (status : ℕ) (text note stores : List ℕ)
-    → length (laid_out status text note stores) ≡ 32 + length text + length note + length stores
-answer_length status text note stores =
-    lengths (number_bytes status) (number_bytes (length text)) (number_bytes (length note)) (number_bytes (length stores)) text note stores refl refl refl refl
 
 seven : (a b c d t n s : List ℕ)
     → ((((((a ++ b) ++ c) ++ d) ++ t) ++ n) ++ s) ≡ a ++ (b ++ (c ++ (d ++ (t ++ (n ++ s)))))

@@ -1,5 +1,5 @@
 -- One more piece of a request.
-use Rattle.std.proofs.Common.{◌≡◌, ℕ, suc, ◌+◌, ◌-◌, ◌<◌, ◌≤◌, List, [], ◌∷◌, ◌++◌, length, refl, sym, ◌∙◌, ap, subst, arith}
+use Rattle.std.proofs.Common.{◌≡◌, ℕ, suc, ◌+◌, ◌-◌, ◌<◌, ◌≤◌, List, [], ◌∷◌, ◌++◌, length, refl, sym, ◌∙◌, ap, arith}
 use Rattle.std.proofs.Common.{Some, None, Option, Result, Ok, Err, append_assoc}
 use Rattle.std.proofs.lemmas.List.{append-nil}
 use Rattle.outside_io.specs.Shelf.{Kept}
@@ -11,23 +11,9 @@ in_front_twice : {A : Type 0} (xs ys : List A) (read : Result (List A × List �
 in_front_twice xs ys (Ok others) = ap (λ l. Ok (l, others.1)) (sym (append_assoc xs ys others.0))
 in_front_twice xs ys (Err left) = refl
 
-in_front_of_none : {A : Type 0} (read : Result (List A × List ℕ) ℕ) → read ≡ in_front [] read
-in_front_of_none (Ok others) = refl
-in_front_of_none (Err left) = refl
-
 -- some pieces were read, so many, and the bytes after them are these
 pub record HaveRead {A : Type 0} (read : List ℕ → Option (A × List ℕ)) (count done : ℕ) (bytes : List ℕ) (before : List A) (rest : List ℕ) : Type 0 where
   pub so_far : pieces_read read count bytes ≡ in_front before (pieces_read read (count - done) rest)
-
--- nothing was read yet
-pub none_yet : {A : Type 0} (read : List ℕ → Option (A × List ℕ)) (count : ℕ) (bytes : List ℕ) (before : List A)
-    → before ≡ [] → HaveRead read count 0 bytes before bytes
-none_yet read count bytes before empty =
-    let e : count ≡ count - 0 = omega arith in
-    record {
-      so_far = subst (λ l. pieces_read read count bytes ≡ in_front l (pieces_read read (count - 0) bytes)) (sym empty)
-          (subst (λ n. pieces_read read count bytes ≡ in_front [] (pieces_read read n bytes)) e (in_front_of_none (pieces_read read count bytes)));
-    }
 
 -- one more was read
 pub one_more : {A : Type 0} (read : List ℕ → Option (A × List ℕ)) (count done : ℕ) (bytes : List ℕ) (before : List A) (rest : List ℕ) (found : A) (after : List ℕ)

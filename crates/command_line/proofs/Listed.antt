@@ -1,5 +1,6 @@
 -- Lists of clocks that are read part by part, and those that don't fall.
-use Rattle.std.proofs.Common.{◌≡◌, ℕ, zero, suc, ◌+◌, ◌<◌, ◌≤◌, ◌==◌, Bool, true, false, ◌&&◌, leb, List, [], ◌∷◌, ◌++◌, length, get_or, drop, if◌then◌else◌, MatchBool, subst, Option, Some, None, refl, sym, ap, ◌∙◌, append_assoc, length-append, arith}
+use Rattle.std.proofs.Common.{◌≡◌, ℕ, zero, suc, ◌+◌, ◌<◌, ◌≤◌, ◌==◌, Bool, true, false, ◌&&◌, leb, List, [], ◌∷◌, ◌++◌, length, get_or, drop}
+use Rattle.std.proofs.Common.{if◌then◌else◌, MatchBool, subst, Option, Some, None, refl, sym, ap, ◌∙◌, append_assoc, length-append, arith}
 use Rattle.std.specs.List.{slice_split}
 use Rattle.std.specs.List.Sorted.{IsNonDecreasing}
 use Rattle.std.specs.Option.{option_and_then, option_map}

@@ -15,6 +15,11 @@ pub record StandsAt {X : Type 0} (f : X → List ℕ) (words : List X) (k : ℕ)
   pub shows : word ≡ f item
   pub inside : k < length words
 
+-- a word that an element shows stands at the element's place
+pub stands : {X : Type 0} (f : X → List ℕ) {words : List X} {k : ℕ} {word : List ℕ} (item : X)
+    → item ≡ get_or words k item → word ≡ f item → k < length words → StandsAt f words k word
+stands f item is shows inside = record { item = item; is = is; shows = shows; inside = inside }
+
 -- the words that are left begin with the word at this place
 next : {X Y : Type 0} (f : X → List ℕ) (F : List (List ℕ) → Y) (words : List X) (k : ℕ) (word : List ℕ) → StandsAt f words k word
     → F (drop k (map f words)) ≡ F (word ∷ drop (k + 1) (map f words))

@@ -17,7 +17,9 @@ keeps p f decimal interrupt q is =
       interrupt = ap (λ (g : Flags). g.interrupt) back ∙ interrupt;
     }
 
-after_adc : (a m : ℕ) (f : Flags) (d : Bool) → (((if d then decimal_adc a m f else binary_adc a m f).1).decimal ≡ f.decimal) × (((if d then decimal_adc a m f else binary_adc a m f).1).interrupt ≡ f.interrupt)
+after_adc : (a m : ℕ) (f : Flags) (d : Bool)
+    → (((if d then decimal_adc a m f else binary_adc a m f).1).decimal ≡ f.decimal)
+    × (((if d then decimal_adc a m f else binary_adc a m f).1).interrupt ≡ f.interrupt)
 unfolding decimal_adc binary_adc with_result
 after_adc a m f true = (refl, refl)
 after_adc a m f false = (refl, refl)

@@ -14,7 +14,8 @@ use Rattle.cpu_core.specs.declared.replay.Next.TheVariants.{End}
 use Rattle.cpu_core.specs.Registers.{RegistersValue}
 use Rattle.cpu_core.specs.BusCycles.{BusCycles, finish, read, write}
 use Rattle.cpu_core.specs.Operations.{is_taken}
-use Rattle.cpu_core.specs.Patterns.{address_of, indexed, directly_addressed, addressed, is_accumulator, executed_by, row_cycles, modify_a_cycles, read_modify_write_cycles, landed, target_of, ends_with, dummy_read}
+use Rattle.cpu_core.specs.Patterns.{address_of, indexed, directly_addressed, addressed, is_accumulator, executed_by, row_cycles}
+use Rattle.cpu_core.specs.Patterns.{modify_a_cycles, read_modify_write_cycles, landed, target_of, ends_with, dummy_read}
 use Rattle.cpu_core.specs.Sequences.{cycles_of, after, head_of, next_of}
 
 -- whatever the bytes are, the processor is inside no sequence after the last bus cycle

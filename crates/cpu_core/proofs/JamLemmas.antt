@@ -1,5 +1,6 @@
 -- Only an undocumented opcode jams the processor.
-use Rattle.std.proofs.Common.{◌≡◌, ◌≢◌, ◌≤◌, ◌+◌, ◌%◌, ◌/◌, ◌==◌, ◌++◌, ◌||◌, ℕ, zero, suc, Bool, true, false, nat_lt, if◌then◌else◌, List, [], ◌∷◌, length, take, slice_index, Option, Some, None, MatchOption, refl, sym, ap, subst, ◌∙◌, arith}
+use Rattle.std.proofs.Common.{◌≡◌, ◌≢◌, ◌≤◌, ◌+◌, ◌%◌, ◌/◌, ◌==◌, ◌++◌, ◌||◌, ℕ, zero, suc, Bool, true, false, nat_lt, if◌then◌else◌, List}
+use Rattle.std.proofs.Common.{[], ◌∷◌, length, take, slice_index, Option, Some, None, MatchOption, refl, sym, ap, subst, ◌∙◌, arith}
 use Rattle.std.proofs.lemmas.List.{length-append, length-take-le}
 use Rattle.board_base.specs.Cpu.{CpuValue, MidValue}
 use Rattle.board_base.specs.declared.cpu.Sequence.{Sequence}
@@ -16,7 +17,8 @@ use Rattle.cpu_core.specs.declared.replay.Next.TheVariants.{Read, Write, End}
 use Rattle.cpu_core.specs.Registers.{RegistersValue, registers_of, at_boundary, jammed_on}
 use Rattle.cpu_core.specs.BusCycles.{Access, read_of, BusCycles, finish, read, write, EndsRunning}
 use Rattle.cpu_core.specs.Operations.{is_taken}
-use Rattle.cpu_core.specs.Patterns.{address_of, ends_with, dummy_read, landed, target_of, indexed, directly_addressed, addressed, is_accumulator, executed_by, row_cycles, modify_a_cycles, read_modify_write_cycles}
+use Rattle.cpu_core.specs.Patterns.{address_of, ends_with, dummy_read, landed, target_of, indexed, directly_addressed, addressed}
+use Rattle.cpu_core.specs.Patterns.{is_accumulator, executed_by, row_cycles, modify_a_cycles, read_modify_write_cycles}
 use Rattle.cpu_core.specs.Sequences.{start_of, cycles_of, after, head_of, next_of, IsAccess, Moves}
 use Rattle.cpu_core.specs.Places.{IsPlace, given_by, stopped, standing, Gone, Fetches, BeginsWith}
 

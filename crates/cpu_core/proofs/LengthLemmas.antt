@@ -12,7 +12,8 @@ use Rattle.cpu_core.specs.Kinds.{kind_of}
 use Rattle.cpu_core.specs.Registers.{RegistersValue}
 use Rattle.cpu_core.specs.BusCycles.{BusCycles, finish, read, write, AtMost, AtLeast}
 use Rattle.cpu_core.specs.Operations.{is_taken}
-use Rattle.cpu_core.specs.Patterns.{address_of, load_cycles, store_cycles, indexed, directly_addressed, addressed, is_accumulator, executed_by, row_cycles, modify_a_cycles, read_modify_write_cycles, landed, target_of, ends_with, dummy_read}
+use Rattle.cpu_core.specs.Patterns.{address_of, load_cycles, store_cycles, indexed, directly_addressed, addressed, is_accumulator, executed_by}
+use Rattle.cpu_core.specs.Patterns.{row_cycles, modify_a_cycles, read_modify_write_cycles, landed, target_of, ends_with, dummy_read}
 use Rattle.cpu_core.specs.Sequences.{cycles_of, after, head_of, next_of, IsEnd}
 
 -- a bound may be raised

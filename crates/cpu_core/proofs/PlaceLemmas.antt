@@ -1,5 +1,6 @@
 -- Going on inside a sequence, and the places in it.
-use Rattle.std.proofs.Common.{rules, ◌⊎◌, inl, inr, ◌-◌, IfSome, slice_index, Option, ◌≢◌, ◌≡◌, ◌<◌, ◌≤◌, ◌+◌, ◌++◌, ℕ, List, [], ◌∷◌, length, take, drop, All, true, Some, None, refl, sym, ap, subst, ◌∙◌, append_assoc, arith}
+use Rattle.std.proofs.Common.{rules, ◌⊎◌, inl, inr, ◌-◌, IfSome, slice_index, Option, ◌≢◌, ◌≡◌, ◌<◌, ◌≤◌, ◌+◌, ◌++◌, ℕ, List, []}
+use Rattle.std.proofs.Common.{◌∷◌, length, take, drop, All, true, Some, None, refl, sym, ap, subst, ◌∙◌, append_assoc, arith}
 use Rattle.std.proofs.lemmas.List.{append-nil, take-append-drop, length-append, length-take-le, take-append-le}
 use Rattle.std.proofs.lemmas.List.Elements.{All-drop}
 use Rattle.std.proofs.Math.Seq.{take-append_seam, drop-append_seam}

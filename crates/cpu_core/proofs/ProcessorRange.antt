@@ -1,6 +1,7 @@
 -- The processor stays in its range, sequence by sequence: so do the bus cycles of each, whatever
 -- bytes they read.
-use Rattle.std.proofs.Common.{◌≡◌, ◌≤◌, ◌<◌, ◌+◌, ◌-◌, ◌*◌, ◌/◌, ◌%◌, ◌==◌, ◌||◌, ℕ, Bool, true, false, nat_lt, if◌then◌else◌, List, [], ◌∷◌, length, Option, Some, None, IfSome, All, ℤ, pos, negsuc, bit_and, bit_or, bit_xor, refl, ap, subst, arith}
+use Rattle.std.proofs.Common.{◌≡◌, ◌≤◌, ◌<◌, ◌+◌, ◌-◌, ◌*◌, ◌/◌, ◌%◌, ◌==◌, ◌||◌, ℕ, Bool, true, false, nat_lt, if◌then◌else◌, List, [], ◌∷◌}
+use Rattle.std.proofs.Common.{length, Option, Some, None, IfSome, All, ℤ, pos, negsuc, bit_and, bit_or, bit_xor, refl, ap, subst, arith}
 use Rattle.std.specs.Int.{from_bool}
 use Rattle.std.proofs.lemmas.Nat.{and_le_l, or_lt, xor_lt}
 use Rattle.std.proofs.lemmas.List.{length-append, length-drop}
@@ -17,7 +18,8 @@ use Rattle.cpu_alu.specs.Shifts.{asl_of, left_by, lsr_of, right_by, rol_of, ror_
 use Rattle.cpu_alu.proofs.Bytes.{left_with_one, left_with_zero, right_with_one, right_with_zero}
 use Rattle.cpu_alu.proofs.StatusLemmas.{flags_of_byte}
 use Rattle.cpu_table.specs.declared.instruction.Op.{Op}
-use Rattle.cpu_table.specs.declared.instruction.Op.TheVariants.{Adc, And, Asl, Bit, Clc, Cld, Cli, Clv, Cmp, Cpx, Cpy, Dec, Dex, Dey, Eor, Inc, Inx, Iny, Lda, Ldx, Ldy, Lsr, Ora, Php, Plp, Rol, Ror, Sbc, Sec, Sed, Sei, Stx, Sty, Tax, Tay, Tsx, Txa, Txs, Tya}
+use Rattle.cpu_table.specs.declared.instruction.Op.TheVariants.{Adc, And, Asl, Bit, Clc, Cld, Cli, Clv, Cmp, Cpx, Cpy, Dec, Dex, Dey, Eor, Inc, Inx, Iny, Lda, Ldx}
+use Rattle.cpu_table.specs.declared.instruction.Op.TheVariants.{Ldy, Lsr, Ora, Php, Plp, Rol, Ror, Sbc, Sec, Sed, Sei, Stx, Sty, Tax, Tay, Tsx, Txa, Txs, Tya}
 use Rattle.cpu_table.specs.declared.instruction.Mode.{Mode}
 use Rattle.cpu_table.specs.declared.instruction.Mode.TheVariants.{Immediate, ZeroPage, ZeroPageX, ZeroPageY, Absolute, AbsoluteX, AbsoluteY, Indirect, IndirectX, IndirectY}
 use Rattle.cpu_table.specs.Opcodes.{row_of}
@@ -29,7 +31,8 @@ use Rattle.cpu_core.specs.declared.replay.Next.TheVariants.{Read, Write, End}
 use Rattle.cpu_core.specs.Registers.{RegistersValue, registers_of}
 use Rattle.cpu_core.specs.BusCycles.{BusCycles, finish, read, write}
 use Rattle.cpu_core.specs.Operations.{flags_by_interrupt, flags_by_program, is_taken, loaded, masked, modified, pulled, pulled_flags, pushed, stored, worked_alone}
-use Rattle.cpu_core.specs.Patterns.{address_of, directly_addressed, addressed, dummy_read, ends_with, executed_by, indexed, interrupted, is_accumulator, landed, modify_a_cycles, read_modify_write_cycles, row_cycles, target_of}
+use Rattle.cpu_core.specs.Patterns.{address_of, directly_addressed, addressed, dummy_read, ends_with, executed_by, indexed, interrupted}
+use Rattle.cpu_core.specs.Patterns.{is_accumulator, landed, modify_a_cycles, read_modify_write_cycles, row_cycles, target_of}
 use Rattle.cpu_core.specs.Sequences.{after, cycles_of, head_of, next_of, start_of, IsEnd}
 use Rattle.cpu_core.specs.Places.{padded, paused, standing, stopped}
 use Rattle.cpu_core.proofs.EndLemmas.{end-closes}

@@ -2,7 +2,8 @@
 -- nothing here speaks of the bus.
 use Rattle.std.specs.Prelude.{◌+◌, ◌%◌, ℕ, Bool, true, false, not, bit_and, bit_or, bit_xor}
 use Rattle.cpu_table.specs.declared.instruction.Op.{Op}
-use Rattle.cpu_table.specs.declared.instruction.Op.TheVariants.{Adc, And, Asl, Bcc, Bcs, Beq, Bit, Bmi, Bne, Bpl, Bvc, Bvs, Clc, Cld, Cli, Clv, Cmp, Cpx, Cpy, Dec, Dex, Dey, Eor, Inc, Inx, Iny, Lda, Ldx, Ldy, Lsr, Ora, Php, Plp, Rol, Ror, Sbc, Sec, Sed, Sei, Stx, Sty, Tax, Tay, Tsx, Txa, Txs, Tya}
+use Rattle.cpu_table.specs.declared.instruction.Op.TheVariants.{Adc, And, Asl, Bcc, Bcs, Beq, Bit, Bmi, Bne, Bpl, Bvc, Bvs, Clc, Cld, Cli, Clv, Cmp, Cpx, Cpy, Dec, Dex, Dey, Eor, Inc}
+use Rattle.cpu_table.specs.declared.instruction.Op.TheVariants.{Inx, Iny, Lda, Ldx, Ldy, Lsr, Ora, Php, Plp, Rol, Ror, Sbc, Sec, Sed, Sei, Stx, Sty, Tax, Tay, Tsx, Txa, Txs, Tya}
 use Rattle.cpu_alu.specs.declared.flags.Flags.{Flags}
 use Rattle.cpu_alu.specs.Flags.{flags_of, byte_of}
 use Rattle.cpu_alu.specs.Arithmetic.{adc_of, sbc_of, compare_of}

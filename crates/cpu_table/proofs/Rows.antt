@@ -1,5 +1,6 @@
 use denote.Enum.Bare.{sameb, same_true, true_same}
-use Rattle.std.proofs.Common.{◌≡◌, ◌≢◌, ◌↔◌, ℕ, ◌<◌, ◌≤◌, below_more, ◌==◌, nat_lt, Bool, true, false, ◌&&◌, cond, List, [], ◌∷◌, Option, Some, None, map, get_or, refl, ap, sym, ◌∙◌, zero-add, eqb→eq, IfSome, MatchBool, T, subst, unwrap_or, rules, arith}
+use Rattle.std.proofs.Common.{◌≡◌, ◌≢◌, ◌↔◌, ℕ, ◌<◌, ◌≤◌, below_more, ◌==◌, nat_lt, Bool, true, false, ◌&&◌, cond, List, [], ◌∷◌, Option, Some}
+use Rattle.std.proofs.Common.{None, map, get_or, refl, ap, sym, ◌∙◌, zero-add, eqb→eq, IfSome, MatchBool, T, subst, unwrap_or, rules, arith}
 use borrow.Author.Tests.{ltb-true}
 use Rattle.std.proofs.lemmas.List.FromFn.{get_or-map-range_with_len}
 use Rattle.std.specs.List.{range_with_len}

@@ -4,9 +4,12 @@ use Rattle.std.specs.Prelude.{ℕ, ◌==◌, Bool, ◌&&◌, List, [], ◌∷◌
 use Rattle.cpu_table.specs.contracts.instruction.Op as op_contracts
 use Rattle.cpu_table.specs.contracts.instruction.Mode as mode_contracts
 use Rattle.cpu_table.specs.declared.instruction.Op.{Op}
-use Rattle.cpu_table.specs.declared.instruction.Op.TheVariants.{Adc, And, Asl, Bcc, Bcs, Beq, Bit, Bmi, Bne, Bpl, Brk, Bvc, Bvs, Clc, Cld, Cli, Clv, Cmp, Cpx, Cpy, Dec, Dex, Dey, Eor, Inc, Inx, Iny, Jmp, Jsr, Lda, Ldx, Ldy, Lsr, Nop, Ora, Pha, Php, Pla, Plp, Rol, Ror, Rti, Rts, Sbc, Sec, Sed, Sei, Sta, Stx, Sty, Tax, Tay, Tsx, Txa, Txs, Tya}
+use Rattle.cpu_table.specs.declared.instruction.Op.TheVariants.{Adc, And, Asl, Bcc, Bcs, Beq, Bit, Bmi, Bne, Bpl, Brk, Bvc, Bvs, Clc, Cld}
+use Rattle.cpu_table.specs.declared.instruction.Op.TheVariants.{Cli, Clv, Cmp, Cpx, Cpy, Dec, Dex, Dey, Eor, Inc, Inx, Iny, Jmp, Jsr}
+use Rattle.cpu_table.specs.declared.instruction.Op.TheVariants.{Lda, Ldx, Ldy, Lsr, Nop, Ora, Pha, Php, Pla, Plp, Rol, Ror, Rti, Rts, Sbc, Sec, Sed, Sei, Sta, Stx, Sty, Tax, Tay, Tsx, Txa, Txs, Tya}
 use Rattle.cpu_table.specs.declared.instruction.Mode.{Mode}
-use Rattle.cpu_table.specs.declared.instruction.Mode.TheVariants.{Implied, Accumulator, Immediate, ZeroPage, ZeroPageX, ZeroPageY, Absolute, AbsoluteX, AbsoluteY, Indirect, IndirectX, IndirectY, Relative}
+use Rattle.cpu_table.specs.declared.instruction.Mode.TheVariants.{Implied, Accumulator, Immediate, ZeroPage, ZeroPageX, ZeroPageY, Absolute}
+use Rattle.cpu_table.specs.declared.instruction.Mode.TheVariants.{AbsoluteX, AbsoluteY, Indirect, IndirectX, IndirectY, Relative}
 
 -- the documented instructions of the 6502, each with its opcode, its operation and its addressing
 -- mode (MCS6500 Programming Manual, its list of instructions)

@@ -38,13 +38,6 @@ pub record Wrote (out0 out1 : Option (List ℕ)) (block all left : List ℕ) : T
   pub split : all ≡ done ++ left
   pub gathered : IsGathered out0 out1 done block
 
-pub wrote-nothing : (out : Option (List ℕ)) (block all : List ℕ) → block ≡ [] → Wrote out out block all all
-wrote-nothing out block all empty = record {
-  done = [];
-  split = refl;
-  gathered = record { sent = []; taken = sym (grown-nothing out); parts = sym empty };
-}
-
 -- a piece more
 pub wrote-piece : (out0 out1 out2 : Option (List ℕ)) (block piece more all left rest : List ℕ) → left ≡ piece ++ rest → Wrote out0 out1 block all left
     → IsGathered out1 out2 (block ++ piece) more → Wrote out0 out2 more all rest

@@ -1,5 +1,6 @@
 -- The least deadline of the names from some name on.
-use Rattle.std.proofs.Common.{◌≡◌, ◌≢◌, ℕ, ◌+◌, ◌≤◌, ◌<◌, List, [], ◌∷◌, Option, Some, None, slice_get, MatchOption, nat_lt, true, false, if◌then◌else◌, zero, suc, refl, arith, subst, get_or, drop, length, drop-cons, ◌-◌}
+use Rattle.std.proofs.Common.{◌≡◌, ◌≢◌, ℕ, ◌+◌, ◌≤◌, ◌<◌, List, [], ◌∷◌, Option, Some, None, slice_get, MatchOption, nat_lt, true}
+use Rattle.std.proofs.Common.{false, if◌then◌else◌, zero, suc, refl, arith, subst, get_or, drop, length, drop-cons, ◌-◌}
 use Rattle.std.proofs.Math.ListN.{drop_of_length-le}
 use Rattle.std.proofs.lemmas.Bool.{ltb-true, ltb-false}
 use Rattle.event_queue.specs.Least.{IsLeastOf, earlier_of}

@@ -11,7 +11,7 @@ use Rattle.board_base.specs.declared.record.Record.{Record}
 use Rattle.catchup_engine.specs.declared.trace.Access.{Access}
 use Rattle.outside_io.specs.Known.{grown}
 use Rattle.outside_io.specs.Sink.{Takes}
-use Rattle.outside_io.proofs.KnownLaws.{grown-nothing, grown-twice}
+use Rattle.outside_io.proofs.KnownLaws.{grown-twice}
 use Rattle.outside_io.proofs.TakesLaws.{took_first, took_then}
 use Rattle.frame_list.specs.Events.{Event, stroke_of, mark_at, mark_of, marks_of, starts_generator, through, by_clock}
 use Rattle.frame_list.specs.Frames.{FrameValue, begun, under_way, ended, frame_text, frames_text}
@@ -79,10 +79,6 @@ pub record Went (out0 out1 : Option (List ℕ)) (from : FrameValue) (all : List 
   pub taken : out1 ≡ grown out0 sent
   pub text : frames_text (ended from all) ≡ sent ++ frames_text (ended now left)
   pub frame : under_way from all ≡ under_way now left
-
--- nothing is gone through yet
-pub went-nowhere : (out : Option (List ℕ)) (from : FrameValue) (all : List Event) → Went out out from all from all
-went-nowhere out from all = record { sent = []; taken = sym (grown-nothing out); text = refl; frame = refl }
 
 -- the strokes up to a mark are counted, and the line of the frame that they end is written
 pub went-mark-here : (out0 out1 out2 : Option (List ℕ)) (from now counted after : FrameValue) (all : List Event) (strokes : List Record) (mark : ℕ) (marks : List ℕ)

@@ -1,8 +1,6 @@
 -- The outcome of a command that reports a run otherwise than by its log.
-use Rattle.std.proofs.Common.{◌≡◌, ℕ, ◌+◌, ◌<◌, ◌≤◌, [], ◌∷◌, ◌++◌, length, drop, get_or, map, min, add-one, append-nil, append_assoc, Bool, List, Option, Some, None, Result, Ok}
+use Rattle.std.proofs.Common.{◌≡◌, ℕ, ◌+◌, ◌≤◌, [], ◌∷◌, ◌++◌, map, min, Bool, List, Option, Some, None, Result, Ok}
 use Rattle.std.proofs.Common.{Err, take, refl, sym, ap, subst, ◌∙◌, inr, arith}
-use Rattle.std.proofs.Math.Seq.{drop-cons}
-use Rattle.std.proofs.lemmas.List.{drop_all}
 use Rattle.std.proofs.lemmas.List.Elements.{All-nil, All-cons}
 use Rattle.std.specs.Prelude.{All, IfSome, IfOk}
 use Rattle.board_base.specs.Board.{BoardValue, IsBoard}
@@ -137,19 +135,6 @@ start-is image wired state e s board made start =
     ∙ ap (λ (rom : List ℕ). let b : Board = record { cpu = state.cpu; peripherals = record (peripherals_of image wired state) { memory = state.vram ++ rom } } in b)
     (rom-after VECTOR_RAM_LEN state.vram (take VECTOR_ROM_LEN image) board.vram)
     ∙ sym made
-
--- the clocks that are lowered so far, and those that are left
-pub lowered-on : (limit : ℕ) (clocks done : List ℕ) (i d : ℕ) → i < length clocks → map (min limit) clocks ≡ done ++ map (min limit) (drop i clocks)
-    → map (min limit) clocks ≡ (done ++ min limit (get_or clocks i d) ∷ []) ++ map (min limit) (drop (i + 1) clocks)
-lowered-on limit clocks done i d inside all =
-    all
-    ∙ ap (λ (l : List ℕ). done ++ map (min limit) l) (drop-cons clocks i d inside ∙ ap (λ n. get_or clocks i d ∷ drop n clocks) (sym (add-one i)))
-    ∙ sym (append_assoc done (min limit (get_or clocks i d) ∷ []) (map (min limit) (drop (i + 1) clocks)))
-
-pub lowered-last : (limit : ℕ) (clocks done : List ℕ) (i : ℕ) → length clocks ≤ i → map (min limit) clocks ≡ done ++ map (min limit) (drop i clocks)
-    → done ≡ map (min limit) clocks
-lowered-last limit clocks done i past all =
-    sym (all ∙ ap (λ (l : List ℕ). done ++ map (min limit) l) (drop_all i clocks past) ∙ append-nil done)
 
 -- none of them is past the limit
 pub lowered-few : (limit most : ℕ) (clocks : List ℕ) → limit ≤ most → All (λ clock. clock ≤ most) (map (min limit) clocks)

@@ -56,7 +56,8 @@ refused status note = record { status = status; note = note; events = [] }
 
 -- the notes of the statuses
 abbrev pub usage_text : List ℕ
-usage_text = codes "gravitar: usage: run IMAGE TAPE, asm CPUSRC VGSRC OUT, debug IMAGE TAPE SCRIPT, show STATE, soak SEED, pcm IMAGE TAPE N, frames IMAGE TAPE, seek IMAGE TAPE N,N,.., profile IMAGE TAPE\n"
+usage_text =
+    codes "gravitar: usage: run IMAGE TAPE, asm CPUSRC VGSRC OUT, debug IMAGE TAPE SCRIPT, show STATE, soak SEED, pcm IMAGE TAPE N, frames IMAGE TAPE, seek IMAGE TAPE N,N,.., profile IMAGE TAPE\n"
 
 abbrev pub outside_text : List ℕ
 outside_text = codes "gravitar: outside fault\n"

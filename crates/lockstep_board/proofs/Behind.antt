@@ -23,7 +23,7 @@ use Rattle.avg_device.specs.Tick.{vg_gives}
 use Rattle.pokey_chip.specs.Tick.{pokey_gives}
 use Rattle.lockstep_board.specs.Peripherals.{Peripherals, port_set, applied, devices_ticked, ticked, line_of, byte_in, byte_read, put_in, byte_put, reset_by, reset_begun}
 use Rattle.lockstep_board.specs.Lockstep.{Board, accessed, accessed_by, sequence_due, begun, at_fetch, after_access, step, made_by, due_access, access_in}
-use Rattle.lockstep_board.specs.Run.{stepped, steps_until, is_over, is_at, is_cut, boundary_steps, clock_steps, cut_steps, to_boundary, to_clock, to_cut}
+use Rattle.lockstep_board.specs.Run.{stepped, steps_until, is_over, is_at, is_cut, boundary_steps, clock_steps, to_boundary, to_clock, to_cut}
 use Rattle.lockstep_board.specs.Budget.{counted, begins_reset, resets_begun, ticks_price, price, budget}
 use Rattle.lockstep_board.specs.Order.{cleared, Recorded, behind, records_of}
 
@@ -171,10 +171,6 @@ clock_steps-behind entries cut l b = steps_until-behind entries (is_at cut) (λ 
 pub boundary_steps-behind : (entries : List TapeEntry) (limit : ℕ) (l : Recorded) (b : Board)
     → boundary_steps entries limit (behind l b) ≡ boundary_steps entries limit b
 boundary_steps-behind entries limit l b = steps_until-behind entries (is_over limit) (λ _ _. refl) ((limit - b.peripherals.clock) + 6) l b
-
-pub cut_steps-behind : (entries : List TapeEntry) (cut wrap : ℕ) (l : Recorded) (b : Board)
-    → cut_steps entries cut wrap (behind l b) ≡ cut_steps entries cut wrap b
-cut_steps-behind entries cut wrap l b = steps_until-behind entries (is_cut cut wrap) (λ _ _. refl) (cut - b.peripherals.clock) l b
 
 made_by-front : (next : Next) (l : Recorded) (w : Peripherals) → made_by next (front l w) ≡ made_by next w
 made_by-front (Read a) l w = rw (byte_read-front a l w) refl

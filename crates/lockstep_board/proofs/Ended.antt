@@ -1,13 +1,11 @@
 -- The board at which a run has ended, and boards without records.
-use Rattle.std.proofs.Common.{◌≡◌, ◌≢◌, ℕ, ◌+◌, ◌-◌, Bool, true, false, ◌&&◌, ◌||◌, nat_le, is_some, is_none, List, [], Option, Some, None, refl, ap, ◌∙◌}
+use Rattle.std.proofs.Common.{◌≡◌, ◌≢◌, ℕ, ◌-◌, Bool, true, false, ◌&&◌, ◌||◌, nat_le, is_some, is_none, [], Option, Some, None, refl, ap, ◌∙◌}
 use Rattle.board_base.specs.Cpu.{MidValue}
-use Rattle.tape_ports.specs.declared.entry.TapeEntry.{TapeEntry}
 use Rattle.lockstep_board.specs.declared.stop.Stop.TheVariants.{Window}
 use Rattle.lockstep_board.specs.Order.{HasNoRecords, cleared, Recorded, behind, records_of}
 use Rattle.lockstep_board.specs.Lockstep.{Board}
-use Rattle.lockstep_board.specs.Run.{cause_at, cause_of, is_over, stepped, to_boundary}
+use Rattle.lockstep_board.specs.Run.{cause_at, cause_of, is_over}
 use Rattle.lockstep_board.proofs.Behind.{behind-cleared}
-use Rattle.lockstep_board.proofs.Runs.{steps-none}
 
 -- a clock is reached, or the processor is jammed
 pub at-stop : (jam : Option ℕ) (cut : ℕ) (b : Board) → (cause_at jam cut b ≢ Window) → is_some jam || nat_le cut b.peripherals.clock ≡ true
@@ -27,11 +25,6 @@ boundary-stop None None limit b none not_window = at-stop None limit b not_windo
 -- a run to a boundary is over where it didn't end with its window alone
 pub over-stop : (limit : ℕ) (b : Board) → b.cpu.mid ≡ None → (cause_of limit b ≢ Window) → is_over limit b ≡ true
 over-stop limit b none not_window = boundary-stop b.cpu.jam b.cpu.mid limit b none not_window
-
--- and makes no step from there
-pub over-stays : (entries : List TapeEntry) (limit : ℕ) (b : Board) → is_over limit b ≡ true → to_boundary entries limit b ≡ b
-unfolding to_boundary stepped
-over-stays entries limit b over = ap (λ n. stepped entries n b) (steps-none entries (is_over limit) ((limit - b.peripherals.clock) + 6) b over)
 
 -- a board without records is as it is when they are forgotten
 pub cleared-empty : (b : Board) → HasNoRecords b → cleared b ≡ b

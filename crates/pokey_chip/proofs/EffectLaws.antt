@@ -44,10 +44,14 @@ and-false false = refl
 pub effect-tone : (u : Bool) (c d : Channel) (r : PokeyValue) → r.tone < 16
     → tone_of d (underflow_effect u c r) ≡ (if (place c == place d) && u then new_tone (audc_of r c) c r else tone_of d r)
 unfolding underflow_effect toned
-effect-tone true First d r small = written 0 (place d) r.tone (new_tone (audc_of r First) First r) (omega arith) (place-few d) small ∙ ap (λ (b : Bool). if b then new_tone (audc_of r First) First r else tone_of d r) (sym (and-true (0 == place d)))
-effect-tone true Second d r small = written 1 (place d) r.tone (new_tone (audc_of r Second) Second r) (omega arith) (place-few d) small ∙ ap (λ (b : Bool). if b then new_tone (audc_of r Second) Second r else tone_of d r) (sym (and-true (1 == place d)))
-effect-tone true Third d r small = written 2 (place d) r.tone (new_tone (audc_of r Third) Third r) (omega arith) (place-few d) small ∙ ap (λ (b : Bool). if b then new_tone (audc_of r Third) Third r else tone_of d r) (sym (and-true (2 == place d)))
-effect-tone true Fourth d r small = written 3 (place d) r.tone (new_tone (audc_of r Fourth) Fourth r) (omega arith) (place-few d) small ∙ ap (λ (b : Bool). if b then new_tone (audc_of r Fourth) Fourth r else tone_of d r) (sym (and-true (3 == place d)))
+effect-tone true First d r small = written 0 (place d) r.tone (new_tone (audc_of r First) First r) (omega arith) (place-few d) small
+    ∙ ap (λ (b : Bool). if b then new_tone (audc_of r First) First r else tone_of d r) (sym (and-true (0 == place d)))
+effect-tone true Second d r small = written 1 (place d) r.tone (new_tone (audc_of r Second) Second r) (omega arith) (place-few d) small
+    ∙ ap (λ (b : Bool). if b then new_tone (audc_of r Second) Second r else tone_of d r) (sym (and-true (1 == place d)))
+effect-tone true Third d r small = written 2 (place d) r.tone (new_tone (audc_of r Third) Third r) (omega arith) (place-few d) small
+    ∙ ap (λ (b : Bool). if b then new_tone (audc_of r Third) Third r else tone_of d r) (sym (and-true (2 == place d)))
+effect-tone true Fourth d r small = written 3 (place d) r.tone (new_tone (audc_of r Fourth) Fourth r) (omega arith) (place-few d) small
+    ∙ ap (λ (b : Bool). if b then new_tone (audc_of r Fourth) Fourth r else tone_of d r) (sym (and-true (3 == place d)))
 effect-tone false c d r small = ap (λ (b : Bool). if b then new_tone (audc_of r c) c r else tone_of d r) (sym (and-false (place c == place d)))
 
 pub effect-tone-fits : (u : Bool) (c : Channel) (r : PokeyValue) → r.tone < 16 → (underflow_effect u c r).tone < 16
@@ -73,7 +77,8 @@ passed-third-fits false r few = few
 passed-fourth : (u : Bool) (r : PokeyValue) (j : ℕ) → j < 4 → r.pass < 4
     → is_bit (underflow_effect u Fourth r).pass j ≡ (if (1 == j) && u then tone_of Second r else is_bit r.pass j)
 unfolding underflow_effect passed
-passed-fourth true r j within few = written 1 j r.pass (tone_of Second r) (omega arith) within (omega arith) ∙ ap (λ (b : Bool). if b then tone_of Second r else is_bit r.pass j) (sym (and-true (1 == j)))
+passed-fourth true r j within few = written 1 j r.pass (tone_of Second r) (omega arith) within (omega arith)
+    ∙ ap (λ (b : Bool). if b then tone_of Second r else is_bit r.pass j) (sym (and-true (1 == j)))
 passed-fourth false r j within few = ap (λ (b : Bool). if b then tone_of Second r else is_bit r.pass j) (sym (and-false (1 == j)))
 
 passed-fourth-fits : (u : Bool) (r : PokeyValue) → r.pass < 4 → (underflow_effect u Fourth r).pass < 4

@@ -1,11 +1,8 @@
 -- The levels that a POKEY puts out: no write changes them at once, and each is at most 15.
-use Rattle.std.proofs.Common.{◌≡◌, ℕ, ◌≤◌, ◌/◌, ◌%◌, slice_set, ◌==◌, ◌||◌, nat_lt, if◌then◌else◌, Bool, true, false, refl, arith}
-use Rattle.bit_words.specs.Bits.{is_bit}
+use Rattle.std.proofs.Common.{◌≡◌, ℕ, ◌/◌, ◌%◌, slice_set, ◌==◌, nat_lt, if◌then◌else◌, Bool, true, false, refl}
 use Rattle.board_base.specs.Pokey.{PokeyValue}
-use Rattle.pokey_chip.specs.declared.control.TheConstants.{VOLUME_ONLY}
 use Rattle.pokey_chip.specs.declared.registers.TheConstants.{AUDCTL, IRQEN, POTGO, SKCTL, STIMER}
 use Rattle.pokey_chip.specs.Registers.{channel_written, register_written, requests_enabled, timers_started}
-use Rattle.pokey_chip.specs.Tick.{level_of}
 
 chosen-last : (test : Bool) (a b p : PokeyValue) → a.last ≡ p.last → b.last ≡ p.last → (if test then a else b).last ≡ p.last
 chosen-last true a b p e f = e
@@ -24,10 +21,3 @@ written-last reg value p =
     (chosen-last (reg == POTGO) (record p { pot = 0 }) _ p refl
     (chosen-last (reg == IRQEN) (requests_enabled value p) _ p refl
     (chosen-last (reg == SKCTL) (record p { skctl = value }) p p refl refl)))))
-
-chosen-low : (audc : ℕ) (test : Bool) → (if test then audc % 16 else 0) ≤ 15
-chosen-low audc true = omega arith
-chosen-low audc false = omega arith
-
-pub level-low : (audc : ℕ) (on : Bool) → level_of audc on ≤ 15
-level-low audc on = chosen-low audc (is_bit audc VOLUME_ONLY || on)

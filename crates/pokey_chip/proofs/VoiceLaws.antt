@@ -192,9 +192,10 @@ module _ (c : Channel) (j : ℕ) (p : PokeyValue) (v : Voice) (is : IsVoice c j 
   pub passes-on : (w : Voice) → IsPassed (suc j) v w → IsVoice c (suc j) p w
   unfolding pulses_of
   passes-on w passed =
-      let range : (1 ≤ (if has_pulse c (times pokey_tick j p) then (if nat_le (left_of c (times pokey_tick j p)) 1 then v.period else left_of c (times pokey_tick j p) - 1) else left_of c (times pokey_tick j p)))
-      × ((if has_pulse c (times pokey_tick j p) then (if nat_le (left_of c (times pokey_tick j p)) 1 then v.period else left_of c (times pokey_tick j p) - 1) else left_of c (times pokey_tick j p)) ≤ 65542)
-      = counted-range (has_pulse c (times pokey_tick j p)) (left_of c (times pokey_tick j p)) v.period is.some is.most is.timed.low is.timed.high in
+      let pulse : Bool = has_pulse c (times pokey_tick j p) in
+      let left : ℕ = left_of c (times pokey_tick j p) in
+      let next : ℕ = if pulse then (if nat_le left 1 then v.period else left - 1) else left in
+      let range : (1 ≤ next) × (next ≤ 65542) = counted-range pulse left v.period is.some is.most is.timed.low is.timed.high in
       let sum : left_of c (times pokey_tick (suc j) p) + (pulses_of c j p + from_bool (has_pulse c (times pokey_tick j p)))
       ≡ (if underflows (base_pulses (times pokey_tick j p)) (times pokey_tick j p) c then pulse_of v + v.period else pulse_of v)
       = rw (left-then, underflow-is (base_pulses (times pokey_tick j p)) (times pokey_tick j p) c)

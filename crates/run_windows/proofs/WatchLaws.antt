@@ -1,5 +1,5 @@
 -- A run in windows, of which an observer takes each, is to any observer what the whole run is.
-use Rattle.std.proofs.Common.{◌≡◌, ◌≢◌, ℕ, ◌+◌, ◌-◌, ◌≤◌, take, List, [], ◌++◌, Option, refl, sym, ap, ◌∙◌, arith, append-nil, append_assoc}
+use Rattle.std.proofs.Common.{◌≡◌, ◌≢◌, ℕ, ◌+◌, ◌-◌, ◌≤◌, take, List, [], ◌++◌, Option, refl, sym, ap, ◌∙◌, arith, append_assoc}
 use Rattle.tape_ports.specs.declared.entry.TapeEntry.{TapeEntry}
 use Rattle.outside_io.specs.Known.{grown}
 use Rattle.outside_io.proofs.KnownLaws.{grown-nothing, grown-twice}
@@ -21,7 +21,7 @@ use Rattle.lockstep_board.proofs.Wraps.{wrap-counted}
 use Rattle.run_windows.specs.declared.until.Until.{Until}
 use Rattle.run_windows.specs.declared.until.Until.TheVariants.{Clock, Boundary}
 use Rattle.run_windows.specs.Synced.{IsSynced}
-use Rattle.run_windows.specs.RecordObserver.{IsTakenInParts, TakesInParts, joined, recorded}
+use Rattle.run_windows.specs.RecordObserver.{IsTakenInParts, TakesInParts, recorded}
 use Rattle.run_windows.specs.Windows.{EndsSo, IsFirstWindow, clock_in, end_of, price_to, steps_to, window_end, window_price, window_steps}
 
 -- what doesn't look at records is the same of a board whose records are forgotten
@@ -30,10 +30,6 @@ from-behind f law b = sym (law (records_of b) (cleared b)) ∙ ap f (behind-clea
 
 no_records : Recorded
 no_records = recorded [] [] [] []
-
-joined-none : (l : Recorded) → joined l no_records ≡ l
-unfolding no_records
-joined-none l = rw (append-nil l.strokes, append-nil l.levels1, append-nil l.levels2, append-nil l.written) refl
 
 -- no records are records in order
 made-none : (b : Board) → HasNoRecords b → AreMadeBetween b.peripherals.clock (records_of b) b.peripherals.clock

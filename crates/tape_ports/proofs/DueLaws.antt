@@ -51,7 +51,8 @@ module _ {X : Type 0} (n : X → ℕ) where
             let gap : Prim.Native.Nat.suc (below (t + 1) xs) - Prim.Native.Nat.suc (below t xs) ≡ below (t + 1) xs - below t xs = omega arith in
             rw (other, below-yes t x xs low, below-yes (t + 1) x xs (omega arith), gap) rest
         | inr high ↦
-            let none : below t (x ∷ xs) ≡ 0 = below-none t (x ∷ xs) (All-cons (λ y. t ≤ n y) x xs high (λ k d inside. let up : n x ≤ n (get_or xs k d) = later n x xs rising k d inside in omega arith)) in
+            let none : below t (x ∷ xs) ≡ 0
+            = below-none t (x ∷ xs) (All-cons (λ y. t ≤ n y) x xs high (λ k d inside. let up : n x ≤ n (get_or xs k d) = later n x xs rising k d inside in omega arith)) in
             let none_later : below t xs ≡ 0 = below-none t xs (λ k d inside. let up : n x ≤ n (get_or xs k d) = later n x xs rising k d inside in omega arith) in
             elim (cases_lt t (n x)) [
               | inl above ↦

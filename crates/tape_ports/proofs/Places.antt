@@ -38,7 +38,13 @@ parts_from_point {X} n t xs i within point =
       within = within;
       below = λ k d inside. ltb-true (n (get_or (take i xs) k d)) t (pass k d inside);
       above = λ k d inside. ltb-false (n (get_or (drop i xs) k d)) t (fail k d inside);
-      count = omega (arith, sum_by-take-drop (λ x. cond (ltb (n x) t) 1 0) xs i, count_by-all (λ x. ltb (n x) t) (take i xs) pass, count_by-none (λ x. ltb (n x) t) (drop i xs) fail, length-take-le i xs within);
+      count = omega (
+        arith,
+        sum_by-take-drop (λ x. cond (ltb (n x) t) 1 0) xs i,
+        count_by-all (λ x. ltb (n x) t) (take i xs) pass,
+        count_by-none (λ x. ltb (n x) t) (drop i xs) fail,
+        length-take-le i xs within,
+      );
     }
 
 pub ruleset places = (parts_from_point)

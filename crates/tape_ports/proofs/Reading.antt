@@ -53,7 +53,8 @@ module _ (text : List ℕ) (entries : List TapeEntry) (line before : ℕ) (rest 
         sym (with_front-push entries entry (tape_from (line + 1) entry.clock (lines_of after))) ∙ ap (with_front entries) (sym step) ∙ so_far.tape;
     number = omega (arith, so_far.number, shorter);
     rising = IsNonDecreasingBy-push (λ e. e.clock) entries entry so_far.rising (λ d some. omega (arith, so_far.within (length entries - 1) d (omega arith), good.0));
-    within = All-push (λ e. e.clock ≤ entry.clock) entries entry (All-weaker (λ e. e.clock ≤ before) (λ e. e.clock ≤ entry.clock) (λ other low. omega (arith, low, good.0)) entries so_far.within) (omega arith);
+    within = All-push (λ e. e.clock ≤ entry.clock) entries entry
+        (All-weaker (λ e. e.clock ≤ before) (λ e. e.clock ≤ entry.clock) (λ other low. omega (arith, low, good.0)) entries so_far.within) (omega arith);
     range = good.1;
     ports = All-push (λ e. IsPort e.port) entries entry so_far.ports good.2;
   }

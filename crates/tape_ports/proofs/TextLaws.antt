@@ -202,7 +202,8 @@ one_line_more before line lines entry later is rises (are, above) = (
     end = are.end;
     clocks = AllPairs-cons (λ earlier later. earlier ≤ later) entry.clock (clocks_of later) above are.clocks;
   },
-  All-cons (λ clock. before ≤ clock) entry.clock (clocks_of later) rises (All-weaker (λ clock. entry.clock ≤ clock) (λ clock. before ≤ clock) (λ clock high. omega (arith, rises, high)) (clocks_of later) above),
+  All-cons (λ clock. before ≤ clock) entry.clock (clocks_of later) rises
+      (All-weaker (λ clock. entry.clock ≤ clock) (λ clock. before ≤ clock) (λ clock high. omega (arith, rises, high)) (clocks_of later) above),
 )
 
 -- the END line alone

@@ -109,7 +109,7 @@ vectors-there seed k within =
     let addr : 65530 + k ≡ 36864 + (28666 + k) = omega arith in
     let place : 14336 + (28666 + k) ≡ 14336 + 28666 + k = omega arith in
     byte_of-place (image_of seed) (65530 + k) (14336 + 28666 + k) (ap (λ a. offset_of a) addr ∙ offset_of-program (28666 + k) (omega arith) ∙ ap (λ n. Some n) place)
-    ∙ ap (λ b. Some b) (get-last 14336 28666 (flat_map bytes_of (words_of seed)) program interrupt_vectors k (omega (arith, length-bytes (words_of seed), word-room seed)) (omega (arith, length-program)))
+    ∙ ap Some (get-last 14336 28666 (flat_map bytes_of (words_of seed)) program interrupt_vectors k (omega (arith, length-bytes (words_of seed), word-room seed)) (omega (arith, length-program)))
 
 pub words-behind : (seed addr : ℕ) → 10866 ≤ addr → addr < 24576 → byte_of (image_of seed) addr ≡ Some 0
 words-behind seed addr low high =

@@ -1,5 +1,6 @@
 -- Bytes that are put into an image, and the image that they make.
-use Rattle.std.proofs.Common.{◌≡◌, ℕ, ◌+◌, ◌-◌, ◌*◌, ◌<◌, ◌≤◌, List, [], ◌∷◌, ◌++◌, Some, length, get_or, drop, replicate, slice_set, refl, sym, ap, ◌∙◌, lit≤, add-one, drop-cons, length-append, append_assoc, arith}
+use Rattle.std.proofs.Common.{◌≡◌, ℕ, ◌+◌, ◌-◌, ◌*◌, ◌<◌, ◌≤◌, List, [], ◌∷◌, ◌++◌, Some, length, get_or, drop, replicate, slice_set}
+use Rattle.std.proofs.Common.{refl, sym, ap, ◌∙◌, lit≤, add-one, drop-cons, length-append, append_assoc, arith}
 use Rattle.std.proofs.Math.Seq.{drop-append-add, sets, take-append_seam}
 use Rattle.std.proofs.lemmas.List.{append-nil, drop-replicate, drop_all, length-replicate, replicate-append-replicate}
 use Rattle.std.proofs.lemmas.List.Edits.{sets-eq}

@@ -70,7 +70,8 @@ choices_before-next k =
     ∙ ap (λ some. flat_map choices_at (range_with_len 0 k) ++ some) (append-nil (choices_at k)))
 
 -- the words with one vector more
-pub drawn_words-next : (k number : ℕ) → drawn_words number (choices_before k) ++ drawn_words (number_after number (length (choices_before k))) (choices_at k) ≡ drawn_words number (choices_before (k + 1))
+pub drawn_words-next : (k number : ℕ)
+    → drawn_words number (choices_before k) ++ drawn_words (number_after number (length (choices_before k))) (choices_at k) ≡ drawn_words number (choices_before (k + 1))
 drawn_words-next k number =
     sym (drawn_words-append (choices_before k) (choices_at k) number) ∙ ap (λ some. drawn_words number some) (sym (choices_before-next k))
 

@@ -14,17 +14,13 @@ pub returns-in_err-look_at_text-clause-known : goal.returns-in_err-look_at_text-
 returns-in_err-look_at_text-clause-known g c =
     let p = err_from_is_err_and c.from_residual-in_err-look_at_text.result c.from_residual-in_err-look_at_text.ensures.1 in
     rw (p.1, p.2)
-    (looked-fault g.D.Dialect.language c.args.rom c.lines.number (known_of c.lines.pass) at_the_start c.split_line.result.0.now (lines_with_ends c.split_line.result.1.now) (lines_with_ends c.lines.rest.now) (lines_with_ends c.args.text.now)
-    c.in_err-look_at_text.field-0.0 c.split_line.ensures.lines c.lines.invariant.known c.in_err-look_at_text.ensures.exact)
+    (looked-fault g.D.Dialect.language c.args.rom c.lines.number (known_of c.lines.pass) at_the_start _ _ _ _ _ c.split_line.ensures.lines c.lines.invariant.known c.in_err-look_at_text.ensures.exact)
 
 pub lines-preserved : goal.lines-preserved
 lines-preserved g c =
     let whole = ap length c.split_line.ensures.whole in
     record {
-      known =
-          sym (looked-next g.D.Dialect.language c.args.rom c.lines.number (known_of c.lines.pass) (known_of c.look_at_text.new.pass) c.split_line.result.0.now (lines_with_ends c.split_line.result.1.now) (lines_with_ends c.lines.rest.now)
-          c.split_line.ensures.lines c.in_ok-look_at_text.ensures.exact)
-          ∙ c.lines.invariant.known;
+      known = sym (looked-next g.D.Dialect.language c.args.rom c.lines.number _ _ _ _ _ c.split_line.ensures.lines c.in_ok-look_at_text.ensures.exact) ∙ c.lines.invariant.known;
       pass = c.in_ok-look_at_text.ensures.pass;
       number = omega (arith, length-append c.split_line.result.0.now c.split_line.result.1.now, whole, c.split_line.ensures.some, c.lines.invariant.number);
     }

@@ -14,13 +14,13 @@ returns-in-Err c =
     let given : words_read c.args.number c.args.text.now ≡ Err (Line c.args.number c.in-Err.cause) =
     words-checked c.args.number c.args.text.now c.code_of-code.result.now c.code_of-code.ensures.code
     ∙ sym (c.pieces.invariant (Ok (words_in c.code_of-code.result.now)))
-    ∙ checked-bad c.args.number c.split_piece.result.0.now (pieces_of c.split_piece.result.1.now) (pieces_of c.pieces.rest.now) (Ok (words_in c.code_of-code.result.now)) c.in-Err.cause c.split_piece.ensures.pieces bad in
+    ∙ checked-bad c.args.number _ _ _ (Ok (words_in c.code_of-code.result.now)) c.in-Err.cause c.split_piece.ensures.pieces bad in
     record { words = rw c.at_line.ensures given }
 
 pub pieces-preserved : goal.pieces-preserved
 pieces-preserved c = λ rest.
     let good : Ok c.in_default.field-0 ≡ kind_of c.split_piece.result.0.now = cc in
-    sym (checked-good c.args.number c.split_piece.result.0.now (pieces_of c.split_piece.result.1.now) (pieces_of c.pieces.rest.now) rest c.in_default.field-0 c.split_piece.ensures.pieces good)
+    sym (checked-good c.args.number _ _ _ rest c.in_default.field-0 c.split_piece.ensures.pieces good)
     ∙ c.pieces.invariant rest
 
 pub returns : goal.returns

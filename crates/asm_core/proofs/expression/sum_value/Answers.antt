@@ -17,7 +17,8 @@ loop-term-preserved c =
     let value : to_z w128 (of_z w128 c.in_ok-value.value) ≡ c.in_ok-value.value = to_z-of_z {w = w128} (omega (arith, c.in_ok-value.ensures.small)) in
     record {
       sum =
-          ap (λ sum. sum_value c.args.names.now sum (drop (c.loop-term.term-index + 1) c.args.terms.now)) (same ∙ c.summed-sum.ensures.sum ∙ ap (λ v. summed c.term-item.result.negative (to_z w128 c.loop-term.sum-bits) v) value)
+          ap (λ sum. sum_value c.args.names.now sum (drop (c.loop-term.term-index + 1) c.args.terms.now))
+          (same ∙ c.summed-sum.ensures.sum ∙ ap (summed c.term-item.result.negative (to_z w128 c.loop-term.sum-bits)) value)
           ∙ sym (sum-next _ _ _ c.args.terms.now c.loop-term.term-index c.term-item.result c.loop-term-test.true c.term-item.is c.in_ok-value.ensures.value)
           ∙ c.loop-term.invariant.sum;
       small = rw same (omega (arith, c.summed-sum.ensures.small, c.loop-term.invariant.small));

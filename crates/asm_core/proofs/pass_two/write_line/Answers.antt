@@ -1,21 +1,19 @@
 use Rattle.std.proofs.Common.{◌≡◌, ◌∙◌, true, false, Ok, sym, ap}
-use Rattle.asm_text.specs.declared.fault.AsmCause.TheVariants.{OutOfRange, UnknownName}
 use Rattle.asm_core.specs.Cells.{all_fine, all_known, cells_bytes}
-use Rattle.asm_core.specs.Images.{line_written, with_bytes}
+use Rattle.asm_core.specs.Images.{with_bytes}
 use Rattle.asm_core.proofs.Putting.{fault-given, line-refused, line-unknown, line-written}
 use Rattle.asm_core.proofs.pass_two.write_line.Goals as goal
 
 pub returns-then-not-all_known : goal.returns-then-not-all_known
 returns-then-not-all_known c =
     let unknown : all_known c.args.names.now c.args.placed.now.cells ≡ false = ap (λ cells. all_known c.args.names.now cells) (sym c.items-cells.ensures) ∙ sym c.if-not-all_known.ensures in
-    fault-given c.at_line.result c.args.placed.now.line UnknownName (line_written c.args.names.now c.args.image.now c.args.placed.now) c.at_line.ensures (line-unknown c.args.names.now c.args.image.now c.args.placed.now unknown)
+    fault-given _ _ _ _ c.at_line.ensures (line-unknown c.args.names.now c.args.image.now c.args.placed.now unknown)
 
 pub returns-then-not-all_fine : goal.returns-then-not-all_fine
 returns-then-not-all_fine c =
     let known : all_known c.args.names.now c.args.placed.now.cells ≡ true = ap (λ cells. all_known c.args.names.now cells) (sym c.items-cells.ensures) ∙ sym c.if-not-all_known.ensures in
     let bad : all_fine c.args.names.now c.args.placed.now.cells ≡ false = ap (λ cells. all_fine c.args.names.now cells) (sym c.items-cells.ensures) ∙ sym c.if-not-all_fine.ensures in
-    fault-given c.at_line-then-not-all_fine.result c.args.placed.now.line OutOfRange (line_written c.args.names.now c.args.image.now c.args.placed.now) c.at_line-then-not-all_fine.ensures
-    (line-refused c.args.names.now c.args.image.now c.args.placed.now known bad)
+    fault-given _ _ _ _ c.at_line-then-not-all_fine.ensures (line-refused c.args.names.now c.args.image.now c.args.placed.now known bad)
 
 pub returns : goal.returns
 returns c =

@@ -31,4 +31,4 @@ pub returns : goal.returns
 returns c =
     ap (λ written. then_on (λ after. Ok (after, map (λ placed. listed placed) c.args.lines.now)) written)
     (sym c.lines.invariant.image ∙ lines-over c.args.names.now c.args.lines.now c.lines.placed-index c.lines.image c.lines-test.false)
-    ∙ ap (λ listing. Ok (c.lines.image, listing)) (sym (c.lines.invariant.listing ∙ ap (λ lines. map (λ placed. listed placed) lines) (take_all c.lines.placed-index c.args.lines.now c.lines-test.false)))
+    ∙ ap (λ listing. Ok (c.lines.image, listing)) (sym (c.lines.invariant.listing ∙ ap (map (λ placed. listed placed)) (take_all c.lines.placed-index c.args.lines.now c.lines-test.false)))

@@ -5,8 +5,8 @@ use Rattle.command_line.proofs.number.read_cuts.Goals as goal
 
 pub returns-then-not-is_sorted : goal.returns-then-not-is_sorted
 returns-then-not-is_sorted c =
-    cuts_refused c.args.word.now c.in_ok-cuts.cuts.items c.is_sorted.result (sym c.in_ok-cuts.ensures.clocks) (rw (← c.as_slice.ensures.value) (non_decreasing_from_is_sorted c.as_slice.result.now c.is_sorted.result c.is_sorted.ensures.cases)) (cc)
+    cuts_refused c.args.word.now _ c.is_sorted.result (sym c.in_ok-cuts.ensures.clocks) (rw (← c.as_slice.ensures.value) (non_decreasing_from_is_sorted _ _ c.is_sorted.ensures.cases)) (cc)
 
 pub returns : goal.returns
 returns c =
-    cuts_taken c.args.word.now c.in_ok-cuts.cuts.items c.is_sorted.result (sym c.in_ok-cuts.ensures.clocks) (rw (← c.as_slice.ensures.value) (non_decreasing_from_is_sorted c.as_slice.result.now c.is_sorted.result c.is_sorted.ensures.cases)) (cc)
+    cuts_taken c.args.word.now _ c.is_sorted.result (sym c.in_ok-cuts.ensures.clocks) (rw (← c.as_slice.ensures.value) (non_decreasing_from_is_sorted _ _ c.is_sorted.ensures.cases)) (cc)

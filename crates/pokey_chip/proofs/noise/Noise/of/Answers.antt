@@ -13,6 +13,7 @@ returns-clause-noise c =
     = word-begun c.long_poly.result (long_register c.args.state.now) c.long_register.result c.ahead-3.result c.long_register.ensures.value c.ahead-3.ensures.ahead c.ahead-3.ensures.start in
     record {
       four = λ _. word-begun Four c.args.state.now.poly4 c.from.result c.ahead.result (c.from.ensures ∙ ap (λ (q : PokeyValue). q.poly4) c.state.view_is) c.ahead.ensures.ahead c.ahead.ensures.start;
-      five = λ _. word-begun Five c.args.state.now.poly5 c.from-2.result c.ahead-2.result (c.from-2.ensures ∙ ap (λ (q : PokeyValue). q.poly5) c.state.view_is) c.ahead-2.ensures.ahead c.ahead-2.ensures.start;
+      five = λ _. word-begun Five c.args.state.now.poly5 c.from-2.result c.ahead-2.result (c.from-2.ensures ∙ ap (λ (q : PokeyValue). q.poly5) c.state.view_is)
+          c.ahead-2.ensures.ahead c.ahead-2.ensures.start;
       long = λ _. rw poly at long;
     }
