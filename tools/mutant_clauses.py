@@ -88,7 +88,8 @@ def words_of(goal: str, function: str) -> str:
         name = clause.group(1) + " " if clause else ""
         return "the clause %sof %s" % (name, function)
     if re.match(LOOP, goal):
-        return "the loop of %s" % function
+        part = "measure" if "-smaller" in goal else "invariant"
+        return "the %s of the loop in %s" % (part, function)
     if goal.startswith("overflow"):
         return "the arithmetic of %s" % function
     return "the invariant of a value in %s" % function

@@ -59,7 +59,13 @@ class Clauses(unittest.TestCase):
     def test_a_loop_with_and_without_a_label(self) -> None:
         for goal in ("loop-n-preserved", "lines-preserved-then-eq", "vectors-init"):
             message = "note: src/engine.rt:6:9: it is not proved that the loop keeps (`%s`)" % goal
-            self.assertEqual(self.header(message), "# refused at the loop of Engine::run")
+            told = "# refused at the invariant of the loop in Engine::run"
+            self.assertEqual(self.header(message), told)
+
+    def test_a_loop_that_never_ends(self) -> None:
+        message = "note: src/engine.rt:6:9: it is not proved that it ends (`loop-n-smaller`)"
+        told = "# refused at the measure of the loop in Engine::run"
+        self.assertEqual(self.header(message), told)
 
     def test_a_lost_name_is_wrong(self) -> None:
         self.edit("a", "# refused at the clause calls of Engine::run\n")
