@@ -13,7 +13,7 @@ use Rattle.board_base.specs.declared.part.Part.TheVariants.{Generator}
 use Rattle.board_base.specs.declared.record.Record.{Record}
 use Rattle.board_base.specs.declared.record.Record.TheVariants.{Stroke, Levels, Latch, WatchdogReset}
 use Rattle.board_base.specs.Records.{clock_of, Makes}
-use Rattle.board_map.specs.Map.{address_map, region_at, region_of, row_of}
+use Rattle.board_map.specs.Map.{address_map, row_of}
 use Rattle.board_map.proofs.Rows.{passing}
 use Rattle.frame_list.specs.Events.{Event, stroke_of, mark_at, is_go, through, by_clock}
 use Rattle.frame_list.specs.Frames.{FrameValue, begun, counted, under_way, ended, frame_text, frames_text, frames_of, EachStrokeInOneFrame, IsBefore, PartsMakeTheWhole}
@@ -125,6 +125,6 @@ pub not_there : (addr : ℕ) → addr ≢ 0x8840 → nat_le 0x8840 addr && nat_l
 not_there addr other = grind (arith, leb_tells)
 
 -- no other address starts the generator
-pub starts_elsewhere : (addr : ℕ) → addr ≢ 0x8840 → is_go (region_of addr) ≡ false
+pub starts_elsewhere : (addr : ℕ) → addr ≢ 0x8840 → is_go (row_of addr).writes ≡ false
 unfolding row_of
-starts_elsewhere addr other = passing (λ row. is_go (region_at row)) refl address_map 0 addr refl ∙ rw (not_there addr other) refl
+starts_elsewhere addr other = passing (λ row. is_go row.writes) refl address_map 0 addr refl ∙ rw (not_there addr other) refl

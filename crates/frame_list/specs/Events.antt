@@ -4,9 +4,9 @@ use Rattle.std.specs.Prelude.{ℕ, List, [], ◌∷◌, ◌++◌, Bool, true, fa
 use Rattle.std.specs.List.{filter_map, prefix_len}
 use Rattle.board_base.specs.declared.record.Record.{Record}
 use Rattle.board_base.specs.Records.{clock_of}
-use Rattle.board_map.specs.declared.map.Region.{Region}
-use Rattle.board_map.specs.declared.map.Region.TheVariants as region
-use Rattle.board_map.specs.Map.{region_of}
+use Rattle.board_map.specs.declared.map.Writes.{Writes}
+use Rattle.board_map.specs.declared.map.Writes.TheVariants as writes
+use Rattle.board_map.specs.Map.{row_of}
 use Rattle.catchup_engine.specs.declared.trace.Access.{Access}
 use Rattle.catchup_engine.specs.Trace.{TraceValue}
 
@@ -15,14 +15,14 @@ pub data Event : Type 0 where
   stroke_of : Record → Event
   mark_at : ℕ → Event
 
--- the address starts the generator
-abbrev pub is_go : Region → Bool
-is_go region.Go = true
+-- what a write does starts the generator
+abbrev pub is_go : Writes → Bool
+is_go writes.Go = true
 is_go _ = false
 
 -- a write that starts the generator; a read there doesn't
 abbrev pub starts_generator : Access → Bool
-starts_generator access = access.write && is_go (region_of access.addr)
+starts_generator access = access.write && is_go (row_of access.addr).writes
 
 -- the clock of an access, where it is such a write
 abbrev pub mark_of : Access → Option ℕ

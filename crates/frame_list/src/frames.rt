@@ -9,7 +9,7 @@ ghost use Rattle.frame_list.specs.Events.{by_clock, marks_in, marks_of, stroke_o
 use crate::frame::{Bounds, Point};
 use arrayvec::ArrayVec;
 use board_base::{Record, Trails};
-use board_map::{Region, region};
+use board_map::{Writes, row};
 use catchup_engine::{Access, Trace};
 use outside_io::{Sink, SinkFault};
 use std::marker::Model;
@@ -39,7 +39,7 @@ impl Model for Frames {
 fn starts(access: &Access) -> bool
     ensures { result ≡ starts_generator access.now }
 {
-    access.write && matches!(region(access.addr), Region::Go)
+    access.write && matches!(row(access.addr).writes, Writes::Go)
 }
 
 /// Whether one of these accesses is such a write.

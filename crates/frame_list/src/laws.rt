@@ -1,7 +1,7 @@
 //! What holds of all frames. Each is the contract of a function that does nothing.
 ghost use Rattle.std.specs.Prelude.{◌≡◌, ◌≢◌, ℕ, List, true, false, None};
 ghost use Rattle.board_base.specs.declared.record.Record.{Record};
-ghost use Rattle.board_map.specs.Map.{region_of};
+ghost use Rattle.board_map.specs.Map.{row_of};
 ghost use Rattle.catchup_engine.specs.declared.trace.Access.{Access};
 ghost use Rattle.frame_list.specs.Events.{is_go, mark_of};
 ghost use Rattle.frame_list.specs.Extents.{FramesCountStrokes};
@@ -25,8 +25,8 @@ pub fn parts_make_the_whole()
 /// The writes that start the generator are those of address 8840; no read does.
 #[tactic(auto, using(crate::proofs::WholeLaws::starts_elsewhere), unfolding(board_map::specs::Map::row_of))]
 pub fn marks_are_writes_of_8840()
-    ensures write { is_go (region_of 0x8840) ≡ true }
-    ensures others { (addr : ℕ) → addr ≢ 0x8840 → is_go (region_of addr) ≡ false }
+    ensures write { is_go (row_of 0x8840).writes ≡ true }
+    ensures others { (addr : ℕ) → addr ≢ 0x8840 → is_go (row_of addr).writes ≡ false }
     ensures reads { (access : Access) → access.write ≡ false → mark_of access ≡ None }
 {}
 

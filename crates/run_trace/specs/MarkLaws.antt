@@ -5,11 +5,9 @@ use Rattle.std.specs.Prelude.{All, if◌then◌else◌}
 use Rattle.std.specs.List.{list_any}
 use Rattle.std.proofs.lemmas.List.Elements.{All-nil, All-cons, All-append, All-weaker, filter_map-append}
 use Rattle.std.proofs.lemmas.Bool.{and_parts}
-use Rattle.board_map.specs.declared.map.Reads.{Reads}
-use Rattle.board_map.specs.declared.map.Reads.TheVariants as reads
 use Rattle.board_map.specs.declared.map.Writes.{Writes}
 use Rattle.board_map.specs.declared.map.Writes.TheVariants as writes
-use Rattle.board_map.specs.Map.{region_by, region_of, row_of, written_region}
+use Rattle.board_map.specs.Map.{row_of}
 use Rattle.lockstep_board.specs.Budget.{reaches_device, writes_device}
 use Rattle.catchup_engine.specs.Notes.{reaching}
 use Rattle.cpu_core.specs.BusCycles as cycles
@@ -165,39 +163,24 @@ run_marks-cleared entries limit b =
     sym (run_marks-behind entries limit (records_of b) (cleared b)) ∙ ap (run_marks entries limit) (behind-cleared b)
 
 -- a write that starts the generator reaches a device
-go-written : (offset : ℕ) (write : Writes) → is_go (written_region offset write) ≡ true → writes_device write ≡ true
-go-written offset writes.Ram is = cc
-go-written offset writes.VectorRam is = refl
-go-written offset writes.Sound1 is = refl
-go-written offset writes.Sound2 is = refl
-go-written offset writes.OutputLatch is = cc
-go-written offset writes.Go is = refl
-go-written offset writes.VgReset is = refl
-go-written offset writes.Acknowledge is = refl
-go-written offset writes.EaromControl is = refl
-go-written offset writes.EaromLatch is = refl
-go-written offset writes.WatchdogClear is = refl
-go-written offset writes.Ignored is = cc
-
-go-reaches : (offset : ℕ) (read : Reads) (write : Writes) → is_go (region_by offset read write) ≡ true → writes_device write ≡ true
-go-reaches offset reads.Ram write is = cc
-go-reaches offset reads.VectorRam write is = cc
-go-reaches offset reads.VectorRom write is = cc
-go-reaches offset reads.ProgramRom write is = cc
-go-reaches offset reads.Sound1 write is = cc
-go-reaches offset reads.Sound2 write is = cc
-go-reaches offset reads.EaromOut write is = cc
-go-reaches offset reads.In0 write is = cc
-go-reaches offset reads.In3 write is = cc
-go-reaches offset reads.In4 write is = cc
-go-reaches offset reads.Open write is = go-written offset write is
+go-written : (write : Writes) → is_go write ≡ true → writes_device write ≡ true
+go-written writes.Go is = refl
+go-written writes.Ram is = cc
+go-written writes.VectorRam is = refl
+go-written writes.Sound1 is = refl
+go-written writes.Sound2 is = refl
+go-written writes.OutputLatch is = cc
+go-written writes.VgReset is = refl
+go-written writes.Acknowledge is = refl
+go-written writes.EaromControl is = refl
+go-written writes.EaromLatch is = refl
+go-written writes.WatchdogClear is = refl
+go-written writes.Ignored is = cc
 
 starts-reaches : (access : Access) → starts_generator access ≡ true → reaches_device (made_of access) ≡ true
 unfolding reaches_device
 starts-reaches access is =
-    let both = and_parts access.write (is_go (region_of access.addr)) is in
-    let row = row_of access.addr in
-    rw both.0 (go-reaches row.offset row.reads row.writes both.1)
+    let both = and_parts access.write (is_go (row_of access.addr).writes) is in rw both.0 (go-written (row_of access.addr).writes both.1)
 
 -- so that one which reaches none doesn't start it
 reaches-none : (access : Access) (t : Bool) → starts_generator access ≡ t → reaches_device (made_of access) ≡ false → starts_generator access ≡ false
