@@ -209,7 +209,22 @@ async function debugs(it) {
     await it.run("page.workshop.moves.act('back_picture')");
     holds(await at() < stop, 'a picture back');
     await says_who(it, 'who', 'nose', /^nose was written last by .* stays$/);
+    await watches_sixteen(it);
     rmSync(tape);
+}
+// Sixteen bytes are watched at most, and a byte that is watched is no new one.
+async function watches_sixteen(it) {
+    const watch = address => it.run(
+        `$('watch').value = '0${address.toString(16)}'; page.workshop.moves.act('watch')`);
+    const watched = () => it.browser.evaluate('page.workshop.stops.watches.length');
+    await it.run("page.say('')");
+    for (let n = 0; n < 16; n++) await watch(0x740 + n);
+    await watch(0x740);
+    equal(await watched(), 16, 'the bytes that are watched');
+    equal(await it.get('message'), '', 'what is said of them');
+    await watch(0x750);
+    equal(await watched(), 16, 'the bytes that are watched after one too many');
+    equal(await it.get('message'), '16 bytes are watched already.', 'what is said of one too many');
 }
 // The clock that is named is that of the board that is shown: the instruction's first.
 async function says_who(it, what, name, pattern) {
