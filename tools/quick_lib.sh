@@ -18,7 +18,7 @@ sed -e '/^\/\/!/d' -e '/^#!\[tactic/d' lib.rt >exports.rt
     }' "../../../$main"
     cat <<'END'
 
-use board_calls::GravitarReport;
+use run_stretch::calls::GravitarReport;
 use exports::{
     gravitar_advance, gravitar_assemble, gravitar_command, gravitar_pcm, gravitar_power_on,
     gravitar_records, gravitar_version,

@@ -1,7 +1,7 @@
 -- The pieces of an answer, one after the other.
 use Rattle.std.proofs.Common.{◌≡◌, ◌≢◌, ℕ, ◌+◌, ◌^◌, ◌<◌, ◌≤◌, inl, List, [], ◌++◌, length, refl, ◌∙◌, ap, subst, append_assoc, arith}
-use Rattle.board_calls.specs.Answers.{Call, call_of, put_in, report_of}
-use Rattle.board_calls.specs.declared.report.GravitarReport.{GravitarReport}
+use Rattle.run_stretch.specs.Answers.{Call, call_of, put_in, report_of}
+use Rattle.run_stretch.specs.declared.calls.report.GravitarReport.{GravitarReport}
 use Rattle.command_calls.specs.Bytes.{number_bytes}
 use Rattle.outside_io.specs.Events.{stores_of, text_of}
 use Rattle.outside_io.specs.Shelf.{Kept}

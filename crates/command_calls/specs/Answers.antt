@@ -3,9 +3,9 @@ use Rattle.std.specs.Prelude.{◌≡◌, ◌≢◌, ◌≤◌, ◌<◌, ◌⊎�
 use Rattle.outside_io.specs.Events.{stores_of, text_of}
 use Rattle.outside_io.specs.Shelf.{Kept}
 use Rattle.gravitar_commands.specs.Outcome.{Outcome}
-use Rattle.board_calls.specs.Answers.{Call, Refuses, put_in, report_of}
-use Rattle.board_calls.specs.Statuses.{number_of}
-use Rattle.board_calls.specs.declared.report.Status.TheVariants.{Done, NoRoom}
+use Rattle.run_stretch.specs.Answers.{Call, Refuses, put_in, report_of}
+use Rattle.run_stretch.specs.Statuses.{number_of}
+use Rattle.run_stretch.specs.declared.calls.report.Status.TheVariants.{Done, NoRoom}
 use Rattle.command_calls.specs.Bytes.{all_named, number_bytes}
 use Rattle.command_calls.specs.Counted.{counted}
 

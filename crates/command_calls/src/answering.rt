@@ -2,9 +2,9 @@
 ghost use Rattle.std.specs.Prelude.{◌≡◌, ◌≢◌, ◌+◌, ◌-◌, ◌≤◌, ◌++◌, ℕ, List, [], Ok, Err, Some, false, length};
 ghost use Rattle.outside_io.specs.Content.{content_of};
 ghost use Rattle.gravitar_commands.specs.Outcome.{Comes};
-ghost use Rattle.board_calls.specs.Answers.{Refuses, call_of, put_in, report_of};
-ghost use Rattle.board_calls.specs.Statuses.{number_of};
-ghost use Rattle.board_calls.specs.declared.report.Status.TheVariants.{BadRequest, NoMemory};
+ghost use Rattle.run_stretch.specs.Answers.{Refuses, call_of, put_in, report_of};
+ghost use Rattle.run_stretch.specs.Statuses.{number_of};
+ghost use Rattle.run_stretch.specs.declared.calls.report.Status.TheVariants.{BadRequest, NoMemory};
 ghost use Rattle.command_calls.specs.Answers.{AnswersCommand, AnswersWith, IsFilled, answer_of, laid_out};
 ghost use Rattle.command_calls.specs.Bytes.{number_bytes};
 ghost use Rattle.command_calls.specs.Counted.{counted};
@@ -14,8 +14,8 @@ use crate::counted_text::CountedText;
 use crate::performing::perform;
 use crate::reading::{RequestFault, read_request};
 use crate::request_shelf::RequestShelf;
-use board_calls::{GravitarReport, Status, report_number};
 use gravitar_commands::Words;
+use run_stretch::calls::{GravitarReport, Status, report_number};
 use std::alloc::Global;
 
 /// How many bytes an answer begins with: its status, and the lengths of its text, its note and its

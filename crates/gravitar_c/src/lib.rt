@@ -1,5 +1,5 @@
-//! The board for other languages: a static library that exports the calls of `board_calls`.
-//! `include/gravitar.h` at the top has them for C.
+//! The board for other languages: a static library that exports the calls of `run_stretch` and of
+//! `command_calls`. `include/gravitar.h` at the top has them for C.
 #![tactic(auto)]
 
 ghost use Rattle.std.specs.Prelude.{◌≡◌, ◌≢◌, ◌-◌, ◌≤◌, ◌<◌, ◌⊎◌, ℕ, [], Err, Ok, Some, length};
@@ -10,15 +10,15 @@ ghost use Rattle.save_state.specs.StateBytes.{state_bytes};
 ghost use Rattle.save_state.specs.declared.TheConstants.{STATE_LEN};
 ghost use Rattle.sound_pcm.specs.declared.mixer.TheConstants.{MAX_PER};
 ghost use Rattle.run_stretch.specs.Stretches.{IsAdvanced, IsRecorded, IsSampled};
-ghost use Rattle.board_calls.specs.Answers.{AnswersOver, AnswersSources, Refuses, call_of, end_asked, is_asked, put_in, report_of};
-ghost use Rattle.board_calls.specs.Statuses.{number_of};
-ghost use Rattle.board_calls.specs.declared.report.Status.TheVariants.{BadNumber, BadRequest, Done, NoMemory, NoRoom};
+ghost use Rattle.run_stretch.specs.Answers.{AnswersOver, AnswersSources, Refuses, call_of, end_asked, is_asked, put_in, report_of};
+ghost use Rattle.run_stretch.specs.Statuses.{number_of};
+ghost use Rattle.run_stretch.specs.declared.calls.report.Status.TheVariants.{BadNumber, BadRequest, Done, NoMemory, NoRoom};
 ghost use Rattle.command_calls.specs.Answers.{AnswersCommand};
 ghost use Rattle.command_calls.specs.Requests.{Request, request_read};
 ghost use Rattle.gravitar_commands.specs.Outcome.{Comes};
 ghost use Rattle.outside_io.specs.Content.{content_of};
 
-use board_calls::GravitarReport;
+use run_stretch::calls::{self, GravitarReport};
 use std::alloc::Global;
 
 /// The version of these calls: another number where one of them changes.
@@ -26,7 +26,7 @@ use std::alloc::Global;
 pub extern "C" fn gravitar_version() -> u32
     ensures { result ≡ 3 }
 {
-    board_calls::version()
+    calls::version()
 }
 
 /// Puts the board at power-on, 4,356 bytes, into a buffer of so many or more.
@@ -35,11 +35,11 @@ pub extern "C" fn gravitar_power_on(board: &mut [u8]) -> u32
     ensures short { length board.old < STATE_LEN → (result ≡ number_of NoRoom) × (board.new ≡ board.old) }
     ensures done { STATE_LEN ≤ length board.old → (result ≡ number_of Done) × (board.new ≡ put_in (state_bytes board_at_power_on) board.old) }
 {
-    board_calls::power_on(board)
+    calls::power_on(board)
 }
 
 /// Assembles the processor's source and then the generator's into one image
-/// (`board_calls::assemble`).
+/// (`run_stretch::calls::assemble`).
 #[unsafe(no_mangle)]
 pub extern "C" fn gravitar_assemble(
     alloc: Global,
@@ -52,11 +52,11 @@ pub extern "C" fn gravitar_assemble(
     ensures short { length image.old < IMAGE_LEN → Refuses NoRoom (report_of 0 IMAGE_LEN 0) (call_of image.old image.new note.old note.new report.new result) }
     ensures answer { IMAGE_LEN ≤ length image.old → AnswersSources processor.now generator.now (call_of image.old image.new note.old note.new report.new result) }
 {
-    board_calls::assemble(alloc, processor, generator, image, note, report)
+    calls::assemble(alloc, processor, generator, image, note, report)
 }
 
 /// Runs an image with a tape from a saved board, and returns the lines of its records
-/// (`board_calls::advance`).
+/// (`run_stretch::calls::advance`).
 #[unsafe(no_mangle)]
 pub extern "C" fn gravitar_advance(
     alloc: Global,
@@ -73,13 +73,13 @@ pub extern "C" fn gravitar_advance(
     ensures answer { clock ≤ CLOCK_LIMIT → AnswersOver image.now board.old tape.now (IsAdvanced (length text.old) (is_asked timers) (end_asked boundary clock))
         (call_of board.old board.new text.old text.new report.new result) }
 {
-    board_calls::advance(
+    calls::advance(
         alloc, image, board, tape, clock, boundary, timers, text, report,
     )
 }
 
 /// Runs an image with a tape from a saved board, and returns its records as structs
-/// (`board_calls::records`).
+/// (`run_stretch::calls::records`).
 #[unsafe(no_mangle)]
 pub extern "C" fn gravitar_records(
     alloc: Global,
@@ -96,13 +96,13 @@ pub extern "C" fn gravitar_records(
     ensures answer { clock ≤ CLOCK_LIMIT → AnswersOver image.now board.old tape.now (IsRecorded (length array.old) (is_asked timers) (end_asked boundary clock))
         (call_of board.old board.new array.old array.new report.new result) }
 {
-    board_calls::records(
+    calls::records(
         alloc, image, board, tape, clock, boundary, timers, array, report,
     )
 }
 
 /// Runs an image with a tape from a saved board, and returns the samples of its sound
-/// (`board_calls::pcm`).
+/// (`run_stretch::calls::pcm`).
 #[unsafe(no_mangle)]
 pub extern "C" fn gravitar_pcm(
     alloc: Global,
@@ -120,7 +120,7 @@ pub extern "C" fn gravitar_pcm(
     ensures answer { clock ≤ CLOCK_LIMIT → 1 ≤ per → per ≤ MAX_PER → AnswersOver image.now board.old tape.now (IsSampled (length samples.old) (is_asked timers) clock per)
         (call_of board.old board.new samples.old samples.new report.new result) }
 {
-    board_calls::pcm(
+    calls::pcm(
         alloc, image, board, tape, clock, per, timers, samples, report,
     )
 }

@@ -1,6 +1,9 @@
+pub mod Answers
 pub mod Assembling
 pub mod Joined
 pub mod Kept
+pub mod Places
 pub mod Reading
+pub mod Statuses
 pub mod Stretches
 pub mod Texts

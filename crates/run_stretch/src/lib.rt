@@ -1,8 +1,10 @@
 //! A stretch of a run, from the bytes of a saved board to those of another, and an image from two
-//! sources: the board as a function of bytes, for programs in other languages too.
+//! sources: the board as a function of bytes, for programs in other languages too, which use
+//! `calls`.
 #![tactic(auto)]
 
 mod assembling;
+pub mod calls;
 mod ended;
 mod fault;
 mod fault_text;

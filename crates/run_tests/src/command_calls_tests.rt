@@ -1,8 +1,8 @@
 //! A command line as a call of plain bytes.
 
 use crate::programs::{LATCH, program_image};
-use board_calls::GravitarReport;
 use command_calls::command;
+use run_stretch::calls::GravitarReport;
 use std::test::Fail;
 
 #[test]

@@ -3,8 +3,6 @@
 #![tactic(auto)]
 
 #[cfg(test)]
-mod board_calls_tests;
-#[cfg(test)]
 mod catchup_engine_tests;
 #[cfg(test)]
 mod command_calls_tests;
@@ -20,6 +18,8 @@ mod keyframes_tests;
 mod programs;
 #[cfg(test)]
 mod run_slices_tests;
+#[cfg(test)]
+mod run_stretch_calls_tests;
 #[cfg(test)]
 mod run_stretch_tests;
 #[cfg(test)]

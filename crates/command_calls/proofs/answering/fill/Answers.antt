@@ -1,5 +1,5 @@
 use Rattle.std.proofs.Common.{[], refl, ap, ◌∙◌}
-use Rattle.board_calls.specs.Answers.{put_in}
+use Rattle.run_stretch.specs.Answers.{put_in}
 use Rattle.command_calls.specs.Bytes.{number_bytes}
 use Rattle.command_calls.specs.Answers.{IsFilled}
 use Rattle.command_calls.proofs.AnswerLaws.{one_after_the_other}

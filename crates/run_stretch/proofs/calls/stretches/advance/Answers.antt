@@ -1,4 +1,4 @@
-use Rattle.board_calls.proofs.stretches.advance.Goals as goal
+use Rattle.run_stretch.proofs.calls.stretches.advance.Goals as goal
 
 pub returns-clause-answer : goal.returns-clause-answer
 returns-clause-answer c = λ within. record {

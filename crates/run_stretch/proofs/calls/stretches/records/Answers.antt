@@ -1,4 +1,4 @@
-use Rattle.board_calls.proofs.stretches.records.Goals as goal
+use Rattle.run_stretch.proofs.calls.stretches.records.Goals as goal
 
 pub returns-clause-answer : goal.returns-clause-answer
 returns-clause-answer c = λ within. record {

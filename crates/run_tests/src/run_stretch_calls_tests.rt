@@ -1,7 +1,7 @@
 //! The calls of the library for C, over bytes as a caller has them.
 
 use crate::programs::{LATCH, program_image};
-use board_calls::{GravitarReport, advance, assemble, pcm, power_on, records};
+use run_stretch::calls::{GravitarReport, advance, assemble, pcm, power_on, records};
 use std::test::Fail;
 
 /// A report that no call has set.

@@ -5,13 +5,16 @@ ghost use Rattle.run_windows.specs.Windows.{clock_in};
 ghost use Rattle.save_state.specs.declared.TheConstants.{STATE_LEN};
 ghost use Rattle.sound_pcm.specs.declared.mixer.TheConstants.{MAX_PER};
 ghost use Rattle.run_stretch.specs.Stretches.{IsAdvanced, IsRecorded, IsSampled};
-ghost use Rattle.board_calls.specs.Answers.{AnswersOver, AnswersStretch, Refuses, call_of, end_asked, is_asked, report_of};
-ghost use Rattle.board_calls.specs.declared.report.Status.TheVariants.{BadNumber};
+ghost use Rattle.run_stretch.specs.Answers.{AnswersOver, AnswersStretch, Refuses, call_of, end_asked, is_asked, report_of};
+ghost use Rattle.run_stretch.specs.declared.calls.report.Status.TheVariants.{BadNumber};
 
-use crate::answer::{give, report_fault, report_number};
-use crate::report::{GravitarReport, Status};
+use crate::calls::answer::{give, report_fault, report_number};
+use crate::calls::report::{GravitarReport, Status};
+use crate::ended::Stretch;
+use crate::fault::StretchFault;
+use crate::parts::Start;
+use crate::stretch;
 use board_base::CLOCK_LIMIT;
-use run_stretch::{Start, Stretch, StretchFault, sample};
 use run_windows::Until;
 use sound_pcm::MAX_PER;
 use std::alloc::Global;
@@ -86,7 +89,7 @@ pub fn advance(
         tape,
         timers: is_so(timers),
     };
-    let came = run_stretch::advance(alloc, start, until, text.len());
+    let came = stretch::advance(alloc, start, until, text.len());
     answer(alloc, came, board, text, report)
 }
 
@@ -120,7 +123,7 @@ pub fn records(
         tape,
         timers: is_so(timers),
     };
-    let came = run_stretch::records(alloc, start, until, array.len());
+    let came = stretch::records(alloc, start, until, array.len());
     answer(alloc, came, board, array, report)
 }
 
@@ -156,6 +159,6 @@ pub fn pcm(
         tape,
         timers: is_so(timers),
     };
-    let came = sample(alloc, start, clock, per, samples.len());
+    let came = stretch::sample(alloc, start, clock, per, samples.len());
     answer(alloc, came, board, samples, report)
 }

@@ -1,11 +1,12 @@
 //! What a call answers: a status, and numbers.
 ghost use Rattle.std.specs.Prelude.{◌≡◌};
-ghost use Rattle.board_calls.specs.Places.{place_of_assembly, place_of_source, place_of_stretch};
-ghost use Rattle.board_calls.specs.Statuses.{number_of, status_of_assembly, status_of_stretch};
+ghost use Rattle.run_stretch.specs.Places.{place_of_assembly, place_of_source, place_of_stretch};
+ghost use Rattle.run_stretch.specs.Statuses.{number_of, status_of_assembly, status_of_stretch};
 
+use crate::assembling::AssemblyFault;
+use crate::fault::StretchFault;
 use asm_text::AsmFault;
 use rom_image::ImageFault;
-use run_stretch::{AssemblyFault, StretchFault};
 use save_state::StateFault;
 use tape_ports::TapeFault;
 

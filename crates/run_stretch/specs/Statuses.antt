@@ -5,9 +5,9 @@ use Rattle.run_stretch.specs.declared.assembling.AssemblyFault.{AssemblyFault}
 use Rattle.run_stretch.specs.declared.assembling.AssemblyFault.TheVariants as source
 use Rattle.run_stretch.specs.declared.fault.StretchFault.{StretchFault}
 use Rattle.run_stretch.specs.declared.fault.StretchFault.TheVariants as stretch
-use Rattle.board_calls.specs.declared.report.Status.{Status}
-use Rattle.board_calls.specs.declared.report.Status.TheVariants.{Done, Jammed, BadImage, BadBoard, BadTape, BadNumber, NoRoom, NoMemory, BadProcessorSource, BadGeneratorSource}
-use Rattle.board_calls.specs.declared.report.Status.TheVariants.{BadBoardLength, BadBoardVersion, BadRequest}
+use Rattle.run_stretch.specs.declared.calls.report.Status.{Status}
+use Rattle.run_stretch.specs.declared.calls.report.Status.TheVariants.{Done, Jammed, BadImage, BadBoard, BadTape, BadNumber, NoRoom, NoMemory, BadProcessorSource, BadGeneratorSource}
+use Rattle.run_stretch.specs.declared.calls.report.Status.TheVariants.{BadBoardLength, BadBoardVersion, BadRequest}
 
 abbrev pub number_of : Status → ℕ
 number_of Done = 0

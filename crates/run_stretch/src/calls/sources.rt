@@ -4,12 +4,13 @@ ghost use Rattle.board_base.specs.Board.{board_at_power_on};
 ghost use Rattle.rom_image.specs.declared.image.TheConstants.{IMAGE_LEN};
 ghost use Rattle.save_state.specs.declared.TheConstants.{STATE_LEN};
 ghost use Rattle.save_state.specs.StateBytes.{state_bytes};
-ghost use Rattle.board_calls.specs.Answers.{AnswersSources, Refuses, call_of, put_in, report_of};
-ghost use Rattle.board_calls.specs.declared.report.Status.TheVariants.{Done, NoRoom};
-ghost use Rattle.board_calls.specs.Statuses.{number_of};
+ghost use Rattle.run_stretch.specs.Answers.{AnswersSources, Refuses, call_of, put_in, report_of};
+ghost use Rattle.run_stretch.specs.declared.calls.report.Status.TheVariants.{Done, NoRoom};
+ghost use Rattle.run_stretch.specs.Statuses.{number_of};
 
-use crate::answer::{put, report_number, report_words};
-use crate::report::{GravitarReport, Status, place_of_sources, status_of_sources};
+use crate::calls::answer::{put, report_number, report_words};
+use crate::calls::report::{GravitarReport, Status, place_of_sources, status_of_sources};
+use crate::{assembling, stretch};
 use rom_image::IMAGE_LEN;
 use save_state::STATE_LEN;
 use std::alloc::Global;
@@ -29,7 +30,7 @@ pub fn power_on(board: &mut [u8]) -> u32
     if board.len() < STATE_LEN {
         return Status::NoRoom.number();
     }
-    put(&run_stretch::power_on(), board);
+    put(&stretch::power_on(), board);
     Status::Done.number()
 }
 
@@ -50,7 +51,7 @@ pub fn assemble(
     if image.len() < IMAGE_LEN {
         return report_number(Status::NoRoom, IMAGE_LEN as u64, 0, report);
     }
-    match run_stretch::assemble(alloc, processor, generator) {
+    match assembling::assemble(alloc, processor, generator) {
         Ok(made) => {
             put(made.bytes(), image);
             report_number(Status::Done, IMAGE_LEN as u64, 0, report)

@@ -2,12 +2,13 @@
 ghost use Rattle.std.specs.Prelude.{◌≡◌, ◌≤◌, ◌⊎◌, ℕ, List, length};
 ghost use Rattle.save_state.specs.declared.TheConstants.{STATE_LEN};
 ghost use Rattle.run_stretch.specs.Texts.{stretch_fault_text};
-ghost use Rattle.board_calls.specs.Answers.{Gives, StatesOrNot, WantsRoom, call_of, noted_in, put_in, report_of};
-ghost use Rattle.board_calls.specs.Places.{place_of_stretch};
-ghost use Rattle.board_calls.specs.Statuses.{number_of, status_of_stretch};
+ghost use Rattle.run_stretch.specs.Answers.{Gives, StatesOrNot, WantsRoom, call_of, noted_in, put_in, report_of};
+ghost use Rattle.run_stretch.specs.Places.{place_of_stretch};
+ghost use Rattle.run_stretch.specs.Statuses.{number_of, status_of_stretch};
 
-use crate::report::{GravitarReport, Status, place_of, status_of};
-use run_stretch::{Stretch, StretchFault};
+use crate::calls::report::{GravitarReport, Status, place_of, status_of};
+use crate::ended::Stretch;
+use crate::fault::StretchFault;
 use save_state::STATE_LEN;
 use std::alloc::Global;
 

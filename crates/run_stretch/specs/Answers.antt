@@ -10,11 +10,11 @@ use Rattle.run_stretch.specs.declared.parts.Parts.{Parts}
 use Rattle.run_stretch.specs.Assembling.{Assembles}
 use Rattle.run_stretch.specs.Stretches.{Comes}
 use Rattle.run_stretch.specs.Texts.{assembly_fault_text, stretch_fault_text}
-use Rattle.board_calls.specs.declared.report.GravitarReport.{GravitarReport}
-use Rattle.board_calls.specs.declared.report.Status.{Status}
-use Rattle.board_calls.specs.declared.report.Status.TheVariants.{Done, Jammed, NoMemory, NoRoom}
-use Rattle.board_calls.specs.Places.{place_of_assembly, place_of_stretch}
-use Rattle.board_calls.specs.Statuses.{number_of, status_of_assembly, status_of_stretch}
+use Rattle.run_stretch.specs.declared.calls.report.GravitarReport.{GravitarReport}
+use Rattle.run_stretch.specs.declared.calls.report.Status.{Status}
+use Rattle.run_stretch.specs.declared.calls.report.Status.TheVariants.{Done, Jammed, NoMemory, NoRoom}
+use Rattle.run_stretch.specs.Places.{place_of_assembly, place_of_stretch}
+use Rattle.run_stretch.specs.Statuses.{number_of, status_of_assembly, status_of_stretch}
 
 -- a call as its caller sees it: what stood at a place and in a buffer before, what stands there
 -- after, and the answer

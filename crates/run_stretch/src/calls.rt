@@ -1,6 +1,5 @@
 //! The board as calls that take and give plain bytes and numbers, and keep no pointer. `gravitar_c`
 //! exports them for C.
-#![tactic(auto)]
 
 mod answer;
 mod report;
