@@ -8,7 +8,7 @@ use Rattle.lockstep_board.specs.Order.{cleared}
 use Rattle.lockstep_board.specs.Lockstep.{Board}
 use Rattle.lockstep_board.specs.Run.{to_clock}
 use Rattle.keyframes.specs.Seeking.{state_of}
-use Rattle.board_text.specs.BoardText.{board_text}
+use Rattle.board_debug.specs.BoardText.{board_text}
 use Rattle.board_debug.specs.BoardsText.{boards_text}
 
 -- the board at an asked clock, and those at the later ones; an engine shows it without its records

@@ -5,10 +5,10 @@ use Rattle.std.specs.Option.{option_map_or}
 use Rattle.outside_io.specs.Known.{grown}
 use Rattle.outside_io.proofs.KnownLaws.{grown-nothing, grown-twice}
 use Rattle.outside_io.proofs.TakesLaws.{took_first, took_then}
-use Rattle.debug_lines.specs.Bytes.{Seen, bytes_from, further, mem_line, mem_text}
-use Rattle.debug_lines.specs.Instructions.{dis_line, dis_size, dis_text, readable}
-use Rattle.debug_lines.specs.Statements.{vdis_line, vdis_text, vg_further, word_seen}
-use Rattle.debug_lines.specs.declared.mem.TheConstants.{ROW}
+use Rattle.board_debug.specs.Bytes.{Seen, bytes_from, further, mem_line, mem_text}
+use Rattle.board_debug.specs.Instructions.{dis_line, dis_size, dis_text, readable}
+use Rattle.board_debug.specs.Statements.{vdis_line, vdis_text, vg_further, word_seen}
+use Rattle.board_debug.specs.declared.mem.TheConstants.{ROW}
 
 -- a text of no line more
 pub not-less : (n : ℕ) → n ≡ n - 0

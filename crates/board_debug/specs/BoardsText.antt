@@ -4,7 +4,7 @@ use Rattle.tape_ports.specs.declared.entry.TapeEntry.{TapeEntry}
 use Rattle.lockstep_board.specs.Lockstep.{Board}
 use Rattle.lockstep_board.specs.Run.{to_clock}
 use Rattle.keyframes.specs.Seeking.{state_of}
-use Rattle.board_text.specs.BoardText.{board_text}
+use Rattle.board_debug.specs.BoardText.{board_text}
 
 -- the boards of the run from b, one after another in the asked order; at a clock below b's own it
 -- is b

@@ -1,6 +1,12 @@
+pub mod BoardText
 pub mod BoardsText
+pub mod Bytes
+pub mod Columns
 pub mod Debugged
+pub mod Instructions
+pub mod Listed
 pub mod Looks
-pub mod Session
-pub mod Texts
 pub mod OneRun
+pub mod Session
+pub mod Statements
+pub mod Texts

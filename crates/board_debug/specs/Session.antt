@@ -8,16 +8,16 @@ use Rattle.lockstep_board.specs.Order.{cleared}
 use Rattle.lockstep_board.specs.Lockstep.{Board}
 use Rattle.lockstep_board.specs.Memory.{memory_byte}
 use Rattle.lockstep_board.specs.Peripherals.{board_of}
-use Rattle.debug_lines.specs.Bytes.{Seen, mem_text}
-use Rattle.debug_lines.specs.Instructions.{dis_text}
-use Rattle.debug_lines.specs.Statements.{vdis_text}
 use Rattle.debug_script.specs.declared.command.Command.{Command}
 use Rattle.debug_script.specs.declared.command.Command.TheVariants as command
 use Rattle.debug_script.specs.Breakpoints.{StopsValue, stops_after}
 use Rattle.board_debug.specs.declared.stop_reason.StopReason.{StopReason}
 use Rattle.board_debug.specs.declared.stop_reason.StopReason.TheVariants.{End, Step}
-use Rattle.board_text.specs.BoardText.{devices_text, registers_text}
+use Rattle.board_debug.specs.BoardText.{devices_text, registers_text}
+use Rattle.board_debug.specs.Bytes.{Seen, mem_text}
+use Rattle.board_debug.specs.Instructions.{dis_text}
 use Rattle.board_debug.specs.Looks.{jam_look, look_after, look_before, look_until, stop_text}
+use Rattle.board_debug.specs.Statements.{vdis_text}
 
 -- a turn: what is left of the sequence under way, or else one instruction or sequence. A debugger
 -- shows no records, and forgets them.

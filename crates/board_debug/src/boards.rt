@@ -8,9 +8,9 @@ ghost use Rattle.keyframes.specs.Seeking.{Along, run_start};
 ghost use Rattle.board_debug.specs.BoardsText.{boards_text};
 ghost use Rattle.board_debug.specs.OneRun.{HasRoom, IsNextOf, IsReached, lesser};
 
+use crate::board_text::write_board;
 use avg_device::VectorUnit;
 use board_base::{BoardState, CLOCK_LIMIT};
-use board_text::write_board;
 use catchup_engine::{Engine, Machine};
 use earom_cells::CellUnit;
 use irq_watchdog::DividerUnit;

@@ -1,17 +1,19 @@
 //! The bytes and the instructions of a board, in lines.
 ghost use Rattle.std.specs.Prelude.{◌≡◌, ◌≤◌, ◌*◌, ◌<◌};
-ghost use Rattle.debug_lines.specs.Bytes.{bytes_from, further, mem_text};
-ghost use Rattle.debug_lines.specs.Instructions.{dis_text, readable};
-ghost use Rattle.debug_lines.specs.Statements.{vdis_text, vg_further, word_seen};
 ghost use Rattle.outside_io.specs.Causes.{HasCause};
 ghost use Rattle.outside_io.specs.Sink.{Takes};
+ghost use Rattle.board_debug.specs.Bytes.{bytes_from, further, mem_text};
+ghost use Rattle.board_debug.specs.Instructions.{dis_text, readable};
 ghost use Rattle.board_debug.specs.Session.{seen_in};
+ghost use Rattle.board_debug.specs.Statements.{vdis_text, vg_further, word_seen};
 
+use crate::dis::dis_line;
+use crate::mem::{ROW, mem_line};
+use crate::vdis::vdis_line;
 use arrayvec::ArrayVec;
 use board_base::VECTOR_LEN;
 use board_map::VECTOR_RAM_START;
 use catchup_engine::Machine;
-use debug_lines::{ROW, dis_line, mem_line, vdis_line};
 use debug_script::Span;
 use outside_io::{Sink, SinkFault};
 

@@ -8,12 +8,12 @@ ghost use Rattle.debug_script.specs.Breakpoints.{Fit, no_stops};
 ghost use Rattle.run_windows.specs.SyncedMachine.{loan_of, value_of};
 ghost use Rattle.board_debug.specs.Session.{board_after, command_text, reached_by, session_board, session_text, shown_text};
 
+use crate::board_text::{write_devices, write_registers};
 use crate::listings::{write_dis, write_mem, write_vdis};
 use crate::stop_line::write_stop;
 use crate::stop_reason::StopReason;
 use crate::turns::{go, step, until};
 use board_base::BoardState;
-use board_text::{write_devices, write_registers};
 use catchup_engine::Machine;
 use debug_script::{Breakpoints, Command};
 use outside_io::{Sink, SinkFault};

@@ -15,7 +15,7 @@ use Rattle.save_state.specs.declared.fault.StateFault.{StateFault}
 use Rattle.save_state.specs.Reading.{ReadsState}
 use Rattle.board_base.specs.declared.earom.TheConstants.{CELLS}
 use Rattle.board_base.specs.Board.{BoardValue, board_at_power_on}
-use Rattle.board_text.specs.BoardText.{board_text}
+use Rattle.board_debug.specs.BoardText.{board_text}
 use Rattle.board_debug.specs.Session.{session_text}
 use Rattle.debug_script.specs.declared.command.Command.{Command}
 use Rattle.debug_script.specs.declared.fault.ScriptFault.TheVariants as script

@@ -21,7 +21,7 @@ use crate::seeking::Boards;
 use crate::soaking::perform_soak;
 use crate::words::Words;
 use board_base::CpuState;
-use board_text::write_board;
+use board_debug::write_board;
 use catchup_engine::{Devices, Engine};
 use command_line::{Command, RunWords, Settings};
 use outside_io::{Host, Shelf, Sink};

@@ -1,6 +1,6 @@
 use Rattle.std.proofs.Common.{◌++◌, ◌∷◌, [], ◌-◌, ◌+◌, ℕ, List, ap, sym, ◌∙◌, append_assoc, append-nil, arith}
-use Rattle.debug_lines.specs.Bytes.{further}
-use Rattle.debug_lines.specs.Instructions.{readable}
+use Rattle.board_debug.specs.Bytes.{further}
+use Rattle.board_debug.specs.Instructions.{readable}
 use Rattle.board_debug.specs.Session.{seen_in}
 use Rattle.board_debug.proofs.ListingLaws.{readable-last, readable-more, readable-none}
 use Rattle.board_debug.proofs.listings.instruction_bytes.Goals as goal

@@ -1,6 +1,6 @@
 use Rattle.std.proofs.Common.{◌≡◌, ◌-◌, ◌++◌, length}
-use Rattle.debug_lines.specs.Bytes.{further}
-use Rattle.debug_lines.specs.Instructions.{readable}
+use Rattle.board_debug.specs.Bytes.{further}
+use Rattle.board_debug.specs.Instructions.{readable}
 use Rattle.board_debug.specs.Session.{seen_in}
 use Rattle.board_debug.proofs.listings.instruction_bytes.Given as goal
 

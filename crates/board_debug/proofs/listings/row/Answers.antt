@@ -1,6 +1,6 @@
 use Rattle.std.proofs.Common.{◌++◌, ◌∷◌, [], ℕ, List, Option, ap, sym, ◌∙◌, arith}
 use Rattle.std.proofs.lemmas.List.FromFn.{map-range_with_len_more}
-use Rattle.debug_lines.specs.Bytes.{bytes_from, further}
+use Rattle.board_debug.specs.Bytes.{bytes_from, further}
 use Rattle.board_debug.specs.Session.{seen_in}
 use Rattle.board_debug.proofs.listings.row.Goals as goal
 

@@ -1,5 +1,5 @@
 use Rattle.std.proofs.Common.{◌≡◌, length}
-use Rattle.debug_lines.specs.Bytes.{bytes_from}
+use Rattle.board_debug.specs.Bytes.{bytes_from}
 use Rattle.board_debug.specs.Session.{seen_in}
 use Rattle.board_debug.proofs.listings.row.Given as goal
 

@@ -1,7 +1,7 @@
 use Rattle.std.proofs.Common.{refl, ap, ◌∙◌}
 use Rattle.std.proofs.lemmas.Result.{err_from_is_err_and}
-use Rattle.debug_lines.specs.Bytes.{further}
-use Rattle.debug_lines.specs.Instructions.{dis_text}
+use Rattle.board_debug.specs.Bytes.{further}
+use Rattle.board_debug.specs.Instructions.{dis_text}
 use Rattle.board_debug.specs.Session.{seen_in}
 use Rattle.board_debug.proofs.ListingLaws.{dis-is, dis-last, none-taken, not-less, piece-cut, piece-taken, whole-taken}
 use Rattle.board_debug.proofs.listings.write_dis.Goals as goal

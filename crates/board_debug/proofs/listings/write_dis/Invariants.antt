@@ -1,5 +1,5 @@
 use Rattle.std.proofs.Common.{◌≡◌, ◌-◌}
-use Rattle.debug_lines.specs.Instructions.{dis_text}
+use Rattle.board_debug.specs.Instructions.{dis_text}
 use Rattle.board_debug.specs.Session.{seen_in}
 use Rattle.board_debug.proofs.ListingLaws.{TakenUpTo}
 use Rattle.board_debug.proofs.listings.write_dis.Given as goal

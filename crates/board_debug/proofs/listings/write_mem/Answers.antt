@@ -1,6 +1,6 @@
 use Rattle.std.proofs.Common.{◌*◌, refl, ◌∙◌}
 use Rattle.std.proofs.lemmas.Result.{err_from_is_err_and}
-use Rattle.debug_lines.specs.Bytes.{further}
+use Rattle.board_debug.specs.Bytes.{further}
 use Rattle.board_debug.specs.Session.{seen_in}
 use Rattle.board_debug.proofs.ListingLaws.{mem-first, none-taken, piece-cut, piece-taken, row-is, rows-last, whole-taken}
 use Rattle.board_debug.proofs.listings.write_mem.Goals as goal

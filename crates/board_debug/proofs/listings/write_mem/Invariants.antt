@@ -1,5 +1,5 @@
 use Rattle.std.proofs.Common.{◌≡◌}
-use Rattle.debug_lines.specs.Bytes.{mem_text}
+use Rattle.board_debug.specs.Bytes.{mem_text}
 use Rattle.board_debug.specs.Session.{seen_in}
 use Rattle.board_debug.proofs.ListingLaws.{TakenUpTo, mem_rest}
 use Rattle.board_debug.proofs.listings.write_mem.Given as goal

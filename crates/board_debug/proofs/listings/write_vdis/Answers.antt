@@ -1,6 +1,6 @@
 use Rattle.std.proofs.Common.{◌-◌, ◌+◌, refl, ap, ◌∙◌}
 use Rattle.std.proofs.lemmas.Result.{err_from_is_err_and}
-use Rattle.debug_lines.specs.Statements.{vdis_text, vg_further, word_seen}
+use Rattle.board_debug.specs.Statements.{vdis_text, vg_further, word_seen}
 use Rattle.board_debug.specs.Session.{seen_in}
 use Rattle.board_debug.proofs.ListingLaws.{none-taken, not-less, one-less, piece-cut, piece-taken, vdis-is, vdis-last, whole-taken}
 use Rattle.board_debug.proofs.listings.write_vdis.Goals as goal

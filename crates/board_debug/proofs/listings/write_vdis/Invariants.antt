@@ -1,5 +1,5 @@
 use Rattle.std.proofs.Common.{◌≡◌, ◌-◌}
-use Rattle.debug_lines.specs.Statements.{vdis_text}
+use Rattle.board_debug.specs.Statements.{vdis_text}
 use Rattle.board_debug.specs.Session.{seen_in}
 use Rattle.board_debug.proofs.ListingLaws.{TakenUpTo}
 use Rattle.board_debug.proofs.listings.write_vdis.Given as goal

@@ -1,2 +1,0 @@
-mod DecodedLaws
-mod ListedLaws

@@ -1,5 +1,0 @@
-pub mod Bytes
-pub mod Columns
-pub mod Instructions
-pub mod Listed
-pub mod Statements
