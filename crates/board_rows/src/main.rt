@@ -1,13 +1,30 @@
-//! Does the rows of the suite in `data/`, with the program's call over files and sinks in memory,
-//! and makes each I/O call fail in turn. `data/FORMAT.txt` says how a row is written.
+//! Does the rows of the suite in `data/`, with the program's call over files and sinks in memory:
+//! what each command of a row gives is compared with what the row wants, and each of its I/O calls
+//! is made to fail in turn. `data/FORMAT.txt` says how a row is written.
 #![tactic(auto)]
 
+mod comparison;
+mod content;
+mod emulator;
+mod failures;
+mod folder;
+mod lines;
+mod report;
+mod rows;
+mod stopped;
+mod suite;
+mod sum;
+mod trial;
+mod words;
+
+use emulator::Emulator;
 use gravitar_commands::{Words, gravitar};
 use outside_io::{FileShelf, Loaded, MemoryShelf, MemorySink, Shelf, Sink, TextSink};
-use row_suite::{Emulator, Stopped, run_suite};
 use std::alloc::Global;
 use std::env;
 use std::process::ExitCode;
+use stopped::Stopped;
+use suite::run_suite;
 
 /// The most bytes of a file of the suite.
 const FILE_LIMIT: usize = 1_048_576;
