@@ -1,9 +1,9 @@
 -- Records made before don't change what a board does: it only adds to them.
 use Rattle.std.proofs.Common.{◌≡◌, ℕ, ◌+◌, ◌-◌, Bool, List, [], ◌∷◌, ◌++◌, Option, Some, None, zero, suc, refl, ap, ◌∙◌, append_assoc, append-nil}
 use Rattle.board_base.specs.declared.cpu.Sequence.{Sequence}
-use Rattle.board_base.specs.declared.cpu.Sequence.TheVariants.{Opcode, Interrupt, Reset}
+use Rattle.board_base.specs.declared.cpu.Sequence.TheVariants.{Reset}
 use Rattle.board_base.specs.declared.divider.Pending.{Pending}
-use Rattle.board_base.specs.declared.divider.Pending.TheVariants.{Nothing, Power, Watchdog}
+use Rattle.board_base.specs.declared.divider.Pending.TheVariants.{Watchdog}
 use Rattle.board_base.specs.Cpu.{CpuValue, MidValue}
 use Rattle.board_map.specs.declared.map.Reads.{Reads}
 use Rattle.board_map.specs.declared.map.Reads.TheVariants as reads
@@ -19,57 +19,32 @@ use Rattle.tape_ports.specs.declared.entry.Port.{Port}
 use Rattle.tape_ports.specs.declared.entry.Port.TheVariants as port
 use Rattle.tape_ports.specs.declared.entry.TapeEntry.{TapeEntry}
 use Rattle.tape_ports.specs.Due.{due_at}
-use Rattle.avg_device.specs.Tick.{vg_gives}
-use Rattle.pokey_chip.specs.Tick.{pokey_gives}
 use Rattle.lockstep_board.specs.Peripherals.{Peripherals, port_set, applied, devices_ticked, ticked, line_of, byte_in, byte_read, put_in, byte_put, reset_by, reset_begun}
 use Rattle.lockstep_board.specs.Lockstep.{Board, accessed, accessed_by, sequence_due, begun, at_fetch, after_access, step, made_by, due_access, access_in}
 use Rattle.lockstep_board.specs.Run.{stepped, steps_until, is_over, is_at, is_cut, boundary_steps, clock_steps, to_boundary, to_clock, to_cut}
-use Rattle.lockstep_board.specs.Budget.{counted, begins_reset, resets_begun, ticks_price, price, budget}
+use Rattle.lockstep_board.specs.Budget.{counted, begins_reset, ticks_price, price, budget}
 use Rattle.lockstep_board.specs.Order.{cleared, Recorded, behind, records_of}
 
 -- peripherals with earlier records
 abbrev front : Recorded → Peripherals → Peripherals
-front l w = record w {
-  strokes = l.strokes ++ w.strokes;
-  levels1 = l.levels1 ++ w.levels1;
-  levels2 = l.levels2 ++ w.levels2;
-  written = l.written ++ w.written;
-}
+front l w = record w { strokes = l.strokes ++ w.strokes; levels1 = l.levels1 ++ w.levels1; levels2 = l.levels2 ++ w.levels2; written = l.written ++ w.written }
 
 port_set-front : (p : Port) (value : ℕ) (l : Recorded) (w : Peripherals) → port_set p value (front l w) ≡ front l (port_set p value w)
 port_set-front port.In0 value l w = refl
-port_set-front port.In3 value l w = refl
-port_set-front port.In4 value l w = refl
-port_set-front (port.Pot1 which) value l w = refl
-port_set-front (port.Pot2 which) value l w = refl
+port_set-front _ value l w = refl
 
 applied-front : (entries : List TapeEntry) (l : Recorded) (w : Peripherals) → applied entries (front l w) ≡ front l (applied entries w)
 unfolding applied
 applied-front [] l w = refl
-applied-front (entry ∷ entries) l w =
-    ap (applied entries) (port_set-front entry.port entry.value l w) ∙ applied-front entries l (port_set entry.port entry.value w)
-
-devices_ticked-front : (l : Recorded) (w : Peripherals) → devices_ticked (front l w) ≡ front l (devices_ticked w)
-unfolding devices_ticked
-devices_ticked-front l w =
-    rw (
-      append_assoc l.strokes w.strokes (vg_gives w.clock w.vg),
-      append_assoc l.levels1 w.levels1 (pokey_gives w.clock w.sound1),
-      append_assoc l.levels2 w.levels2 (pokey_gives w.clock w.sound2),
-    ) refl
+applied-front (entry ∷ entries) l w = rw (port_set-front entry.port entry.value l w) (applied-front entries l (port_set entry.port entry.value w))
 
 ticked-front : (entries : List TapeEntry) (l : Recorded) (w : Peripherals) → ticked entries (front l w) ≡ front l (ticked entries w)
-unfolding ticked
-ticked-front entries l w =
-    ap devices_ticked (applied-front (due_at w.clock entries) l w) ∙ devices_ticked-front l (applied (due_at w.clock entries) w)
+unfolding ticked devices_ticked
+ticked-front entries l w = rw (applied-front (due_at w.clock entries) l w) (simp append_assoc)
 
-byte_in-front : (got : Reads) (k : ℕ) (l : Recorded) (w : Peripherals) → byte_in got k (front l w) ≡ byte_in got k w
-byte_in-front reads.Ram k l w = refl
-byte_in-front _ k l w = refl
-
-byte_read-front : (address : ℕ) (l : Recorded) (w : Peripherals) → byte_read address (front l w) ≡ byte_read address w
-unfolding byte_read
-byte_read-front address l w = byte_in-front (row_of address).reads (row_of address).offset l w
+byte_read-front : (got : Reads) (k : ℕ) (l : Recorded) (w : Peripherals) → byte_in got k (front l w) ≡ byte_in got k w
+byte_read-front reads.Ram k l w = refl
+byte_read-front _ k l w = refl
 
 put_in-front : (put : Writes) (k value : ℕ) (l : Recorded) (w : Peripherals) → put_in put k value (front l w) ≡ front l (put_in put k value w)
 put_in-front writes.OutputLatch k value l w = rw append_assoc refl
@@ -77,51 +52,29 @@ put_in-front _ k value l w = refl
 
 accessed_by-front : (next : Next) (r : RegistersValue) (q : Sequence) (bytes : List ℕ) (l : Recorded) (w : Peripherals)
     → accessed_by next r q bytes (front l w) ≡ behind l (accessed_by next r q bytes w)
-unfolding byte_put
-accessed_by-front (Read a) r q bytes l w = rw (byte_read-front a l w) refl
+unfolding byte_read byte_put
+accessed_by-front (Read a) r q bytes l w = rw (byte_read-front (row_of a).reads (row_of a).offset l w) refl
 accessed_by-front (Write a v) r q bytes l w = rw (put_in-front (row_of a).writes (row_of a).offset v l w) refl
 accessed_by-front (End e) r q bytes l w = refl
 
-accessed-front : (r : RegistersValue) (q : Sequence) (bytes : List ℕ) (l : Recorded) (w : Peripherals)
-    → accessed r q bytes (front l w) ≡ behind l (accessed r q bytes w)
-unfolding accessed
-accessed-front r q bytes l w = accessed_by-front (next_of r q bytes) r q bytes l w
-
 reset_by-front : (p : Pending) (l : Recorded) (w : Peripherals) → reset_by p (front l w) ≡ front l (reset_by p w)
-reset_by-front Nothing l w = refl
-reset_by-front Power l w = refl
 reset_by-front Watchdog l w = rw append_assoc refl
+reset_by-front _ l w = refl
 
 begun-behind : (q : Sequence) (l : Recorded) (b : Board) → begun q (behind l b) ≡ behind l (begun q b)
 unfolding reset_begun
 begun-behind Reset l b = ap (λ (w : Peripherals). record b { peripherals = w }) (reset_by-front b.peripherals.divider.pending l b.peripherals)
-begun-behind Opcode l b = refl
-begun-behind Interrupt l b = refl
-
-line_of-front : (l : Recorded) (w : Peripherals) → line_of (front l w) ≡ line_of w
-unfolding line_of
-line_of-front l w = refl
-
-sequence_due-front : (c : CpuValue) (l : Recorded) (w : Peripherals) → sequence_due c (front l w) ≡ sequence_due c w
-sequence_due-front c l w = rw (line_of-front l w) refl
-
-at_fetch-front : (c : CpuValue) (l : Recorded) (w : Peripherals) → at_fetch c (front l w) ≡ behind l (at_fetch c w)
-unfolding at_fetch
-at_fetch-front c l w =
-    let q = sequence_due c w in
-    ap (λ k. begun k (accessed (start_of k c) k [] (front l w))) (sequence_due-front c l w)
-    ∙ ap (begun q) (accessed-front (start_of q c) q [] l w)
-    ∙ begun-behind q l (accessed (start_of q c) q [] w)
+begun-behind _ l b = refl
 
 after_access-front : (mid : Option MidValue) (c : CpuValue) (l : Recorded) (w : Peripherals) → after_access mid c (front l w) ≡ behind l (after_access mid c w)
-after_access-front None c l w = at_fetch-front c l w
-after_access-front (Some mid) c l w = accessed-front (registers_of c) mid.sequence (given_by mid) l w
+unfolding at_fetch accessed line_of
+after_access-front None c l w = let q = sequence_due c w in ap (begun q) (accessed_by-front (next_of (start_of q c) q []) (start_of q c) q [] l w) ∙ begun-behind q l (accessed (start_of q c) q [] w)
+after_access-front (Some m) c l w = accessed_by-front (next_of (registers_of c) m.sequence (given_by m)) (registers_of c) m.sequence (given_by m) l w
 
 -- a step adds to the records made before
 pub step-behind : (entries : List TapeEntry) (l : Recorded) (b : Board) → step entries (behind l b) ≡ behind l (step entries b)
 unfolding step
-step-behind entries l b =
-    rw (ticked-front entries l b.peripherals, after_access-front b.cpu.mid b.cpu l (ticked entries b.peripherals)) refl
+step-behind entries l b = rw (ticked-front entries l b.peripherals, after_access-front b.cpu.mid b.cpu l (ticked entries b.peripherals)) refl
 
 -- and so do n steps
 pub stepped-behind : (entries : List TapeEntry) (n : ℕ) (l : Recorded) (b : Board) → stepped entries n (behind l b) ≡ behind l (stepped entries n b)
@@ -134,18 +87,12 @@ pub steps_until-behind : (entries : List TapeEntry) (asked : Board → Bool) →
     → (most : ℕ) (l : Recorded) (b : Board) → steps_until entries asked most (behind l b) ≡ steps_until entries asked most b
 unfolding steps_until
 steps_until-behind entries asked same zero l b = refl
-steps_until-behind entries asked same (suc most) l b =
-    let again : steps_until entries asked most (step entries (behind l b)) ≡ steps_until entries asked most (step entries b) =
-    ap (steps_until entries asked most) (step-behind entries l b) ∙ steps_until-behind entries asked same most l (step entries b) in
-    rw (again, same l b) refl
+steps_until-behind entries asked same (suc most) l b = rw (step-behind entries l b, steps_until-behind entries asked same most l (step entries b), same l b) refl
 
 -- as many steps and the same board, but for the records
-behind-by : (entries : List TapeEntry) (asked : Board → Bool) → ((l : Recorded) (b : Board) → asked (behind l b) ≡ asked b)
-    → (most : ℕ) (l : Recorded) (b : Board)
+behind-by : (entries : List TapeEntry) (asked : Board → Bool) → ((l : Recorded) (b : Board) → asked (behind l b) ≡ asked b) → (most : ℕ) (l : Recorded) (b : Board)
     → stepped entries (steps_until entries asked most (behind l b)) (behind l b) ≡ behind l (stepped entries (steps_until entries asked most b) b)
-behind-by entries asked same most l b =
-    ap (λ n. stepped entries n (behind l b)) (steps_until-behind entries asked same most l b)
-    ∙ stepped-behind entries (steps_until entries asked most b) l b
+behind-by entries asked same most l b = rw (steps_until-behind entries asked same most l b) (stepped-behind entries (steps_until entries asked most b) l b)
 
 -- a run adds to the records made before
 pub to_clock-behind : (entries : List TapeEntry) (cut : ℕ) (l : Recorded) (b : Board) → to_clock entries cut (behind l b) ≡ behind l (to_clock entries cut b)
@@ -153,14 +100,12 @@ unfolding to_clock
 to_clock-behind entries cut l b = behind-by entries (is_at cut) (λ _ _. refl) (cut - b.peripherals.clock) l b
 
 -- the same for a run to a boundary
-pub to_boundary-behind : (entries : List TapeEntry) (limit : ℕ) (l : Recorded) (b : Board)
-    → to_boundary entries limit (behind l b) ≡ behind l (to_boundary entries limit b)
+pub to_boundary-behind : (entries : List TapeEntry) (limit : ℕ) (l : Recorded) (b : Board) → to_boundary entries limit (behind l b) ≡ behind l (to_boundary entries limit b)
 unfolding to_boundary
 to_boundary-behind entries limit l b = behind-by entries (is_over limit) (λ _ _. refl) ((limit - b.peripherals.clock) + 6) l b
 
 -- and for one to a clock or a window's end
-pub to_cut-behind : (entries : List TapeEntry) (cut wrap : ℕ) (l : Recorded) (b : Board)
-    → to_cut entries cut wrap (behind l b) ≡ behind l (to_cut entries cut wrap b)
+pub to_cut-behind : (entries : List TapeEntry) (cut wrap : ℕ) (l : Recorded) (b : Board) → to_cut entries cut wrap (behind l b) ≡ behind l (to_cut entries cut wrap b)
 unfolding to_cut
 to_cut-behind entries cut wrap l b = behind-by entries (is_cut cut wrap) (λ _ _. refl) (cut - b.peripherals.clock) l b
 
@@ -168,54 +113,41 @@ to_cut-behind entries cut wrap l b = behind-by entries (is_cut cut wrap) (λ _ _
 pub clock_steps-behind : (entries : List TapeEntry) (cut : ℕ) (l : Recorded) (b : Board) → clock_steps entries cut (behind l b) ≡ clock_steps entries cut b
 clock_steps-behind entries cut l b = steps_until-behind entries (is_at cut) (λ _ _. refl) (cut - b.peripherals.clock) l b
 
-pub boundary_steps-behind : (entries : List TapeEntry) (limit : ℕ) (l : Recorded) (b : Board)
-    → boundary_steps entries limit (behind l b) ≡ boundary_steps entries limit b
+pub boundary_steps-behind : (entries : List TapeEntry) (limit : ℕ) (l : Recorded) (b : Board) → boundary_steps entries limit (behind l b) ≡ boundary_steps entries limit b
 boundary_steps-behind entries limit l b = steps_until-behind entries (is_over limit) (λ _ _. refl) ((limit - b.peripherals.clock) + 6) l b
 
 made_by-front : (next : Next) (l : Recorded) (w : Peripherals) → made_by next (front l w) ≡ made_by next w
-made_by-front (Read a) l w = rw (byte_read-front a l w) refl
-made_by-front (Write a v) l w = refl
-made_by-front (End e) l w = refl
+unfolding byte_read
+made_by-front (Read a) l w = rw (byte_read-front (row_of a).reads (row_of a).offset l w) refl
+made_by-front _ l w = refl
 
-due_access-front : (mid : Option MidValue) (c : CpuValue) (l : Recorded) (w : Peripherals) → due_access mid c (front l w) ≡ due_access mid c w
-due_access-front None c l w =
-    let q = sequence_due c w in
-    ap (λ k. made_by (next_of (start_of k c) k []) (front l w)) (sequence_due-front c l w) ∙ made_by-front (next_of (start_of q c) q []) l w
-due_access-front (Some mid) c l w = made_by-front (next_of (registers_of c) mid.sequence (given_by mid)) l w
+due-front : (mid : Option MidValue) (c : CpuValue) (l : Recorded) (w : Peripherals) → (due_access mid c (front l w) ≡ due_access mid c w) × (begins_reset mid c (front l w) ≡ begins_reset mid c w)
+unfolding line_of
+due-front None c l w = let q = sequence_due c w in (made_by-front (next_of (start_of q c) q []) l w, refl)
+due-front (Some mid) c l w = (made_by-front (next_of (registers_of c) mid.sequence (given_by mid)) l w, refl)
 
 -- the next access is the same
 pub access_in-behind : (entries : List TapeEntry) (l : Recorded) (b : Board) → access_in entries (behind l b) ≡ access_in entries b
 unfolding access_in
-access_in-behind entries l b =
-    ap (due_access b.cpu.mid b.cpu) (ticked-front entries l b.peripherals) ∙ due_access-front b.cpu.mid b.cpu l (ticked entries b.peripherals)
-
-begins_reset-front : (mid : Option MidValue) (c : CpuValue) (l : Recorded) (w : Peripherals) → begins_reset mid c (front l w) ≡ begins_reset mid c w
-begins_reset-front None c l w = rw (sequence_due-front c l w) refl
-begins_reset-front (Some mid) c l w = refl
-
-resets_begun-behind : (entries : List TapeEntry) (l : Recorded) (b : Board) → resets_begun entries (behind l b) ≡ resets_begun entries b
-resets_begun-behind entries l b =
-    ap (begins_reset b.cpu.mid b.cpu) (ticked-front entries l b.peripherals) ∙ begins_reset-front b.cpu.mid b.cpu l (ticked entries b.peripherals)
-
-ticks_price-front : (entries : List TapeEntry) (l : Recorded) (w : Peripherals) → ticks_price entries (front l w) ≡ ticks_price entries w
-unfolding ticks_price
-ticks_price-front entries l w = rw (applied-front (due_at w.clock entries) l w) refl
+access_in-behind entries l b = rw (ticked-front entries l b.peripherals) (due-front b.cpu.mid b.cpu l (ticked entries b.peripherals)).0
 
 -- and so is its price
-pub price-behind : (entries : List TapeEntry) (l : Recorded) (b : Board) → price entries (behind l b) ≡ price entries b
-unfolding price
+price-behind : (entries : List TapeEntry) (l : Recorded) (b : Board) → price entries (behind l b) ≡ price entries b
+unfolding price ticks_price
 price-behind entries l b =
-    rw (access_in-behind entries l b, resets_begun-behind entries l b, ticks_price-front entries l b.peripherals) refl
+    rw (
+      access_in-behind entries l b,
+      ticked-front entries l b.peripherals,
+      (due-front b.cpu.mid b.cpu l (ticked entries b.peripherals)).1,
+      applied-front (due_at b.peripherals.clock entries) l b.peripherals,
+    ) refl
 
 -- a count of what the records don't change is the same
 pub counted-behind : (entries : List TapeEntry) (of_clock : Board → ℕ) → ((l : Recorded) (b : Board) → of_clock (behind l b) ≡ of_clock b)
     → (n : ℕ) (l : Recorded) (b : Board) → counted entries of_clock n (behind l b) ≡ counted entries of_clock n b
 unfolding counted
 counted-behind entries of_clock same zero l b = refl
-counted-behind entries of_clock same (suc n) l b =
-    let later : counted entries of_clock n (step entries (behind l b)) ≡ counted entries of_clock n (step entries b) =
-    ap (counted entries of_clock n) (step-behind entries l b) ∙ counted-behind entries of_clock same n l (step entries b) in
-    rw (same l b, later) refl
+counted-behind entries of_clock same (suc n) l b = rw (step-behind entries l b, counted-behind entries of_clock same n l (step entries b), same l b) refl
 
 -- so that a budget is the same
 pub budget-behind : (entries : List TapeEntry) (n : ℕ) (l : Recorded) (b : Board) → budget entries n (behind l b) ≡ budget entries n b
@@ -223,7 +155,6 @@ budget-behind entries n l b = counted-behind entries (price entries) (price-behi
 
 -- a board is its own records, and itself without them
 pub behind-cleared : (b : Board) → behind (records_of b) (cleared b) ≡ b
-behind-cleared b =
-    rw (append-nil b.peripherals.strokes, append-nil b.peripherals.levels1, append-nil b.peripherals.levels2, append-nil b.peripherals.written) refl
+behind-cleared b = simp append-nil
 
 pub ruleset behinds = (to_clock-behind, to_boundary-behind, to_cut-behind, access_in-behind, budget-behind, behind-cleared)

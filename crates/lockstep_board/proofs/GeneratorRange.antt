@@ -1,5 +1,5 @@
 -- The generator stays in its range.
-use Rattle.std.proofs.Common.{◌≡◌, ◌≢◌, ◌≤◌, ℕ, ◌+◌, ◌-◌, ◌*◌, ◌/◌, ◌%◌, ◌^◌, ◌<◌, ◌==◌, max, Bool, true, false, if◌then◌else◌, List}
+use Rattle.std.proofs.Common.{◌≡◌, ◌≢◌, ◌≤◌, ℕ, ◌+◌, ◌-◌, ◌*◌, ◌%◌, ◌^◌, ◌<◌, ◌==◌, max, Bool, true, false, List}
 use Rattle.std.proofs.Common.{rules, nat_lt, slice_set, replicate, All, ℤ, pos, ◌+ℤ◌, ◌-ℤ◌, unsigned_abs, refl, ◌∙◌, arith}
 use Rattle.std.proofs.lemmas.Bool.{cond_both, eqb-false, eqb-true}
 use Rattle.std.proofs.lemmas.Bool.Decides.{nat_tests}
@@ -11,16 +11,16 @@ use Rattle.avg_decode.specs.declared.word.VgWord.{VgWord}
 use Rattle.avg_decode.specs.declared.word.VgWord.TheVariants.{Vctr, Halt, Svec, Stat, Scal, Cntr, Jsrl, Rtsl, Jmpl}
 use Rattle.avg_decode.specs.Bits.{field, signed}
 use Rattle.avg_decode.specs.Word.{IsLong, second_of, setting_of, short_distance, word_of, words_of}
-use Rattle.avg_draw.specs.Beam.{binary_digits, clocks_of, delta_of, held}
+use Rattle.avg_draw.specs.Beam.{clocks_of, delta_of, held}
 use Rattle.avg_draw.proofs.Scales.{delta_high, delta_low, digits_few, power_bound, scale_bound}
 use Rattle.board_base.specs.declared.phase.TheConstants.{LOW_BYTE, HIGH_BYTE, SECOND_LOW, SECOND_HIGH, EXECUTE, DRAW}
-use Rattle.avg_device.specs.Tick.{begun, drawn, ended, executed, high_byte, high_read, low_byte, low_read, next_word, word_executed}
-use Rattle.avg_device.specs.Tick.{pen_of, phase_after, phase_done, second_high_read, second_low_read, vg_go, vg_reset, vg_tick, word_at}
+use Rattle.avg_device.specs.Tick.{begun, drawn, ended, executed, high_read, low_read, word_executed}
+use Rattle.avg_device.specs.Tick.{pen_of, phase_done, second_high_read, second_low_read, vg_go, vg_reset, vg_tick, word_at}
 use Rattle.board_base.specs.Ranges.{IsWithin}
 use Rattle.board_base.specs.Vg.{VgValue}
 use Rattle.cpu_core.specs.Ranges.{IsByte}
 use Rattle.lockstep_board.specs.Ranges.{AreBytes, IsVgInRange}
-use Rattle.lockstep_board.proofs.EaromRange.{byte_at, set_bytes}
+use Rattle.lockstep_board.proofs.DeviceRange.{byte_at, set_bytes}
 
 -- what a word may say of its fields
 abbrev IsWord : VgWord → Type 0
@@ -34,8 +34,7 @@ IsWord _ = Unit {0}
 
 signed_long : (n : ℕ) → n < 8192 → IsLong (signed 4096 n)
 signed_long n h =
-    cond_both (nat_lt n 4096) (pos n) (pos n -ℤ pos (2 * 4096)) IsLong
-    (λ e. let low : n < 4096 = grind (arith, nat_tests) in record { above = omega (arith, ints); below = omega (arith, ints) })
+    cond_both (nat_lt n 4096) (pos n) (pos n -ℤ pos (2 * 4096)) IsLong (λ e. let low : n < 4096 = grind (arith, nat_tests) in record { above = omega (arith, ints); below = omega (arith, ints) })
     (λ e. let high : 4096 ≤ n = grind (arith, nat_tests) in record { above = omega (arith, ints); below = omega (arith, ints) })
 
 short_long : (n : ℕ) → n < 32 → IsLong (short_distance n)
@@ -44,26 +43,14 @@ short_long n h =
     (λ e. let low : n < 16 = grind (arith, nat_tests) in record { above = omega (arith, ints); below = omega (arith, ints) })
     (λ e. let high : 16 ≤ n = grind (arith, nat_tests) in record { above = omega (arith, ints); below = omega (arith, ints) })
 
-setting_in : (w : ℕ) → IsWord (setting_of w)
-setting_in w =
-    cond_both (field w 12 1 == 0) (Stat (field w 0 3) (field w 4 4)) (Scal (field w 8 3) (field w 0 8)) IsWord
-    (λ _. (omega arith, omega arith)) (λ _. (omega arith, omega arith))
-
-words_in : (w : ℕ) → All IsWord (words_of w)
-words_in w =
-    All-from_recursion IsWord (words_of w)
-    (signed_long (field w 0 13) (omega arith), (tt, (short, (setting_in w, (tt, (omega arith, (tt, (omega arith, tt))))))))
-  where
-    short : IsLong (short_distance (field w 0 5)) × IsLong (short_distance (field w 8 5)) × (field w 5 3 < 8)
-    short = (short_long (field w 0 5) (omega arith), short_long (field w 8 5) (omega arith), omega arith)
-
 word_in : (w : ℕ) → IsWord (word_of w)
 unfolding word_of
-word_in w = All-get_or IsWord (words_of w) (field w 13 3) Halt (omega arith) (words_in w)
-
-second_in : (w : ℕ) → IsLong (second_of w).0 × ((second_of w).1 < 8)
-unfolding second_of
-second_in w = (signed_long (field w 0 13) (omega arith), omega arith)
+word_in w =
+    let x = short_long (field w 0 5) (omega arith) in let y = short_long (field w 8 5) (omega arith) in
+    let setting : IsWord (setting_of w) = cond_both (field w 12 1 == 0) (Stat (field w 0 3) (field w 4 4)) (Scal (field w 8 3) (field w 0 8)) IsWord
+    (λ _. (omega arith, omega arith)) (λ _. (omega arith, omega arith)) in
+    All-get_or IsWord (words_of w) (field w 13 3) Halt (omega arith) (All-from_recursion IsWord (words_of w)
+    (signed_long (field w 0 13) (omega arith), (tt, ((x, y, omega arith), (setting, (tt, (omega arith, (tt, (omega arith, tt)))))))))
 
 held_in : (z : ℤ) → IsWithin (2 ^ 30) (held z)
 unfolding held
@@ -71,10 +58,7 @@ held_in z = record { above = grind (arith, common_steps); below = grind (arith, 
 
 delta_in : (d : ℤ) (lin bin : ℕ) → IsLong d → IsWithin (2 ^ 27) (delta_of d lin bin)
 unfolding delta_of
-delta_in d lin bin h = record {
-  above = delta_low d ((256 - lin) * 2 ^ (7 - bin)) h.above h.below (scale_bound lin bin);
-  below = delta_high d ((256 - lin) * 2 ^ (7 - bin)) h.above h.below (scale_bound lin bin);
-}
+delta_in d lin bin h = record { above = delta_low d _ h.above h.below (scale_bound lin bin); below = delta_high d _ h.above h.below (scale_bound lin bin) }
 
 zero_within : (n : ℕ) → IsWithin n (pos 0)
 zero_within n = record { above = omega (arith, ints); below = omega (arith, ints) }
@@ -82,26 +66,13 @@ zero_within n = record { above = omega (arith, ints); below = omega (arith, ints
 length_of : (d : ℤ) → IsLong d → unsigned_abs d ≤ 4096
 length_of d h = let low = h.above in let high = h.below in omega (arith, ints)
 
-few_clocks : (n bin : ℕ) → n ≤ 4096 → 2 ^ binary_digits n / 2 ^ bin ≤ 8192
-few_clocks n bin h =
-    let power : 2 ^ binary_digits n ≤ 8192 = power_bound (binary_digits n) (digits_few n (omega arith)) in
-    quotient (2 ^ binary_digits n) (2 ^ bin) power
-  where
-    quotient : (a b : ℕ) → a ≤ 8192 → a / b ≤ 8192
-    quotient a b h = omega arith
-
 clocks_in : (dx dy : ℤ) (bin : ℕ) → IsLong dx → IsLong dy → (1 ≤ clocks_of dx dy bin) × (clocks_of dx dy bin ≤ 8192)
 unfolding clocks_of
 clocks_in dx dy bin h k =
-    let x = length_of dx h in
-    let y = length_of dy k in
-    let few = few_clocks (max (unsigned_abs dx) (unsigned_abs dy)) bin (omega arith) in
-    (omega arith, omega arith)
+    let x = length_of dx h in let y = length_of dy k in let digits = digits_few (max (unsigned_abs dx) (unsigned_abs dy)) (omega arith) in (omega arith, omega (arith, power_bound _ digits))
 
 pen_in : (z intensity : ℕ) → z < 8 → intensity < 16 → pen_of z intensity < 16
-pen_in z intensity h k =
-    cond_both (z == 0) 0 (if z == 1 then intensity else 2 * z) (λ n. n < 16) (λ _. omega arith)
-    (λ _. cond_both (z == 1) intensity (2 * z) (λ n. n < 16) (λ _. omega arith) (λ _. omega arith))
+pen_in z intensity h k = grind (arith, nat_tests)
 
 -- the phase, and the clocks that are left of a vector
 record IsPhase (now clocks : ℕ) : Type 0 where
@@ -123,94 +94,50 @@ unread = record { count = refl; each = All-replicate IsByte 4 0 (omega arith) }
 begun_in : (dx dy : ℤ) (z : ℕ) (v : VgValue) → IsLong dx → IsLong dy → z < 8 → IsVgInRange v → IsVgInRange (begun dx dy z v)
 unfolding begun
 begun_in dx dy z v wide high code h =
-    let clocks = clocks_in dx dy v.bin wide high in
-    let phase = drawing_in (clocks_of dx dy v.bin) clocks.0 clocks.1 in
-    let pen = pen_in z v.intensity code h.device.intensity in
-    let right = delta_in dx v.lin v.bin wide in
-    let up = delta_in dy v.lin v.bin high in
-    search rules
+    let clocks = clocks_in dx dy v.bin wide high in let phase = drawing_in (clocks_of dx dy v.bin) clocks.0 clocks.1 in
+    let pen = pen_in z v.intensity code h.device.intensity in let right = delta_in dx v.lin v.bin wide in let up = delta_in dy v.lin v.bin high in search rules
 
-obeyed_in : (word : VgWord) (second : ℤ × ℕ) (v : VgValue) → IsWord word → IsLong second.0 → second.1 < 8 → IsVgInRange v
-    → IsVgInRange (word_executed word second v)
+obeyed_in : (word : VgWord) (second : ℤ × ℕ) (v : VgValue) → IsWord word → IsLong second.0 → second.1 < 8 → IsVgInRange v → IsVgInRange (word_executed word second v)
 unfolding word_executed
 obeyed_in (Vctr dy) second v word far code h = begun_in second.0 dy second.1 v far word code h
-obeyed_in Halt second v word far code h = search rules
 obeyed_in (Svec dx dy z) second v word far code h = begun_in dx dy z v word.0 word.1 word.2 h
-obeyed_in (Stat colour intensity) second v word far code h = search rules
-obeyed_in (Scal bin lin) second v word far code h = search rules
 obeyed_in Cntr second v word far code h = let origin = zero_within (2 ^ 30) in search rules
 obeyed_in (Jsrl to) second v word far code h =
-    let sp : (v.sp + 1) % 4 < 4 = omega arith in
-    let stack = length-set v.stack v.sp v.pc ∙ h.device.stack in
-    let words = All-set (λ to. to < 8192) v.stack v.sp v.pc h.device.pc h.device.words in
-    search rules
+    let sp : (v.sp + 1) % 4 < 4 = omega arith in let stack = length-set v.stack v.sp v.pc ∙ h.device.stack in
+    let words = All-set (λ to. to < 8192) v.stack v.sp v.pc h.device.pc h.device.words in search rules
 obeyed_in Rtsl second v word far code h =
-    let four = h.device.stack in
-    let sp : (v.sp + 3) % 4 < 4 = omega arith in
-    let pc = All-get_or (λ to. to < 8192) v.stack ((v.sp + 3) % 4) 0 (omega arith) h.device.words in
-    search rules
-obeyed_in (Jmpl to) second v word far code h = search rules
+    let four = h.device.stack in let sp : (v.sp + 3) % 4 < 4 = omega arith in let pc = All-get_or (λ to. to < 8192) v.stack ((v.sp + 3) % 4) 0 (omega arith) h.device.words in search rules
+obeyed_in _ second v word far code h = search rules
 
 executed_in : (v : VgValue) → IsVgInRange v → v.left ≡ 0 → IsVgInRange (executed v)
-unfolding executed
+unfolding executed second_of
 executed_in v h idle =
-    let second = second_in (word_at v.bytes 2) in
-    obeyed_in (word_of (word_at v.bytes 0)) (second_of (word_at v.bytes 2)) (record v { phase = LOW_BYTE; bytes = replicate 4 0 })
-    (word_in (word_at v.bytes 0)) second.0 second.1 forgotten
-  where
-    forgotten : IsVgInRange (record v { phase = LOW_BYTE; bytes = replicate 4 0 })
-    forgotten = let phase = idle_in LOW_BYTE v.left (omega arith) idle in let bytes = unread in search rules
+    let phase = idle_in LOW_BYTE v.left (omega arith) idle in let forgotten : IsVgInRange (record v { phase = LOW_BYTE; bytes = replicate 4 0 }) = let bytes = unread in search rules in
+    obeyed_in (word_of (word_at v.bytes 0)) _ _ (word_in (word_at v.bytes 0)) (signed_long (field (word_at v.bytes 2) 0 13) (omega arith)) (omega arith) forgotten
 
 -- byte k of the word is read, and another phase begins
-read_in : (v : VgValue) (next at k byte : ℕ) → next < 5 → at < 8192 → IsByte byte → IsVgInRange v → v.left ≡ 0
-    → IsVgInRange (record v { phase = next; pc = at; bytes = slice_set v.bytes k byte })
+read_in : (v : VgValue) (next at k byte : ℕ) → next < 5 → at < 8192 → IsByte byte → IsVgInRange v → v.left ≡ 0 → IsVgInRange (record v { phase = next; pc = at; bytes = slice_set v.bytes k byte })
 read_in v next at k byte small few is h idle =
-    let phase = idle_in next v.left small idle in
-    let bytes = set_bytes 4 v.bytes k byte is (record { count = h.device.bytes; each = h.bytes }) in
-    search rules
-
-low_in : (memory : List ℕ) (v : VgValue) (next k : ℕ) → next < 5 → All IsByte memory → IsVgInRange v → v.left ≡ 0
-    → IsVgInRange (record v { phase = next; bytes = slice_set v.bytes k (low_byte memory v.pc) })
-low_in memory v next k small m h idle = read_in v next v.pc k (low_byte memory v.pc) small h.device.pc (byte_at memory (2 * v.pc) m) h idle
-
-high_in : (memory : List ℕ) (v : VgValue) (next k : ℕ) → next < 5 → All IsByte memory → IsVgInRange v → v.left ≡ 0
-    → IsVgInRange (record v { phase = next; pc = next_word v.pc; bytes = slice_set v.bytes k (high_byte memory v.pc) })
-high_in memory v next k small m h idle =
-    read_in v next (next_word v.pc) k (high_byte memory v.pc) small (omega arith) (byte_at memory (2 * v.pc + 1) m) h idle
-
-phase_after_in : (high : ℕ) → phase_after high < 5
-phase_after_in high = cond_both (nat_lt high 32) SECOND_LOW EXECUTE (λ next. next < 5) (λ _. omega arith) (λ _. omega arith)
+    let phase = idle_in next v.left small idle in let bytes = set_bytes 4 v.bytes k byte is (record { count = h.device.bytes; each = h.bytes }) in search rules
 
 ended_in : (v : VgValue) → IsVgInRange v → IsVgInRange (ended v)
 unfolding ended
-ended_in v h =
-    let phase = idle_in LOW_BYTE 0 (omega arith) refl in
-    let x = held_in (v.x +ℤ v.dx) in
-    let y = held_in (v.y +ℤ v.dy) in
-    let still = zero_within (2 ^ 27) in
-    search rules
+ended_in v h = let phase = idle_in LOW_BYTE 0 (omega arith) refl in let still = zero_within (2 ^ 27) in let x = held_in (v.x +ℤ v.dx) in let y = held_in (v.y +ℤ v.dy) in search rules
 
 drawn_in : (v : VgValue) → IsVgInRange v → v.phase ≡ DRAW → IsVgInRange (drawn v)
 unfolding drawn
 drawn_in v h drawing =
-    cond_both (v.left == 1) (ended v) (record v { left = v.left - 1 }) IsVgInRange (λ _. ended_in v h) (λ more. let phase = counted more in search rules)
-  where
-    counted : (v.left == 1) ≡ false → IsPhase v.phase (v.left - 1)
-    counted more =
-        let other = eqb-false v.left 1 more in
-        let some = h.device.drawing drawing in
-        let most = h.device.longest in
-        record { known = h.device.phase; drawing = λ _. omega arith; longest = omega arith; resting = λ rest. absurd (rest drawing) }
+    let some = h.device.drawing drawing in let most = h.device.longest in cond_both (v.left == 1) (ended v) (record v { left = v.left - 1 }) IsVgInRange (λ _. ended_in v h)
+    (λ more. let other = eqb-false v.left 1 more in let phase = rw (← drawing) at (drawing_in (v.left - 1) (omega arith) (omega arith)) in search rules)
 
 phase_done_in : (memory : List ℕ) (v : VgValue) → All IsByte memory → IsVgInRange v → IsVgInRange (phase_done memory v)
 unfolding phase_done low_read high_read second_low_read second_high_read
 phase_done_in memory v m h =
-    cond_both (v.phase == LOW_BYTE) _ _ IsVgInRange (λ e. low_in memory v HIGH_BYTE 0 (omega arith) m h (idle LOW_BYTE e (omega arith)))
-    (λ na. cond_both (v.phase == HIGH_BYTE) _ _ IsVgInRange (λ e. high_in memory v _ 1 (phase_after_in (high_byte memory v.pc)) m h (idle HIGH_BYTE e (omega arith)))
-    (λ nb. cond_both (v.phase == SECOND_LOW) _ _ IsVgInRange (λ e. low_in memory v SECOND_HIGH 2 (omega arith) m h (idle SECOND_LOW e (omega arith)))
-    (λ nc. cond_both (v.phase == SECOND_HIGH) _ _ IsVgInRange (λ e. high_in memory v EXECUTE 3 (omega arith) m h (idle SECOND_HIGH e (omega arith)))
-    (λ nd. cond_both (v.phase == EXECUTE) _ _ IsVgInRange (λ e. executed_in v h (idle EXECUTE e (omega arith)))
-    (λ ne. let most = h.device.phase in drawn_in v h (grind (arith, nat_tests)))))))
+    cond_both (v.phase == LOW_BYTE) _ _ IsVgInRange (λ e. read_in v _ v.pc 0 _ (omega arith) h.device.pc (byte_at memory (2 * v.pc) m) h (idle LOW_BYTE e (omega arith)))
+    (λ na. cond_both (v.phase == HIGH_BYTE) _ _ IsVgInRange (λ e. read_in v _ _ 1 _ (grind (arith, nat_tests)) (omega arith) (byte_at memory (2 * v.pc + 1) m) h (idle HIGH_BYTE e (omega arith)))
+    (λ nb. cond_both (v.phase == SECOND_LOW) _ _ IsVgInRange (λ e. read_in v _ v.pc 2 _ (omega arith) h.device.pc (byte_at memory (2 * v.pc) m) h (idle SECOND_LOW e (omega arith)))
+    (λ nc. cond_both (v.phase == SECOND_HIGH) _ _ IsVgInRange (λ e. read_in v _ _ 3 _ (omega arith) (omega arith) (byte_at memory (2 * v.pc + 1) m) h (idle SECOND_HIGH e (omega arith)))
+    (λ nd. cond_both (v.phase == EXECUTE) _ _ IsVgInRange (λ e. executed_in v h (idle EXECUTE e (omega arith))) (λ ne. let most = h.device.phase in drawn_in v h (grind (arith, nat_tests)))))))
   where
     -- outside the drawing phase no clock of a vector is left
     idle : (phase : ℕ) → (v.phase == phase) ≡ true → phase < 5 → v.left ≡ 0
@@ -223,11 +150,7 @@ vg_tick-in_range memory clock v m h = cond_both v.halted v (phase_done memory v)
 -- with no word and no vector under way
 anew_in : (v : VgValue) (halts : Bool) (at top : ℕ) → at < 8192 → top < 4 → IsVgInRange v
     → IsVgInRange (record v { halted = halts; phase = LOW_BYTE; pc = at; sp = top; bytes = replicate 4 0; dx = pos 0; dy = pos 0; pen = 0; left = 0 })
-anew_in v halts at top few small h =
-    let phase = idle_in LOW_BYTE 0 (omega arith) refl in
-    let still = zero_within (2 ^ 27) in
-    let bytes = unread in
-    search rules
+anew_in v halts at top few small h = let phase = idle_in LOW_BYTE 0 (omega arith) refl in let still = zero_within (2 ^ 27) in let bytes = unread in search rules
 
 pub vg_go-in_range : (v : VgValue) → IsVgInRange v → IsVgInRange (vg_go v)
 unfolding vg_go
@@ -236,5 +159,3 @@ vg_go-in_range v h = anew_in v false 0 0 (omega arith) (omega arith) h
 pub vg_reset-in_range : (v : VgValue) → IsVgInRange v → IsVgInRange (vg_reset v)
 unfolding vg_reset
 vg_reset-in_range v h = anew_in v true v.pc v.sp h.device.pc h.device.sp h
-
-pub ruleset vg_ranges = (vg_tick-in_range, vg_go-in_range, vg_reset-in_range)

@@ -3,8 +3,7 @@ pub mod Behind
 pub mod BoardRange
 pub mod Budgets
 pub mod Clocks
-pub mod DividerRange
-pub mod EaromRange
+pub mod DeviceRange
 pub mod Ended
 pub mod Ends
 pub mod GeneratorRange
