@@ -20,33 +20,12 @@ use Rattle.keyframes.specs.Seeking.{Along, IsOnRun, over_image, run_start, state
 use Rattle.keyframes.proofs.ImageLaws.{Image, clock-image, image_of}
 
 -- a state over an image
-abbrev laid : BoardValue → Image → Board
-laid state image = record {
-  cpu = state.cpu;
-  peripherals = record {
-    clock = state.clock;
-    wired = image.wired;
-    out = state.out;
-    in0 = state.in0;
-    in3 = state.in3;
-    in4 = state.in4;
-    divider = state.divider;
-    vg = state.vg;
-    sound1 = state.sound1;
-    sound2 = state.sound2;
-    earom = state.earom;
-    ram = state.ram;
-    memory = state.vram ++ image.rom;
-    program = image.program;
-    strokes = [];
-    levels1 = [];
-    levels2 = [];
-    written = [];
-  };
-}
+abbrev laid : Board → BoardValue → Image → Board
+laid e state image =
+    record (over_image e state) { peripherals = record (over_image e state).peripherals { wired = image.wired; memory = state.vram ++ image.rom; program = image.program } }
 
 over_image-of : (e e' : Board) (state : BoardValue) → image_of e.peripherals ≡ image_of e'.peripherals → over_image e state ≡ over_image e' state
-over_image-of e e' state same = ap (laid state) same
+over_image-of e e' state same = ap (laid e state) same
 
 -- over its own image the state of a board is the board without its records
 over_image-own : (b : Board) → over_image b (state_of b) ≡ cleared b
@@ -84,13 +63,11 @@ module _ (kept : List Keyframe) (entries : List TapeEntry) (e : Board) (along : 
   start = run_start kept e
 
   -- a kept board that is taken on is that of the run at its clock
-  pub loaded-board : (i : ℕ) (d : Keyframe) → i < length kept
-      → over_image e (get_or kept i d).board ≡ cleared (to_clock entries (get_or kept i d).board.clock start)
+  pub loaded-board : (i : ℕ) (d : Keyframe) → i < length kept → over_image e (get_or kept i d).board ≡ cleared (to_clock entries (get_or kept i d).board.clock start)
   loaded-board i d h =
       let state = (get_or kept i d).board in
       let there = to_clock entries state.clock start in
-      over_image-of e there state (sym (clock-image entries state.clock start ∙ along-image kept entries e along))
-      ∙ ap (over_image there) (along.each i d h)
+      over_image-of e there state (sym (clock-image entries state.clock start ∙ along-image kept entries e along)) ∙ ap (over_image there) (along.each i d h)
       ∙ over_image-own there
 
   -- and the run begins where it began
@@ -103,8 +80,7 @@ module _ (kept : List Keyframe) (entries : List TapeEntry) (e : Board) (along : 
 -- records made before don't change where a run comes to
 pub clock-cleared : (entries : List TapeEntry) (cut : ℕ) (b : Board) → cleared (to_clock entries cut (cleared b)) ≡ cleared (to_clock entries cut b)
 clock-cleared entries cut b =
-    sym (ap cleared (to_clock-behind entries cut (records_of b) (cleared b)))
-    ∙ ap (λ (c : Board). cleared (to_clock entries cut c)) (behind-cleared b)
+    sym (ap cleared (to_clock-behind entries cut (records_of b) (cleared b))) ∙ ap (λ (c : Board). cleared (to_clock entries cut c)) (behind-cleared b)
 
 not-before : (jam : Option ℕ) (cut clock : ℕ) → cut ≤ clock → is_some jam || nat_le cut clock ≡ true
 not-before jam cut clock h = grind (arith, nat_tests)
@@ -136,9 +112,8 @@ own-clock entries cut b =
     let n = clock_steps entries cut b in
     let last = stepped entries n b in
     let all = stepped-clock entries n b in
-    let reached = steps-reached entries (is_at cut) (cut - b.peripherals.clock) b in
     sym (ap (λ k. stepped entries k b) (steps_until-is entries (is_at last.peripherals.clock) n (last.peripherals.clock - b.peripherals.clock) b last
-    (reached-at entries cut last.peripherals.clock n b last reached (omega (arith, all)))
+    (reached-at entries cut last.peripherals.clock n b last (steps-reached entries (is_at cut) (cut - b.peripherals.clock) b) (omega (arith, all)))
     (not-before last.cpu.jam last.peripherals.clock last.peripherals.clock (omega arith)) (omega (arith, all))))
 
 clock-later : (entries : List TapeEntry) (cut : ℕ) (b : Board) → b.peripherals.clock ≤ (to_clock entries cut b).peripherals.clock
@@ -150,13 +125,10 @@ module _ (entries : List TapeEntry) (now then : Board) (cut : ℕ) (is : then �
   pub part-on_run : (b : Board) → IsOnRun entries b now → IsOnRun entries b then
   part-on_run b on_run =
       let clock = (to_clock entries cut now).peripherals.clock in
-      let there = to_clock entries now.peripherals.clock b in
       let same : then.peripherals.clock ≡ clock = ap (λ (c : Board). c.peripherals.clock) is in
-      is ∙ ap cleared (own-clock entries cut now)
-      ∙ ap (λ (c : Board). cleared (to_clock entries clock c)) on_run
-      ∙ clock-cleared entries clock there
-      ∙ sym (ap cleared (to_clock-split entries now.peripherals.clock clock b (clock-later entries cut now)))
-      ∙ ap (λ n. cleared (to_clock entries n b)) (sym same)
+      is ∙ ap cleared (own-clock entries cut now) ∙ ap (λ (c : Board). cleared (to_clock entries clock c)) on_run
+      ∙ clock-cleared entries clock (to_clock entries now.peripherals.clock b)
+      ∙ sym (ap cleared (to_clock-split entries now.peripherals.clock clock b (clock-later entries cut now))) ∙ ap (λ n. cleared (to_clock entries n b)) (sym same)
 
   pub part-image : image_of then.peripherals ≡ image_of now.peripherals
   part-image = ap (λ (c : Board). image_of c.peripherals) is ∙ clock-image entries cut now
@@ -164,8 +136,7 @@ module _ (entries : List TapeEntry) (now then : Board) (cut : ℕ) (is : then �
   -- from its end a run to a later clock goes on
   pub part-rest : (later : ℕ) → cut ≤ later → cleared (to_clock entries later then) ≡ cleared (to_clock entries later now)
   part-rest later h =
-      ap (λ (c : Board). cleared (to_clock entries later c)) is
-      ∙ clock-cleared entries later (to_clock entries cut now)
+      ap (λ (c : Board). cleared (to_clock entries later c)) is ∙ clock-cleared entries later (to_clock entries cut now)
       ∙ sym (ap cleared (to_clock-split entries cut later now h))
 
   -- and it is over at its own clock

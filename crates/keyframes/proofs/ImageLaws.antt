@@ -2,9 +2,9 @@
 use Rattle.std.proofs.Common.{◌≡◌, ℕ, Bool, List, [], ◌∷◌, Option, Some, None, drop, zero, suc, refl, ap, ◌∙◌}
 use Rattle.std.proofs.lemmas.List.{drop-set-lt}
 use Rattle.board_base.specs.declared.cpu.Sequence.{Sequence}
-use Rattle.board_base.specs.declared.cpu.Sequence.TheVariants.{Opcode, Interrupt, Reset}
+use Rattle.board_base.specs.declared.cpu.Sequence.TheVariants.{Reset}
 use Rattle.board_base.specs.declared.divider.Pending.{Pending}
-use Rattle.board_base.specs.declared.divider.Pending.TheVariants.{Nothing, Power, Watchdog}
+use Rattle.board_base.specs.declared.divider.Pending.TheVariants.{Nothing}
 use Rattle.board_base.specs.declared.vector_memory.TheConstants.{VECTOR_RAM_LEN}
 use Rattle.board_base.specs.Cpu.{CpuValue, MidValue}
 use Rattle.board_map.specs.declared.map.Writes.{Writes}
@@ -12,7 +12,7 @@ use Rattle.board_map.specs.declared.map.Writes.TheVariants as writes
 use Rattle.board_map.specs.Map.{row_of, IsWritable}
 use Rattle.board_map.proofs.Within.{writable}
 use Rattle.cpu_core.specs.declared.replay.Next.{Next}
-use Rattle.cpu_core.specs.declared.replay.Next.TheVariants.{Read, Write, End}
+use Rattle.cpu_core.specs.declared.replay.Next.TheVariants.{Write}
 use Rattle.cpu_core.specs.Registers.{RegistersValue, registers_of}
 use Rattle.cpu_core.specs.Sequences.{next_of, start_of}
 use Rattle.cpu_core.specs.Places.{given_by}
@@ -35,10 +35,7 @@ image_of w = record { wired = w.wired; program = w.program; rom = drop VECTOR_RA
 
 port_set-image : (p : Port) (value : ℕ) (w : Peripherals) → image_of (port_set p value w) ≡ image_of w
 port_set-image port.In0 value w = refl
-port_set-image port.In3 value w = refl
-port_set-image port.In4 value w = refl
-port_set-image (port.Pot1 which) value w = refl
-port_set-image (port.Pot2 which) value w = refl
+port_set-image _ value w = refl
 
 applied-image : (entries : List TapeEntry) (w : Peripherals) → image_of (applied entries w) ≡ image_of w
 unfolding applied
@@ -55,12 +52,10 @@ put_in-image writes.VectorRam k value w at =
     ap (λ (rom : List ℕ). let image : Image = record { wired = w.wired; program = w.program; rom = rom } in image) (drop-set-lt VECTOR_RAM_LEN w.memory k value at)
 put_in-image _ k value w at = refl
 
-accessed_by-image : (next : Next) (r : RegistersValue) (q : Sequence) (bytes : List ℕ) (w : Peripherals)
-    → image_of (accessed_by next r q bytes w).peripherals ≡ image_of w
+accessed_by-image : (next : Next) (r : RegistersValue) (q : Sequence) (bytes : List ℕ) (w : Peripherals) → image_of (accessed_by next r q bytes w).peripherals ≡ image_of w
 unfolding byte_put
-accessed_by-image (Read a) r q bytes w = refl
 accessed_by-image (Write a v) r q bytes w = put_in-image (row_of a).writes (row_of a).offset v w (writable a)
-accessed_by-image (End e) r q bytes w = refl
+accessed_by-image _ r q bytes w = refl
 
 accessed-image : (r : RegistersValue) (q : Sequence) (bytes : List ℕ) (w : Peripherals) → image_of (accessed r q bytes w).peripherals ≡ image_of w
 unfolding accessed
@@ -68,20 +63,17 @@ accessed-image r q bytes w = accessed_by-image (next_of r q bytes) r q bytes w
 
 reset_by-image : (p : Pending) (w : Peripherals) → image_of (reset_by p w) ≡ image_of w
 reset_by-image Nothing w = refl
-reset_by-image Power w = refl
-reset_by-image Watchdog w = refl
+reset_by-image _ w = refl
 
 begun-image : (q : Sequence) (b : Board) → image_of (begun q b).peripherals ≡ image_of b.peripherals
 unfolding reset_begun
 begun-image Reset b = reset_by-image b.peripherals.divider.pending b.peripherals
-begun-image Opcode b = refl
-begun-image Interrupt b = refl
+begun-image _ b = refl
 
 after_access-image : (mid : Option MidValue) (c : CpuValue) (w : Peripherals) → image_of (after_access mid c w).peripherals ≡ image_of w
 unfolding at_fetch
 after_access-image None c w =
-    begun-image (sequence_due c w) (accessed (start_of (sequence_due c w) c) (sequence_due c w) [] w)
-    ∙ accessed-image (start_of (sequence_due c w) c) (sequence_due c w) [] w
+    begun-image (sequence_due c w) (accessed (start_of (sequence_due c w) c) (sequence_due c w) [] w) ∙ accessed-image (start_of (sequence_due c w) c) (sequence_due c w) [] w
 after_access-image (Some mid) c w = accessed-image (registers_of c) mid.sequence (given_by mid) w
 
 step-image : (entries : List TapeEntry) (b : Board) → image_of (step entries b).peripherals ≡ image_of b.peripherals

@@ -1,14 +1,9 @@
 pub mod HolderLaws
-pub mod CopyLaws
 pub mod ThinLaws
 pub mod FillLaws
-pub mod KeepLaws
-pub mod LiveLaws
-pub mod NearestLaws
 pub mod RoomLaws
 pub mod BoardLaws
 pub mod KeysLaws
 pub mod ImageLaws
-pub mod AddLaws
 pub mod AlongLaws
 pub mod SeekLaws

@@ -3,9 +3,11 @@ use Rattle.std.proofs.Common.{◌≡◌, ℕ, ◌+◌, ◌*◌, ◌<◌, ◌≤�
 use Rattle.std.proofs.Common.{eqb, nat_lt, nat_le, cond, zero, suc, inl, inr, arith}
 use Rattle.std.proofs.lemmas.List.{get_or_default, length-map}
 use Rattle.std.proofs.lemmas.List.Folds.{flat_map-map}
-use Rattle.std.proofs.lemmas.List.Elements.{All-take, All-drop}
-use Rattle.std.proofs.lemmas.List.Sums.{sum_by-cons}
-use Rattle.std.proofs.lemmas.Bool.{cases_lt, eqb-true, le-ltb, lt-leb, ltb-false}
+use Rattle.std.proofs.lemmas.List.Elements.{All-tail, All-take, All-drop}
+use Rattle.std.proofs.lemmas.List.Sums.{sum_by-cons, sum_by-le}
+use Rattle.std.proofs.lemmas.Bool.Decides.{eqb_tells}
+use Rattle.std.proofs.lemmas.Bool.{leb-true, ltb-false, ltb-true, or_cases, or_parts}
+use borrow.Author.Count.{below_more}
 use Rattle.std.specs.List.{count_by, list_any, range_with_len}
 use Rattle.page_pool.specs.Pool.{Holding, IsLive, live_of}
 use Rattle.keyframes.specs.declared.store.Store.{Store}
@@ -16,10 +18,9 @@ use Rattle.keyframes.specs.Inside.{AreRising, IsStore, keys_of, the_keyframe}
 use Rattle.keyframes.specs.Keys.{Keyframe, KeyframesValue, MakesRoom, is_crowded, keys_thinned, thinned}
 use Rattle.keyframes.specs.Keys.{live_of as keys_live}
 use Rattle.keyframes.specs.Store.{HoldsFrames, IsFrame, frame_places}
-use Rattle.keyframes.proofs.HolderLaws.{live-held, times-append}
+use Rattle.keyframes.proofs.HolderLaws.{live-held, times-append, live-places}
 use Rattle.keyframes.proofs.FillLaws.{times-some}
-use Rattle.keyframes.proofs.KeepLaws.{all-tail, length-places}
-use Rattle.keyframes.proofs.LiveLaws.{live-places}
+use Rattle.keyframes.proofs.ThinLaws.{length-places}
 
 -- the elements of a thinned list are every second one
 get-thinned : {A : Type 0} (xs : List A) (i : ℕ) (d : A) → get_or (thinned xs) i d ≡ get_or xs (2 * i) d
@@ -42,10 +43,9 @@ all-thinned P xs all = λ k d h. subst P (sym (get-thinned xs k d)) (all (2 * k)
 
 pub rising-thinned : (frames : List Frame) → AreRising frames → AreRising (thinned frames)
 rising-thinned frames rising i j d h k =
-    let r = rising (2 * i) (2 * j) d (omega (arith, h)) (omega (arith, k, length-thinned frames)) in
     let a = ap (λ (f : Frame). f.rest.clock) (get-thinned frames i d) in
     let b = ap (λ (f : Frame). f.rest.clock) (get-thinned frames j d) in
-    omega (arith, r, a, b)
+    omega (arith, rising (2 * i) (2 * j) d (omega (arith, h)) (omega (arith, k, length-thinned frames)), a, b)
 
 map-thinned : {A B : Type 0} (f : A → B) (xs : List A) → map f (thinned xs) ≡ thinned (map f xs)
 map-thinned f [] = refl
@@ -54,17 +54,23 @@ map-thinned f (a ∷ b ∷ xs) = ap (λ ys. f a ∷ ys) (map-thinned f xs)
 
 pub map-same : {A B : Type 0} (f g : A → B) (xs : List A) → All (λ x. f x ≡ g x) xs → map f xs ≡ map g xs
 map-same f g [] all = refl
-map-same f g (x ∷ xs) all = rw (all 0 x (omega arith), map-same f g xs (all-tail (λ y. f y ≡ g y) x xs all)) refl
+map-same f g (x ∷ xs) all = rw (all 0 x (omega arith), map-same f g xs (All-tail (λ y. f y ≡ g y) x xs all)) refl
 
 flat_map-same : (f g : ℕ → List ℕ) (xs : List ℕ) → All (λ x. f x ≡ g x) xs → flat_map f xs ≡ flat_map g xs
 flat_map-same f g [] all = refl
-flat_map-same f g (x ∷ xs) all = rw (all 0 x (omega arith), flat_map-same f g xs (all-tail (λ y. f y ≡ g y) x xs all)) refl
+flat_map-same f g (x ∷ xs) all = rw (all 0 x (omega arith), flat_map-same f g xs (All-tail (λ y. f y ≡ g y) x xs all)) refl
 
--- a frame whose pages have the same bytes is the same board
-pub board-same : (old new : List (Option Holding)) (frame : Frame) → All (λ place. page_bytes new place ≡ page_bytes old place) frame.pages.items
-    → the_keyframe new frame ≡ the_keyframe old frame
-board-same old new frame all =
+-- a frame whose pages live on with the same bytes is as it was, and the same board
+abbrev pub StaysAsItWas : List (Option Holding) → List (Option Holding) → Frame → Type 0
+StaysAsItWas old new frame = All (λ place. IsLive new place × (page_bytes new place ≡ page_bytes old place)) frame.pages.items
+
+pub frame-same : (old new : List (Option Holding)) (frame : Frame) → IsFrame old frame → StaysAsItWas old new frame → IsFrame new frame
+frame-same old new frame is stays = record { rest = is.rest; len = is.len; live = λ k d h. (stays k d h).0; whole = λ k d h. ap (λ (bytes : List ℕ). length bytes) (stays k d h).1 ∙ is.whole k d h }
+
+pub board-same : (old new : List (Option Holding)) (frame : Frame) → StaysAsItWas old new frame → the_keyframe new frame ≡ the_keyframe old frame
+board-same old new frame stays =
     let same : ℕ → Type 0 = λ place. page_bytes new place ≡ page_bytes old place in
+    let all : All same frame.pages.items = λ k d h. (stays k d h).1 in
     rw (
       flat_map-same (page_bytes new) (page_bytes old) (take 8 frame.pages.items) (All-take same 8 frame.pages.items all),
       flat_map-same (page_bytes new) (page_bytes old) (drop 8 frame.pages.items) (All-drop same 8 frame.pages.items all),
@@ -76,47 +82,32 @@ places-some : (frames : List Frame) (k : ℕ) (d : Frame) (place : ℕ) → k < 
 places-some [] k d place h some = absurd (omega (arith, h))
 places-some (frame ∷ frames) zero d place h some = omega (arith, some, times-append frame.pages.items (frame_places frames) place)
 places-some (frame ∷ frames) (suc k) d place h some =
-    let rest = places-some frames k d place (omega (arith, h)) some in
-    omega (arith, rest, times-append frame.pages.items (frame_places frames) place)
+    omega (arith, places-some frames k d place (omega (arith, h)) some, times-append frame.pages.items (frame_places frames) place)
 
 pub frames-live : (pool : List (Option Holding)) (frames : List Frame) → HoldsFrames pool frames → (d : Frame) (k : ℕ) → k < length frames
     → All (IsLive pool) (get_or frames k d).pages.items
 frames-live pool frames holds d k h = λ i e i_h.
     let items = (get_or frames k d).pages.items in
     let some : 0 < times_in items (get_or items i e) = times-at items i e i_h in
-    let e2 = holds.holders (get_or items i e) in
-    let more = places-some frames k d (get_or items i e) h some in
-    live-held pool (get_or items i e) (omega (arith, e2, more))
+    live-held pool (get_or items i e) (omega (arith, holds.holders (get_or items i e), places-some frames k d (get_or items i e) h some))
   where
     times-at : (xs : List ℕ) (i e : ℕ) → i < length xs → 0 < times_in xs (get_or xs i e)
     times-at xs i e i_h = subst (λ (p : ℕ). 0 < times_in xs p) (sym (get_or_default xs i e 0 i_h)) (times-some xs i i_h)
 
 -- a frame that stays is as it was
-frame-left : (old new : List (Option Holding)) (frame : Frame) → IsFrame old frame → LeavesBytes old new → All (IsLive new) frame.pages.items → IsFrame new frame
-frame-left old new frame is leaves live = record {
-  rest = is.rest;
-  len = is.len;
-  live = live;
-  whole = λ k d h. ap (λ (bytes : List ℕ). length bytes) (leaves (get_or frame.pages.items k d) (live k d h)).1 ∙ is.whole k d h;
-}
-
-keyframe-left : (old new : List (Option Holding)) (frame : Frame) → LeavesBytes old new → All (IsLive new) frame.pages.items
-    → the_keyframe new frame ≡ the_keyframe old frame
-keyframe-left old new frame leaves live = board-same old new frame (λ k d h. (leaves (get_or frame.pages.items k d) (live k d h)).1)
+frames-stay : (old new : List (Option Holding)) (frames : List Frame) → LeavesBytes old new → HoldsFrames new frames → All (StaysAsItWas old new) frames
+frames-stay old new frames leaves holds k d h i e at = let live = frames-live new frames holds d k h i e at in (live, (leaves _ live).1)
 
 pub frames-left : (old new : List (Option Holding)) (frames : List Frame) → All (IsFrame old) frames → LeavesBytes old new → HoldsFrames new frames → All (IsFrame new) frames
-frames-left old new frames all leaves holds = λ k d h. frame-left old new (get_or frames k d) (all k d h) leaves (frames-live new frames holds d k h)
-
-keyframes-left : (old new : List (Option Holding)) (frames : List Frame) → LeavesBytes old new → HoldsFrames new frames
-    → map (the_keyframe new) frames ≡ map (the_keyframe old) frames
-keyframes-left old new frames leaves holds =
-    map-same (the_keyframe new) (the_keyframe old) frames (λ k d h. keyframe-left old new (get_or frames k d) leaves (frames-live new frames holds d k h))
+frames-left old new frames all leaves holds = λ k d h. frame-same old new (get_or frames k d) (all k d h) (frames-stay old new frames leaves holds k d h)
 
 pub view-thinned : (old new : Store) (limit : ℕ) → new.kept.items ≡ thinned old.kept.items → LeavesBytes old.pool new.pool → HoldsFrames new.pool new.kept.items
     → length new.pool ≡ length old.pool → keys_of new limit ≡ record (keys_of old limit) { kept = thinned (keys_of old limit).kept }
 view-thinned old new limit kept leaves holds len =
     let list : map (the_keyframe new.pool) new.kept.items ≡ thinned (map (the_keyframe old.pool) old.kept.items) =
-    keyframes-left old.pool new.pool new.kept.items leaves holds ∙ ap (map (the_keyframe old.pool)) kept ∙ map-thinned (the_keyframe old.pool) old.kept.items in
+    map-same (the_keyframe new.pool) (the_keyframe old.pool) new.kept.items
+    (λ k d h. board-same old.pool new.pool (get_or new.kept.items k d) (frames-stay old.pool new.pool new.kept.items leaves holds k d h))
+    ∙ ap (map (the_keyframe old.pool)) kept ∙ map-thinned (the_keyframe old.pool) old.kept.items in
     rw (list, len) refl
 
 -- some thinnings, each of a crowded list
@@ -124,6 +115,12 @@ pub record Thinned (old now : KeyframesValue) : Type 0 where
   pub thinnings : ℕ
   pub thinned : now ≡ keys_thinned thinnings old
   pub crowded : (n : ℕ) → n < thinnings → is_crowded (keys_thinned n old) ≡ true
+
+-- what a thinning keeps, some keep
+pub thinned-keeps : (P : KeyframesValue → Type 0) → ((keys : KeyframesValue) → P keys → P (record keys { kept = thinned keys.kept }))
+    → (n : ℕ) (keys : KeyframesValue) → P keys → P (keys_thinned n keys)
+thinned-keeps P keeps zero keys holds = holds
+thinned-keeps P keeps (suc n) keys holds = thinned-keeps P keeps n (record keys { kept = thinned keys.kept }) (keeps keys holds)
 
 thinned-last : (n : ℕ) (keys : KeyframesValue) → keys_thinned n (record keys { kept = thinned keys.kept }) ≡ record (keys_thinned n keys) { kept = thinned (keys_thinned n keys).kept }
 thinned-last zero keys = refl
@@ -133,12 +130,7 @@ pub thinned-more : (old now next : KeyframesValue) → Thinned old now → is_cr
 thinned-more old now next t crowded more = record {
   thinnings = suc t.thinnings;
   thinned = more ∙ ap (λ (keys : KeyframesValue). record keys { kept = thinned keys.kept }) t.thinned ∙ sym (thinned-last t.thinnings old);
-  crowded = λ n h. elim (cases_lt n t.thinnings) [
-    | inl below ↦ t.crowded n below
-    | inr from ↦
-        let at : t.thinnings ≡ n = omega (arith, h, from) in
-        subst (λ (m : ℕ). is_crowded (keys_thinned m old) ≡ true) at (ap is_crowded (sym t.thinned) ∙ crowded)
-  ];
+  crowded = λ n h. below_more (λ m. is_crowded (keys_thinned m old) ≡ true) t.thinnings t.crowded (ap is_crowded (sym t.thinned) ∙ crowded) n (omega (arith, h));
 }
 
 pub thinned-room : (old now : KeyframesValue) → Thinned old now → is_crowded now ≡ false → MakesRoom old now
@@ -162,70 +154,44 @@ count-one : (from n x : ℕ) → (count_by (λ p. eqb p x) (range_with_len from 
 count-one from zero x = (omega arith, λ h. refl)
 count-one from (suc n) x =
     let rest = count-one (from + 1) n x in
-    let e : count_by (λ p. eqb p x) (range_with_len from (suc n)) ≡ cond (eqb from x) 1 0 + count_by (λ p. eqb p x) (range_with_len (from + 1) n) =
-    sum_by-cons (λ (p : ℕ). cond (eqb p x) 1 0) from (range_with_len (from + 1) n) in
-    let some = rest.0 in
-    rw e ((elim (eqb from x) as (λ b. eqb from x ≡ b → (cond b 1 0 + count_by (λ p. eqb p x) (range_with_len (from + 1) n) ≤ 1)
-    × (x < from → cond b 1 0 + count_by (λ p. eqb p x) (range_with_len (from + 1) n) ≡ 0)) [
-      | true ↦ λ is.
-          let at = eqb-true from x is in
-          let none = rest.1 (omega (arith, at)) in
-          (omega (arith, none), λ h. absurd (omega (arith, h, at)))
-      | false ↦ λ is. (omega (arith, some), λ h. (let none = rest.1 (omega (arith, h)) in omega (arith, none)))
-    ]) refl)
+    let e = sum_by-cons (λ (p : ℕ). cond (eqb p x) 1 0) from (range_with_len (from + 1) n) in
+    elim (eqb_tells from x) [
+      | inl (is, at) ↦
+          let first : ◌≡◌ {A = ℕ} (cond (eqb from x) 1 0) 1 = rw is refl in
+          (omega (arith, e, first, rest.1 (omega (arith, at))), λ h. absurd (omega (arith, h, at)))
+      | inr (is, apart) ↦
+          let first : ◌≡◌ {A = ℕ} (cond (eqb from x) 1 0) 0 = rw is refl in
+          (omega (arith, e, first, rest.0), λ h. omega (arith, e, first, rest.1 (omega (arith, h))))
+    ]
 
 count-any : (places range : List ℕ) (x : ℕ) → count_by (λ p. list_any (eqb p) (x ∷ places)) range ≤ count_by (λ p. eqb p x) range + count_by (λ p. list_any (eqb p) places) range
 count-any places [] x = omega arith
 count-any places (p ∷ range) x =
-    let rest = count-any places range x in
     let a = sum_by-cons (λ (p : ℕ). cond (list_any (eqb p) (x ∷ places)) 1 0) p range in
     let b = sum_by-cons (λ (p : ℕ). cond (eqb p x) 1 0) p range in
     let c = sum_by-cons (λ (p : ℕ). cond (list_any (eqb p) places) 1 0) p range in
-    let one = either (eqb p x) (list_any (eqb p) places) in
-    omega (arith, rest, a, b, c, one)
+    omega (arith, count-any places range x, a, b, c, either (eqb p x) (list_any (eqb p) places))
   where
     either : (x y : Bool) → cond (x || y) 1 0 ≤ cond x 1 0 + cond y 1 0
     either true y = omega arith
     either false y = omega arith
 
 count-places : (places : List ℕ) (n : ℕ) → count_by (λ p. list_any (eqb p) places) (range_with_len 0 n) ≤ length places
-count-places [] n = none (range_with_len 0 n)
-  where
-    none : (range : List ℕ) → count_by (λ p. list_any (eqb p) []) range ≤ 0
-    none [] = omega arith
-    none (p ∷ range) = let e = sum_by-cons (λ (q : ℕ). cond (list_any (eqb q) []) 1 0) p range in let rest = none range in omega (arith, e, rest)
-count-places (x ∷ places) n =
-    let rest = count-places places n in
-    let more = count-any places (range_with_len 0 n) x in
-    let one = (count-one 0 n x).0 in
-    omega (arith, rest, more, one)
+count-places [] n = omega (arith, sum_by-le (λ (p : ℕ). 0) 0 (range_with_len 0 n) (λ k d h. omega arith))
+count-places (x ∷ places) n = omega (arith, count-places places n, count-any places (range_with_len 0 n) x, (count-one 0 n x).0)
 
 live-most : (pool : List (Option Holding)) (frames : List Frame) → HoldsFrames pool frames → All (IsFrame pool) frames → live_of pool ≤ 16 * length frames
 live-most pool frames holds all =
-    let e = live-places pool (frame_places frames) holds.held holds.holders in
-    omega (arith, e, count-places (frame_places frames) (length pool), length-places pool frames all)
+    omega (arith, live-places pool (frame_places frames) holds.held holds.holders, count-places (frame_places frames) (length pool), length-places pool frames all)
 
 -- where it is crowded, there are two boards to thin
 pub crowded-two : (store : Store) (limit : ℕ) → IsStore store limit → (nat_lt (length store.pool) (live_of store.pool + 16) || nat_le limit store.kept.len) ≡ true
     → 2 ≤ store.kept.len
-crowded-two store limit is crowded = elim (cases_lt store.kept.len 2) [
-  | inl few ↦
-      let pages = is.pages in
-      let least = is.least in
-      let live = live-most store.pool store.kept.items is.holders is.frames in
-      let a : nat_lt (length store.pool) (live_of store.pool + 16) ≡ false = le-ltb (length store.pool) (live_of store.pool + 16) (omega (arith, pages, live, few, store.kept.ok)) in
-      let b : nat_le limit store.kept.len ≡ false = lt-leb limit store.kept.len (omega (arith, least, few)) in
-      let no : false ≡ true = sym (ap (λ (x : Bool). x || nat_le limit store.kept.len) a ∙ b) ∙ crowded in
-      cc
-  | inr enough ↦ enough
+crowded-two store limit is crowded = elim (or_cases (nat_lt (length store.pool) (live_of store.pool + 16)) (nat_le limit store.kept.len) crowded) [
+  | inl pages ↦ omega (arith, is.pages, ltb-true (length store.pool) (live_of store.pool + 16) pages, live-most store.pool store.kept.items is.holders is.frames, store.kept.ok)
+  | inr full ↦ omega (arith, is.least, leb-true limit store.kept.len full)
 ]
 
 -- where it is not crowded, the pages of a board are free
-or-false : (x y : Bool) → x || y ≡ false → x ≡ false
-or-false true y e = e
-or-false false y e = refl
-
 pub room-free : (store : Store) (limit : ℕ) → IsStore store limit → is_crowded (keys_of store limit) ≡ false → live_of store.pool + 16 ≤ length store.pool
-room-free store limit is roomy =
-    ltb-false (length store.pool) (live_of store.pool + 16) (or-false (nat_lt (length store.pool) (live_of store.pool + 16)) (nat_le limit store.kept.len)
-    (sym (store-crowded store limit is) ∙ roomy))
+room-free store limit is roomy = ltb-false _ _ (or_parts _ _ (sym (store-crowded store limit is) ∙ roomy)).0

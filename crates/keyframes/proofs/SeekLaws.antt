@@ -1,8 +1,12 @@
 -- The kept boards when one more is kept, and where a seek begins.
-use Rattle.std.proofs.Common.{◌≡◌, ℕ, ◌+◌, ◌-◌, ◌^◌, ◌<◌, ◌≤◌, min, List, [], ◌∷◌, ◌++◌, All, IfSome, length, get_or, take, drop, zero, suc, refl, sym, ap, ◌∙◌, subst, inl, inr, arith}
-use Rattle.std.proofs.lemmas.Bool.{cases_lt}
-use Rattle.std.proofs.lemmas.List.Elements.{All-append}
+use Rattle.std.proofs.Common.{◌≡◌, ℕ, ◌+◌, ◌-◌, ◌^◌, ◌<◌, ◌≤◌, min, List, [], ◌∷◌, ◌++◌, All, IfSome, length, get_or, take, drop, suc, refl, sym, ap, ◌∙◌, subst, inl, inr, arith, true, false, Option}
+use Rattle.std.proofs.Common.{Some, None, not, bytes_eq, zero}
+use Rattle.std.proofs.lemmas.Bool.{cases_lt, true≢false}
+use Rattle.std.proofs.lemmas.List.Elements.{All-push}
 use Rattle.std.proofs.Math.Seq.{take-append_seam}
+use Rattle.std.specs.List.{range_with_len}
+use Rattle.std.proofs.lemmas.List.FromFn.{length-range_with_len}
+use Rattle.std.proofs.lemmas.List.Sums.{count_by-le-length}
 use Rattle.board_base.specs.declared.vector_memory.TheConstants.{VECTOR_RAM_LEN}
 use Rattle.board_base.specs.Board.{BoardValue, IsBoard}
 use Rattle.tape_ports.specs.declared.entry.TapeEntry.{TapeEntry}
@@ -10,10 +14,11 @@ use Rattle.lockstep_board.specs.Order.{cleared}
 use Rattle.lockstep_board.specs.Lockstep.{Board}
 use Rattle.lockstep_board.specs.Run.{to_clock}
 use Rattle.lockstep_board.proofs.Ends.{to_clock-split}
-use Rattle.keyframes.specs.Keys.{HaveRisingClocks, IsNearest, Keeps, Keyframe, KeyframesValue, MakesRoom, keys_thinned, last_of, thinned}
+use Rattle.keyframes.specs.Keys.{HaveRisingClocks, IsNearest, Keeps, Keyframe, KeyframesValue, MakesRoom, last_of, thinned, is_crowded, keys_thinned, live_of, page_of, pages_taken}
 use Rattle.keyframes.specs.Seeking.{Along, CanBeLoaded, IsOnRun, over_image, run_start, state_of}
-use Rattle.keyframes.proofs.KeysLaws.{all-one}
-use Rattle.keyframes.proofs.RoomLaws.{all-thinned}
+use Rattle.keyframes.specs.declared.pages.TheConstants.{BOARD_PAGES}
+use Rattle.keyframes.proofs.KeysLaws.{all-one, last-joined}
+use Rattle.keyframes.proofs.RoomLaws.{all-thinned, thinned-keeps}
 use Rattle.keyframes.proofs.AlongLaws.{clock-cleared, clock-past, loaded-board, loaded-start}
 
 -- the first board stays the first
@@ -32,17 +37,6 @@ first-joined : (kept : List Keyframe) (keyframe : Keyframe) → 0 < length kept 
 first-joined [] keyframe some = absurd (omega (arith, some))
 first-joined (a ∷ kept) keyframe some = (omega arith, λ d. refl, λ e. refl)
 
-first-of-thinned : (n : ℕ) (keys : KeyframesValue) → 0 < length keys.kept → HasFirstOf keys.kept (keys_thinned n keys).kept
-first-of-thinned zero keys some = (some, λ d. refl, λ e. refl)
-first-of-thinned (suc n) keys some =
-    let one = first-thinned keys.kept some in
-    first-more keys.kept (thinned keys.kept) (keys_thinned (suc n) keys).kept one
-    (first-of-thinned n (record keys { kept = thinned keys.kept }) one.0)
-
-all-of-thinned : (P : Keyframe → Type 0) (n : ℕ) (keys : KeyframesValue) → All P keys.kept → All P (keys_thinned n keys).kept
-all-of-thinned P zero keys all = all
-all-of-thinned P (suc n) keys all = all-of-thinned P n (record keys { kept = thinned keys.kept }) (all-thinned P keys.kept all)
-
 module _ (old roomy new : KeyframesValue) (state : BoardValue) (room : MakesRoom old roomy) (keeps : Keeps roomy new state) where
   abbrev one : Keyframe
   one = record { board = state; pages = keeps.pages }
@@ -50,9 +44,12 @@ module _ (old roomy new : KeyframesValue) (state : BoardValue) (room : MakesRoom
   joined : new.kept ≡ roomy.kept ++ one ∷ []
   joined = ap (λ (keys : KeyframesValue). keys.kept) keeps.kept
 
+  roomy-keeps : (P : KeyframesValue → Type 0) → ((keys : KeyframesValue) → P keys → P (record keys { kept = thinned keys.kept })) → P old → P roomy
+  roomy-keeps P kept holds = subst P (sym room.thinned) (thinned-keeps P kept room.thinnings old holds)
+
   first-roomy : 0 < length old.kept → HasFirstOf old.kept roomy.kept
-  first-roomy some =
-      subst (λ (keys : KeyframesValue). HasFirstOf old.kept keys.kept) (sym room.thinned) (first-of-thinned room.thinnings old some)
+  first-roomy some = roomy-keeps (λ (keys : KeyframesValue). HasFirstOf old.kept keys.kept)
+      (λ keys has. first-more old.kept keys.kept (thinned keys.kept) has (first-thinned keys.kept has.0)) (some, λ d. refl, λ e. refl)
 
   first-kept : 0 < length old.kept → HasFirstOf old.kept new.kept
   first-kept some =
@@ -63,9 +60,7 @@ module _ (old roomy new : KeyframesValue) (state : BoardValue) (room : MakesRoom
   all-kept : (P : Keyframe → Type 0) → All P old.kept → P one → All P new.kept
   all-kept P all last =
       subst (All P) (sym joined)
-      (All-append P roomy.kept (one ∷ [])
-      (subst (λ (keys : KeyframesValue). All P keys.kept) (sym room.thinned) (all-of-thinned P room.thinnings old all))
-      (all-one P one last))
+      (All-push P roomy.kept one (roomy-keeps (λ (keys : KeyframesValue). All P keys.kept) (λ keys. all-thinned P keys.kept) all) last)
 
   -- the run begins where it began
   pub start-kept : 0 < length old.kept → (e : Board) → run_start new.kept e ≡ run_start old.kept e
@@ -86,12 +81,7 @@ module _ (old roomy new : KeyframesValue) (state : BoardValue) (room : MakesRoom
 
   -- and is the last
   pub last-is : (P : Keyframe → Type 0) → P one → IfSome (last_of new.kept) P
-  last-is P holds = subst (λ (kept : List Keyframe). IfSome (last_of kept) P) (sym joined) (last-joined roomy.kept)
-    where
-      last-joined : (kept : List Keyframe) → IfSome (last_of (kept ++ one ∷ [])) P
-      last-joined [] = holds
-      last-joined (a ∷ []) = holds
-      last-joined (a ∷ b ∷ kept) = last-joined (b ∷ kept)
+  last-is P holds = rw (joined, last-joined roomy.kept one) holds
 
 -- over an image a whole state is as it was
 over_image-whole : (e : Board) (state : BoardValue) → IsBoard state → state ≡ state_of (over_image e state)
@@ -114,17 +104,12 @@ along-alone keyframe entries e is loadable =
       loadable = all-one (λ k. CanBeLoaded k.board) keyframe loadable;
     }
 
-none-thinned : (n : ℕ) (keys : KeyframesValue) → keys.kept ≡ [] → (keys_thinned n keys).kept ≡ []
-none-thinned zero keys none = none
-none-thinned (suc n) keys none = none-thinned n (record keys { kept = thinned keys.kept }) (ap thinned none)
-
 -- the board that is kept where none was is alone
 pub kept-alone : (old roomy new : KeyframesValue) (state : BoardValue) → MakesRoom old roomy → (keeps : Keeps roomy new state) → old.kept ≡ []
     → new.kept ≡ record { board = state; pages = keeps.pages } ∷ []
 kept-alone old roomy new state room keeps none =
-    ap (λ (keys : KeyframesValue). keys.kept) keeps.kept
-    ∙ ap (λ (kept : List Keyframe). kept ++ (record { board = state; pages = keeps.pages }) ∷ [])
-    (ap (λ (keys : KeyframesValue). keys.kept) room.thinned ∙ none-thinned room.thinnings old none)
+    ap (λ (keys : KeyframesValue). keys.kept) keeps.kept ∙ ap (λ (kept : List Keyframe). kept ++ (record { board = state; pages = keeps.pages }) ∷ [])
+    (ap (λ (keys : KeyframesValue). keys.kept) room.thinned ∙ thinned-keeps (λ (keys : KeyframesValue). keys.kept ≡ []) (λ keys is. ap thinned is) room.thinnings old none)
 
 pub start-alone : (kept : List Keyframe) (keyframe : Keyframe) → kept ≡ keyframe ∷ [] → (e : Board) → run_start kept e ≡ over_image e keyframe.board
 start-alone kept keyframe is e = ap (λ (k : List Keyframe). run_start k e) is
@@ -162,13 +147,6 @@ can_load kept i state all within is =
     let d : Keyframe = record { board = state; pages = [] } in
     subst CanBeLoaded (sym (is d)) (all i d within)
 
--- a run to a clock before its beginning stays there
-pub before-first : (kept : List Keyframe) (entries : List TapeEntry) (b now : Board) (clock : ℕ) (d : Keyframe) → Along kept entries b
-    → now ≡ cleared (to_clock entries clock b) → clock < b.peripherals.clock → now.peripherals.clock ≡ (get_or kept 0 d).board.clock
-before-first kept entries b now clock d along is before =
-    ap (λ (c : Board). c.peripherals.clock) is ∙ ap (λ (c : Board). c.peripherals.clock) (clock-past entries clock b (omega (arith, before)))
-    ∙ sym (ap (λ (s : BoardValue). s.clock) (along.first d))
-
 -- the last is at the last place
 pub last-at : (P : Keyframe → Type 0) (kept : List Keyframe) → ((d : Keyframe) → P (get_or kept (length kept - 1) d)) → IfSome (last_of kept) P
 last-at P [] holds = tt
@@ -197,14 +175,11 @@ of-last P (a ∷ b ∷ kept) some holds = of-last P (b ∷ kept) (omega arith) h
 -- a stride that isn't the last keeps a later board
 pub stride-smaller : (old new : List Keyframe) (clock stride due next at : ℕ) → 0 < length old → 0 < length new → clock < 2 ^ 64 - 1
     → IfSome (last_of old) (λ last. due ≡ min (last.board.clock + stride) (2 ^ 64 - 1)) → next ≡ min clock due
-    → IfSome (last_of new) (λ last. at < last.board.clock + stride) → (next ≤ at) × (at < clock)
-    → clock - clock_kept new < clock - clock_kept old
+    → IfSome (last_of new) (λ last. at < last.board.clock + stride) → (next ≤ at) × (at < clock) → clock - clock_kept new < clock - clock_kept old
 stride-smaller old new clock stride due next at some_old some_new low is_due is_next near between =
     let is : due ≡ min (clock_kept old + stride) (2 ^ 64 - 1) = of-last (λ n. due ≡ min (n + stride) (2 ^ 64 - 1)) old some_old is_due in
     let most : at < clock_kept new + stride = of-last (λ n. at < n + stride) new some_new near in
-    let from = between.0 in
-    let before = between.1 in
-    omega (arith, is, most, is_next, from, before, low)
+    omega (arith, is, most, is_next, between.0, between.1, low)
 
 -- where a seek begins
 module _ (kept : List Keyframe) (clock index : ℕ) (rising : HaveRisingClocks kept) (within : index < length kept)
@@ -221,8 +196,7 @@ module _ (kept : List Keyframe) (clock index : ℕ) (rising : HaveRisingClocks k
   ]
 
   -- no kept board at or below the clock is later
-  pub greatest : (j : ℕ) (d : Keyframe) → j < length kept → (get_or kept j d).board.clock ≤ clock
-      → (get_or kept j d).board.clock ≤ (get_or kept index d).board.clock
+  greatest : (j : ℕ) (d : Keyframe) → j < length kept → (get_or kept j d).board.clock ≤ clock → (get_or kept j d).board.clock ≤ (get_or kept index d).board.clock
   greatest j d h low = elim (cases_lt clock (get_or kept index d).board.clock) [
     | inl above ↦ omega (arith, low, above)
     | inr below ↦
@@ -232,25 +206,59 @@ module _ (kept : List Keyframe) (clock index : ℕ) (rising : HaveRisingClocks k
         ]
   ]
 
-  -- nor is the first one
-  pub not-before-first : (d : Keyframe) → (get_or kept 0 d).board.clock ≤ (get_or kept index d).board.clock
-  not-before-first d = rises 0 index d (omega arith) within
+  -- what is done from there, where the clocks that rose were paid for
+  pub seek-done : (e now : Board) (before there after end : ℕ) → ((d : Keyframe) → now ≡ over_image e (get_or kept index d).board) → there ≡ before
+      → after + now.peripherals.clock ≤ there + end → All (λ keyframe. keyframe.board.clock ≤ clock → after + keyframe.board.clock ≤ before + end) kept
+  seek-done e now before there after end loads same rose = λ k d h low. omega (arith, greatest k d h low, ap (λ (b : Board). b.peripherals.clock) (loads d), same, rose)
+
+  pub seek-before : (entries : List TapeEntry) (e now last : Board) (before there after : ℕ) → ((d : Keyframe) → now ≡ over_image e (get_or kept index d).board) → there ≡ before
+      → after + now.peripherals.clock ≤ there + last.peripherals.clock → Along kept entries (run_start kept e)
+      → last ≡ cleared (to_clock entries clock (run_start kept e)) → clock < (run_start kept e).peripherals.clock → after ≤ before
+  seek-before entries e now last before there after loads same rose along is early =
+      let d : Keyframe = record { board = state_of e; pages = [] } in
+      let stays = ap (λ (c : Board). c.peripherals.clock) (is ∙ ap cleared (clock-past entries clock (run_start kept e) (omega (arith, early))))
+      ∙ sym (ap (λ (s : BoardValue). s.clock) (along.first d)) in
+      omega (arith, rises 0 index d (omega arith) within, stays, ap (λ (b : Board). b.peripherals.clock) (loads d), same, rose)
 
   -- from there the run comes to the same board as from its beginning, at any later clock too
   pub seek-board : (to : ℕ) → clock ≤ to → (entries : List TapeEntry) (e now : Board) → Along kept entries (run_start kept e)
-      → ((d : Keyframe) → now ≡ over_image e (get_or kept index d).board)
-      → cleared (to_clock entries to now) ≡ cleared (to_clock entries to (run_start kept e))
+      → ((d : Keyframe) → now ≡ over_image e (get_or kept index d).board) → cleared (to_clock entries to now) ≡ cleared (to_clock entries to (run_start kept e))
   seek-board to low entries e now along loads =
       let d : Keyframe = record { board = state_of e; pages = [] } in
       let b = run_start kept e in
       let at = (get_or kept index d).board.clock in
-      let there = to_clock entries at b in
       let loaded =
-      ap (λ (c : Board). cleared (to_clock entries to c)) (loads d ∙ loaded-board kept entries e along index d within) ∙ clock-cleared entries to there in
+      ap (λ (c : Board). cleared (to_clock entries to c)) (loads d ∙ loaded-board kept entries e along index d within) ∙ clock-cleared entries to (to_clock entries at b) in
       elim (cases_lt clock at) [
         | inl above ↦
-            let at_first : at ≡ b.peripherals.clock =
-            ap (λ n. (get_or kept n d).board.clock) (first d above) ∙ ap (λ (s : BoardValue). s.clock) (along.first d) in
+            let at_first : at ≡ b.peripherals.clock = ap (λ n. (get_or kept n d).board.clock) (first d above) ∙ ap (λ (s : BoardValue). s.clock) (along.first d) in
             loaded ∙ ap (λ (c : Board). cleared (to_clock entries to c)) (clock-past entries at b (omega (arith, at_first)))
         | inr below ↦ loaded ∙ sym (ap cleared (to_clock-split entries at to b (omega (arith, below, low))))
       ]
+
+-- a board takes at most the pages that it has
+taken-few : (before : Option Keyframe) (b : BoardValue) → pages_taken before b ≤ BOARD_PAGES
+taken-few None b = omega arith
+taken-few (Some before) b =
+    subst (λ n. pages_taken (Some before) b ≤ n) (length-range_with_len 0 BOARD_PAGES)
+    (count_by-le-length (λ k. not (bytes_eq (page_of before.board k) (page_of b k))) (range_with_len 0 BOARD_PAGES))
+
+-- where there is room, nothing is dropped
+none-dropped : (n : ℕ) (old roomy : KeyframesValue) → roomy ≡ keys_thinned n old
+    → ((m : ℕ) → m < n → is_crowded (keys_thinned m old) ≡ true) → is_crowded old ≡ false → roomy ≡ old
+none-dropped zero old roomy is crowded free = is
+none-dropped (suc n) old roomy is crowded free = absurd (true≢false (sym (crowded 0 (omega arith)) ∙ free))
+
+-- and the board is kept beside all others
+pub adds-board : (old roomy new : KeyframesValue) (state : BoardValue) (b : Board) → MakesRoom old roomy → Keeps roomy new state → state ≡ state_of b → is_crowded old ≡ false
+    → (pages : List ℕ) × (new ≡ record old { kept = old.kept ++ (record { board = state_of b; pages = pages }) ∷ [] }) × (live_of new ≤ live_of old + BOARD_PAGES)
+adds-board old roomy new state b room keeps is free =
+    let same : roomy ≡ old = none-dropped room.thinnings old roomy room.thinned room.crowded free in
+    let live : live_of roomy ≡ live_of old = ap live_of same in
+    let more = keeps.live in (
+      keeps.pages,
+      keeps.kept
+          ∙ ap (λ (keys : KeyframesValue). let again : KeyframesValue = record keys { kept = keys.kept ++ (record { board = state; pages = keeps.pages }) ∷ [] } in again) same
+          ∙ ap (λ (s : BoardValue). let again : KeyframesValue = record old { kept = old.kept ++ (record { board = s; pages = keeps.pages }) ∷ [] } in again) is,
+      omega (arith, taken-few (last_of roomy.kept) state, live, more),
+    )

@@ -51,11 +51,9 @@ module _ (entries : List TapeEntry) where
   last_events-cleared : (limit : ℕ) (wanted : Wanted) (calls : ℕ) (b : Board) → last_events entries limit wanted calls (cleared b) ≡ last_events entries limit wanted calls b
   unfolding last_events
   last_events-cleared limit wanted calls b =
-      let last = to_boundary entries limit b in
-      let again = to_boundary entries limit (cleared b) in
       let text : slice_text entries (Boundary limit) (cleared b) ≡ slice_text entries (Boundary limit) b =
       text-cleared entries (steps_to entries (Boundary limit) (cleared b)) b ∙ ap (λ n. text_of_steps entries n b) (steps-cleared entries (Boundary limit) b) in
-      let ending : ending_text wanted calls again ≡ ending_text wanted calls last =
+      let ending : ending_text wanted calls (to_boundary entries limit (cleared b)) ≡ ending_text wanted calls (to_boundary entries limit b) =
       from-behind (λ b. ending_text wanted calls (to_boundary entries limit b))
       (λ l c. ap (ending_text wanted calls) (to_boundary-behind entries limit l c) ∙ ending-behind wanted calls l (to_boundary entries limit c)) b in
       let saved = from-behind (λ b. saved_bytes (to_boundary entries limit b)) (saved-end-behind limit) b in
@@ -165,7 +163,6 @@ module _ (entries : List TapeEntry) (limit : ℕ) (wanted : Wanted) (cuts : List
     cuts-on next later did loans faults absences board fresh most least =
         let events = cut_events entries lowered wanted.save now.board in
         let more = clock_steps entries lowered reached in
-        let there_is = to_clock entries lowered reached in
         let whole = u.whole in
         let most_cut : lowered ≤ limit = rw is (omega arith) in
         let split = boundary-clock-steps entries lowered limit reached most_cut (stepped-placed entries u.steps start.board u.placed) in
@@ -185,7 +182,7 @@ module _ (entries : List TapeEntry) (limit : ℕ) (wanted : Wanted) (cuts : List
               ∙ ap cleared (sym (there lowered));
           events = λ calls.
               events-left calls
-              ∙ sym (append_assoc u.done events (run_events entries limit wanted calls (drop (i + 1) cuts) there_is))
+              ∙ sym (append_assoc u.done events (run_events entries limit wanted calls (drop (i + 1) cuts) (to_clock entries lowered reached)))
               ∙ ap (λ b. (u.done ++ events) ++ run_events entries limit wanted calls (drop (i + 1) cuts) b) (sym (there lowered));
           last = last-left ∙ ap (last_board entries limit (drop (i + 1) cuts)) (sym (there lowered));
           whole = rw (there lowered) (omega arith);

@@ -200,10 +200,9 @@ module _ (entries : List TapeEntry) where
   rising-list zero to b e = omega arith
   rising-list (suc n) to b e =
       let next = lockstep.step entries b in
-      let one = step-clock entries b in
       rising-append (4 * b.peripherals.clock) (4 * (b.peripherals.clock + 1)) (4 * to) (records_of_clock entries b) (one_list entries n next)
       (rising-clock b)
-      (subst (λ c. Rising (4 * c) (one_list entries n next) (4 * to)) one (rising-list n to next (omega arith)))
+      (subst (λ c. Rising (4 * c) (one_list entries n next) (4 * to)) (step-clock entries b) (rising-list n to next (omega (arith, step-clock entries b))))
 
 place_of-below : (part : Part) → place_of part < 4
 place_of-below Generator = omega arith

@@ -25,12 +25,11 @@ module _ (entries : List TapeEntry) (limit : ℕ) (wanted : Wanted) (calls : ℕ
   unfolding last_events
   last-text b =
       let last = to_boundary entries limit b in
-      let first = sending (slice_text entries (Boundary limit) b) in
       let ending = sending (ending_text wanted calls last) in
       let board = storing wanted.save (saved_bytes last) in
       let cells = storing wanted.earom last.peripherals.earom.cells in
       rw (
-        text_of-append first (ending ++ (board ++ cells)),
+        text_of-append (sending (slice_text entries (Boundary limit) b)) (ending ++ (board ++ cells)),
         text_of-append ending (board ++ cells),
         text_of-append board cells,
         text_of-storing wanted.save (saved_bytes last),

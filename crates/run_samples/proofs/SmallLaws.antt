@@ -19,33 +19,25 @@ levels-light : (now : List ℕ) → AreLevels now → sum now ≤ 60
 levels-light now is =
     let low = All-weaker (λ level. level < 16) (λ level. level ≤ 15) (λ level below. omega (arith, below)) now is.levels in
     let most = sum_by-le (λ x. x) 15 now low in
-    let count = is.last in
-    omega (arith, most, count)
+    omega (arith, most, is.last)
 
 board-light : (b : Board) → IsBoardInRange b → weight_of b ≤ 120
 board-light b is =
-    let one = levels-light b.peripherals.sound1.last is.peripherals.sound1.levels in
-    let two = levels-light b.peripherals.sound2.last is.peripherals.sound2.levels in
-    omega (arith, one, two)
+    omega (arith, levels-light b.peripherals.sound1.last is.peripherals.sound1.levels, levels-light b.peripherals.sound2.last is.peripherals.sound2.levels)
 
-module _ (entries : List TapeEntry) (b : Board) (bytes : All (λ entry. IsByte entry.value) entries) (is : IsBoardInRange b) where
-  -- a group's sample
-  sample-small : (per k : ℕ) → per ≤ MAX_PER → board_sample entries per b k ≤ 120 * 65535
-  sample-small per k few =
-      let clocks = range_with_len (k * per) per in
-      let weight = λ (i : ℕ). weight_of (stepped entries (suc i) b) in
-      let low : All (λ w. w ≤ 120) (map weight clocks) =
-      All-map (λ w. w ≤ 120) weight clocks (λ i d inside. board-light (stepped entries (suc (get_or clocks i d)) b) (stepped-in_range entries (suc (get_or clocks i d)) b bytes is)) in
-      let most = sum_by-le (λ x. x) 120 (map weight clocks) low in
-      let count = length-map-range_with_len weight (k * per) per in
-      omega (arith, most, count, few)
-
-  pub samples-small : (limit per : ℕ) → per ≤ MAX_PER → AreSmallSamples (board_samples entries limit per b)
-  unfolding board_samples
-  samples-small limit per few =
-      let groups = range_with_len 0 (boundary_steps entries limit b / per) in
-      All-map (λ sample. sample ≤ 120 * 65535) (board_sample entries per b) groups (λ k d inside. sample-small per (get_or groups k d) few)
+-- a group's sample
+sample-small : (entries : List TapeEntry) (b : Board) (per k : ℕ) → All (λ entry. IsByte entry.value) entries → IsBoardInRange b → per ≤ MAX_PER
+    → board_sample entries per b k ≤ 120 * 65535
+sample-small entries b per k bytes is few =
+    let clocks = range_with_len (k * per) per in
+    let weight = λ (i : ℕ). weight_of (stepped entries (suc i) b) in
+    let low : All (λ w. w ≤ 120) (map weight clocks) =
+    All-map (λ w. w ≤ 120) weight clocks (λ i d inside. board-light (stepped entries (suc (get_or clocks i d)) b) (stepped-in_range entries (suc (get_or clocks i d)) b bytes is)) in
+    omega (arith, sum_by-le (λ x. x) 120 (map weight clocks) low, length-map-range_with_len weight (k * per) per, few)
 
 pub run_samples_fit : (entries : List TapeEntry) (limit per : ℕ) (b : Board) → All (λ entry. IsByte entry.value) entries → IsBoardInRange b → per ≤ MAX_PER
     → AreSmallSamples (board_samples entries limit per b)
-run_samples_fit entries limit per b bytes is few = samples-small entries b bytes is limit per few
+unfolding board_samples
+run_samples_fit entries limit per b bytes is few =
+    let groups = range_with_len 0 (boundary_steps entries limit b / per) in
+    All-map (λ sample. sample ≤ 120 * 65535) (board_sample entries per b) groups (λ k d inside. sample-small entries b per (get_or groups k d) bytes is few)

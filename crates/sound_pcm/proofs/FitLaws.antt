@@ -7,7 +7,7 @@ use Rattle.std.proofs.lemmas.Grind.{elements}
 use Rattle.std.proofs.lemmas.List.Elements.{All-nil, All-cons, All-head, All-tail, All-map}
 use Rattle.std.proofs.lemmas.List.Sums.{sum_by-le}
 use Rattle.board_base.specs.declared.record.Record.{Record}
-use Rattle.board_base.specs.declared.record.Record.TheVariants.{Stroke, Levels, Latch, WatchdogReset}
+use Rattle.board_base.specs.declared.record.Record.TheVariants.{Levels}
 use Rattle.board_base.specs.Records.{clock_of}
 use Rattle.sound_pcm.specs.declared.mixer.TheConstants.{MAX_LEVEL}
 use Rattle.sound_pcm.specs.Mixing.{MixerValue, HoldsLevels, samples_of}
@@ -23,9 +23,7 @@ four-sum levels four =
 
 record-four : (before : List ℕ) (made : Record) → AreFourLevels before → HoldsLevels made → AreFourLevels (levels_of before made)
 record-four before (Levels clock a b c d) four (la, lb, lc, ld) = record { count = refl; each = grind (arith, elements) }
-record-four before (Stroke clock x0 y0 x1 y1 colour intensity) four holds = four
-record-four before (Latch clock value) four holds = four
-record-four before (WatchdogReset clock) four holds = four
+record-four before _ four holds = four
 
 at-four : (before : List ℕ) (records : List Record) (clock : ℕ) → AreFourLevels before → All HoldsLevels records → AreFourLevels (levels_at before records clock)
 unfolding levels_at

@@ -1,23 +1,16 @@
 -- Levels and weights at the clocks of a run.
 use Rattle.std.proofs.Common.{◌≡◌, ℕ, zero, suc, ◌+◌, ◌≤◌, ◌<◌, List, [], ◌∷◌, ◌++◌, map, replicate, ap, sym, ◌∙◌, refl, arith, nat_le, if◌then◌else◌}
-use Rattle.std.specs.Prelude.{All}
 use Rattle.std.specs.List.{range_with_len}
 use Rattle.std.proofs.lemmas.Bool.Decides.{nat_tests}
 use Rattle.std.proofs.lemmas.List.{same_lists}
+use Rattle.std.proofs.lemmas.List.Elements.{All-head, All-tail}
 use Rattle.std.proofs.lemmas.List.FromFn.{length-map-range_with_len, get_or-map-range_with_len}
 use Rattle.board_base.specs.declared.record.Record.{Record}
-use Rattle.board_base.specs.declared.record.Record.TheVariants.{Stroke, Levels, Latch, WatchdogReset}
+use Rattle.board_base.specs.declared.record.Record.TheVariants.{Levels}
 use Rattle.board_base.specs.Records.{clock_of}
 use Rattle.sound_pcm.specs.Mixing.{LevelsBetween}
 use Rattle.sound_pcm.specs.Samples.{levels_of, levels_after, levels_at, weight}
 use Rattle.sound_pcm.specs.WholeRun.{AreBefore, AreFrom}
-
--- the first of some records, and the others
-pub first-of : (P : Record → Type 0) (made : Record) (others : List Record) → All P (made ∷ others) → P made
-first-of P made others all = all 0 made (omega arith)
-
-pub others-of : (P : Record → Type 0) (made : Record) (others : List Record) → All P (made ∷ others) → All P others
-others-of P made others all = λ k d inside. all (suc k) d (omega (arith, inside))
 
 -- levels after two lists of records
 pub at-append : (before : List ℕ) (first rest : List Record) (clock : ℕ)
@@ -33,13 +26,13 @@ after-append before [] rest = refl
 after-append before (made ∷ first) rest = after-append (levels_of before made) first rest
 
 -- records that have all come
-pub at-all : (before : List ℕ) (records : List Record) (at clock : ℕ) → AreBefore at records → at ≤ clock
+pub at-all : (before : List ℕ) (records : List Record) (at clock : ℕ) → AreBefore at records → at ≤ clock + 1
     → levels_at before records clock ≡ levels_after before records
 unfolding levels_at levels_after
 at-all before [] at clock sooner order = refl
 at-all before (made ∷ others) at clock sooner order =
-    let first : clock_of made < at = first-of (λ r. clock_of r < at) made others sooner in
-    let rest = at-all (levels_of before made) others at clock (others-of (λ r. clock_of r < at) made others sooner) order in
+    let first : clock_of made < at = All-head (λ r. clock_of r < at) made others sooner in
+    let rest = at-all (levels_of before made) others at clock (All-tail (λ r. clock_of r < at) made others sooner) order in
     grind (arith, nat_tests, rest)
 
 -- records none of which has come
@@ -47,8 +40,8 @@ pub at-none : (before : List ℕ) (records : List Record) (at clock : ℕ) → A
 unfolding levels_at
 at-none before [] at clock later order = refl
 at-none before (made ∷ others) at clock later order =
-    let first : at ≤ clock_of made = first-of (λ r. at ≤ clock_of r) made others later in
-    let rest = at-none before others at clock (others-of (λ r. at ≤ clock_of r) made others later) order in
+    let first : at ≤ clock_of made = All-head (λ r. at ≤ clock_of r) made others later in
+    let rest = at-none before others at clock (All-tail (λ r. at ≤ clock_of r) made others later) order in
     grind (arith, nat_tests, rest)
 
 -- a record that isn't of levels changes none
@@ -57,10 +50,8 @@ IsOther (Levels clock l1 l2 l3 l4) = ⊥
 IsOther _ = Unit {0}
 
 pub other-of : (made : Record) → ((clock l1 l2 l3 l4 : ℕ) → made ≡ Levels clock l1 l2 l3 l4 → ⊥) → IsOther made
-other-of (Stroke clock x0 y0 x1 y1 colour intensity) not = tt
 other-of (Levels clock l1 l2 l3 l4) not = not clock l1 l2 l3 l4 refl
-other-of (Latch clock value) not = tt
-other-of (WatchdogReset clock) not = tt
+other-of _ not = tt
 
 -- it is passed over
 pub record IsPassedOver (before : List ℕ) (made : Record) (others : List Record) : Type 0 where
@@ -70,10 +61,8 @@ pub record IsPassedOver (before : List ℕ) (made : Record) (others : List Recor
 
 pub passed_over : (before : List ℕ) (made : Record) (others : List Record) → IsOther made → IsPassedOver before made others
 unfolding levels_at levels_after
-passed_over before (Stroke clock x0 y0 x1 y1 colour intensity) others is = record { at = λ k. grind (arith, nat_tests); after = refl; between = λ from to b. b }
 passed_over before (Levels clock l1 l2 l3 l4) others is = absurd is
-passed_over before (Latch clock value) others is = record { at = λ k. grind (arith, nat_tests); after = refl; between = λ from to b. b }
-passed_over before (WatchdogReset clock) others is = record { at = λ k. grind (arith, nat_tests); after = refl; between = λ from to b. b }
+passed_over before _ others is = record { at = λ k. grind (arith, nat_tests); after = refl; between = λ from to b. b }
 
 -- no record of levels has come
 pub at-sooner : (before : List ℕ) (records : List Record) (from to clock : ℕ) → LevelsBetween from records to → clock < from
@@ -82,11 +71,7 @@ unfolding levels_at
 at-sooner before [] from to clock made order = refl
 at-sooner before (Levels at l1 l2 l3 l4 ∷ others) from to clock (low, high, rest) order =
     let later = at-sooner before others at to clock rest (omega arith) in grind (arith, nat_tests, later)
-at-sooner before (Stroke at x0 y0 x1 y1 colour intensity ∷ others) from to clock made order =
-    let later = at-sooner before others from to clock made order in grind (arith, nat_tests, later)
-at-sooner before (Latch at value ∷ others) from to clock made order =
-    let later = at-sooner before others from to clock made order in grind (arith, nat_tests, later)
-at-sooner before (WatchdogReset at ∷ others) from to clock made order =
+at-sooner before (_ ∷ others) from to clock made order =
     let later = at-sooner before others from to clock made order in grind (arith, nat_tests, later)
 
 -- a weight from the levels at a clock

@@ -5,9 +5,9 @@ use Rattle.std.proofs.lemmas.Bool.{leb-true, false≢true}
 use Rattle.std.proofs.lemmas.Bool.Decides.{nat_tests}
 use Rattle.std.proofs.lemmas.List.Elements.{All-nil, All-cons}
 use Rattle.board_base.specs.declared.part.Part.{Part}
-use Rattle.board_base.specs.declared.part.Part.TheVariants.{Generator, Pokey1, Pokey2, Board}
+use Rattle.board_base.specs.declared.part.Part.TheVariants.{Pokey1, Pokey2}
 use Rattle.board_base.specs.declared.record.Record.{Record}
-use Rattle.board_base.specs.declared.record.Record.TheVariants.{Stroke, Levels, Latch, WatchdogReset}
+use Rattle.board_base.specs.declared.record.Record.TheVariants.{Levels}
 use Rattle.board_base.specs.Records.{clock_of, MadeBetween}
 use Rattle.sound_pcm.specs.Samples.{levels_at, levels_after, weight, weights, samples, group_after, bytes_of}
 use Rattle.sound_pcm.specs.Mixing.{MixerValue, LevelsBetween, samples_of, mixed, held, changed}
@@ -104,9 +104,7 @@ levels-later : (from at to l1 l2 l3 l4 : ℕ) (records : List Record) → Levels
     → LevelsBetween at records to
 levels-later from at to l1 l2 l3 l4 [] made first = tt
 levels-later from at to l1 l2 l3 l4 (Levels clock k1 k2 k3 k4 ∷ others) (low, high, rest) first = (leb-true at clock first, high, rest)
-levels-later from at to l1 l2 l3 l4 (Stroke clock x0 y0 x1 y1 colour intensity ∷ others) made first = absurd (false≢true first)
-levels-later from at to l1 l2 l3 l4 (Latch clock value ∷ others) made first = absurd (false≢true first)
-levels-later from at to l1 l2 l3 l4 (WatchdogReset clock ∷ others) made first = absurd (false≢true first)
+levels-later from at to l1 l2 l3 l4 (_ ∷ others) made first = absurd (false≢true first)
 
 -- the clocks up to the next record of levels are held, and then it is taken on
 pub taken : (m : MixerValue) (sound1 sound2 left1 left2 : List Record) (part : Part) (made : Record) (clock l1 l2 l3 l4 upto : ℕ)
@@ -122,8 +120,7 @@ taken m sound1 sound2 left1 left2 Pokey2 made clock l1 l2 l3 l4 upto levels may 
     rw (is, same, levels) (taken_on m _ _ _ _ _ _ clock (clock - m.clock) upto (omega (arith, between.0)) (omega (arith, between.1))
     (stays m.clock clock upto m.sound1 sound1 (levels-later m.clock clock upto l1 l2 l3 l4 sound1 may.made1 (rw levels at first)))
     (came m.clock clock upto m.sound2 l1 l2 l3 l4 left2 between))
-taken m sound1 sound2 left1 left2 Generator made clock l1 l2 l3 l4 upto levels may none = absurd none
-taken m sound1 sound2 left1 left2 Board made clock l1 l2 l3 l4 upto levels may none = absurd none
+taken m sound1 sound2 left1 left2 _ made clock l1 l2 l3 l4 upto levels may none = absurd none
 
 -- a record that isn't of levels is passed over
 pub passed : (m : MixerValue) (sound1 sound2 left1 left2 : List Record) (part : Part) (made : Record) (upto : ℕ) → MayTake m sound1 sound2 upto
@@ -135,5 +132,4 @@ passed m sound1 sound2 left1 left2 Pokey1 made upto may (is, same, first) other 
 passed m sound1 sound2 left1 left2 Pokey2 made upto may (is, same, first) other =
     rw (is, same) (taken_on m _ _ _ _ m.sound1 m.sound2 m.clock 0 upto (omega arith) may.from
     (stays m.clock m.clock upto m.sound1 sound1 may.made1) (passes m.clock upto m.sound2 made left2 other (rw is at may.made2)))
-passed m sound1 sound2 left1 left2 Generator made upto may none other = absurd none
-passed m sound1 sound2 left1 left2 Board made upto may none other = absurd none
+passed m sound1 sound2 left1 left2 _ made upto may none other = absurd none

@@ -42,7 +42,7 @@ in-parts : (from at : ℕ) (before : List ℕ) (first rest : List Record) → Ar
     → Splits from at before (first ++ rest) first (levels_after before first) rest
 in-parts from at before first rest sooner later = record {
   sooner = λ k low high. at-append before first rest k ∙ at-none _ rest at k later high;
-  later = λ k low. at-append before first rest k ∙ ap (λ (l : List ℕ). levels_at l rest k) (at-all before first at k sooner low);
+  later = λ k low. at-append before first rest k ∙ ap (λ (l : List ℕ). levels_at l rest k) (at-all before first at k sooner (omega arith));
   levels = after-append before first rest;
 }
 

@@ -1,5 +1,5 @@
 use Rattle.keyframes.specs.Frames.{page_bytes}
-use Rattle.keyframes.proofs.CopyLaws.{Written}
+use Rattle.keyframes.proofs.BoardLaws.{Written}
 use Rattle.keyframes.proofs.pages.copy.Given as goal
 
 -- the first k pages are written

@@ -25,6 +25,5 @@ loop-k-preserved c =
 
 pub returns-clause-live : goal.returns-clause-live
 returns-clause-live c =
-    let end = c.loop-k.auto.k-end in
     filling-live c.args.pool.now (option_map (λ frame. frame.now) c.args.before) c.args.state.now c.loop-k.pool c.loop-k.row.items c.loop-k.k 16 c.loop-k.invariant.0
-    (omega (arith, end, c.loop-k-test.false))
+    (omega (arith, c.loop-k.auto.k-end, c.loop-k-test.false))

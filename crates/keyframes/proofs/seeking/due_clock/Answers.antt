@@ -4,5 +4,4 @@ use Rattle.keyframes.proofs.seeking.due_clock.Goals as goal
 
 pub returns : goal.returns
 returns c =
-    last-clock (λ n. c.saturating_add.result ≡ min (n + c.args.stride) (2 ^ 64 - 1)) c.args.keys.now.kept c.len.result c.clock_of-last.result c.len.ensures
-    c.clock_of-last.ensures (omega (arith, c.saturating_add.ensures))
+    last-clock (λ n. c.saturating_add.result ≡ min (n + c.args.stride) (2 ^ 64 - 1)) _ _ _ c.len.ensures c.clock_of-last.ensures (omega (arith, c.saturating_add.ensures))

@@ -15,52 +15,43 @@ loop-cut-init g c = (
 
 pub returns-in_err-cut_slice-clause-stopped : goal.returns-in_err-cut_slice-clause-stopped
 returns-in_err-cut_slice-clause-stopped g c =
-    let p = err_from_is_err_and c.from_residual.result c.from_residual.ensures.1 in
-    rw p.1
-    (cuts-stopped c.args.tape.now.entries c.args.limit (wanted_in c.args.wanted) c.args.cuts.now (g.M.Machine.value c.args.synced.now.machine.now)
-    (g.M.Machine.value c.loop-cut.synced.machine.now) c.loop-cut.cut-index _ _ c.loop-cut.invariant.1 c.min.result c.min.ensures c.loop-cut-test.true (seen c.cut_slice.new.host)
+    rw (err_from_is_err_and c.from_residual.result c.from_residual.ensures.1).1
+    (cuts-stopped _ _ _ _ _ _ _ _ _ c.loop-cut.invariant.1 c.min.result c.min.ensures c.loop-cut-test.true (seen c.cut_slice.new.host)
     c.in_err-cut_slice.ensures.stopped)
 
 pub loop-cut-preserved : goal.loop-cut-preserved
 loop-cut-preserved g c = (
   c.cut_slice.ensures.same ∙ c.loop-cut.invariant.0,
-  cuts-on c.args.tape.now.entries c.args.limit (wanted_in c.args.wanted) c.args.cuts.now (g.M.Machine.value c.args.synced.now.machine.now)
-      (g.M.Machine.value c.loop-cut.synced.machine.now) c.loop-cut.cut-index _ _ c.loop-cut.invariant.1 c.min.result c.min.ensures c.loop-cut-test.true
-      (g.M.Machine.value c.cut_slice.new.synced.machine.now) _ c.in_ok-cut_slice.ensures.done c.in_ok-cut_slice.ensures.keeps.loans
-      c.in_ok-cut_slice.ensures.keeps.faults c.in_ok-cut_slice.ensures.keeps.absences c.in_ok-cut_slice.ensures.board c.cut_slice.new.synced.is_synced
-      c.in_ok-cut_slice.ensures.most c.in_ok-cut_slice.ensures.least,
+  cuts-on _ _ _ _ _ _ _ _ _ c.loop-cut.invariant.1 c.min.result c.min.ensures c.loop-cut-test.true (g.M.Machine.value c.cut_slice.new.synced.machine.now) _
+      c.in_ok-cut_slice.ensures.done c.in_ok-cut_slice.ensures.keeps.loans c.in_ok-cut_slice.ensures.keeps.faults c.in_ok-cut_slice.ensures.keeps.absences
+      c.in_ok-cut_slice.ensures.board c.cut_slice.new.synced.is_synced c.in_ok-cut_slice.ensures.most c.in_ok-cut_slice.ensures.least,
 )
 
 pub returns-clause-done : goal.returns-clause-done
 returns-clause-done g c =
     let all : c.loop-cut.cut-index ≡ length c.args.cuts.now = (let low = c.loop-cut-test.false in let high = c.loop-cut.auto.cut-index-end in omega arith) in
     on_ok c.end_slice.result
-    (cuts-ended c.args.tape.now.entries c.args.limit (wanted_in c.args.wanted) c.args.cuts.now (g.M.Machine.value c.args.synced.now.machine.now)
-    (g.M.Machine.value c.loop-cut.synced.machine.now) c.loop-cut.cut-index _ _ c.loop-cut.invariant.1 all (g.M.Machine.value c.end_slice.new.synced.machine.now).calls (seen c.end_slice.new.host))
+    (cuts-ended _ _ _ _ _ _ _ _ _ c.loop-cut.invariant.1 all (g.M.Machine.value c.end_slice.new.synced.machine.now).calls (seen c.end_slice.new.host))
     c.end_slice.ensures.done
 
 pub returns-clause-stopped : goal.returns-clause-stopped
 returns-clause-stopped g c =
     let all : c.loop-cut.cut-index ≡ length c.args.cuts.now = (let low = c.loop-cut-test.false in let high = c.loop-cut.auto.cut-index-end in omega arith) in
     on_err c.end_slice.result
-    (cuts-cut c.args.tape.now.entries c.args.limit (wanted_in c.args.wanted) c.args.cuts.now (g.M.Machine.value c.args.synced.now.machine.now)
-    (g.M.Machine.value c.loop-cut.synced.machine.now) c.loop-cut.cut-index _ _ c.loop-cut.invariant.1 all
-    (g.M.Machine.value c.end_slice.new.synced.machine.now) (seen c.end_slice.new.host) c.end_slice.ensures.calls
-    c.end_slice.ensures.more)
+    (cuts-cut _ _ _ _ _ _ _ _ _ c.loop-cut.invariant.1 all (g.M.Machine.value c.end_slice.new.synced.machine.now) (seen c.end_slice.new.host)
+    c.end_slice.ensures.calls c.end_slice.ensures.more)
     c.end_slice.ensures.stopped
 
 pub returns-clause-board : goal.returns-clause-board
 returns-clause-board g c =
     let all : c.loop-cut.cut-index ≡ length c.args.cuts.now = (let low = c.loop-cut-test.false in let high = c.loop-cut.auto.cut-index-end in omega arith) in
     on_ok c.end_slice.result
-    (cuts-board c.args.tape.now.entries c.args.limit (wanted_in c.args.wanted) c.args.cuts.now (g.M.Machine.value c.args.synced.now.machine.now)
-    (g.M.Machine.value c.loop-cut.synced.machine.now) c.loop-cut.cut-index _ _ c.loop-cut.invariant.1 all (g.M.Machine.value c.end_slice.new.synced.machine.now).board)
+    (cuts-board _ _ _ _ _ _ _ _ _ c.loop-cut.invariant.1 all (g.M.Machine.value c.end_slice.new.synced.machine.now).board)
     c.end_slice.ensures.board
 
 pub returns-clause-calls : goal.returns-clause-calls
 returns-clause-calls g c =
     let all : c.loop-cut.cut-index ≡ length c.args.cuts.now = (let low = c.loop-cut-test.false in let high = c.loop-cut.auto.cut-index-end in omega arith) in
     always_on_ok c.end_slice.result
-    (cuts-calls c.args.tape.now.entries c.args.limit (wanted_in c.args.wanted) c.args.cuts.now (g.M.Machine.value c.args.synced.now.machine.now)
-    (g.M.Machine.value c.loop-cut.synced.machine.now) c.loop-cut.cut-index _ _ c.loop-cut.invariant.1 all (g.M.Machine.value c.end_slice.new.synced.machine.now) c.end_slice.ensures.calls
+    (cuts-calls _ _ _ _ _ _ _ _ _ c.loop-cut.invariant.1 all (g.M.Machine.value c.end_slice.new.synced.machine.now) c.end_slice.ensures.calls
     c.end_slice.ensures.more)

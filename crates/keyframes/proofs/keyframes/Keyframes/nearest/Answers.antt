@@ -2,7 +2,7 @@ use Rattle.std.proofs.Common.{ap, ◌-◌, refl, arith}
 use Rattle.std.proofs.lemmas.List.{length-map}
 use Rattle.keyframes.specs.declared.frame.Frame.{Frame}
 use Rattle.keyframes.specs.Inside.{the_keyframe}
-use Rattle.keyframes.proofs.NearestLaws.{clock-mapped, later-mapped, rising-mapped}
+use Rattle.keyframes.proofs.KeysLaws.{clock-mapped, later-mapped, rising-mapped}
 use Rattle.keyframes.proofs.keyframes.Keyframes.nearest.Goals as goal
 
 pub returns-then-index-clock-clause-some : goal.returns-then-index-clock-clause-some
@@ -16,8 +16,7 @@ returns-then-index-clock-clause-some c =
       below = λ d.
           let e = clock-mapped (the_keyframe c.self.inside.store.pool) (λ x. refl) frames (c.loop-index.index - 1) c.index.result.now d (omega (arith, within, test)) in
           let at = ap (λ (frame : Frame). frame.rest.clock) c.index.ensures in
-          let low = c.if-index-clock.true in
-          omega (arith, e, at, low);
+          omega (arith, e, at, c.if-index-clock.true);
       last = λ j d h. later-mapped (the_keyframe c.self.inside.store.pool) (λ x. refl) frames c.loop-index.index c.args.clock i.1 j d (omega (arith, h, test));
     })
 

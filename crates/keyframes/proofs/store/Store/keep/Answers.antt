@@ -5,14 +5,12 @@ use Rattle.keyframes.specs.Keys.{page_of}
 use Rattle.std.proofs.lemmas.List.Elements.{All-pop}
 use Rattle.keyframes.specs.declared.frame.Frame.{Frame}
 use Rattle.keyframes.specs.Store.{IsRow}
-use Rattle.keyframes.proofs.KeepLaws.{last-shareable, last-read}
-use Rattle.keyframes.proofs.ThinLaws.{places-last}
+use Rattle.keyframes.proofs.ThinLaws.{places-last, last-shareable, last-read}
 use Rattle.keyframes.proofs.store.Store.keep.Goals as goal
 
 pub hold_all-requires-clause-live : goal.hold_all-requires-clause-live
 hold_all-requires-clause-live c =
-    let few = c.requires.few in
-    last-shareable c.args.self.now.pool c.args.self.now.kept.items c.requires.frames c.requires.holders (omega (arith, few, c.args.self.now.kept.ok))
+    last-shareable c.args.self.now.pool c.args.self.now.kept.items c.requires.frames c.requires.holders (omega (arith, c.requires.few, c.args.self.now.kept.ok))
     (length c.args.self.now.kept.items - 1) c.last.result
     (c.last.ensures.value ∙ ap (λ (frames : List Frame). slice_get frames (length frames - 1)) c.deref.ensures.value)
 
@@ -38,9 +36,8 @@ returns-clause-holders c =
     record {
       held = c.hold_all.ensures.held;
       holders = λ place.
-          let before = c.requires.holders.holders place in
           let more = c.hold_all.ensures.holders place in
-          rw c.push_reserved.ensures.items (omega (arith, before, more, places-last c.args.self.now.kept.items frame place));
+          rw c.push_reserved.ensures.items (omega (arith, c.requires.holders.holders place, more, places-last c.args.self.now.kept.items frame place));
     }
 
 pub returns-clause-rows : goal.returns-clause-rows

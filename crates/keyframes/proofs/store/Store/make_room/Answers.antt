@@ -10,8 +10,7 @@ pub loop-self-smaller : goal.loop-self-smaller
 loop-self-smaller c =
     let store = c.loop-self.self in
     let two = crowded-two store c.args.limit c.loop-self.invariant.0 (sym c.is_crowded.ensures ∙ c.loop-self-test.true) in
-    let fewer = thinned-fewer store.kept.items (omega (arith, two, store.kept.ok)) in
-    let kept = subst (λ frames. length frames < length store.kept.items) (sym c.thin.ensures.kept) fewer in
+    let kept = subst (λ frames. length frames < length store.kept.items) (sym c.thin.ensures.kept) (thinned-fewer store.kept.items (omega (arith, two, store.kept.ok))) in
     omega (arith, kept, store.kept.ok, c.thin.new.self.kept.ok)
 
 pub loop-self-preserved : goal.loop-self-preserved
@@ -22,14 +21,9 @@ loop-self-preserved c =
     let is = c.loop-self.invariant.0 in
     let done = c.thin.ensures in
     let len = done.len in
-    let pages = is.pages in
-    let count = is.count in
-    let kept_room = is.kept_room in
-    let spare_room = is.spare_room in
-    let rows_room = is.rows_room in
     let counted = done.count in (
       record {
-        pages = omega (arith, pages, len);
+        pages = omega (arith, is.pages, len);
         least = is.least;
         most = is.most;
         frames =
@@ -41,10 +35,10 @@ loop-self-preserved c =
         holders = done.holders;
         spare = done.spare;
         rows = done.rows;
-        count = omega (arith, count, counted, store.kept.ok, store.rows.ok, new.kept.ok, new.rows.ok);
-        kept_room = omega (arith, kept_room, done.kept_room);
-        spare_room = omega (arith, spare_room, done.spare_room);
-        rows_room = omega (arith, rows_room, done.rows_room);
+        count = omega (arith, is.count, counted, store.kept.ok, store.rows.ok, new.kept.ok, new.rows.ok);
+        kept_room = omega (arith, is.kept_room, done.kept_room);
+        spare_room = omega (arith, is.spare_room, done.spare_room);
+        rows_room = omega (arith, is.rows_room, done.rows_room);
       },
       thinned-more (keys_of c.args.self.now limit) (keys_of store limit) (keys_of new limit) c.loop-self.invariant.1
           (store-crowded store limit is ∙ sym c.is_crowded.ensures ∙ c.loop-self-test.true)
