@@ -1,15 +1,28 @@
--- What the calls of an engine do, each told once: an engine, a machine and those who use one cite it.
+-- When the calls of an engine may be made and what they do, each stated once: an engine, a machine
+-- and those who use one cite it.
 use Rattle.std.specs.Prelude.{◌≡◌, ℕ, ◌+◌, ◌-◌, ◌≤◌, ◌<◌, ◌||◌, Bool, true, false, List, None}
+use Rattle.board_base.specs.declared.board.TheConstants.{CLOCK_LIMIT}
 use Rattle.tape_ports.specs.declared.entry.TapeEntry.{TapeEntry}
 use Rattle.lockstep_board.specs.declared.stop.Stop.{Stop}
 use Rattle.lockstep_board.specs.declared.stop.Stop.TheVariants.{Window}
 use Rattle.lockstep_board.specs.Breaks.{BreakRun}
 use Rattle.lockstep_board.specs.Budget.{budget}
+use Rattle.lockstep_board.specs.Order.{HasNoRecords}
 use Rattle.lockstep_board.specs.Run.{boundary_steps, cause_of, cut_steps, is_over, to_boundary, to_cut, window_limit, wrap_of}
 use Rattle.catchup_engine.specs.EngineValue.{EngineValue, counted_on}
 use Rattle.catchup_engine.specs.StopConditions.{ConditionsValue, asks_generator, stops_at}
 use Rattle.catchup_engine.specs.Trace.{TraceValue}
 use Rattle.catchup_engine.specs.Traced.{TracedRun}
+
+-- it is ready, as between two calls: no device lags, and no trail has a record
+pub record IsReady (v : EngineValue) : Type 0 where
+  pub settled : v.lagging ≡ 0
+  pub empty : HasNoRecords v.board
+
+-- and it may run to this limit
+pub record CanRunTo (limit : ℕ) (v : EngineValue) : Type 0 where
+  pub ready : IsReady v
+  pub within : limit ≤ CLOCK_LIMIT
 
 -- a run has come to a boundary that isn't before `until`, and says why as one to this limit does
 pub record RunsTo (entries : List TapeEntry) (limit until : ℕ) (old new : EngineValue) (stop : Stop) : Type 0 where

@@ -1,16 +1,13 @@
-ghost use Rattle.std.specs.Prelude.{◌≡◌, ◌+◌, ◌-◌, ◌≤◌, ◌<◌, ◌==◌, ◌||◌, true, false, None, IfSome, IfOk, All, min};
+ghost use Rattle.std.specs.Prelude.{◌≡◌, ◌+◌, ◌-◌, ◌≤◌, ◌<◌, ◌==◌, true, false, None, IfSome, IfOk, All, min};
 ghost use Rattle.cpu_core.specs.Places.{IsMiddle};
 ghost use Rattle.cpu_table.specs.Opcodes.{row_of};
-ghost use Rattle.lockstep_board.specs.Breaks.{BreakRun};
 ghost use Rattle.lockstep_board.specs.Budget.{budget};
-ghost use Rattle.catchup_engine.specs.Calls.{EndsWindow, RunsTo, RunsToClock, RunsToStop, RunsTraced, Settles};
+ghost use Rattle.catchup_engine.specs.Calls.{CanRunTo, EndsWindow, IsReady, RunsTo, RunsToClock, RunsToStop, RunsTraced, Settles};
 ghost use Rattle.catchup_engine.specs.EngineValue.{HasRoom, counted_on};
-ghost use Rattle.lockstep_board.specs.Order.{HasNoRecords, cleared};
+ghost use Rattle.lockstep_board.specs.Order.{cleared};
 ghost use Rattle.lockstep_board.specs.Memory.{memory_byte};
-ghost use Rattle.lockstep_board.specs.Run.{boundary_steps, cause_of, cut_steps, is_over, to_boundary, to_cut, window_limit, wrap_of, IsPlaced};
+ghost use Rattle.lockstep_board.specs.Run.{boundary_steps, cause_of, is_over, to_boundary, window_limit, IsPlaced};
 ghost use Rattle.catchup_engine.specs.Trace.{step_trace};
-ghost use Rattle.catchup_engine.specs.StopConditions.{asks_generator, stops_at};
-ghost use Rattle.catchup_engine.specs.Traced.{TracedRun};
 ghost use Rattle.lockstep_board.specs.Peripherals.{board_of, reloaded, peripherals_of};
 
 use crate::bus::BoardBus;
@@ -34,7 +31,8 @@ use tape_ports::Tape;
 /// The engine: a processor and five devices that lag behind it, which represent one lockstep board.
 ///
 /// A device is synced where something can see it. What the engine represents is the board advanced
-/// one clock at a time.
+/// one clock at a time. An engine is ready where no device lags and no trail has a record: a load
+/// and each run begin there, and the limit of a run is at most `CLOCK_LIMIT`.
 #[derive(Drop)]
 pub struct Engine<V: VectorUnit, P: SoundUnit, C: CellUnit, D: DividerUnit> {
     cpu: Cpu,
@@ -95,8 +93,7 @@ impl<V: VectorUnit, P: SoundUnit, C: CellUnit, D: DividerUnit> Engine<V, P, C, D
 
     /// Takes on another board over the same image. Five device calls.
     pub fn load(&mut self, state: &BoardState)
-        requires settled { self.old.lagging ≡ 0 }
-        requires empty { HasNoRecords self.old.board }
+        requires ready { IsReady self.old }
         requires undocumented { IfSome state.now.cpu.jam (λ o. row_of o ≡ None) }
         requires place { IfSome state.now.cpu.mid (λ _. IsMiddle state.now.cpu) }
         ensures value { self.new ≡ record self.old { board = record { cpu = state.now.cpu; peripherals = reloaded self.old.board.peripherals state.now }; calls = counted_on self.old.calls 5 } }
@@ -117,10 +114,8 @@ impl<V: VectorUnit, P: SoundUnit, C: CellUnit, D: DividerUnit> Engine<V, P, C, D
 
     /// Runs to a boundary that isn't before this clock.
     fn advance(&mut self, tape: &Tape, limit: u64)
-        requires limit { limit ≤ CLOCK_LIMIT }
+        requires ready { CanRunTo limit self.old }
         requires window { limit ≤ self.old.board.peripherals.clock + DIVIDER_PERIOD }
-        requires settled { self.old.lagging ≡ 0 }
-        requires empty { HasNoRecords self.old.board }
         ensures board { self.new.board ≡ to_boundary tape.now.entries limit self.old.board }
         ensures over { is_over limit self.new.board ≡ true }
         ensures boundary { self.new.board.cpu.mid ≡ None }
@@ -157,9 +152,7 @@ impl<V: VectorUnit, P: SoundUnit, C: CellUnit, D: DividerUnit> Engine<V, P, C, D
     /// first. A board that is jammed takes no clock; a sequence under way is ended first.
     #[tactic(auto, using(crate::proofs::Windows::windows))]
     pub fn run(&mut self, tape: &Tape, limit: u64) -> Stop
-        requires limit { limit ≤ CLOCK_LIMIT }
-        requires settled { self.old.lagging ≡ 0 }
-        requires empty { HasNoRecords self.old.board }
+        requires ready { CanRunTo limit self.old }
         ensures runs { RunsTo tape.now.entries limit (window_limit limit self.old.board) self.old self.new result }
         ensures window { EndsWindow limit self.old self.new result }
     {
@@ -174,10 +167,8 @@ impl<V: VectorUnit, P: SoundUnit, C: CellUnit, D: DividerUnit> Engine<V, P, C, D
     /// call it once.
     #[tactic(auto, using(crate::proofs::Windows::windows))]
     pub fn run_to_stop(&mut self, tape: &Tape, limit: u64, stops: &StopConditions<'_>)
-        requires limit { limit ≤ CLOCK_LIMIT }
+        requires ready { CanRunTo limit self.old }
         requires before { self.old.board.peripherals.clock < limit }
-        requires settled { self.old.lagging ≡ 0 }
-        requires empty { HasNoRecords self.old.board }
         ensures runs { RunsToStop tape.now.entries limit stops.now self.old self.new }
     {
         let wrap = self.bus.next_wrap();
@@ -192,9 +183,7 @@ impl<V: VectorUnit, P: SoundUnit, C: CellUnit, D: DividerUnit> Engine<V, P, C, D
     /// Does what is left of the sequence under way, or else one instruction or sequence. A board
     /// that is jammed takes no clock.
     pub fn step(&mut self, tape: &Tape) -> Stop
-        requires clock { self.old.board.peripherals.clock < CLOCK_LIMIT }
-        requires settled { self.old.lagging ≡ 0 }
-        requires empty { HasNoRecords self.old.board }
+        requires ready { CanRunTo (self.old.board.peripherals.clock + 1) self.old }
         ensures runs { RunsTo tape.now.entries (self.old.board.peripherals.clock + 1) (self.old.board.peripherals.clock + 1) self.old self.new result }
     {
         let limit = self.bus.clock() + 1;
@@ -205,9 +194,8 @@ impl<V: VectorUnit, P: SoundUnit, C: CellUnit, D: DividerUnit> Engine<V, P, C, D
     /// Does what `step` does, and returns its accesses, dropped reads included. A board that is
     /// jammed makes none.
     pub fn trace_step(&mut self, tape: &Tape, trace: &mut Trace) -> Stop
+        requires ready { IsReady self.old }
         requires clock { self.old.board.cpu.mid ≡ None → self.old.board.peripherals.clock < CLOCK_LIMIT }
-        requires settled { self.old.lagging ≡ 0 }
-        requires empty { HasNoRecords self.old.board }
         ensures runs { RunsTo tape.now.entries (self.old.board.peripherals.clock + 1) (self.old.board.peripherals.clock + 1) self.old self.new result }
         ensures trace { trace.new ≡ step_trace tape.now.entries self.old.board }
     {
@@ -226,9 +214,7 @@ impl<V: VectorUnit, P: SoundUnit, C: CellUnit, D: DividerUnit> Engine<V, P, C, D
     /// board that is jammed makes none.
     #[tactic(auto, using(crate::proofs::Windows::windows))]
     pub fn run_traced<T: Tracer>(&mut self, tape: &Tape, limit: u64, tracer: &mut T) -> Stop
-        requires limit { limit ≤ CLOCK_LIMIT }
-        requires settled { self.old.lagging ≡ 0 }
-        requires empty { HasNoRecords self.old.board }
+        requires ready { CanRunTo limit self.old }
         ensures runs { RunsTraced T.next T.has_enough tape.now.entries limit self.old self.new tracer.old tracer.new result }
     {
         let wrap = self.bus.next_wrap();
@@ -245,9 +231,7 @@ impl<V: VectorUnit, P: SoundUnit, C: CellUnit, D: DividerUnit> Engine<V, P, C, D
     /// wrap where that comes first. A board that is jammed takes no clock.
     #[tactic(auto, using(crate::proofs::Windows::windows))]
     pub fn run_to(&mut self, tape: &Tape, cut: u64) -> Stop
-        requires cut { cut ≤ CLOCK_LIMIT }
-        requires settled { self.old.lagging ≡ 0 }
-        requires empty { HasNoRecords self.old.board }
+        requires ready { CanRunTo cut self.old }
         ensures runs { RunsToClock tape.now.entries cut self.old self.new result }
         ensures window { EndsWindow cut self.old self.new result }
     {

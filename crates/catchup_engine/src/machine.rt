@@ -1,18 +1,14 @@
 //! A machine: what the crates above an engine call, in terms of the engine's value.
-ghost use Rattle.std.specs.Prelude.{◌≡◌, ◌+◌, ◌-◌, ◌≤◌, ◌<◌, ◌||◌, true, false, None, IfSome, All};
+ghost use Rattle.std.specs.Prelude.{◌≡◌, ◌+◌, ◌-◌, ◌≤◌, ◌<◌, None, IfSome, All};
 ghost use Rattle.board_base.specs.declared.divider.TheConstants.{DIVIDER_PERIOD};
 ghost use Rattle.cpu_core.specs.Places.{IsMiddle};
 ghost use Rattle.cpu_table.specs.Opcodes.{row_of};
-ghost use Rattle.lockstep_board.specs.Breaks.{BreakRun};
-ghost use Rattle.lockstep_board.specs.Budget.{budget};
 ghost use Rattle.lockstep_board.specs.Memory.{memory_byte};
-ghost use Rattle.lockstep_board.specs.Order.{HasNoRecords, cleared};
-ghost use Rattle.lockstep_board.specs.Run.{boundary_steps, cause_of, cut_steps, is_over, to_boundary, to_cut, window_limit, wrap_of, IsPlaced};
+ghost use Rattle.lockstep_board.specs.Order.{cleared};
+ghost use Rattle.lockstep_board.specs.Run.{window_limit, IsPlaced};
 ghost use Rattle.lockstep_board.specs.Peripherals.{board_of, reloaded};
-ghost use Rattle.catchup_engine.specs.Calls.{EndsWindow, RunsTo, RunsToClock, RunsToStop, RunsTraced, Settles};
+ghost use Rattle.catchup_engine.specs.Calls.{CanRunTo, EndsWindow, IsReady, RunsTo, RunsToClock, RunsToStop, RunsTraced, Settles};
 ghost use Rattle.catchup_engine.specs.EngineValue.{EngineValue, counted_on};
-ghost use Rattle.catchup_engine.specs.StopConditions.{asks_generator, stops_at};
-ghost use Rattle.catchup_engine.specs.Traced.{TracedRun};
 
 use crate::engine::Engine;
 use crate::stop_conditions::StopConditions;
@@ -26,15 +22,16 @@ use pokey_chip::SoundUnit;
 use tape_ports::Tape;
 
 /// Something that runs a board, as an `Engine` does. The crates above take one by this trait, so
-/// that they don't name the types of its devices.
+/// that they don't name the types of its devices. A machine is ready where no device lags and no
+/// trail has a record: a load and each run begin there, and the limit of a run is at most
+/// `CLOCK_LIMIT`.
 pub trait Machine {
     /// What it is to its callers.
     ghost value: { Self → EngineValue };
 
     /// Takes on another board over the same image. Five device calls.
     fn load(&mut self, state: &BoardState)
-        requires settled { (value self.old).lagging ≡ 0 }
-        requires empty { HasNoRecords (value self.old).board }
+        requires ready { IsReady (value self.old) }
         requires undocumented { IfSome state.now.cpu.jam (λ o. row_of o ≡ None) }
         requires place { IfSome state.now.cpu.mid (λ _. IsMiddle state.now.cpu) }
         ensures value { value self.new ≡ record (value self.old) { board = record { cpu = state.now.cpu; peripherals = reloaded (value self.old).board.peripherals state.now }; calls = counted_on (value self.old).calls 5 } };
@@ -42,9 +39,7 @@ pub trait Machine {
     /// Runs to the limit, or to the first boundary after the divider's next wrap where that comes
     /// first. A board that is jammed takes no clock; a sequence under way is ended first.
     fn run(&mut self, tape: &Tape, limit: u64) -> Stop
-        requires limit { limit ≤ CLOCK_LIMIT }
-        requires settled { (value self.old).lagging ≡ 0 }
-        requires empty { HasNoRecords (value self.old).board }
+        requires ready { CanRunTo limit (value self.old) }
         ensures runs { RunsTo tape.now.entries limit (window_limit limit (value self.old).board) (value self.old) (value self.new) result }
         ensures window { EndsWindow limit (value self.old) (value self.new) result };
 
@@ -53,35 +48,27 @@ pub trait Machine {
     /// that is jammed takes no clock. Where the conditions ask the generator, each boundary may
     /// call it once.
     fn run_to_stop(&mut self, tape: &Tape, limit: u64, stops: &StopConditions<'_>)
-        requires limit { limit ≤ CLOCK_LIMIT }
+        requires ready { CanRunTo limit (value self.old) }
         requires before { (value self.old).board.peripherals.clock < limit }
-        requires settled { (value self.old).lagging ≡ 0 }
-        requires empty { HasNoRecords (value self.old).board }
         ensures runs { RunsToStop tape.now.entries limit stops.now (value self.old) (value self.new) };
 
     /// Does what is left of the sequence under way, or else one instruction or sequence. A board
     /// that is jammed takes no clock.
     fn step(&mut self, tape: &Tape) -> Stop
-        requires clock { (value self.old).board.peripherals.clock < CLOCK_LIMIT }
-        requires settled { (value self.old).lagging ≡ 0 }
-        requires empty { HasNoRecords (value self.old).board }
+        requires ready { CanRunTo ((value self.old).board.peripherals.clock + 1) (value self.old) }
         ensures runs { RunsTo tape.now.entries ((value self.old).board.peripherals.clock + 1) ((value self.old).board.peripherals.clock + 1) (value self.old) (value self.new) result };
 
     /// Runs turn by turn to the limit, to the first boundary after the divider's next wrap, or to
     /// where a tracer has enough, whichever comes first, and passes each turn to the tracer. A
     /// board that is jammed makes none.
     fn run_traced<T: Tracer>(&mut self, tape: &Tape, limit: u64, tracer: &mut T) -> Stop
-        requires limit { limit ≤ CLOCK_LIMIT }
-        requires settled { (value self.old).lagging ≡ 0 }
-        requires empty { HasNoRecords (value self.old).board }
+        requires ready { CanRunTo limit (value self.old) }
         ensures runs { RunsTraced T.next T.has_enough tape.now.entries limit (value self.old) (value self.new) tracer.old tracer.new result };
 
     /// Runs to this clock, inside a sequence too, or to the first boundary after the divider's next
     /// wrap where that comes first. A board that is jammed takes no clock.
     fn run_to(&mut self, tape: &Tape, cut: u64) -> Stop
-        requires cut { cut ≤ CLOCK_LIMIT }
-        requires settled { (value self.old).lagging ≡ 0 }
-        requires empty { HasNoRecords (value self.old).board }
+        requires ready { CanRunTo cut (value self.old) }
         ensures runs { RunsToClock tape.now.entries cut (value self.old) (value self.new) result }
         ensures window { EndsWindow cut (value self.old) (value self.new) result };
 

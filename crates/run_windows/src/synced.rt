@@ -7,7 +7,7 @@ ghost use Rattle.cpu_core.specs.Places.{IsMiddle};
 ghost use Rattle.cpu_table.specs.Opcodes.{row_of};
 ghost use Rattle.lockstep_board.specs.Breaks.{BreakRun, turn};
 ghost use Rattle.lockstep_board.specs.Budget.{budget};
-ghost use Rattle.catchup_engine.specs.Calls.{Settles};
+ghost use Rattle.catchup_engine.specs.Calls.{CanRunTo, Settles};
 ghost use Rattle.catchup_engine.specs.EngineValue.{counted_on};
 ghost use Rattle.lockstep_board.specs.Order.{HasNoRecords, cleared, records_of};
 ghost use Rattle.lockstep_board.specs.Lockstep as lockstep;
@@ -72,9 +72,7 @@ fn forget_records<M: Machine>(machine: &mut M)
 /// that comes first.
 #[tactic(auto, unfolding(lockstep_board::specs::Run::to_boundary, lockstep_board::specs::Run::to_cut))]
 fn advance<M: Machine>(machine: &mut M, tape: &Tape, until: Until) -> Stop
-    requires limit { clock_in until ≤ CLOCK_LIMIT }
-    requires settled { (M.value machine.old).lagging ≡ 0 }
-    requires empty { HasNoRecords (M.value machine.old).board }
+    requires ready { CanRunTo (clock_in until) (M.value machine.old) }
     ensures board { (M.value machine.new).board ≡ window_end tape.now.entries until (M.value machine.old).board }
     ensures stop { result ≡ cause_of (clock_in until) (M.value machine.new).board }
     ensures ends { EndsSo until (M.value machine.new).board }

@@ -35,8 +35,7 @@ impl<S: Units> BoardBus<S> {
     /// Whether the generator is halted.
     #[tactic(auto, using(board_base::proofs::TickLaws::level, crate::proofs::SettledLaws::settled))]
     pub fn is_halted(&self) -> bool
-        requires settled { lagging_of self.now.lagging ≡ 0 }
-        ensures { result ≡ self.now.peripherals.vg.halted }
+        ensures { lagging_of self.now.lagging ≡ 0 → result ≡ self.now.peripherals.vg.halted }
     {
         self.vector.unit.halted()
     }
@@ -118,8 +117,7 @@ impl<S: Units> BoardBus<S> {
     /// The cells of the EAROM.
     #[tactic(auto, using(board_base::proofs::TickLaws::level, crate::proofs::SettledLaws::settled))]
     pub fn earom_cells(&self) -> [u8; 64]
-        requires settled { lagging_of self.now.lagging ≡ 0 }
-        ensures { result ≡ self.now.peripherals.earom.cells }
+        ensures { lagging_of self.now.lagging ≡ 0 → result ≡ self.now.peripherals.earom.cells }
     {
         self.cells.unit.state().cells
     }
@@ -127,9 +125,8 @@ impl<S: Units> BoardBus<S> {
     /// The levels of the four channels of POKEY 1, and those of POKEY 2.
     #[tactic(auto, using(board_base::proofs::TickLaws::level, crate::proofs::SettledLaws::settled))]
     pub fn sound_levels(&self) -> ([u8; 4], [u8; 4])
-        requires settled { lagging_of self.now.lagging ≡ 0 }
-        ensures sound1 { result.0 ≡ self.now.peripherals.sound1.last }
-        ensures sound2 { result.1 ≡ self.now.peripherals.sound2.last }
+        ensures sound1 { lagging_of self.now.lagging ≡ 0 → result.0 ≡ self.now.peripherals.sound1.last }
+        ensures sound2 { lagging_of self.now.lagging ≡ 0 → result.1 ≡ self.now.peripherals.sound2.last }
         ensures range1 { All (λ level. level < 16) result.0 }
         ensures range2 { All (λ level. level < 16) result.1 }
     {
@@ -184,8 +181,7 @@ impl<S: Units> BoardBus<S> {
     /// States that the divider is before its wrap.
     #[tactic(auto, using(board_base::proofs::TickLaws::level, crate::proofs::SettledLaws::settled))]
     pub fn lemma_phase(&self)
-        requires settled { lagging_of self.now.lagging ≡ 0 }
-        ensures { self.now.peripherals.divider.phase < DIVIDER_PERIOD }
+        ensures { lagging_of self.now.lagging ≡ 0 → self.now.peripherals.divider.phase < DIVIDER_PERIOD }
     {
         // opens the model
         let _clock = self.clock;
