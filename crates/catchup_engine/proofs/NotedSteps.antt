@@ -1,5 +1,5 @@
 -- One access of a `NotedBus`.
-use Rattle.std.proofs.Common.{◌≡◌, ℕ, ◌+◌, ◌-◌, ◌*◌, ◌≤◌, ◌<◌, Bool, true, false, List, [], ◌∷◌, ◌++◌, length, length-append, refl, sym, ap, arith, if◌then◌else◌}
+use Rattle.std.proofs.Common.{◌≡◌, ℕ, ◌+◌, ◌-◌, ◌*◌, ◌≤◌, ◌<◌, Bool, true, false, [], ◌∷◌, ◌++◌, length, length-append, add-zero, refl, sym, ap, ◌∙◌, arith, if◌then◌else◌}
 use Rattle.std.specs.Int.{from_bool}
 use Rattle.board_map.specs.Map.{row_of}
 use Rattle.cpu_core.specs.BusCycles as cycles
@@ -11,8 +11,9 @@ use Rattle.catchup_engine.specs.declared.trace.Access.{Access}
 use Rattle.catchup_engine.specs.Bus.{BusValue, Does, at_clock}
 use Rattle.catchup_engine.specs.Horizon.{KeepsLines}
 use Rattle.catchup_engine.specs.Lags.{lagging_at}
-use Rattle.catchup_engine.specs.Notes.{NotedStep, noting, with_reached}
-use Rattle.catchup_engine.specs.Quiet.{IsCounted, passed, quiet_room}
+use Rattle.catchup_engine.specs.Notes.{CanNote, IsNoted, ReachedValue, with_reached}
+use Rattle.catchup_engine.specs.Starts.{starts_generator}
+use Rattle.catchup_engine.specs.Quiet.{later, passed}
 use Rattle.catchup_engine.specs.Trace.{access_at, made_of}
 use Rattle.catchup_engine.proofs.HorizonLaws.{keeps-then, put-keeps, read-keeps}
 use Rattle.catchup_engine.proofs.MapLaws.{row-program, row-ram}
@@ -35,44 +36,59 @@ made-at : (clock : ℕ) (x : cycles.Access) → made_of (access_at clock x) ≡ 
 made-at clock (read_of a v) = refl
 made-at clock (write_of a v) = refl
 
--- so that it isn't noted
-pub plain-reached : (l : List Access) (clock : ℕ) (x : cycles.Access) → reaches_device x ≡ false → l ≡ with_reached l (access_at clock x)
-plain-reached l clock x plain = rw (made-at clock x, plain) refl
+-- so that it reaches nothing, unless it starts the generator
+pub plain-reached : (r : ReachedValue) (clock : ℕ) (x : cycles.Access) → reaches_device x ≡ false → starts_generator (access_at clock x) ≡ false → r ≡ with_reached r (access_at clock x)
+plain-reached r clock x plain still = let same : r.accesses + 0 ≡ r.accesses = add-zero r.accesses in rw (made-at clock x, plain, still, same) refl
 
--- An access of a device over a bus that got the clocks before it and its own, m: it is noted with
--- its clock.
-pub record IsNotedAccess (tape : TapeValue) (n : ℕ) (x : cycles.Access) (s t : BusValue) (l : List Access) : Type 0 where
-  pub lines : KeepsLines s t
-  pub noted : NotedStep tape.entries x (noting (passed n s) l) (noting (passed 0 t) (with_reached l (access_at (t.peripherals.clock - 1) x)))
-  pub accepts : IsCounted tape 0 t
-  pub room : quiet_room n s ≤ quiet_room 0 t + 1
+pub ram-still : (a v clock : ℕ) → a < 2048 → starts_generator (access_at clock (write_of a v)) ≡ false
+ram-still a v clock near = rw (row-ram a near) refl
 
-noted-access : (tape : TapeValue) (n : ℕ) (x : cycles.Access) (s t : BusValue) (l : List Access) → KeepsLines s t → IsStep tape x n s 0 t → IsNotedAccess tape n x s t l
-noted-access tape n x s t l lines is = record {
+-- an access reaches a device once at most, and starts the generator once at most
+pub record IsOneMore (r more : ReachedValue) : Type 0 where
+  pub accesses : more.accesses ≤ r.accesses + 1
+  pub starts : length more.starts ≤ length r.starts + 1
+
+pub one-more : (r : ReachedValue) (a : Access) → IsOneMore r (with_reached r a)
+one-more r a = record { accesses = by_reach (reaches_device (made_of a)); starts = by_start (starts_generator a) }
+  where
+    by_reach : (t : Bool) → r.accesses + from_bool t ≤ r.accesses + 1
+    by_reach true = omega arith
+    by_reach false = omega arith
+
+    by_start : (t : Bool) → length (if t then r.starts ++ a.clock ∷ [] else r.starts) ≤ length r.starts + 1
+    by_start true = let more = length-append r.starts (a.clock ∷ []) in omega (arith, more)
+    by_start false = omega arith
+
+-- an access of a device
+noted-access : (tape : TapeValue) (n : ℕ) (x : cycles.Access) (s t : BusValue) (r more : ReachedValue) → r.accesses ≤ s.peripherals.clock + n
+    → t.peripherals.clock ≡ s.peripherals.clock + (n + 1) → more ≡ with_reached r (access_at (t.peripherals.clock - 1) x) → KeepsLines s t → IsStep tape x n s 0 t
+    → IsNoted tape n x s t r more
+noted-access tape n x s t r more few clock noted lines is = record {
   lines = lines;
-  noted = record { step = is.step; reached = ap (λ (b : BusValue). with_reached l (access_at (b.peripherals.clock - 1) x)) (sym (passed-zero t)) };
+  noted = record { step = is.step; reached = noted ∙ ap (λ (b : BusValue). with_reached r (access_at (b.peripherals.clock - 1) x)) (sym (passed-zero t)) };
   accepts = is.accepts;
   room = is.room;
+  accesses = (let most = (one-more r (access_at (t.peripherals.clock - 1) x)).accesses in let same = ap (λ (k : ReachedValue). k.accesses) noted in omega (arith, few, clock, most, same));
 }
 
-pub noted-read : (tape : TapeValue) (n a v : ℕ) (s m t : BusValue) (l : List Access) → IsCounted tape n s → 1 ≤ quiet_room n s → m ≡ passed (n + 1) s → KeepsLines s m
+later-clock : (n : ℕ) (s m : BusValue) → m ≡ passed (n + 1) s → m.peripherals.clock ≡ s.peripherals.clock + (n + 1)
+unfolding passed later
+later-clock n s m observed = ap (λ (b : BusValue). b.peripherals.clock) observed
+
+pub noted-read : (tape : TapeValue) (n a v : ℕ) (s m t : BusValue) (r more : ReachedValue) → CanNote tape n s r
+    → m ≡ passed (n + 1) s → KeepsLines s m
     → Does m t m.peripherals (2 * from_bool (reaches_device (read_of a v))) → v ≡ byte_read a (at_clock (m.peripherals.clock - 1) m.peripherals)
-    → lagging_at (row_of a).reads t.lagging ≡ 0 → IsNotedAccess tape n (read_of a v) s t l
-noted-read tape n a v s m t l counted room observed lines does is current =
-    noted-access tape n (read_of a v) s t l (keeps-then s m t lines (read-keeps m t (2 * from_bool (reaches_device (read_of a v))) does))
-    (device-reads tape n 0 a v s m t counted room observed refl does is current)
+    → lagging_at (row_of a).reads t.lagging ≡ 0 → ((clock : ℕ) → more ≡ with_reached r (access_at clock (read_of a v))) → IsNoted tape n (read_of a v) s t r more
+noted-read tape n a v s m t r more can observed lines does is current noted =
+    noted-access tape n (read_of a v) s t r more can.accesses (ap (λ (b : BusValue). b.peripherals.clock) does.value ∙ later-clock n s m observed) (noted (t.peripherals.clock - 1))
+    (keeps-then s m t lines (read-keeps m t (2 * from_bool (reaches_device (read_of a v))) does)) (device-reads tape n 0 a v s m t can.accepts can.room observed refl does is current)
 
-pub noted-written : (tape : TapeValue) (n a v : ℕ) (s m t : BusValue) (l : List Access) → IsCounted tape n s → 1 ≤ quiet_room n s → m ≡ passed (n + 1) s → KeepsLines s m
+pub noted-written : (tape : TapeValue) (n a v : ℕ) (s m t : BusValue) (r more : ReachedValue) → CanNote tape n s r
+    → m ≡ passed (n + 1) s → KeepsLines s m
     → Does m t (at_clock m.peripherals.clock (byte_put a v (at_clock (m.peripherals.clock - 1) m.peripherals))) (2 * from_bool (reaches_device (write_of a v)))
-    → length t.peripherals.written ≤ length m.peripherals.written + 1 → IsNotedAccess tape n (write_of a v) s t l
-noted-written tape n a v s m t l counted room observed lines does few =
-    noted-access tape n (write_of a v) s t l (keeps-then s m t lines (put-keeps a v m t (2 * from_bool (reaches_device (write_of a v))) does))
-    (device-writes tape n 0 a v s m t counted room observed refl does few)
-
--- what is noted grows by one access at most
-pub reached-most : (l : List Access) (a : Access) (n : ℕ) → length l ≤ n → length (with_reached l a) ≤ n + 1
-reached-most l a n few = by_test (reaches_device (made_of a)) few
-  where
-    by_test : (t : Bool) → length l ≤ n → length (if t then l ++ a ∷ [] else l) ≤ n + 1
-    by_test true few = let more = length-append l (a ∷ []) in omega (arith, more, few)
-    by_test false few = omega (arith, few)
+    → length t.peripherals.written ≤ length m.peripherals.written + 1 → more ≡ with_reached r (access_at (m.peripherals.clock - 1) (write_of a v))
+    → IsNoted tape n (write_of a v) s t r more
+noted-written tape n a v s m t r more can observed lines does written noted =
+    let clock : t.peripherals.clock ≡ m.peripherals.clock = ap (λ (b : BusValue). b.peripherals.clock) does.value in
+    noted-access tape n (write_of a v) s t r more can.accesses (clock ∙ later-clock n s m observed) (noted ∙ ap (λ k. with_reached r (access_at (k - 1) (write_of a v))) (sym clock))
+    (keeps-then s m t lines (put-keeps a v m t (2 * from_bool (reaches_device (write_of a v))) does)) (device-writes tape n 0 a v s m t can.accepts can.room observed refl does written)

@@ -14,3 +14,5 @@ pub mod Horizon
 pub mod BreakMarks
 pub mod NewBoard
 pub mod Notes
+pub mod Starts
+pub mod Together

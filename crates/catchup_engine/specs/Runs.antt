@@ -110,7 +110,7 @@ pub record CutRun (entries : List TapeEntry) (cut wrap : ℕ) (c : CpuValue) (s 
   pub range : IsInRange e t
   pub later : s.peripherals.clock ≤ t.peripherals.clock
 
--- and one that stops where it is told to, a turn at least
+-- and one that stops where a stop says, a turn at least
 pub record BreakRunBus (entries : List TapeEntry) (limit : ℕ) (stops : ConditionsValue) (c : CpuValue) (s t : BusValue) (e : CpuValue) : Type 0 where
   pub turns : BreakRun entries limit (stops_at stops) (over_bus c s) (over_bus e t)
   pub ends : is_over limit (over_bus e t) || stops_at stops (over_bus e t) ≡ true

@@ -1,14 +1,17 @@
 //! What a tracer gets of a turn.
-ghost use Rattle.std.specs.Prelude.{◌≡◌, ◌+◌, ◌<◌, ◌==◌, true, if◌then◌else◌};
+ghost use Rattle.std.specs.Prelude.{◌≡◌, ◌+◌, ◌++◌, ◌∷◌, ◌<◌, ◌≤◌, ◌^◌, [], length, if◌then◌else◌};
+ghost use Rattle.std.specs.Int.{from_bool};
 ghost use Rattle.lockstep_board.specs.Budget.{reaches_device};
 ghost use Rattle.catchup_engine.specs.Trace.{made_of};
-ghost use Rattle.catchup_engine.specs.Notes.{reaching};
+ghost use Rattle.catchup_engine.specs.Starts.{starts_generator};
 
 use crate::trace::{Access, Trace};
+use arrayvec::ArrayVec;
 use board_base::Sequence;
-use board_map::row;
+use board_map::{Writes, row};
 use lockstep_board::{devices_read, devices_written};
 use std::marker::Model;
+use std::mem;
 
 impl Access {
     /// Whether it reaches a device.
@@ -24,83 +27,111 @@ impl Access {
         };
         !reached.is_empty()
     }
+
+    /// Whether it is a write that starts the generator.
+    pub fn starts_generator(&self) -> bool
+        ensures { result ≡ starts_generator self.now }
+    {
+        self.write && matches!(row(self.addr).writes, Writes::Go)
+    }
 }
 
-/// The accesses of a turn that reach a device, in their order.
+/// Of the accesses of some turns the number of those that reach a device, and the clocks of those
+/// that start the generator, seven at most.
 #[derive(Drop)]
 pub struct Reached {
-    accesses: [Access; 7],
-    count: u8,
+    accesses: u64,
+    starts: ArrayVec<u64, 7>,
 }
 
 impl Model for Reached {
-    ghost use Rattle.std.specs.Prelude.{◌≡◌, ◌≤◌, List, length, take};
-    ghost use Rattle.catchup_engine.specs.declared.trace.Access.{Access};
+    ghost use Rattle.catchup_engine.specs.Notes.{ReachedValue};
 
-    ghost Value = { List Access };
+    ghost Value = { ReachedValue };
 
-    ghost view = { λ r. take r.count r.accesses };
-
-    ghost invariant = { λ r. (r.count ≤ 7) × (length r.accesses ≡ 7) };
+    ghost view = { λ r. record { accesses = r.accesses; starts = r.starts.items } };
 }
 
 impl Reached {
-    ghost use Rattle.std.specs.Prelude.{[], length, take};
-    ghost use Rattle.catchup_engine.specs.Notes.{with_reached};
+    ghost use Rattle.std.specs.Prelude.{◌==◌, take};
+    ghost use Rattle.catchup_engine.specs.Notes.{nothing_reached, reached_by, with_reached};
 
-    /// None.
-    pub(crate) fn new() -> Reached
-        ensures { result ≡ [] }
+    /// Those of no access.
+    pub(crate) fn none() -> Reached
+        ensures { result ≡ nothing_reached }
     {
         Reached {
-            accesses: [Access::none(); 7],
-            count: 0,
+            accesses: 0,
+            starts: ArrayVec::new(),
         }
     }
 
     /// Those of a trace.
     pub fn of(trace: &Trace) -> Reached
-        ensures { result ≡ reaching (take trace.now.count trace.now.accesses) }
+        ensures { result ≡ reached_by (take trace.now.count trace.now.accesses) }
     {
-        let mut reached = Reached::new();
+        let mut reached = Reached::none();
         for access in &trace.accesses[..usize::from(trace.count)] {
-            reached.add(*access, access.reaches_device());
+            reached.add(
+                access.reaches_device(),
+                access.starts_generator(),
+                access.clock,
+            );
         }
         reached
     }
 
-    /// Removes them.
+    /// Adds an access: whether it reaches a device, whether it starts the generator, and its clock.
     #[inline(always)]
-    pub(crate) fn clear(&mut self)
-        ensures { self.new ≡ [] }
-    {
-        self.count = 0;
-    }
-
-    /// Adds an access, where it reaches a device.
-    #[inline(always)]
-    pub(crate) fn add(&mut self, access: Access, reaches: bool)
-        requires few { length self.old < 7 }
-        requires reaches { reaches ≡ reaches_device (made_of access) }
-        ensures { self.new ≡ with_reached self.old access }
+    pub(crate) fn add(&mut self, reaches: bool, starts: bool, clock: u64)
+        requires accesses { self.old.accesses < 2 ^ 63 }
+        requires starts { length self.old.starts < 7 }
+        ensures { self.new ≡ record { accesses = self.old.accesses + from_bool reaches; starts = if starts then self.old.starts ++ clock ∷ [] else self.old.starts } }
     {
         if reaches {
-            self.accesses[usize::from(self.count)] = access;
-            self.count += 1;
+            self.accesses += 1;
+        }
+        if starts {
+            self.starts.push(clock);
         }
     }
 
-    /// The accesses.
+    /// Returns what it has, and has nothing then.
     #[inline(always)]
-    pub fn as_slice(&self) -> &[Access]
-        ensures { result.now ≡ self.now }
+    pub(crate) fn take(&mut self) -> Reached
+        ensures value { result ≡ self.old }
+        ensures none { self.new ≡ nothing_reached }
     {
-        &self.accesses[..usize::from(self.count)]
+        mem::replace(self, Reached::none())
+    }
+
+    /// How many reach a device.
+    #[inline(always)]
+    pub fn accesses(&self) -> u64
+        ensures { result ≡ self.now.accesses }
+    {
+        self.accesses
+    }
+
+    /// The clocks of those that start the generator, in their order.
+    #[inline(always)]
+    pub fn starts(&self) -> &[u64]
+        ensures value { result.now ≡ self.now.starts }
+        ensures few { length result.now ≤ 7 }
+    {
+        self.starts.as_slice()
+    }
+
+    /// Whether none starts the generator.
+    #[inline(always)]
+    pub(crate) fn has_no_starts(&self) -> bool
+        ensures { result ≡ (length self.now.starts == 0) }
+    {
+        self.starts.is_empty()
     }
 }
 
-/// What a turn did: its sequence, its opcode, its clocks, and those of its accesses that reach a
-/// device, in their order.
+/// What a turn did: its sequence, its opcode, its clocks, and what its accesses reached.
 ///
 /// `opcode` is 0 for an interrupt and for a reset. There are at most 7 clocks.
 #[derive(Drop)]
@@ -108,7 +139,7 @@ pub struct TurnNote<'a> {
     pub sequence: Sequence,
     pub opcode: u8,
     pub clocks: u8,
-    pub reached: &'a [Access],
+    pub reached: &'a Reached,
 }
 
 impl<'a> Model for TurnNote<'a> {
@@ -123,18 +154,18 @@ impl<'a> Model for TurnNote<'a> {
 
 impl<'a> TurnNote<'a> {
     ghost use Rattle.std.specs.Prelude.{take};
-    ghost use Rattle.catchup_engine.specs.Notes.{note_of};
+    ghost use Rattle.catchup_engine.specs.Notes.{note_of, reached_by};
 
-    /// The note of a trace, of which these are the accesses that reach a device.
+    /// The note of a trace, whose accesses reached this.
     pub fn of(trace: &Trace, reached: &'a Reached) -> TurnNote<'a>
-        requires { reached.now ≡ reaching (take trace.now.count trace.now.accesses) }
+        requires { reached.now ≡ reached_by (take trace.now.count trace.now.accesses) }
         ensures { result ≡ note_of trace.now }
     {
         TurnNote {
             sequence: trace.sequence,
             opcode: trace.opcode,
             clocks: trace.count,
-            reached: reached.as_slice(),
+            reached,
         }
     }
 }

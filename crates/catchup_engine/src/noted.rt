@@ -1,78 +1,143 @@
-//! Instructions in whose clocks no event is due, each of which is passed to a tracer.
-ghost use Rattle.std.specs.Prelude.{◌≡◌, ◌+◌, ◌-◌, ◌<◌, ◌≤◌, ◌&&◌, ◌||◌, [], true, is_none, length, nat_lt, not, None};
+//! Instructions in whose clocks no event is due, which are passed to a tracer.
+ghost use Rattle.std.specs.Prelude.{◌≡◌, ◌+◌, ◌-◌, ◌*◌, ◌^◌, ◌<◌, ◌≤◌, ◌&&◌, ◌||◌, ℕ, [], true, is_none, length, nat_lt, None, IfSome};
+ghost use Rattle.std.specs.Int.{from_bool};
 ghost use Rattle.board_base.specs.declared.divider.TheConstants.{DIVIDER_PERIOD};
+ghost use Rattle.board_map.specs.Map.{IsWithin, row_of};
 ghost use Rattle.cpu_alu.specs.Flags.{is_masked};
 ghost use Rattle.cpu_core.specs.BusCycles.{read_of, write_of};
 ghost use Rattle.cpu_core.specs.Registers.{registers_of};
 ghost use Rattle.cpu_core.specs.Sequences.{Runs};
 ghost use Rattle.cpu_core.specs.Places.{Fetches, fetched_of};
-ghost use Rattle.lockstep_board.specs.Peripherals.{Peripherals, byte_read};
+ghost use Rattle.lockstep_board.specs.Budget.{reaches_device};
+ghost use Rattle.lockstep_board.specs.Peripherals.{Peripherals, byte_put, byte_read};
 ghost use Rattle.catchup_engine.specs.StopConditions.{no_conditions};
-ghost use Rattle.catchup_engine.specs.Bus.{Accepts, is_private};
-ghost use Rattle.catchup_engine.specs.Horizon.{KeepsLines};
-ghost use Rattle.catchup_engine.specs.Notes.{NotedStep, noting};
-ghost use Rattle.catchup_engine.specs.Quiet.{passed, IsCounted, quiet_room};
+ghost use Rattle.catchup_engine.specs.Bus.{Accepts, Does, at_clock, is_private};
+ghost use Rattle.catchup_engine.specs.Lags.{lagging_at};
+ghost use Rattle.catchup_engine.specs.Notes.{CanNote, IsNoted, with_reached};
 ghost use Rattle.catchup_engine.specs.Runs.{over_bus, CanTakeTurns, GoesOn, TurnsOn};
+ghost use Rattle.catchup_engine.specs.Together.{NotedRun};
+ghost use Rattle.catchup_engine.specs.Trace.{access_at};
 ghost use Rattle.catchup_engine.specs.Traced.{NotedTurns};
 
 use crate::bus::{BoardBus, PROGRAM_START, is_private};
 use crate::devices::Units;
 use crate::note::{Reached, TurnNote};
 use crate::quiet::{Horizon, QuietBus, horizon_from};
-use crate::trace::Access;
 use crate::tracer::Tracer;
 use board_base::{RAM_LEN, Sequence};
-use board_map::row;
+use board_map::{IN0, Row, WATCHDOG_START, Writes, row};
 use cpu_core::{Bus, Cpu, Fetched};
 use lockstep_board::{devices_read, devices_written};
 use tape_ports::Tape;
 
-/// A `QuietBus` that notes the accesses that reach a device.
+/// A `QuietBus` that notes what its accesses reach.
 struct NotedBus<'a, S: Units, T: Tracer> {
     quiet: QuietBus<'a, S, T>,
     reached: &'a mut Reached,
 }
 
-/// Moves the board on by the clocks counted and one more, reads a byte in that one, and notes the
-/// access where it reaches a device.
-///
-/// LLVM never puts it into the processor: with it the processor would be too long for the loop.
-#[inline(never)]
+/// Notes a read, and returns its byte, in the clock that counts as done.
+#[inline(always)]
 #[tactic(auto, unfolding(lockstep_board::specs::Budget::reaches_device))]
-fn read_noted<S: Units>(
+fn byte_noted<S: Units>(bus: &mut BoardBus<S>, reached: &mut Reached, addr: u16, row: Row) -> u8
+    requires row { row ≡ row_of addr }
+    requires inside { IsWithin row }
+    requires accesses { reached.old.accesses < 2 ^ 63 }
+    requires starts { length reached.old.starts < 7 }
+    ensures byte { result ≡ byte_read addr (at_clock (bus.old.peripherals.clock - 1) bus.old.peripherals) }
+    ensures does { Does bus.old bus.new bus.old.peripherals (2 * from_bool (reaches_device (read_of addr result))) }
+    ensures current { lagging_at (row_of addr).reads bus.new.lagging ≡ 0 }
+    ensures reached { (clock : ℕ) → reached.new ≡ with_reached reached.old (access_at clock (read_of addr result)) }
+{
+    reached.add(!devices_read(row.reads).is_empty(), false, 0);
+    bus.byte_by(addr, row)
+}
+
+/// Moves the board on by the clocks counted and one more, reads a byte in that one, by the
+/// address's row of the map, and notes the read.
+#[inline(always)]
+fn read_by<S: Units>(
     bus: &mut BoardBus<S>,
     elapsed: u64,
     reached: &mut Reached,
     _tape: &Tape,
     addr: u16,
+    row: Row,
 ) -> u8
-    requires accepts { IsCounted _tape.now elapsed bus.old }
-    requires room { 1 ≤ quiet_room elapsed bus.old }
-    requires few { length reached.old < 7 }
-    ensures lines { KeepsLines bus.old bus.new }
-    ensures noted { NotedStep _tape.now.entries (read_of addr result) (noting (passed elapsed bus.old) reached.old) (noting (passed 0 bus.new) reached.new) }
-    ensures accepts { IsCounted _tape.now 0 bus.new }
-    ensures room { quiet_room elapsed bus.old ≤ quiet_room 0 bus.new + 1 }
+    requires row { row ≡ row_of addr }
+    requires inside { IsWithin row }
+    requires can { CanNote _tape.now elapsed bus.old reached.old }
+    ensures { IsNoted _tape.now elapsed (read_of addr result) bus.old bus.new reached.old reached.new }
 {
     bus.pass(elapsed + 1);
-    let row = row(addr);
-    let value = bus.byte_by(addr, row);
-    let access = Access {
-        clock: bus.clock() - 1,
-        addr,
-        value,
-        write: false,
-    };
-    reached.add(access, !devices_read(row.reads).is_empty());
-    value
+    byte_noted(bus, reached, addr, row)
+}
+
+/// Does what `read_noted` does, with a look at the map.
+#[inline(never)]
+fn read_elsewhere<S: Units>(
+    bus: &mut BoardBus<S>,
+    elapsed: u64,
+    reached: &mut Reached,
+    tape: &Tape,
+    addr: u16,
+) -> u8
+    requires { CanNote tape.now elapsed bus.old reached.old }
+    ensures { IsNoted tape.now elapsed (read_of addr result) bus.old bus.new reached.old reached.new }
+{
+    read_by(bus, elapsed, reached, tape, addr, row(addr))
+}
+
+/// Moves the board on by the clocks counted and one more, reads a byte in that one, and notes the
+/// read.
+///
+/// LLVM never puts it into the processor: with it the processor would be too long for the loop. A
+/// polling loop reads IN0, for which it has the row of the map.
+#[inline(never)]
+fn read_noted<S: Units>(
+    bus: &mut BoardBus<S>,
+    elapsed: u64,
+    reached: &mut Reached,
+    tape: &Tape,
+    addr: u16,
+) -> u8
+    requires { CanNote tape.now elapsed bus.old reached.old }
+    ensures { IsNoted tape.now elapsed (read_of addr result) bus.old bus.new reached.old reached.new }
+{
+    if addr == IN0 {
+        read_by(bus, elapsed, reached, tape, addr, row(IN0))
+    } else {
+        read_elsewhere(bus, elapsed, reached, tape, addr)
+    }
+}
+
+/// Notes a write, and writes its byte, in the clock that counts as done.
+#[inline(always)]
+#[tactic(auto, unfolding(lockstep_board::specs::Budget::reaches_device))]
+fn put_noted<S: Units>(bus: &mut BoardBus<S>, reached: &mut Reached, addr: u16, row: Row, value: u8)
+    requires row { row ≡ row_of addr }
+    requires inside { IsWithin row }
+    requires room { length bus.old.peripherals.written < bus.old.rooms.board }
+    requires clock_done { 1 ≤ bus.old.peripherals.clock }
+    requires accesses { reached.old.accesses < 2 ^ 63 }
+    requires starts { length reached.old.starts < 7 }
+    ensures does { Does bus.old bus.new (at_clock bus.old.peripherals.clock (byte_put addr value (at_clock (bus.old.peripherals.clock - 1) bus.old.peripherals))) (2 * from_bool (reaches_device (write_of addr value))) }
+    ensures few { length bus.new.peripherals.written ≤ length bus.old.peripherals.written + 1 }
+    ensures reached { reached.new ≡ with_reached reached.old (access_at (bus.old.peripherals.clock - 1) (write_of addr value)) }
+{
+    reached.add(
+        !devices_written(row.writes).is_empty(),
+        matches!(row.writes, Writes::Go),
+        bus.clock() - 1,
+    );
+    bus.put_by(addr, row, value);
 }
 
 /// Moves the board on by the clocks counted and one more, writes a byte in that one, and notes the
-/// access where it reaches a device.
+/// write.
 ///
 /// LLVM never puts it into the processor, as `read_noted`.
 #[inline(never)]
-#[tactic(auto, unfolding(lockstep_board::specs::Budget::reaches_device))]
 fn write_noted<S: Units>(
     bus: &mut BoardBus<S>,
     elapsed: u64,
@@ -81,45 +146,30 @@ fn write_noted<S: Units>(
     addr: u16,
     value: u8,
 )
-    requires accepts { IsCounted _tape.now elapsed bus.old }
-    requires room { 1 ≤ quiet_room elapsed bus.old }
-    requires few { length reached.old < 7 }
-    ensures lines { KeepsLines bus.old bus.new }
-    ensures noted { NotedStep _tape.now.entries (write_of addr value) (noting (passed elapsed bus.old) reached.old) (noting (passed 0 bus.new) reached.new) }
-    ensures accepts { IsCounted _tape.now 0 bus.new }
-    ensures room { quiet_room elapsed bus.old ≤ quiet_room 0 bus.new + 1 }
+    requires { CanNote _tape.now elapsed bus.old reached.old }
+    ensures { IsNoted _tape.now elapsed (write_of addr value) bus.old bus.new reached.old reached.new }
 {
     bus.pass(elapsed + 1);
-    let row = row(addr);
-    bus.put_by(addr, row, value);
-    let access = Access {
-        clock: bus.clock() - 1,
-        addr,
-        value,
-        write: true,
-    };
-    reached.add(access, !devices_written(row.writes).is_empty());
+    // a polling loop clears the watchdog: from there on LLVM compares with few rows of the map
+    if addr >= WATCHDOG_START {
+        put_noted(bus, reached, addr, row(addr), value);
+    } else {
+        put_noted(bus, reached, addr, row(addr), value);
+    }
 }
 
 impl<'a, S: Units, T: Tracer> NotedBus<'a, S, T> {
-    /// Begins the note of a turn.
+    /// The opcode at an address of the RAM or of the program ROM, where none but the processor
+    /// writes; elsewhere none is given.
     #[inline(always)]
-    fn begin(&mut self)
-        ensures same_reference { self.new.reached.ghost_name ≡ self.old.reached.ghost_name }
-        ensures same { self.new ≡ record self.old { reached = self.new.reached } }
-        ensures none { self.new.reached.now ≡ [] }
+    fn opcode_at(&self, addr: u16) -> Option<u8>
+        ensures { (w : Peripherals) → w.ram ≡ self.now.quiet.bus.now.peripherals.ram → w.program ≡ self.now.quiet.bus.now.peripherals.program → IfSome result (λ opcode. opcode ≡ byte_read addr w) }
     {
-        self.reached.clear();
-    }
-
-    /// The byte at an address of the RAM or of the program ROM. A read returns it as long as these
-    /// two don't change, whatever the devices do.
-    #[inline(always)]
-    fn byte_at(&self, addr: u16) -> u8
-        requires { is_private addr ≡ true }
-        ensures { (w : Peripherals) → w.ram ≡ self.now.quiet.bus.now.peripherals.ram → w.program ≡ self.now.quiet.bus.now.peripherals.program → result ≡ byte_read addr w }
-    {
-        self.quiet.bus.private_byte(addr)
+        if is_private(addr) {
+            Some(self.quiet.bus.private_byte(addr))
+        } else {
+            None
+        }
     }
 
     /// Executes the instruction at `pc` over it.
@@ -139,20 +189,24 @@ impl<'a, S: Units, T: Tracer> NotedBus<'a, S, T> {
         cpu.instruction_by_jump(self, tape)
     }
 
-    /// Whether a tracer has not enough, and the fetch at this boundary surely reads an opcode, from
-    /// the RAM or the program ROM.
+    /// Whether nothing started the generator, and the fetch at this boundary surely reads an opcode,
+    /// which the tracer takes with those before it.
     #[inline(always)]
-    fn goes_on(&self, enough: bool, horizon: &Horizon, cpu: &Cpu) -> bool
+    fn goes_on(&self, horizon: &Horizon, cpu: &Cpu) -> bool
         requires no_event { self.now.quiet.bus.now.peripherals.clock + self.now.quiet.elapsed ≤ self.now.quiet.bus.now.event_at }
-        ensures value { result ≡ (not enough && ((nat_lt (self.now.quiet.bus.now.peripherals.clock + self.now.quiet.elapsed) horizon.now.until && (is_none cpu.now.jam && (horizon.now.irq_idle || is_masked cpu.now.p))) && is_private cpu.now.pc)) }
+        ensures before { result ≡ true → (nat_lt (self.now.quiet.bus.now.peripherals.clock + self.now.quiet.elapsed) horizon.now.until && (is_none cpu.now.jam && (horizon.now.irq_idle || is_masked cpu.now.p))) ≡ true }
+        ensures starts { result ≡ true → self.now.reached.now.starts ≡ [] }
+        ensures plain { result ≡ true → (w : Peripherals) → w.ram ≡ self.now.quiet.bus.now.peripherals.ram → w.program ≡ self.now.quiet.bus.now.peripherals.program → T.plain (byte_read cpu.now.pc w) ≡ true }
         ensures wrap { result ≡ true → self.now.quiet.bus.now.peripherals.divider.phase + (self.now.quiet.bus.now.event_at - self.now.quiet.bus.now.peripherals.clock) < DIVIDER_PERIOD }
     {
-        !enough && self.quiet.is_before(horizon, cpu) && is_private(cpu.state().pc)
+        self.quiet.is_before(horizon, cpu)
+            && self.reached.has_no_starts()
+            && T::is_plain(self.opcode_at(cpu.state().pc))
     }
 }
 
 impl<'a, S: Units, T: Tracer> Bus for NotedBus<'a, S, T> {
-    ghost use Rattle.std.specs.Prelude.{◌≡◌, ◌-◌, ◌≤◌, length, min};
+    ghost use Rattle.std.specs.Prelude.{◌≡◌, ◌+◌, ◌-◌, ◌≤◌, length, min};
     ghost use Rattle.catchup_engine.specs.Horizon.{KeepsLines};
     ghost use Rattle.catchup_engine.specs.Notes.{NotedStep, noting};
     ghost use Rattle.catchup_engine.specs.Quiet.{passed, IsCounted, quiet_room};
@@ -161,9 +215,9 @@ impl<'a, S: Units, T: Tracer> Bus for NotedBus<'a, S, T> {
 
     ghost step = { λ tape x s t. (t.quiet.bus.ghost_name ≡ s.quiet.bus.ghost_name) × (t.reached.ghost_name ≡ s.reached.ghost_name) × KeepsLines s.quiet.bus.now t.quiet.bus.now × NotedStep tape.entries x (noting (passed s.quiet.elapsed s.quiet.bus.now) s.reached.now) (noting (passed t.quiet.elapsed t.quiet.bus.now) t.reached.now) };
 
-    ghost accepts = { λ tape s. IsCounted tape s.quiet.elapsed s.quiet.bus.now × (length s.reached.now ≤ 7) };
+    ghost accepts = { λ tape s. IsCounted tape s.quiet.elapsed s.quiet.bus.now × (s.reached.now.accesses ≤ s.quiet.bus.now.peripherals.clock + s.quiet.elapsed) × (length s.reached.now.starts ≤ 7) };
 
-    ghost room = { λ s. min (quiet_room s.quiet.elapsed s.quiet.bus.now) (7 - length s.reached.now) };
+    ghost room = { λ s. min (quiet_room s.quiet.elapsed s.quiet.bus.now) (7 - length s.reached.now.starts) };
 
     #[inline(always)]
     fn read(&mut self, tape: &Tape, addr: u16) -> u8 {
@@ -195,6 +249,56 @@ impl<'a, S: Units, T: Tracer> Bus for NotedBus<'a, S, T> {
     }
 }
 
+/// The processor after some turns, and what their accesses reached.
+#[derive(Drop)]
+struct NotedEnd {
+    cpu: Cpu,
+    reached: Reached,
+}
+
+/// Does the instruction at a boundary, and those at the boundaries after it before the horizon that
+/// a tracer takes with it, and notes what they reach. Without `together` it does the first alone.
+#[inline(always)]
+fn run_noted<S: Units, T: Tracer>(
+    mut cpu: Cpu,
+    bus: &mut BoardBus<S>,
+    tape: &Tape,
+    limit: u64,
+    together: bool,
+) -> NotedEnd
+    requires ready { CanTakeTurns limit tape.now cpu bus.old }
+    requires goes_on { GoesOn limit no_conditions cpu bus.old }
+    requires plain { together ≡ true → (w : Peripherals) → w.ram ≡ bus.old.peripherals.ram → w.program ≡ bus.old.peripherals.program → T.plain (byte_read cpu.pc w) ≡ true }
+    ensures on { TurnsOn tape.now.entries limit no_conditions cpu bus.old bus.new result.cpu }
+    ensures turns { (w : T) → NotedRun T.next T.has_enough T.after_plain tape.now.entries limit together (over_bus cpu bus.old) (over_bus result.cpu bus.new) result.reached w }
+    ensures later { bus.old.peripherals.clock < bus.new.peripherals.clock }
+    ensures accepts { Accepts tape.now bus.new }
+{
+    let horizon = horizon_from(bus, limit);
+    let mut noting = Reached::none();
+    let lent = QuietBus::<S, T>::new(bus);
+    let mut noted = NotedBus::<S, T> {
+        quiet: lent,
+        reached: &mut noting,
+    };
+    let mut goes_on = true;
+    while goes_on {
+        let _fetched = noted.instruction(&mut cpu, tape);
+        goes_on = together && noted.goes_on(&horizon, &cpu);
+    }
+    noted.quiet.flush();
+    let reached = noted.reached.take();
+    let NotedBus { quiet, reached: _ } = noted;
+    let QuietBus {
+        bus: back,
+        elapsed: _,
+        user: _,
+    } = quiet;
+    // opens the model
+    let _same = &*back;
+    NotedEnd { cpu, reached }
+}
+
 /// The processor after some turns, and whether the tracer has enough of them.
 #[derive(Drop)]
 pub(crate) struct TracedTurns {
@@ -202,10 +306,10 @@ pub(crate) struct TracedTurns {
     pub enough: bool,
 }
 
-/// Does the instruction at a boundary, and those at the boundaries after it before the horizon
-/// whose opcodes are in the RAM or the program ROM, up to one after which a tracer has enough.
+/// Does the instruction at a boundary, whose opcode is in the RAM or the program ROM, and those after
+/// it before the horizon that a tracer takes with it, and passes them to the tracer.
 pub(crate) fn trace_to_horizon<S: Units, T: Tracer>(
-    mut cpu: Cpu,
+    cpu: Cpu,
     bus: &mut BoardBus<S>,
     tape: &Tape,
     limit: u64,
@@ -219,38 +323,21 @@ pub(crate) fn trace_to_horizon<S: Units, T: Tracer>(
     ensures later { bus.old.peripherals.clock < bus.new.peripherals.clock }
     ensures accepts { Accepts tape.now bus.new }
 {
-    let horizon = horizon_from(bus, limit);
-    let mut reached = Reached::new();
-    let lent = QuietBus::<S, T>::new(bus);
-    let mut noted = NotedBus::<S, T> {
-        quiet: lent,
-        reached: &mut reached,
-    };
-    let mut goes_on = true;
-    let mut enough = false;
-    while goes_on {
-        noted.begin();
-        let opcode = noted.byte_at(cpu.state().pc);
-        let start = noted.quiet.clock();
-        let _fetched = noted.instruction(&mut cpu, tape);
-        let clocks = (noted.quiet.clock() - start) as u8;
+    let opcode = bus.private_byte(cpu.state().pc);
+    let together = T::is_plain(Some(opcode));
+    let start = bus.clock();
+    let NotedEnd { cpu, reached } = run_noted::<S, T>(cpu, bus, tape, limit, together);
+    let clocks = bus.clock() - start;
+    let enough = if together {
+        tracer.plain_turns(clocks, reached.accesses(), reached.starts())
+    } else {
         let note = TurnNote {
             sequence: Sequence::Opcode,
             opcode,
-            clocks,
-            reached: noted.reached.as_slice(),
+            clocks: clocks as u8,
+            reached: &reached,
         };
-        enough = tracer.turn(&note, cpu.state().pc);
-        goes_on = noted.goes_on(enough, &horizon, &cpu);
-    }
-    noted.quiet.flush();
-    let NotedBus { quiet, reached: _ } = noted;
-    let QuietBus {
-        bus: back,
-        elapsed: _,
-        user: _,
-    } = quiet;
-    // opens the model
-    let _same = &*back;
+        tracer.turn(&note, cpu.state().pc)
+    };
     TracedTurns { cpu, enough }
 }

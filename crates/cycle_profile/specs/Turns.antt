@@ -1,6 +1,6 @@
 -- What a sequence does to the list of routines (MCS6500 Programming Manual, its subroutines and
 -- interrupts).
-use Rattle.std.specs.Prelude.{ℕ, Option, Some, None}
+use Rattle.std.specs.Prelude.{ℕ, Bool, true, false, Option, Some, None}
 use Rattle.board_base.specs.declared.cpu.Sequence.{Sequence}
 use Rattle.board_base.specs.declared.cpu.Sequence.TheVariants as sequence
 use Rattle.cpu_table.specs.declared.instruction.Op.{Op}
@@ -28,3 +28,12 @@ abbrev pub turn_of : Sequence → ℕ → Turn
 turn_of sequence.Opcode opcode = turn_of_row (row_of opcode)
 turn_of sequence.Interrupt opcode = Call
 turn_of sequence.Reset opcode = Restart
+
+-- the list stays
+abbrev pub is_stay : Turn → Bool
+is_stay Stay = true
+is_stay _ = false
+
+-- an instruction of this opcode leaves the list as it is
+abbrev pub stays : ℕ → Bool
+stays opcode = is_stay (turn_of sequence.Opcode opcode)

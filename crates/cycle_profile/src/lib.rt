@@ -10,3 +10,4 @@ mod write;
 pub use counts::Counts;
 pub use laws::{clocks_add_up, profile_numbers};
 pub use profile::{ADDRESSES, LONGEST_LIST, Profile};
+pub use turn::stays;

@@ -80,7 +80,7 @@ impl Profile {
         if note.clocks == 0 {
             return;
         }
-        self.charge(u64::from(note.clocks), note.reached.len() as u64);
+        self.charge(u64::from(note.clocks), note.reached.accesses());
         self.turn(turn_by(note.sequence, note.opcode), pc);
     }
 
@@ -113,8 +113,9 @@ impl Profile {
         self.routines.as_slice()[self.routines.len() - 1]
     }
 
-    /// Charges so many clocks and device accesses.
-    fn charge(&mut self, clocks: u64, accesses: u64)
+    /// Charges so many clocks and device accesses to the last routine of the list.
+    #[inline(always)]
+    pub fn charge(&mut self, clocks: u64, accesses: u64)
         ensures { self.new ≡ charged self.old clocks accesses }
     {
         let routine = usize::from(self.last());

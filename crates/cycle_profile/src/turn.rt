@@ -1,6 +1,6 @@
 //! What a sequence does to the list of routines.
 ghost use Rattle.std.specs.Prelude.{◌≡◌};
-ghost use Rattle.cycle_profile.specs.Turns.{turn_of};
+ghost use Rattle.cycle_profile.specs.Turns.{stays, turn_of};
 
 use board_base::Sequence;
 use cpu_table::{Op, entry};
@@ -31,4 +31,12 @@ pub(crate) fn turn_by(sequence: Sequence, opcode: u8) -> Turn
             _ => Turn::Stay,
         },
     }
+}
+
+/// Whether an instruction of this opcode leaves the list as it is.
+#[inline(always)]
+pub fn stays(opcode: u8) -> bool
+    ensures { result ≡ stays opcode }
+{
+    matches!(turn_by(Sequence::Opcode, opcode), Turn::Stay)
 }

@@ -1,70 +1,21 @@
--- The strokes and marks of a trace, as they are gone through.
-use Rattle.std.proofs.Common.{◌≡◌, ℕ, ◌+◌, ◌<◌, ◌≤◌, List, [], ◌∷◌, ◌++◌, true, false, Option, Result, length, map, take, drop, get_or, refl, ap, sym, ◌∙◌, add-one, append_assoc}
-use Rattle.std.proofs.Common.{append-nil, length-append, arith, Bool}
-use Rattle.std.specs.List.{filter_map}
+-- Strokes and marks, as they are gone through.
+use Rattle.std.proofs.Common.{◌≡◌, ℕ, ◌+◌, ◌<◌, List, [], ◌∷◌, ◌++◌, Option, Result, length, map, take, drop, get_or, refl, ap, sym, ◌∙◌, add-one, append_assoc}
+use Rattle.std.proofs.Common.{append-nil}
 use Rattle.std.proofs.Math.Seq.{drop-cons}
-use Rattle.std.proofs.lemmas.List.{take_more}
-use Rattle.std.proofs.lemmas.List.Elements.{filter_map-append}
 use Rattle.std.specs.Prelude.{IsErr, Ok, Err}
 use Rattle.std.proofs.lemmas.List.Concat.{flat_map-cons}
 use Rattle.board_base.specs.declared.record.Record.{Record}
-use Rattle.catchup_engine.specs.declared.trace.Access.{Access}
 use Rattle.outside_io.specs.Known.{grown}
 use Rattle.outside_io.specs.Sink.{Takes}
 use Rattle.outside_io.proofs.KnownLaws.{grown-twice}
 use Rattle.outside_io.proofs.TakesLaws.{took_first, took_then}
-use Rattle.frame_list.specs.Events.{Event, stroke_of, mark_at, mark_of, marks_of, starts_generator, through, by_clock}
+use Rattle.frame_list.specs.Events.{Event, stroke_of, mark_at, through, by_clock}
 use Rattle.frame_list.specs.Frames.{FrameValue, begun, under_way, ended, frame_text, frames_text}
 use Rattle.frame_list.proofs.FrameLaws.{under_way-append, ended-append, ended-strokes}
 
 -- of some marks those from one on
 pub marks-left : (marks : List ℕ) (k d : ℕ) → k < length marks → drop k marks ≡ get_or marks k d ∷ drop (k + 1) marks
 marks-left marks k d below = rw add-one (drop-cons marks k d below)
-
--- the marks of no access, and those of one access more
-pub marks-empty : [] ≡ marks_of []
-unfolding marks_of
-marks-empty = refl
-
-marks-some : (access : Access) → starts_generator access ≡ true → marks_of (access ∷ []) ≡ access.clock ∷ []
-unfolding marks_of
-marks-some access starts = rw starts refl
-
-marks-others : (access : Access) → starts_generator access ≡ false → marks_of (access ∷ []) ≡ []
-unfolding marks_of
-marks-others access starts = rw starts refl
-
-marks-more : (accesses : List Access) (k : ℕ) (d : Access) → k < length accesses
-    → marks_of (take (k + 1) accesses) ≡ marks_of (take k accesses) ++ marks_of (get_or accesses k d ∷ [])
-unfolding marks_of
-marks-more accesses k d below = rw (take_more accesses k d below) (filter_map-append mark_of (take k accesses) (get_or accesses k d ∷ []))
-
-pub marks-grow : (accesses : List Access) (marks more : List ℕ) (k : ℕ) (d : Access) → k < length accesses → marks ≡ marks_of (take k accesses)
-    → more ≡ marks ++ (get_or accesses k d).clock ∷ [] → starts_generator (get_or accesses k d) ≡ true → more ≡ marks_of (take (k + 1) accesses)
-marks-grow accesses marks more k d below is grown starts =
-    grown ∙ ap (λ l. l ++ (get_or accesses k d).clock ∷ []) is ∙ ap (λ l. marks_of (take k accesses) ++ l) (sym (marks-some (get_or accesses k d) starts))
-    ∙ sym (marks-more accesses k d below)
-
-pub marks-stay : (accesses : List Access) (marks : List ℕ) (k : ℕ) (d : Access) → k < length accesses → marks ≡ marks_of (take k accesses)
-    → starts_generator (get_or accesses k d) ≡ false → marks ≡ marks_of (take (k + 1) accesses)
-marks-stay accesses marks k d below is starts =
-    is ∙ sym (append-nil (marks_of (take k accesses))) ∙ ap (λ l. marks_of (take k accesses) ++ l) (sym (marks-others (get_or accesses k d) starts))
-    ∙ sym (marks-more accesses k d below)
-
--- they are no more than the accesses
-marks-one : (access : Access) (t : Bool) → starts_generator access ≡ t → length (marks_of (access ∷ [])) ≤ 1
-marks-one access true is = rw (marks-some access is) (omega arith)
-marks-one access false is = rw (marks-others access is) (omega arith)
-
-pub marks-few : (accesses : List Access) → length (marks_of accesses) ≤ length accesses
-unfolding marks_of
-marks-few [] = omega arith
-marks-few (access ∷ rest) =
-    let one = marks-one access (starts_generator access) refl in
-    let few = marks-few rest in
-    let both = ap (λ (l : List ℕ). length l) (filter_map-append mark_of (access ∷ []) rest) in
-    let sum = length-append (filter_map mark_of (access ∷ [])) (filter_map mark_of rest) in
-    omega (arith, one, few, both, sum)
 
 -- a fault came in a first part of a text
 pub takes-cut : {T E : Type 0} (out0 out1 : Option (List ℕ)) (text : List ℕ) (result : Result T E) → IsErr result

@@ -15,7 +15,8 @@ use Rattle.board_base.specs.declared.record.Record.TheVariants.{Stroke, Levels, 
 use Rattle.board_base.specs.Records.{clock_of, Makes}
 use Rattle.board_map.specs.Map.{address_map, row_of}
 use Rattle.board_map.proofs.Rows.{passing}
-use Rattle.frame_list.specs.Events.{Event, stroke_of, mark_at, is_go, through, by_clock}
+use Rattle.catchup_engine.specs.Starts.{is_go}
+use Rattle.frame_list.specs.Events.{Event, stroke_of, mark_at, through, by_clock}
 use Rattle.frame_list.specs.Frames.{FrameValue, begun, counted, under_way, ended, frame_text, frames_text, frames_of, EachStrokeInOneFrame, IsBefore, PartsMakeTheWhole}
 use Rattle.frame_list.proofs.FrameLaws.{under_way-append, ended-append, ended-strokes}
 

@@ -1,16 +1,14 @@
 //! The frame under way, and the lines of those that end.
 ghost use Rattle.std.specs.Prelude.{◌≡◌, ◌+◌, ◌<◌, ◌≤◌, ◌^◌, [], ◌∷◌, ◌++◌, length, OnOk, map};
 ghost use Rattle.std.specs.Fmt.{signed_decimal};
-ghost use Rattle.std.specs.List.{list_any};
 ghost use Rattle.outside_io.specs.Causes.{HasCause};
 ghost use Rattle.outside_io.specs.Sink.{Takes};
-ghost use Rattle.frame_list.specs.Events.{by_clock, marks_in, marks_of, stroke_of, starts_generator, through};
+ghost use Rattle.catchup_engine.specs.Starts.{marks_in};
+ghost use Rattle.frame_list.specs.Events.{by_clock, stroke_of, through};
 
 use crate::frame::{Bounds, Point};
-use arrayvec::ArrayVec;
 use board_base::{Record, Trails};
-use board_map::{Writes, row};
-use catchup_engine::{Access, Trace};
+use catchup_engine::{Reached, Trace};
 use outside_io::{Sink, SinkFault};
 use std::marker::Model;
 use text_line::{LONGEST, Line};
@@ -33,35 +31,6 @@ impl Model for Frames {
     ghost view = { λ f. record { number = f.number; mark = f.mark; strokes = f.strokes; bounds = f.bounds } };
 
     ghost invariant = { λ f. IsFrame (record { number = f.number; mark = f.mark; strokes = f.strokes; bounds = f.bounds }) };
-}
-
-/// Is it a write that starts the generator?
-fn starts(access: &Access) -> bool
-    ensures { result ≡ starts_generator access.now }
-{
-    access.write && matches!(row(access.addr).writes, Writes::Go)
-}
-
-/// Whether one of these accesses is such a write.
-#[inline(always)]
-pub fn has_starts(accesses: &[Access]) -> bool
-    ensures { result ≡ list_any starts_generator accesses.now }
-{
-    accesses.iter().any(|access| starts(access))
-}
-
-/// The clocks of the writes that start the generator, among seven accesses at most.
-pub fn start_clocks(accesses: &[Access]) -> ArrayVec<u64, 7>
-    requires { length accesses.now ≤ 7 }
-    ensures { result.items ≡ marks_of accesses.now }
-{
-    let mut clocks = ArrayVec::new();
-    for access in accesses {
-        if starts(access) {
-            clocks.push(access.clock);
-        }
-    }
-    clocks
 }
 
 /// How many strokes at the front came up to this clock, its own strokes with them.
@@ -118,8 +87,7 @@ impl Frames {
         ensures cause { HasCause (O.faults out.old) (O.faults out.new) result }
         ensures frame { OnOk result (self.new ≡ under_way self.old (by_clock trails.now.vector.now.records (marks_in trace.now))) }
     {
-        let marks = start_clocks(&trace.accesses[..usize::from(trace.count)]);
-        self.take_marks(&marks, trails, out)
+        self.take_marks(Reached::of(trace).starts(), trails, out)
     }
 
     /// Does what `take` does, by the clocks of the writes that start the generator, of which there

@@ -3,7 +3,7 @@ ghost use Rattle.std.specs.Prelude.{◌≡◌, ◌≢◌, ℕ, List, true, false
 ghost use Rattle.board_base.specs.declared.record.Record.{Record};
 ghost use Rattle.board_map.specs.Map.{row_of};
 ghost use Rattle.catchup_engine.specs.declared.trace.Access.{Access};
-ghost use Rattle.frame_list.specs.Events.{is_go, mark_of};
+ghost use Rattle.catchup_engine.specs.Starts.{is_go, mark_of};
 ghost use Rattle.frame_list.specs.Extents.{FramesCountStrokes};
 ghost use Rattle.frame_list.specs.Frames.{EachStrokeInOneFrame, FrameValue, PartsMakeTheWhole};
 ghost use Rattle.frame_list.specs.InFrames.{EachFrameHasItsStrokes};

@@ -12,7 +12,7 @@ use Rattle.lockstep_board.specs.Run.{boundary_steps, to_boundary}
 use Rattle.lockstep_board.proofs.Clocks.{step-clock}
 use Rattle.lockstep_board.proofs.InOrder.{to_boundary-made}
 use Rattle.frame_list.specs.Frames.{begun}
-use Rattle.frame_list.specs.Events.{marks_of}
+use Rattle.catchup_engine.specs.Starts.{marks_of}
 use Rattle.frame_list.proofs.InFrameLaws.{each_frame_has_its_strokes}
 use Rattle.frame_list.proofs.WholeLaws.{each_stroke_in_one_frame}
 use Rattle.catchup_engine.specs.Trace.{accesses_in, accesses_of}

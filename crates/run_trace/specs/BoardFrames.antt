@@ -6,7 +6,8 @@ use Rattle.lockstep_board.specs.Order.{HasNoRecords}
 use Rattle.lockstep_board.specs.Lockstep.{Board}
 use Rattle.lockstep_board.specs.Run.{boundary_steps, to_boundary}
 use Rattle.catchup_engine.specs.Trace.{accesses_of}
-use Rattle.frame_list.specs.Events.{Event, by_clock, marks_of}
+use Rattle.catchup_engine.specs.Starts.{marks_of}
+use Rattle.frame_list.specs.Events.{Event, by_clock}
 use Rattle.frame_list.specs.Frames.{FrameValue, begun, frames_of, frames_text}
 use Rattle.frame_list.specs.InFrames.{frame_at}
 use Rattle.log_text.specs.LogText.{last_text}

@@ -1,20 +1,17 @@
 -- Frames as an observer of a run. This project's own.
-use Rattle.std.specs.Prelude.{◌≡◌, ℕ, ◌+◌, ◌<◌, ◌≤◌, ◌^◌, ◌==◌, Bool, not, List, [], length, IsSome, take, if◌then◌else◌}
-use Rattle.std.specs.List.{list_any}
+use Rattle.std.specs.Prelude.{◌≡◌, ℕ, ◌+◌, ◌<◌, ◌≤◌, ◌^◌, ◌==◌, Bool, not, true, List, [], length, IsSome, refl}
 use Rattle.board_base.specs.declared.board.TheConstants.{CLOCK_LIMIT}
 use Rattle.tape_ports.specs.declared.entry.TapeEntry.{TapeEntry}
 use Rattle.lockstep_board.specs.Order.{cleared, Recorded}
 use Rattle.lockstep_board.specs.Lockstep.{Board}
 use Rattle.catchup_engine.specs.Trace.{TraceValue}
-use Rattle.frame_list.specs.Events.{Event, by_clock, marks_in, starts_generator}
+use Rattle.catchup_engine.specs.Starts.{marks_in}
+use Rattle.catchup_engine.specs.Together.{TakesTogether}
+use Rattle.frame_list.specs.Events.{Event, by_clock}
 use Rattle.frame_list.specs.Frames.{FrameValue, ended, frames_text, under_way}
 use Rattle.run_trace.specs.BoardFrames.{run_events}
 
--- a trace with a write that starts the generator
-abbrev pub has_marks : TraceValue → Bool
-has_marks trace = list_any starts_generator (take trace.count trace.accesses)
-
--- the frame under way, and the marks of the last trace that had some
+-- the frame under way, and the marks of the last turn
 pub record FramerValue : Type 0 where
   pub frames : FrameValue
   pub marks : List ℕ
@@ -25,10 +22,18 @@ pub record IsFramer (f : FramerValue) : Type 0 where
 
 -- they are kept until the records are taken
 abbrev pub framer_after_turn : FramerValue → TraceValue → ℕ → FramerValue
-framer_after_turn f trace pc = if has_marks trace then record f { marks = marks_in trace } else f
+framer_after_turn f trace pc = record f { marks = marks_in trace }
+
+-- turns taken together, of which the last has these
+abbrev pub framer_after_plain : FramerValue → ℕ → ℕ → List ℕ → FramerValue
+framer_after_plain f clocks accesses starts = record f { marks = starts }
 
 abbrev pub keeps_marks : FramerValue → Bool
 keeps_marks f = not (length f.marks == 0)
+
+-- to take turns together is to take each of them
+pub framed_together : TakesTogether framer_after_turn keeps_marks framer_after_plain (λ _. true)
+framed_together = record { first = λ w trace pc is. refl; more = λ w clocks accesses trace pc is. refl; goes_on = λ w clocks accesses. refl }
 
 -- No marks are kept yet, and the board stands where a run to the limit can go on, with six clocks
 -- for the end of a sequence. The frame's number and its strokes are no more than the clocks done: a

@@ -1,7 +1,7 @@
 -- Frames of a run, part by part.
-use Rattle.std.proofs.Common.{◌≡◌, ℕ, ◌+◌, ◌-◌, ◌≤◌, ◌<◌, Bool, true, false, not, ◌==◌, List, [], ◌∷◌, ◌++◌, length, map, take, drop, zero, suc, refl, sym, ap, subst, ◌∙◌, arith}
+use Rattle.std.proofs.Common.{◌≡◌, ℕ, ◌+◌, ◌-◌, ◌≤◌, ◌<◌, true, false, not, ◌==◌, List, [], ◌∷◌, ◌++◌, length, map, take, drop, zero, suc, refl, sym, ap, subst, ◌∙◌, arith}
 use Rattle.std.proofs.Common.{add-zero, length-drop}
-use Rattle.std.specs.Prelude.{All, if◌then◌else◌}
+use Rattle.std.specs.Prelude.{All}
 use Rattle.std.proofs.lemmas.Bool.{ne_eqb}
 use Rattle.std.proofs.lemmas.List.Elements.{All-weaker}
 use Rattle.board_base.specs.declared.record.Record.{Record}
@@ -20,13 +20,14 @@ use Rattle.lockstep_board.proofs.InOrder.{stepped-made, to_boundary-made}
 use Rattle.lockstep_board.proofs.Runs.{steps-none}
 use Rattle.lockstep_board.proofs.TurnLaws.{to_boundary-none}
 use Rattle.run_windows.specs.TurnObserver.{FollowsInParts, IsFollowedInParts, StandsStill}
-use Rattle.frame_list.specs.Events.{by_clock, mark_at, marks_in, marks_of, stroke_of, through}
+use Rattle.catchup_engine.specs.Starts.{marks_in, marks_of}
+use Rattle.frame_list.specs.Events.{by_clock, mark_at, stroke_of, through}
 use Rattle.frame_list.specs.Frames.{FrameValue, IsBefore, begun, ended, frames_text, under_way}
 use Rattle.frame_list.proofs.FrameLaws.{strokes-most, strokes-number, under_way-append}
 use Rattle.frame_list.proofs.WholeLaws.{parts_make_the_whole}
 use Rattle.run_trace.specs.BoardFrames.{run_events, run_marks}
-use Rattle.run_trace.specs.Framing.{FramerValue, after_part, after_run, framer_after_turn, has_marks, keeps_marks, part_framed, run_framed_text, CanFrame, HasNumbers}
-use Rattle.run_trace.specs.MarkLaws.{marks-append, marks-few, marks-within, run_marks-cleared, turn-marks, unmarked}
+use Rattle.run_trace.specs.Framing.{FramerValue, after_part, after_run, framer_after_turn, keeps_marks, part_framed, run_framed_text, CanFrame, HasNumbers}
+use Rattle.run_trace.specs.MarkLaws.{marks-append, marks-few, marks-within, run_marks-cleared, turn-marks}
 use Rattle.run_trace.specs.PartLaws.{accesses-add, cleared-none, end-behind, made-none, open-later, strokes-before, strokes-few, strokes-from, turned-low, turned-steps, turns-go, turns_steps}
 
 -- what a framer is when it got n turns: its frames stayed, and it kept the marks of all of them
@@ -39,21 +40,8 @@ record KeptOne (entries : List TapeEntry) (w v : FramerValue) (b : Board) : Type
   frames : v.frames ≡ w.frames
   marks : marks_in (step_trace entries b) ≡ v.marks
 
-kept-one : (entries : List TapeEntry) (w : FramerValue) (b : Board) → w.marks ≡ [] → KeptOne entries w (observed_once framer_after_turn entries w b) b
-kept-one entries w b none = by_trace (has_marks (step_trace entries b)) refl
-  where
-    by_trace : (t : Bool) → has_marks (step_trace entries b) ≡ t → KeptOne entries w (observed_once framer_after_turn entries w b) b
-    by_trace true is =
-        let kept : observed_once framer_after_turn entries w b ≡ (let f : FramerValue = record w { marks = marks_in (step_trace entries b) } in f) =
-        ap (λ t. let f : FramerValue = if t then record w { marks = marks_in (step_trace entries b) } else w in f) is in
-        record { frames = ap (λ (f : FramerValue). f.frames) kept; marks = ap (λ (f : FramerValue). f.marks) (sym kept) }
-    by_trace false is =
-        let same : observed_once framer_after_turn entries w b ≡ w =
-        ap (λ t. let f : FramerValue = if t then record w { marks = marks_in (step_trace entries b) } else w in f) is in
-        record {
-          frames = ap (λ (f : FramerValue). f.frames) same;
-          marks = unmarked (step_trace entries b) is ∙ sym none ∙ ap (λ (f : FramerValue). f.marks) (sym same);
-        }
+kept-one : (entries : List TapeEntry) (w : FramerValue) (b : Board) → KeptOne entries w (observed_once framer_after_turn entries w b) b
+kept-one entries w b = record { frames = refl; marks = refl }
 
 -- a list that isn't said to have an element has none
 empty-marks : (marks : List ℕ) → not (length marks == 0) ≡ false → marks ≡ []
@@ -71,7 +59,7 @@ kept-turns : (entries : List TapeEntry) (limit n : ℕ) (w : FramerValue) (b : B
 unfolding observed turned accesses_of turns_steps marks_of stepped to_boundary
 kept-turns entries limit zero w b none open_yet goes = record { frames = refl; marks = sym none }
 kept-turns entries limit (suc zero) w b none open_yet goes =
-    let one = kept-one entries w b none in
+    let one = kept-one entries w b in
     let n = boundary_steps entries (b.peripherals.clock + 1) b in
     record {
       frames = one.frames;
@@ -81,7 +69,7 @@ kept-turns entries limit (suc zero) w b none open_yet goes =
           ∙ one.marks;
     }
 kept-turns entries limit (suc (suc m)) w b none open_yet goes =
-    let one = kept-one entries w b none in
+    let one = kept-one entries w b in
     let v = observed_once framer_after_turn entries w b in
     let n = boundary_steps entries (b.peripherals.clock + 1) b in
     let next = turn entries b in

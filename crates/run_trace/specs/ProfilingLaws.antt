@@ -2,6 +2,10 @@
 use Rattle.std.proofs.Common.{◌≡◌, ℕ, ◌+◌, ◌-◌, ◌≤◌, ◌<◌, Bool, true, false, ◌&&◌, ◌||◌, nat_le, is_some, is_none, List, [], Option, Some, None, zero, suc, refl, sym, ap, ◌∙◌, arith}
 use Rattle.std.specs.Prelude.{if◌then◌else◌}
 use Rattle.std.proofs.lemmas.Bool.Decides.{nat_tests}
+use Rattle.catchup_engine.specs.Notes.{note_of}
+use Rattle.catchup_engine.specs.Together.{TakesTogether}
+use Rattle.cycle_profile.specs.Turns.{stays}
+use Rattle.cycle_profile.proofs.NoteLaws.{charged-twice, plain-charged}
 use Rattle.board_base.specs.Cpu.{MidValue}
 use Rattle.tape_ports.specs.declared.entry.TapeEntry.{TapeEntry}
 use Rattle.lockstep_board.specs.Breaks.{turn, turned}
@@ -14,10 +18,10 @@ use Rattle.lockstep_board.proofs.Behind.{behind-cleared}
 use Rattle.catchup_engine.proofs.Traces.{over-running}
 use Rattle.lockstep_board.proofs.TurnLaws.{turn-behind, turn-boundary, turn-later, turn-placed}
 use Rattle.run_windows.specs.TurnObserver.{FollowsInParts, StandsStill}
-use Rattle.cycle_profile.specs.Profile.{ProfileValue, after}
+use Rattle.cycle_profile.specs.Profile.{ProfileValue, after, charged}
 use Rattle.run_trace.specs.declared.profiling.Profiler.{Profiler}
 use Rattle.run_trace.specs.BoardProfile.{run_turns, turns_until}
-use Rattle.run_trace.specs.Profiling.{after_run, profiler_after_turn}
+use Rattle.run_trace.specs.Profiling.{after_run, profiler_after_plain, profiler_after_turn}
 use Rattle.run_trace.specs.PartLaws.{first-turn, later-turns, open-later, trace-behind}
 
 -- a run that is over takes no turn
@@ -150,6 +154,16 @@ profiled-so w entries limit part n b low placed open_part =
     ∙ sym (observed-cleared after entries (run_turns entries limit c) p c)
     ∙ ap (λ k. observed after entries k p (cleared c)) (sym (run_turns-cleared entries limit c))
     ∙ ap (λ (q : ProfileValue). observed after entries (run_turns entries limit (cleared c)) q (cleared c)) (sym same))
+
+-- to charge the turns together is to charge each of them
+pub profiled_together : TakesTogether profiler_after_turn (λ _. false) profiler_after_plain stays
+profiled_together = record {
+  first = λ w trace pc is. ap (λ (p : ProfileValue). let v : Profiler = record { profile = p } in v) (plain-charged w.profile trace pc is);
+  more = λ w clocks accesses trace pc is.
+      ap (λ (p : ProfileValue). let v : Profiler = record { profile = p } in v)
+      (plain-charged (charged w.profile clocks accesses) trace pc is ∙ charged-twice w.profile clocks accesses trace.count (note_of trace).reached.accesses);
+  goes_on = λ w clocks accesses. refl;
+}
 
 pub profiled_in_parts : FollowsInParts profiler_after_turn (λ _. false) (λ _ _ _ _. Unit {0}) (λ _ _ _ _. []) after_run (λ _ _. Unit {0}) (λ _ _. []) (λ p _. p)
 profiled_in_parts w v entries limit part b c low placed none may run = record {

@@ -1,5 +1,5 @@
 //! The frames of a run.
-ghost use Rattle.std.specs.Prelude.{◌≡◌, ◌+◌, ◌≤◌, [], OnOk};
+ghost use Rattle.std.specs.Prelude.{◌≡◌, ◌+◌, ◌≤◌, [], length, true, OnOk};
 ghost use Rattle.outside_io.specs.Causes.{HasCause};
 ghost use Rattle.outside_io.specs.Sink.{Takes};
 ghost use Rattle.lockstep_board.specs.Order.{cleared};
@@ -7,13 +7,13 @@ ghost use Rattle.lockstep_board.specs.Run.{to_boundary};
 ghost use Rattle.run_windows.specs.SyncedMachine.{loan_of, value_of};
 ghost use Rattle.frame_list.specs.Frames.{begun};
 ghost use Rattle.run_trace.specs.BoardFrames.{framed_text};
-ghost use Rattle.run_trace.specs.Framing.{after_part, after_run, framer_after_turn, keeps_marks, part_framed, run_framed_text, CanFrame, HasNumbers};
+ghost use Rattle.run_trace.specs.Framing.{after_part, after_run, framed_together, framer_after_plain, framer_after_turn, keeps_marks, part_framed, run_framed_text, CanFrame, HasNumbers};
 ghost use Rattle.run_trace.specs.FramingLaws.{framed_in_parts, framed_still};
 
 use arrayvec::ArrayVec;
 use board_base::{CLOCK_LIMIT, Trails};
 use catchup_engine::{Machine, Tracer, TurnNote};
-use frame_list::{Frames, has_starts, start_clocks};
+use frame_list::Frames;
 use log_text::write_last;
 use outside_io::{Sink, SinkFault};
 use run_windows::{SyncedMachine, TurnObserver};
@@ -38,16 +38,42 @@ impl Model for Framer {
     ghost invariant = { λ f. IsFramer (record { frames = f.frames; marks = f.marks.items }) };
 }
 
+impl Framer {
+    /// Keeps the clocks of a turn's writes that start the generator, and returns whether there are
+    /// some.
+    #[inline(always)]
+    fn keep(&mut self, starts: &[u64]) -> bool
+        requires few { length starts.now ≤ 7 }
+        ensures marks { self.new ≡ record self.old { marks = starts.now } }
+        ensures some { result ≡ keeps_marks self.new }
+    {
+        self.marks.clear();
+        let _kept = self.marks.try_extend_from_slice(starts);
+        !self.marks.is_empty()
+    }
+}
+
 impl Tracer for Framer {
     ghost next = { framer_after_turn };
 
     ghost has_enough = { keeps_marks };
 
+    ghost plain = { λ _. true };
+
+    ghost after_plain = { framer_after_plain };
+
+    ghost together = { framed_together };
+
+    fn is_plain(_opcode: Option<u8>) -> bool {
+        true
+    }
+
+    fn plain_turns(&mut self, _clocks: u64, _accesses: u64, starts: &[u64]) -> bool {
+        self.keep(starts)
+    }
+
     fn turn(&mut self, note: &TurnNote<'_>, _pc: u16) -> bool {
-        if has_starts(note.reached) {
-            self.marks = start_clocks(note.reached);
-        }
-        !self.marks.is_empty()
+        self.keep(note.reached.starts())
     }
 }
 

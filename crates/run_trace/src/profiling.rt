@@ -6,12 +6,13 @@ ghost use Rattle.lockstep_board.specs.Order.{cleared};
 ghost use Rattle.lockstep_board.specs.Run.{to_boundary};
 ghost use Rattle.run_windows.specs.SyncedMachine.{loan_of, value_of};
 ghost use Rattle.run_trace.specs.BoardProfile.{no_profile, profiled_text};
-ghost use Rattle.run_trace.specs.Profiling.{after_run, profiler_after_turn};
-ghost use Rattle.run_trace.specs.ProfilingLaws.{profiled_in_parts, profiled_still};
+ghost use Rattle.cycle_profile.specs.Turns.{stays};
+ghost use Rattle.run_trace.specs.Profiling.{after_run, profiler_after_plain, profiler_after_turn};
+ghost use Rattle.run_trace.specs.ProfilingLaws.{profiled_in_parts, profiled_still, profiled_together};
 
 use board_base::{CLOCK_LIMIT, Trails};
 use catchup_engine::{Machine, Tracer, TurnNote};
-use cycle_profile::Profile;
+use cycle_profile::{Profile, stays};
 use log_text::write_last;
 use outside_io::{Sink, SinkFault};
 use run_windows::{SyncedMachine, TurnObserver};
@@ -27,6 +28,25 @@ impl Tracer for Profiler {
     ghost next = { profiler_after_turn };
 
     ghost has_enough = { λ _. false };
+
+    ghost plain = { stays };
+
+    ghost after_plain = { profiler_after_plain };
+
+    ghost together = { profiled_together };
+
+    #[inline(always)]
+    fn is_plain(opcode: Option<u8>) -> bool {
+        match opcode {
+            Some(opcode) => stays(opcode),
+            None => false,
+        }
+    }
+
+    fn plain_turns(&mut self, clocks: u64, accesses: u64, _starts: &[u64]) -> bool {
+        self.profile.charge(clocks, accesses);
+        false
+    }
 
     fn turn(&mut self, note: &TurnNote<'_>, pc: u16) -> bool {
         self.profile.take_note(note, pc);

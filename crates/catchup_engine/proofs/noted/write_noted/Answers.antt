@@ -1,7 +1,4 @@
-use Rattle.std.proofs.Common.{◌+◌, ◌-◌, ap, ◌∙◌, arith}
-use Rattle.cpu_core.specs.BusCycles.{write_of}
-use Rattle.catchup_engine.specs.Notes.{with_reached}
-use Rattle.catchup_engine.specs.Trace.{access_at}
+use Rattle.std.proofs.Common.{◌+◌}
 use Rattle.catchup_engine.proofs.HorizonLaws.{passed-keeps}
 use Rattle.catchup_engine.proofs.NotedSteps.{noted-written}
 use Rattle.catchup_engine.proofs.QuietLaws.{counted-more, flushed-clock, flushed-room}
@@ -13,32 +10,28 @@ pass-requires-clause-clock g c = (counted-more c.args._tape.now c.args.elapsed c
 pub pass-requires-clause-room : goal.pass-requires-clause-room
 pass-requires-clause-room g c = (counted-more c.args._tape.now c.args.elapsed c.args.bus.now c.requires.accepts c.requires.room).until
 
-pub put_by-requires-clause-room : goal.put_by-requires-clause-room
-put_by-requires-clause-room g c = flushed-room c.args.elapsed c.args.bus.now c.pass.new.self c.requires.room c.pass.ensures.value
+pub put_noted-requires-clause-room : goal.put_noted-requires-clause-room
+put_noted-requires-clause-room g c = flushed-room c.args.elapsed c.args.bus.now c.pass.new.self c.requires.room c.pass.ensures.value
 
-pub put_by-requires-clause-clock_done : goal.put_by-requires-clause-clock_done
-put_by-requires-clause-clock_done g c = flushed-clock c.args.elapsed c.args.bus.now c.pass.new.self c.pass.ensures.value
+pub put_noted-requires-clause-clock_done : goal.put_noted-requires-clause-clock_done
+put_noted-requires-clause-clock_done g c = flushed-clock c.args.elapsed c.args.bus.now c.pass.new.self c.pass.ensures.value
 
-pub overflow_sub-access : goal.overflow_sub-access
-overflow_sub-access g c =
-    let clock_done = flushed-clock c.args.elapsed c.args.bus.now c.pass.new.self c.pass.ensures.value in
-    let same = ap (λ b. b.peripherals.clock) c.put_by.ensures.does.value in
-    let is = c.clock.ensures.value in
-    omega (arith, clock_done, same, is)
+pub put_noted-requires-else-addr-ge-WATCHDOG_START-clause-room : goal.put_noted-requires-else-addr-ge-WATCHDOG_START-clause-room
+put_noted-requires-else-addr-ge-WATCHDOG_START-clause-room g c = flushed-room c.args.elapsed c.args.bus.now c.pass.new.self c.requires.room c.pass.ensures.value
 
-pub returns : goal.returns
-returns g c =
-    let is =
-    noted-written c.args._tape.now c.args.elapsed c.args.addr c.args.value c.args.bus.now c.pass.new.self c.put_by.new.self c.args.reached.now c.requires.accepts
-    c.requires.room c.pass.ensures.value
+pub put_noted-requires-else-addr-ge-WATCHDOG_START-clause-clock_done : goal.put_noted-requires-else-addr-ge-WATCHDOG_START-clause-clock_done
+put_noted-requires-else-addr-ge-WATCHDOG_START-clause-clock_done g c = flushed-clock c.args.elapsed c.args.bus.now c.pass.new.self c.pass.ensures.value
+
+pub returns-then-addr-ge-WATCHDOG_START : goal.returns-then-addr-ge-WATCHDOG_START
+returns-then-addr-ge-WATCHDOG_START g c =
+    noted-written c.args._tape.now c.args.elapsed c.args.addr c.args.value c.args.bus.now c.pass.new.self c.put_noted.new.bus c.args.reached.now c.put_noted.new.reached
+    c.requires c.pass.ensures.value
     (passed-keeps (c.args.elapsed + 1) c.args.bus.now c.pass.new.self c.pass.ensures.value c.pass.ensures.irq c.pass.ensures.pending)
-    c.put_by.ensures.does c.put_by.ensures.few in
-    record {
-      lines = is.lines;
-      noted = record {
-        step = is.noted.step;
-        reached = c.add.ensures ∙ ap (λ k. with_reached c.args.reached.now (access_at (k - 1) (write_of c.args.addr c.args.value))) c.clock.ensures.value ∙ is.noted.reached;
-      };
-      accepts = is.accepts;
-      room = is.room;
-    }
+    c.put_noted.ensures.does c.put_noted.ensures.few c.put_noted.ensures.reached
+
+pub returns-else-addr-ge-WATCHDOG_START : goal.returns-else-addr-ge-WATCHDOG_START
+returns-else-addr-ge-WATCHDOG_START g c =
+    noted-written c.args._tape.now c.args.elapsed c.args.addr c.args.value c.args.bus.now c.pass.new.self c.put_noted-else-addr-ge-WATCHDOG_START.new.bus c.args.reached.now c.put_noted-else-addr-ge-WATCHDOG_START.new.reached
+    c.requires c.pass.ensures.value
+    (passed-keeps (c.args.elapsed + 1) c.args.bus.now c.pass.new.self c.pass.ensures.value c.pass.ensures.irq c.pass.ensures.pending)
+    c.put_noted-else-addr-ge-WATCHDOG_START.ensures.does c.put_noted-else-addr-ge-WATCHDOG_START.ensures.few c.put_noted-else-addr-ge-WATCHDOG_START.ensures.reached

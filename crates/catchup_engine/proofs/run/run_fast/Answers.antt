@@ -14,7 +14,7 @@ loop-on-init g c =
           turns-looked c.args.tape.now.entries c.args.limit stops c.args.cpu c.args.bus.now c.args.bus.now c.goes_fast-on.new.bus c.args.cpu
           (turns-start c.args.tape.now.entries c.args.limit stops c.args.cpu c.args.bus.now c.requires.ready.between c.requires.boundary c.requires.ready.range) looked;
       accepts = looked-accepts (asks_generator stops) c.args.tape.now c.args.bus.now c.goes_fast-on.new.bus looked c.requires.ready.accepts;
-      told = c.goes_fast-on.ensures.value ∙ sym (goes-looked (asks_generator stops) c.args.limit stops c.args.cpu c.args.bus.now c.goes_fast-on.new.bus looked);
+      stated = c.goes_fast-on.ensures.value ∙ sym (goes-looked (asks_generator stops) c.args.limit stops c.args.cpu c.args.bus.now c.goes_fast-on.new.bus looked);
     }
 
 pub run_to_horizon-cpu-requires-clause-ready : goal.run_to_horizon-cpu-requires-clause-ready
@@ -30,12 +30,12 @@ run_to_horizon-cpu-requires-clause-ready g c = record {
 
 pub run_to_horizon-cpu-requires-clause-goes_on : goal.run_to_horizon-cpu-requires-clause-goes_on
 run_to_horizon-cpu-requires-clause-goes_on g c =
-    goes-on-tells c.args.tape.now c.args.limit (g.B.Breaks.conditions c.args.breaks.now) c.loop-on.cpu c.loop-on.bus (sym c.loop-on.invariant.told ∙ c.loop-on-test.true)
+    goes-on-tells c.args.tape.now c.args.limit (g.B.Breaks.conditions c.args.breaks.now) c.loop-on.cpu c.loop-on.bus (sym c.loop-on.invariant.stated ∙ c.loop-on-test.true)
 
 pub loop-on-smaller : goal.loop-on-smaller
 loop-on-smaller g c =
     let stops = g.B.Breaks.conditions c.args.breaks.now in
-    let goes = goes-on-tells c.args.tape.now c.args.limit stops c.loop-on.cpu c.loop-on.bus (sym c.loop-on.invariant.told ∙ c.loop-on-test.true) in
+    let goes = goes-on-tells c.args.tape.now c.args.limit stops c.loop-on.cpu c.loop-on.bus (sym c.loop-on.invariant.stated ∙ c.loop-on-test.true) in
     let before = goes-before c.args.tape.now c.args.limit stops c.loop-on.cpu c.loop-on.bus goes in
     let early = before.clock in
     let later = c.run_to_horizon-cpu.ensures.later in
@@ -52,7 +52,7 @@ loop-on-preserved g c =
           (turns-join c.args.tape.now.entries c.args.limit stops c.args.cpu c.args.bus.now c.loop-on.bus c.run_to_horizon-cpu.new.bus c.loop-on.cpu
           c.run_to_horizon-cpu.result c.loop-on.invariant.at c.run_to_horizon-cpu.ensures.on) looked;
       accepts = looked-accepts (asks_generator stops) c.args.tape.now c.run_to_horizon-cpu.new.bus c.goes_fast-on-in-loop-on.new.bus looked c.run_to_horizon-cpu.ensures.accepts;
-      told =
+      stated =
           c.goes_fast-on-in-loop-on.ensures.value
           ∙ sym (goes-looked (asks_generator stops) c.args.limit stops c.run_to_horizon-cpu.result c.run_to_horizon-cpu.new.bus c.goes_fast-on-in-loop-on.new.bus looked);
     }

@@ -10,7 +10,7 @@ abbrev pub invariant-loop-on : goal.invariant-loop-on
 invariant-loop-on g l = record {
   at : TurnsOn l.tape.entries l.limit (g.B.Breaks.conditions l.breaks) l.fn.cpu l.fn.bus l.bus l.cpu;
   accepts : Accepts l.tape l.bus;
-  told : l.on ≡ (not (is_over l.limit (over_bus l.cpu l.bus) || stops_at (g.B.Breaks.conditions l.breaks) (over_bus l.cpu l.bus)) && reads_opcode l.cpu l.bus);
+  stated : l.on ≡ (not (is_over l.limit (over_bus l.cpu l.bus) || stops_at (g.B.Breaks.conditions l.breaks) (over_bus l.cpu l.bus)) && reads_opcode l.cpu l.bus);
 }
 
 abbrev pub decreases-loop-on : goal.decreases-loop-on

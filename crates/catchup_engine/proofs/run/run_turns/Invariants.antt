@@ -9,7 +9,7 @@ abbrev pub invariant-loop-ended : goal.invariant-loop-ended
 invariant-loop-ended g l = record {
   at : TurnsOn l.tape.entries l.limit (g.B.Breaks.conditions l.breaks) l.fn.cpu l.fn.bus l.bus l.cpu;
   accepts : Accepts l.tape l.bus;
-  told : l.ended ≡ is_over l.limit (over_bus l.cpu l.bus) || stops_at (g.B.Breaks.conditions l.breaks) (over_bus l.cpu l.bus);
+  stated : l.ended ≡ is_over l.limit (over_bus l.cpu l.bus) || stops_at (g.B.Breaks.conditions l.breaks) (over_bus l.cpu l.bus);
 }
 
 abbrev pub decreases-loop-ended : goal.decreases-loop-ended
