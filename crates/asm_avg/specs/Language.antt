@@ -1,4 +1,4 @@
--- The language of the vector generator's statements. This project's own profile.
+-- The language of the vector generator's statements. This project's own choice.
 use Rattle.std.specs.Prelude.{List, [], ◌∷◌, Option, Some, None}
 use Rattle.std.specs.Option.{option_map_or}
 use Rattle.asm_core.specs.declared.cell.Cell.{Cell}

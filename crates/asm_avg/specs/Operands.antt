@@ -1,4 +1,4 @@
--- The operands of a generator's statement. This project's own profile.
+-- The operands of a generator's statement. This project's own choice.
 use Rattle.std.specs.Prelude.{ℕ, List, [], ◌∷◌, Option, Some, None}
 use Rattle.std.specs.Option.{option_and_then, option_map}
 use Rattle.asm_core.specs.declared.cell.Field.{Field}

@@ -1,4 +1,4 @@
--- What the vector generator reads in the bytes of a statement. This project's own profile.
+-- What the vector generator reads in the bytes of a statement. This project's own choice.
 use Rattle.std.specs.Prelude.{◌≡◌, ℕ, ◌+◌, ◌-◌, ◌*◌, ◌/◌, ◌%◌, ◌<◌, ◌==◌, ◌&&◌, nat_le, List, [], ◌∷◌, map, Option, Some, None, if◌then◌else◌, ℤ, pos}
 use Rattle.std.specs.Option.{option_and_then, option_map}
 use Rattle.avg_decode.specs.declared.word.VgWord.{VgWord}

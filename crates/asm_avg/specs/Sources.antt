@@ -1,4 +1,4 @@
--- The sources of the vector generator. This project's own profile.
+-- The sources of the vector generator. This project's own choice.
 use Rattle.std.specs.Prelude.{ℕ, true, List, Result}
 use Rattle.asm_text.specs.declared.fault.AsmFault.{AsmFault}
 use Rattle.asm_core.specs.declared.listing.ListingLine.{ListingLine}

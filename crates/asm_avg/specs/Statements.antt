@@ -1,4 +1,4 @@
--- The statements of the vector generator. This project's own profile.
+-- The statements of the vector generator. This project's own choice.
 use Rattle.std.specs.Prelude.{ℕ, ◌-◌, ◌^◌, true, false, List, [], ◌∷◌, Option, find, codes, pos, neg_ℤ}
 use Rattle.std.specs.Str.{str_eq_ignore_ascii_case}
 use Rattle.board_map.specs.declared.address.TheConstants.{VECTOR_RAM_START}

@@ -93,32 +93,32 @@ abbrev Steps : ℕ → NameValues → Body → Known → Known → Type 0
 Steps number names body known next =
     (next.at ≡ moved_by (origin_value names body) (known.at + body_size body)) × Places number known.at body known.placed next.placed
 
-steps-told : (number : ℕ) (names : NameValues) (body : Body) (known told next : Known) → fine told ≡ fine next → Steps number names body known told → Steps number names body known next
-steps-told number names body known told next is steps = rw (← ok-same told next is) steps
+steps-stated : (number : ℕ) (names : NameValues) (body : Body) (known stated next : Known) → fine stated ≡ fine next → Steps number names body known stated → Steps number names body known next
+steps-stated number names body known stated next is steps = rw (← ok-same stated next is) steps
 
 body-steps : (rom : Rom) (number : ℕ) (names : NameValues) (known next : Known) (body : Body)
     → body_looked_at rom number (found_before names body) known body ≡ Ok next → Steps number names body known next
 unfolding body_looked_at
-body-steps rom number names known next Nothing is = steps-told number names Nothing known known next is (omega arith, inl refl)
+body-steps rom number names known next Nothing is = steps-stated number names Nothing known known next is (omega arith, inl refl)
 body-steps rom number names known next (Equals name e) is =
     let after : ℤ → Result Known AsmFault = λ value. Ok (record { names = with_name known.names name value; at = known.at; placed = known.placed }) in
     let value : Result ℤ AsmFault = ranged number (neg_ℤ (pos 65536)) (pos 65535) false (value_of names e) in
     let named = unless-ok (is_named known.names name) number TwiceNamed (then_on after value) next is in
     let then = then-ok after value next named.1 in
-    steps-told number names (Equals name e) known (record { names = with_name known.names name then.0; at = known.at; placed = known.placed }) next then.2 (omega arith, inl refl)
+    steps-stated number names (Equals name e) known (record { names = with_name known.names name then.0; at = known.at; placed = known.placed }) next then.2 (omega arith, inl refl)
 body-steps rom number names known next (Origin e) is =
     let after : ℤ → Result Known AsmFault = λ value. Ok (record { names = known.names; at = nat_abs value; placed = known.placed }) in
     let value : Result ℤ AsmFault = ranged number (pos 0) (pos 65535) rom.even (value_of names e) in
     let then = then-ok after value next is in
     let found : value_of names e ≡ Some then.0 = ranged-ok number (pos 0) (pos 65535) rom.even (value_of names e) then.0 then.1 in
-    steps-told number names (Origin e) known (record { names = known.names; at = nat_abs then.0; placed = known.placed }) next then.2
+    steps-stated number names (Origin e) known (record { names = known.names; at = nat_abs then.0; placed = known.placed }) next then.2
     (sym (ap (λ v. moved_by (option_map nat_abs v) (known.at + 0)) found), inl refl)
 body-steps rom number names known next (Gives cells) is =
     let p : Placed = record { line = number; at = known.at; cells = cells } in
     let after : ℕ → Result Known AsmFault = λ size. Ok (record { names = known.names; at = known.at + size; placed = known.placed ++ p ∷ [] }) in
     let then = then-ok after (room_for rom number known cells) next is in
     let size = room-size rom number known cells then.0 then.1 in
-    steps-told number names (Gives cells) known (record { names = known.names; at = known.at + then.0; placed = known.placed ++ p ∷ [] }) next then.2
+    steps-stated number names (Gives cells) known (record { names = known.names; at = known.at + then.0; placed = known.placed ++ p ∷ [] }) next then.2
     (ap (λ n. known.at + n) size, inr (cells, refl, refl))
 
 -- a line that isn't refused is read
@@ -173,14 +173,14 @@ pass-placed : (language : Language) (rom : Rom) (number : ℕ) (known after : Kn
     → pass_one language rom number known texts ≡ Ok after → (P : Placed → Type 0) → All P known.placed
     → ((placed : Placed) → IsAmong number known.at (lines_read language rom number known texts) placed → P placed) → All P after.placed
 unfolding pass_one
-pass-placed language rom number known after [] is P earlier told = rw (← ok-same known after is) earlier
-pass-placed language rom number known after (text ∷ texts) is P earlier told =
+pass-placed language rom number known after [] is P earlier stated = rw (← ok-same known after is) earlier
+pass-placed language rom number known after (text ∷ texts) is P earlier stated =
     let next = then-ok (λ (k : Known). pass_one language rom (number + 1) k texts) (text_looked_at language rom number known text) after is in
     let first = line-steps language rom number known next.0 text next.1 in
     let lines = lines-next language rom number known next.0 text texts first.line first.read first.looked in
     pass-placed language rom (number + 1) next.0 after texts next.2 P
     (placed-next first lines)
-    (λ placed among. told placed (record {
+    (λ placed among. stated placed (record {
       before = record { names = known.names; line = first.line } ∷ among.before;
       line = among.line;
       behind = among.behind;
@@ -197,7 +197,7 @@ pass-placed language rom number known after (text ∷ texts) is P earlier told =
       | inl same ↦ rw same earlier
       | inr added ↦
           let p : Placed = record { line = number; at = known.at; cells = added.0 } in
-          rw added.2 (All-push P known.placed p earlier (told p (record {
+          rw added.2 (All-push P known.placed p earlier (stated p (record {
             before = [];
             line = record { names = known.names; line = first.line };
             behind = lines_read language rom (number + 1) next texts;

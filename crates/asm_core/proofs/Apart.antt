@@ -53,23 +53,23 @@ not-false true is = refl
 not-false false is = absurd (cc)
 
 -- what is known, of which the lines are given
-told-lines : (names : NameValues) (at : ℕ) (lines : List Placed) (next : Known) → fine (record { names = names; at = at; placed = lines }) ≡ fine next → next.placed ≡ lines
-told-lines names at lines next is = let same : record { names = names; at = at; placed = lines } ≡ next = cc in ap (λ (known : Known). known.placed) (sym same)
+stated-lines : (names : NameValues) (at : ℕ) (lines : List Placed) (next : Known) → fine (record { names = names; at = at; placed = lines }) ≡ fine next → next.placed ≡ lines
+stated-lines names at lines next is = let same : record { names = names; at = at; placed = lines } ≡ next = cc in ap (λ (known : Known). known.placed) (sym same)
 
 body-adds : (rom : Rom) (number : ℕ) (found : Option ℤ) (known next : Known) (body : Body) → body_looked_at rom number found known body ≡ Ok next → Adds rom known.placed next.placed
 unfolding body_looked_at Adds
-body-adds rom number found known next Nothing is = inl (told-lines known.names known.at known.placed next is)
+body-adds rom number found known next Nothing is = inl (stated-lines known.names known.at known.placed next is)
 body-adds rom number found known next (Equals name e) is =
     let after : ℤ → Result Known AsmFault = λ value. Ok (record { names = with_name known.names name value; at = known.at; placed = known.placed }) in
     let value : Result ℤ AsmFault = ranged number (neg_ℤ (pos 65536)) (pos 65535) false found in
     let named = unless-ok (is_named known.names name) number TwiceNamed (then_on after value) next is in
     let then = then-ok after value next named.1 in
-    inl (told-lines (with_name known.names name then.0) known.at known.placed next then.2)
+    inl (stated-lines (with_name known.names name then.0) known.at known.placed next then.2)
 body-adds rom number found known next (Origin e) is =
     let after : ℤ → Result Known AsmFault = λ value. Ok (record { names = known.names; at = nat_abs value; placed = known.placed }) in
     let value : Result ℤ AsmFault = ranged number (pos 0) (pos 65535) rom.even found in
     let then = then-ok after value next is in
-    inl (told-lines known.names (nat_abs then.0) known.placed next then.2)
+    inl (stated-lines known.names (nat_abs then.0) known.placed next then.2)
 body-adds rom number found known next (Gives cells) is =
     let p : Placed = record { line = number; at = known.at; cells = cells } in
     let after : ℕ → Result Known AsmFault = λ size. Ok (record { names = known.names; at = known.at + size; placed = known.placed ++ p ∷ [] }) in
@@ -82,7 +82,7 @@ body-adds rom number found known next (Gives cells) is =
     let inside_rom = unless-ok (not (is_in_rom rom known.at (size_of cells))) number OutsideRom room then.0 fine_cells.1 in
     let apart = unless-ok met number Overlap size then.0 inside_rom.1 in
     let rom_of = in-rom rom known.at (size_of cells) (not-false _ inside_rom.0) in
-    inr (p, told-lines known.names (known.at + then.0) (known.placed ++ p ∷ []) next then.2, record { low = rom_of.0; high = rom_of.1 }, apart.0)
+    inr (p, stated-lines known.names (known.at + then.0) (known.placed ++ p ∷ []) next then.2, record { low = rom_of.0; high = rom_of.1 }, apart.0)
 
 text-adds : (language : Language) (rom : Rom) (number : ℕ) (known next : Known) (text : List ℕ) → text_looked_at language rom number known text ≡ Ok next → Adds rom known.placed next.placed
 unfolding text_looked_at looked_at

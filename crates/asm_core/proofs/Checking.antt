@@ -22,14 +22,14 @@ use Rattle.asm_core.specs.Passes.{then_on, words_read}
 use Rattle.asm_core.specs.Words.{is_blank_byte, is_number_byte, piece_word, said, words_in, words_of}
 
 -- an answer, or the fault of a piece before it
-abbrev told : {X : Type 0} → ℕ → Result (Option Kind) AsmCause → Result X AsmFault → Result X AsmFault
-told line (Ok kind) rest = rest
-told line (Err cause) rest = Err (Line line cause)
+abbrev stated : {X : Type 0} → ℕ → Result (Option Kind) AsmCause → Result X AsmFault → Result X AsmFault
+stated line (Ok kind) rest = rest
+stated line (Err cause) rest = Err (Line line cause)
 
 -- an answer, or the first fault of these pieces
 abbrev pub checked : {X : Type 0} → ℕ → List (List ℕ) → Result X AsmFault → Result X AsmFault
 checked line [] rest = rest
-checked line (piece ∷ pieces) rest = told line (kind_of piece) (checked line pieces rest)
+checked line (piece ∷ pieces) rest = stated line (kind_of piece) (checked line pieces rest)
 
 -- a piece without a fault, and one with
 pub checked-good : (line : ℕ) (piece : List ℕ) (pieces whole : List (List ℕ)) (rest : Result (List Word) AsmFault) (kind : Option Kind) → whole ≡ piece ∷ pieces → Ok kind ≡ kind_of piece
@@ -40,15 +40,15 @@ pub checked-bad : (line : ℕ) (piece : List ℕ) (pieces whole : List (List ℕ
     → checked line whole rest ≡ Err (Line line cause)
 checked-bad line piece pieces whole rest cause parted bad = rw (parted, ← bad) refl
 
-told-onto : (line : ℕ) (kind : Result (Option Kind) AsmCause) (w : Word) (longer rest : Result (List Word) AsmFault) → longer ≡ then_on (λ more. Ok (w ∷ more)) rest
-    → told line kind longer ≡ then_on (λ more. Ok (w ∷ more)) (told line kind rest)
-told-onto line (Ok kind) w longer rest same = same
-told-onto line (Err cause) w longer rest same = refl
+stated-onto : (line : ℕ) (kind : Result (Option Kind) AsmCause) (w : Word) (longer rest : Result (List Word) AsmFault) → longer ≡ then_on (λ more. Ok (w ∷ more)) rest
+    → stated line kind longer ≡ then_on (λ more. Ok (w ∷ more)) (stated line kind rest)
+stated-onto line (Ok kind) w longer rest same = same
+stated-onto line (Err cause) w longer rest same = refl
 
 checked-onto : (line : ℕ) (pieces : List (List ℕ)) (w : Word) (ws : List Word)
     → checked line pieces (Ok (w ∷ ws)) ≡ then_on (λ more. Ok (w ∷ more)) (checked line pieces (Ok ws))
 checked-onto line [] w ws = refl
-checked-onto line (piece ∷ pieces) w ws = told-onto line (kind_of piece) w (checked line pieces (Ok (w ∷ ws))) (checked line pieces (Ok ws)) (checked-onto line pieces w ws)
+checked-onto line (piece ∷ pieces) w ws = stated-onto line (kind_of piece) w (checked line pieces (Ok (w ∷ ws))) (checked line pieces (Ok ws)) (checked-onto line pieces w ws)
 
 -- a blank is no word
 blank_byte : (byte : ℕ) (piece : List ℕ) → is_blank (byte ∷ piece) ≡ true → is_blank_byte byte ≡ true
@@ -176,7 +176,7 @@ some_word (byte ∷ piece) kind is = kind_told (byte ∷ piece) (Ok (Some kind))
 words-step : (text : List ℕ) (line place : ℕ) (piece after : List ℕ) (pieces : List (List ℕ)) (kind : Result (Option Kind) AsmCause) (rest : Result (List Token) AsmFault)
     → drop place text ≡ piece ++ after → kind_of piece ≡ kind
     → then_on (λ tokens. Ok (words_of text tokens)) rest ≡ checked line pieces (Ok (filter_map piece_word pieces))
-    → then_on (λ tokens. Ok (words_of text tokens)) (with_token line place (place + length piece) kind rest) ≡ told line kind (checked line pieces (Ok (filter_map piece_word (piece ∷ pieces))))
+    → then_on (λ tokens. Ok (words_of text tokens)) (with_token line place (place + length piece) kind rest) ≡ stated line kind (checked line pieces (Ok (filter_map piece_word (piece ∷ pieces))))
 words-step text line place piece after pieces (Err cause) rest here is more = refl
 words-step text line place piece after pieces (Ok None) rest here is more = rw (no_word piece is) more
 words-step text line place piece after pieces (Ok (Some kind)) rest here is more =

@@ -132,10 +132,10 @@ Covers-push rom taken placed p covers low inside i within =
     ]
 
 -- what is known of a line's room where its values are in their ranges and its bytes in the ROM
-pub room-told : (rom : Rom) (number : ℕ) (known : Known) (cells : List Cell) (met : Bool)
+pub room-stated : (rom : Rom) (number : ℕ) (known : Known) (cells : List Cell) (met : Bool)
     → all_fine known.names cells ≡ true → is_in_rom rom known.at (size_of cells) ≡ true → list_any (meets known.at (size_of cells)) known.placed ≡ met
     → room_for rom number known cells ≡ unless met number Overlap (Ok (size_of cells))
-room-told rom number known cells met fine inside same = rw (fine, inside, same) refl
+room-stated rom number known cells met fine inside same = rw (fine, inside, same) refl
 
 -- whether some bytes of a line's room are given
 pub room-given : (rom : Rom) (pass : PassOne) (cells : List Cell) (taken : List Bool) (size : ℕ)

@@ -34,9 +34,9 @@ pub value-after : (maps : List (BTreeMap (Bor (List ℕ)) ℤ)) (name : Bor (Lis
     → map_of name.now < length maps → slice_get maps (map_of name.now) ≡ Some before → Updates (λ x y. slice_cmp nat_cmp x.now y.now) before after name (Some value)
     → value_in (slice_set maps (map_of name.now) after) other ≡ (if bytes_eq name.now other then Some value else value_in maps other)
 value-after maps name value before after other within found updates =
-    let told = btree_map_updates_str name.now before after (Some value) updates other in
+    let stated = btree_map_updates_str name.now before after (Some value) updates other in
     elim (eqb_tells (map_of other) (map_of name.now)) [
-      | inl same ↦ rw (same.1, set-here maps (map_of name.now) after within, found) told
+      | inl same ↦ rw (same.1, set-here maps (map_of name.now) after within, found) stated
       | inr apart ↦
           let place : map_of other ≢ map_of name.now = apart.1 in
           rw (set-other maps (map_of name.now) (map_of other) after place)
@@ -79,9 +79,9 @@ name-after names name other value absent = elim (bool_cases (bytes_eq name other
 pub values-after : (before made after : List (BTreeMap (Bor (List ℕ)) ℤ)) (names : NameValues) (name : List ℕ) (value : ℤ) → HasValues before names → value_of_name names name ≡ None
     → ((other : List ℕ) → value_in made other ≡ value_in before other) → length after ≡ MAPS
     → ((other : List ℕ) → value_in after other ≡ (if bytes_eq name other then Some value else value_in made other)) → HasValues after (names ++ (name, value) ∷ [])
-values-after before made after names name value has absent same count told = record {
+values-after before made after names name value has absent same count stated = record {
   count = λ some. count;
-  values = λ other. told other ∙ ap (λ found. if bytes_eq name other then Some value else found) (same other ∙ has.values other) ∙ name-after names name other value absent;
+  values = λ other. stated other ∙ ap (λ found. if bytes_eq name other then Some value else found) (same other ∙ has.values other) ∙ name-after names name other value absent;
 }
 
 -- the names of entries with one more

@@ -26,19 +26,19 @@ use Rattle.asm_core.proofs.Putting.{low-len}
 use Rattle.asm_core.proofs.Covering.{both_pass, gives-byte}
 
 -- where an address has its place
-offset-told : (addr place : ℕ) → offset_of addr ≡ Some place
+offset-stated : (addr place : ℕ) → offset_of addr ≡ Some place
     → ((0x2800 ≤ addr) × (addr < 0x6000) × (place ≡ addr - 0x2800)) ⊎ ((0x9000 ≤ addr) × (addr < 0x10000) × (place ≡ 14336 + (addr - 0x9000)))
-offset-told addr place told = elim (bool_cases (leb 0x2800 addr && ltb addr 0x6000)) [
+offset-stated addr place stated = elim (bool_cases (leb 0x2800 addr && ltb addr 0x6000)) [
   | inl vector ↦
       let both = both_pass (leb 0x2800 addr) (ltb addr 0x6000) vector in
-      let here : Some (addr - 0x2800) ≡ Some place = rw vector at told in
+      let here : Some (addr - 0x2800) ≡ Some place = rw vector at stated in
       inl (leb-true _ _ both.0, ltb-true _ _ both.1, sym (some_same here))
   | inr other ↦ elim (bool_cases (leb 0x9000 addr && ltb addr 0x10000)) [
     | inl program ↦
         let both = both_pass (leb 0x9000 addr) (ltb addr 0x10000) program in
-        let here : Some (14336 + (addr - 0x9000)) ≡ Some place = rw (other, program) at told in
+        let here : Some (14336 + (addr - 0x9000)) ≡ Some place = rw (other, program) at stated in
         inr (leb-true _ _ both.0, ltb-true _ _ both.1, sym (some_same here))
-    | inr outside ↦ let none : None ≡ Some place = rw (other, outside) at told in absurd (cc)
+    | inr outside ↦ let none : None ≡ Some place = rw (other, outside) at stated in absurd (cc)
   ]
 ]
   where
@@ -46,19 +46,19 @@ offset-told addr place told = elim (bool_cases (leb 0x2800 addr && ltb addr 0x60
     some_same is = cc
 
 place-inside : (addr place : ℕ) → offset_of addr ≡ Some place → place < IMAGE_LEN
-place-inside addr place told = elim (offset-told addr place told) [
+place-inside addr place stated = elim (offset-stated addr place stated) [
   | inl vector ↦ omega (arith, vector.0, vector.1, vector.2)
   | inr program ↦ omega (arith, program.0, program.1, program.2)
 ]
 
 -- no two addresses have one place
 one-address : (a b place : ℕ) → offset_of a ≡ Some place → offset_of b ≡ Some place → a ≡ b
-one-address a b place first second = elim (offset-told a place first) [
-  | inl x ↦ elim (offset-told b place second) [
+one-address a b place first second = elim (offset-stated a place first) [
+  | inl x ↦ elim (offset-stated b place second) [
     | inl y ↦ omega (arith, x.0, x.1, x.2, y.0, y.1, y.2)
     | inr y ↦ absurd (omega (arith, x.0, x.1, x.2, y.0, y.1, y.2))
   ]
-  | inr x ↦ elim (offset-told b place second) [
+  | inr x ↦ elim (offset-stated b place second) [
     | inl y ↦ absurd (omega (arith, x.0, x.1, x.2, y.0, y.1, y.2))
     | inr y ↦ omega (arith, x.0, x.1, x.2, y.0, y.1, y.2)
   ]
@@ -138,8 +138,8 @@ line-bytes names image after p is =
     bytes-same : (xs ys zs : List ℕ) → fine xs ≡ fine ys → fine (with_bytes p.at ys image) ≡ fine zs → with_bytes p.at xs image ≡ zs
     bytes-same xs ys zs same put = ap (λ b. with_bytes p.at b image) (bytes_same xs ys same) ∙ bytes_same (with_bytes p.at ys image) zs put
 
-not-given-told : (addr : ℕ) (p : Placed) → gives addr p ≡ false → (addr < p.at) ⊎ (p.at + size_of p.cells ≤ addr)
-not-given-told addr p none = elim (cases_lt addr p.at) [
+not-given-stated : (addr : ℕ) (p : Placed) → gives addr p ≡ false → (addr < p.at) ⊎ (p.at + size_of p.cells ≤ addr)
+not-given-stated addr p none = elim (cases_lt addr p.at) [
   | inl before ↦ inl before
   | inr from ↦ elim (cases_lt addr (p.at + size_of p.cells)) [
     | inl inside ↦ let given = gives-byte addr p from inside in absurd (cc)
@@ -168,7 +168,7 @@ lines-have names rom (p ∷ ps) image after is_rom whole inside apart is =
       each = λ k d within. go k d within wrote len here later;
       others = λ addr none.
           let parts = or_parts (gives addr p) (list_any (gives addr) ps) none in
-          let outside : (addr < p.at) ⊎ (p.at + length (cells_bytes names p.cells) ≤ addr) = rw len (not-given-told addr p parts.0) in
+          let outside : (addr < p.at) ⊎ (p.at + length (cells_bytes names p.cells) ≤ addr) = rw len (not-given-stated addr p parts.0) in
           later.others addr parts.1 ∙ ap (λ i. byte_of i addr) (sym wrote) ∙ bytes-there (cells_bytes names p.cells) p.at addr image outside;
     }
   where

@@ -187,11 +187,11 @@ other_pieces mark (byte ∷ next ∷ code) none =
     ]
   where
     others_behind : (mark : ℕ) (piece : List ℕ) (pieces : List (List ℕ)) → AreOthers mark (filter_map piece_word (piece ∷ pieces)) → AreOthers mark (filter_map piece_word pieces)
-    others_behind mark piece pieces all = told (piece_word piece) (filter_map piece_word pieces) all
+    others_behind mark piece pieces all = stated (piece_word piece) (filter_map piece_word pieces) all
       where
-        told : (w : Option Word) (ws : List Word) → AreOthers mark (cons_option w ws) → AreOthers mark ws
-        told None ws all = all
-        told (Some w) ws all = elim (bool_cases (is_mark mark w)) [
+        stated : (w : Option Word) (ws : List Word) → AreOthers mark (cons_option w ws) → AreOthers mark ws
+        stated None ws all = all
+        stated (Some w) ws all = elim (bool_cases (is_mark mark w)) [
           | inl same ↦ let clash : false ≡ true = rw same at all in absurd (cc)
           | inr other ↦ rw other at all
         ]

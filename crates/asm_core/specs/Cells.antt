@@ -1,4 +1,4 @@
--- Cells: what a statement puts into bytes. This project's own profile.
+-- Cells: what a statement puts into bytes. This project's own choice.
 use Rattle.std.specs.Prelude.{ℕ, ◌==◌, ◌+◌, ◌*◌, ◌/◌, ◌%◌, ◌^◌, ◌≤◌, zero, suc, Bool, true, not, ◌&&◌, ◌||◌, List, []}
 use Rattle.std.specs.Prelude.{◌∷◌, length, sum_by, All, unwrap_or, is_some, if◌then◌else◌, ℤ, pos, ◌-ℤ◌, int_le}
 use Rattle.std.specs.List.{flat_map, list_all}

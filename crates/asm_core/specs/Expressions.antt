@@ -1,4 +1,4 @@
--- Expressions, and the values of names. This project's own profile.
+-- Expressions, and the values of names. This project's own choice.
 use Rattle.std.specs.Prelude.{ℕ, ◌==◌, ◌%◌, ◌/◌, Bool, true, false, List, [], ◌∷◌, drop, Option, Some, None, bytes_eq, if◌then◌else◌, ℤ, pos, ◌+ℤ◌, ◌-ℤ◌, unsigned_abs}
 use Rattle.std.specs.Int.{int_rem_euclid}
 use Rattle.std.specs.Option.{option_and_then, option_map}

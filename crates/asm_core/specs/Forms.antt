@@ -1,4 +1,4 @@
--- What holds of each statement that a language reads. This project's own profile.
+-- What holds of each statement that a language reads. This project's own choice.
 use Rattle.std.specs.Prelude.{◌≤◌, ⊤, List, length}
 use Rattle.std.specs.List.{All}
 use Rattle.asm_core.specs.declared.cell.Cell.{Cell}

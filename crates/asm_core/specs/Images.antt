@@ -1,4 +1,4 @@
--- What a source gives. This project's own profile.
+-- What a source gives. This project's own choice.
 use Rattle.std.specs.Prelude.{ℕ, ◌+◌, List, [], ◌∷◌, length, map, Option, Some, None, slice_set, Result, Ok, Err, nat_lt, if◌then◌else◌}
 use Rattle.asm_text.specs.declared.fault.AsmFault.{AsmFault}
 use Rattle.asm_text.specs.declared.fault.AsmFault.TheVariants as fault

@@ -1,4 +1,4 @@
--- What holds of the lines of a source, and of those that give bytes. This project's own profile.
+-- What holds of the lines of a source, and of those that give bytes. This project's own choice.
 use Rattle.std.specs.Prelude.{◌≡◌, ℕ, ◌+◌, ◌<◌, ◌≤◌, true, false, List, [], ◌∷◌, ◌++◌, length, slice_index, sum_by, Option, Some, None, Result, Ok, Err, nat_abs}
 use Rattle.std.specs.List.{All, AllPairs, list_any}
 use Rattle.std.specs.Option.{option_map}

@@ -1,4 +1,4 @@
--- The forms of a line that both languages have. This project's own profile.
+-- The forms of a line that both languages have. This project's own choice.
 use Rattle.std.specs.Prelude.{ℕ, ◌&&◌, List, [], ◌∷◌, Option, Some, None, is_some, drop, codes, if◌then◌else◌}
 use Rattle.std.specs.Str.{str_eq_ignore_ascii_case}
 use Rattle.std.specs.Option.{option_map}

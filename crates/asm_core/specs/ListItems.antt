@@ -1,4 +1,4 @@
--- A list that grows at its end. This project's own profile.
+-- A list that grows at its end. This project's own choice.
 use Rattle.std.specs.Prelude.{[], List}
 use Rattle.asm_core.specs.declared.list.Items.{Items}
 use Rattle.asm_core.specs.declared.list.Items.TheVariants as items

@@ -1,4 +1,4 @@
--- Lists of expressions, which commas part. This project's own profile.
+-- Lists of expressions, which commas part. This project's own choice.
 use Rattle.std.specs.Prelude.{ℕ, ◌<◌, ◌*◌, List, [], ◌∷◌, Option, Some, IsSome, length, unwrap_or}
 use Rattle.std.specs.Option.{option_and_then, option_map}
 use Rattle.rom_image.specs.declared.image.TheConstants.{PROGRAM_ROM_LEN}

@@ -1,4 +1,4 @@
--- Values of names in maps. This project's own profile.
+-- Values of names in maps. This project's own choice.
 use Rattle.std.specs.Prelude.{◌≡◌, ◌≢◌, ℕ, ◌+◌, ◌*◌, ◌%◌, List, length, Option, ℤ}
 use Rattle.asm_core.specs.Expressions.{NameValues, value_of_name}
 use Rattle.std.specs.Borrow.{Bor}

@@ -1,4 +1,4 @@
--- What pass 1 keeps while it goes over the lines. This project's own profile.
+-- What pass 1 keeps while it goes over the lines. This project's own choice.
 use Rattle.std.specs.Prelude.{◌≡◌, ℕ, ◌+◌, ◌<◌, ◌≤◌, Bool, false, ◌&&◌, List, length, slice_index_or, nat_le, nat_lt, IsSome}
 use Rattle.std.specs.List.{All, list_any}
 use Rattle.rom_image.specs.Addresses.{offset_of}

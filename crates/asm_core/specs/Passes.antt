@@ -1,4 +1,4 @@
--- The two passes over the lines of a source. This project's own profile.
+-- The two passes over the lines of a source. This project's own choice.
 use Rattle.std.specs.Prelude.{ℕ, ◌+◌, ◌&&◌, Bool, false, not, List, [], ◌∷◌, ◌++◌, Option, Some, None, Result, Ok, Err, is_some, ok_or, nat_le, nat_lt, if◌then◌else◌, ℤ, pos, neg_ℤ, nat_abs}
 use Rattle.std.specs.List.{list_any}
 use Rattle.std.specs.Option.{option_map_or}

@@ -1,4 +1,4 @@
--- The cells of a statement, however they are kept. This project's own profile.
+-- The cells of a statement, however they are kept. This project's own choice.
 use Rattle.std.specs.Prelude.{List}
 use Rattle.asm_core.specs.declared.cell.Cell.{Cell}
 use Rattle.asm_core.specs.declared.cells.Stored.{Stored}

@@ -1,4 +1,4 @@
--- The words of a line: its tokens, with what they say. This project's own profile.
+-- The words of a line: its tokens, with what they say. This project's own choice.
 use Rattle.std.specs.Prelude.{ℕ, ◌==◌, ◌&&◌, Bool, false, not, List, [], ◌∷◌, ◌-◌, map, take, drop, length, Option, Some, None, ◌||◌, codes, slice_range, slice_index_or, unwrap_or, if◌then◌else◌}
 use Rattle.std.specs.Char.{is_ascii_digit}
 use Rattle.std.specs.List.{filter_map, onto_first}

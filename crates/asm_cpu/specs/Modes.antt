@@ -1,4 +1,4 @@
--- The addressing mode of an operand, and the values that it takes. This project's own profile.
+-- The addressing mode of an operand, and the values that it takes. This project's own choice.
 use Rattle.std.specs.Prelude.{ℕ, ◌+◌, Bool, false, ◌&&◌, is_some, if◌then◌else◌, pos, neg_ℤ, int_le}
 use Rattle.std.specs.Option.{option_map_or}
 use Rattle.asm_core.specs.declared.cell.Place.{Place}

@@ -1,4 +1,4 @@
--- The operands of a processor source, as they are written. This project's own profile.
+-- The operands of a processor source, as they are written. This project's own choice.
 use Rattle.std.specs.Prelude.{ℕ, Bool, false, List, [], ◌∷◌, drop, Option, Some, None, if◌then◌else◌}
 use Rattle.std.specs.Str.{str_eq_ignore_ascii_case}
 use Rattle.std.specs.Option.{option_map, option_map_or}

@@ -1,4 +1,4 @@
--- The statements of a processor source that are its language's own. This project's own profile.
+-- The statements of a processor source that are its language's own. This project's own choice.
 use Rattle.std.specs.Prelude.{ℕ, List, [], ◌∷◌, Option, Some, None, codes, if◌then◌else◌}
 use Rattle.std.specs.Str.{str_eq_ignore_ascii_case}
 use Rattle.std.specs.Option.{option_map}

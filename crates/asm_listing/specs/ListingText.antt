@@ -1,4 +1,4 @@
--- The text of a listing. This project's own profile.
+-- The text of a listing. This project's own choice.
 use Rattle.std.specs.Prelude.{ℕ, ◌+◌, List, [], ◌∷◌, ◌++◌, map, decimal, unwrap_or}
 use Rattle.std.specs.List.{flat_map, range_with_len}
 use Rattle.asm_core.specs.declared.listing.ListingLine.{ListingLine}

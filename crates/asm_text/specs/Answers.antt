@@ -1,5 +1,5 @@
 -- What a call that takes memory answers, beside what its definition gives. This project's own
--- profile.
+-- choice.
 use Rattle.std.specs.Prelude.{◌≡◌, Result, Ok, Err}
 use Rattle.asm_text.specs.declared.fault.AsmFault.{AsmFault}
 use Rattle.asm_text.specs.declared.fault.AsmFault.TheVariants.{TooLong, Line, OutOfMemory}

@@ -1,4 +1,4 @@
--- The lines of a source, and their comments. This project's own profile.
+-- The lines of a source, and their comments. This project's own choice.
 use Rattle.std.specs.Prelude.{ℕ, ◌==◌, List, [], ◌∷◌, count_by, if◌then◌else◌}
 use Rattle.std.specs.List.{before_first, onto_first}
 

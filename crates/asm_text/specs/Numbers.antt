@@ -1,4 +1,4 @@
--- The numbers of a source. This project's own profile.
+-- The numbers of a source. This project's own choice.
 use Rattle.std.specs.Prelude.{ℕ, ◌==◌, ◌&&◌, List, [], ◌∷◌, length, Option, Some, None, nat_le, if◌then◌else◌}
 use Rattle.std.specs.List.{list_all}
 use Rattle.std.specs.Char.{is_digit}

@@ -1,4 +1,4 @@
--- The pieces of a line, and which of them are tokens. This project's own profile.
+-- The pieces of a line, and which of them are tokens. This project's own choice.
 use Rattle.std.specs.Prelude.{ℕ, ◌==◌, ◌&&◌, ◌||◌, Bool, false, not, List, [], ◌∷◌, length, Option, Some, None, Result, Ok, Err, is_some, nat_le, bytes_eq, codes, if◌then◌else◌}
 use Rattle.std.specs.List.{list_all, list_any, onto_first}
 use Rattle.std.specs.Char.{is_ascii_alphabetic, is_ascii_alphanumeric, is_ascii_digit}

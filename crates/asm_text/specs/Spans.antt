@@ -1,4 +1,4 @@
--- Where the tokens of a text stand. This project's own profile.
+-- Where the tokens of a text stand. This project's own choice.
 use Rattle.std.specs.Prelude.{◌≡◌, ℕ, ◌+◌, ◌-◌, ◌<◌, ◌≤◌, List, [], ◌∷◌, length, take, true, false, Some, Ok, Err, slice_index, slice_range, All, Any, IsTrue, ◌⊎◌}
 use Rattle.asm_text.specs.declared.fault.AsmCause.{AsmCause}
 use Rattle.asm_text.specs.declared.fault.AsmFault.{AsmFault}

@@ -1,4 +1,4 @@
--- The texts of faults. This project's own profile.
+-- The texts of faults. This project's own choice.
 use Rattle.std.specs.Prelude.{ℕ, List, ◌++◌, codes, decimal}
 use Rattle.asm_text.specs.declared.fault.AsmCause.{AsmCause}
 use Rattle.asm_text.specs.declared.fault.AsmCause.TheVariants.{BadToken, BadNumber, NoSuchForm, TwiceNamed, UnknownName, OutOfRange, OutsideRom, Overlap}

@@ -66,9 +66,9 @@ unfolding vg_tick phase_done
 draw_tick m t v h p = rw (h, p) refl
 
 -- outside phase 5 there is no record
-silent : (t : ℕ) (v : VgValue) → v.halted ≡ false → (v.phase == DRAW) ≡ false → vg_gives t v ≡ []
+idle : (t : ℕ) (v : VgValue) → v.halted ≡ false → (v.phase == DRAW) ≡ false → vg_gives t v ≡ []
 unfolding vg_gives
-silent t v h p = rw (h, p) refl
+idle t v h p = rw (h, p) refl
 
 -- the phase after the first word was read
 short_next : (high : ℕ) → 32 ≤ high → phase_after high ≡ 4
@@ -93,9 +93,9 @@ short_made m t v h p high =
     rw (
       low_tick m (t + 0) v h p,
       high_tick m (t + 1) (low_read m v) h refl,
-      silent (t + 0) v h (rw p refl),
-      silent (t + 1) (low_read m v) h refl,
-      silent (t + 2) (high_read m (low_read m v)) h (rw (short_next (high_byte m v.pc) high) refl),
+      idle (t + 0) v h (rw p refl),
+      idle (t + 1) (low_read m v) h refl,
+      idle (t + 2) (high_read m (low_read m v)) h (rw (short_next (high_byte m v.pc) high) refl),
     ) refl
 
 -- the states of a word with its second one, and no record
@@ -119,11 +119,11 @@ long_made m t v h p high =
       high_tick m (t + 1) (low_read m v) h refl,
       second_low_tick m (t + 2) (high_read m (low_read m v)) h second,
       second_high_tick m (t + 3) (second_low_read m (high_read m (low_read m v))) h refl,
-      silent (t + 0) v h (rw p refl),
-      silent (t + 1) (low_read m v) h refl,
-      silent (t + 2) (high_read m (low_read m v)) h (rw second refl),
-      silent (t + 3) (second_low_read m (high_read m (low_read m v))) h refl,
-      silent (t + 4) (second_high_read m (second_low_read m (high_read m (low_read m v)))) h refl,
+      idle (t + 0) v h (rw p refl),
+      idle (t + 1) (low_read m v) h refl,
+      idle (t + 2) (high_read m (low_read m v)) h (rw second refl),
+      idle (t + 3) (second_low_read m (high_read m (low_read m v))) h refl,
+      idle (t + 4) (second_high_read m (second_low_read m (high_read m (low_read m v)))) h refl,
     ) refl
 
 -- the words in the bytes that were read

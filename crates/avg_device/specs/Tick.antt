@@ -1,5 +1,5 @@
 -- The vector generator, clock by clock: it reads a word, does what the word says, and draws. All of
--- it is this project's own profile.
+-- it is this project's own choice.
 use Rattle.std.specs.Prelude.{ℕ, ◌+◌, ◌-◌, ◌*◌, ◌%◌, ◌==◌, nat_lt, true, false, not, ◌&&◌, if◌then◌else◌, List, [], ◌∷◌, slice_index, slice_set, replicate, ℤ, pos, ◌+ℤ◌}
 use Rattle.avg_decode.specs.declared.word.VgWord.{VgWord}
 use Rattle.avg_decode.specs.declared.word.VgWord.TheVariants.{Vctr, Halt, Svec, Stat, Scal, Cntr, Jsrl, Rtsl, Jmpl}

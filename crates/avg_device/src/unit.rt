@@ -8,7 +8,7 @@ ghost use Rattle.avg_device.specs.Tick.{vg_gives, vg_go, vg_reset, vg_tick};
 
 use board_base::{CLOCK_END, Clocked, Part, Trail, VectorMemory, VgState};
 
-/// A vector generator. This project's own profile.
+/// A vector generator. This project's own choice.
 pub trait VectorUnit: Clocked {
     ghost use Rattle.board_base.specs.Vg.{VgValue};
 

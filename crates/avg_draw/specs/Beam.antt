@@ -1,5 +1,5 @@
 -- The beam of the vector generator, in the integers. Scales and drawing times are this project's
--- own profile.
+-- own choice.
 use Rattle.std.specs.Prelude.{ℕ, ◌-◌, ◌*◌, ◌/◌, ◌^◌, max, nat_le, count_by, ℤ, pos, neg_ℤ, ◌*ℤ◌, unsigned_abs}
 use Rattle.std.specs.Int.{int_max, int_min}
 use Rattle.std.specs.List.{range_with_len}

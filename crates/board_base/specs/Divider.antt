@@ -1,4 +1,4 @@
--- The interrupt divider and the watchdog, as a plain record. This project's own profile.
+-- The interrupt divider and the watchdog, as a plain record. This project's own choice.
 use Rattle.std.specs.Prelude.{ℕ, ◌<◌, Bool, false}
 use Rattle.board_base.specs.declared.divider.TheConstants.{DIVIDER_PERIOD, WATCHDOG_WRAPS}
 use Rattle.board_base.specs.declared.divider.Pending.{Pending}

@@ -1,4 +1,4 @@
--- The EAROM, as a plain record. Its behaviour is this project's own profile, after the ER2055 data
+-- The EAROM, as a plain record. Its behaviour is this project's own choice, after the ER2055 data
 -- sheet.
 use Rattle.std.specs.Prelude.{◌≡◌, ℕ, ◌<◌, ◌≤◌, List, length, replicate}
 use Rattle.board_base.specs.declared.earom.TheConstants.{CELLS, HOLD_CLOCKS}

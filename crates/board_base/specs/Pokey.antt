@@ -1,5 +1,5 @@
 -- A POKEY, as a plain record (POKEY C012294 data sheet; each definition states what is this
--- project's own profile).
+-- project's own choice).
 use Rattle.std.specs.Prelude.{◌≡◌, ℕ, ◌<◌, ◌≤◌, List, length, replicate, All}
 use Rattle.board_base.specs.declared.pokey.TheConstants.{LONGEST_PERIOD, POT_LIMIT, PRESCALER_BASE, PRESCALER_LINE}
 

@@ -1,4 +1,4 @@
--- The vector generator, as a plain record. Its phases and scales are this project's own profile.
+-- The vector generator, as a plain record. Its phases and scales are this project's own choice.
 use Rattle.std.specs.Prelude.{◌≡◌, ◌≢◌, ℕ, ◌<◌, ◌≤◌, ℤ, pos, Bool, true, List, length, replicate, All}
 use Rattle.board_base.specs.declared.phase.TheConstants.{DRAW}
 use Rattle.board_base.specs.declared.vg.TheConstants.{BEAM_EDGE, DELTA_EDGE}

@@ -34,7 +34,7 @@ impl Pending {
     }
 }
 
-/// The interrupt divider and the watchdog. This project's own profile.
+/// The interrupt divider and the watchdog. This project's own choice.
 ///
 /// `phase` counts the clocks since the last wrap, so it is below `DIVIDER_PERIOD`; `dog` the
 /// wraps since the watchdog was cleared, fewer than `WATCHDOG_WRAPS`.

@@ -8,7 +8,7 @@ pub const CELLS: usize = 64;
 pub const HOLD_CLOCKS: u16 = 1512;
 
 /// The EAROM: its latches, and its 64 cells of a byte (ER2055 data sheet; the modes are this
-/// project's own profile).
+/// project's own choice).
 ///
 /// `control` has the four lines clock, not-C1, C2 and select in bits 0 to 3; `hold` counts the
 /// clocks for which an erase or a write has been held, at most `HOLD_CLOCKS`.

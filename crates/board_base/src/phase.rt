@@ -1,5 +1,5 @@
 //! The six phases of the generator, by the numbers that its state has for them (this project's own
-//! profile).
+//! choice).
 
 /// The low byte of a word is read.
 pub const LOW_BYTE: u8 = 0;

@@ -15,7 +15,7 @@ pub const POT_LIMIT: u8 = 228;
 pub const LONGEST_PERIOD: u32 = 65_542;
 
 /// A POKEY (POKEY C012294 data sheet; joined channels, pots and the order within a tick are this
-/// project's own profile).
+/// project's own choice).
 ///
 /// `audf`, `audc`, `left` and `last` have channels 1 to 4 in this order; `left` counts pulses to
 /// the next underflow, 1 to `LONGEST_PERIOD`. Bit i - 1 of `tone` is channel i's; `pass` has the

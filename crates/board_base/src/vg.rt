@@ -7,7 +7,7 @@ pub const BEAM_EDGE: u32 = 1 << 30;
 /// The bound of the distance that a vector goes to each side.
 pub const DELTA_EDGE: u32 = 1 << 27;
 
-/// The vector generator. Its phases, scales and drawing times are this project's own profile.
+/// The vector generator. Its phases, scales and drawing times are this project's own choice.
 ///
 /// `pc` and `stack` are word addresses below 8,192; `bytes` are those of the word under way; `left`
 /// is the number of drawing clocks that are left, in phase 5 alone. The beam `x`, `y` is within

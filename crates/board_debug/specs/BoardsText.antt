@@ -1,4 +1,4 @@
--- The texts of boards of a run, each at a clock that is asked for. This project's own profile.
+-- The texts of boards of a run, each at a clock that is asked for. This project's own choice.
 use Rattle.std.specs.Prelude.{ℕ, List, flat_map}
 use Rattle.tape_ports.specs.declared.entry.TapeEntry.{TapeEntry}
 use Rattle.lockstep_board.specs.Lockstep.{Board}

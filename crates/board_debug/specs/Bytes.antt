@@ -1,4 +1,4 @@
--- Bytes as a debugger shows them. This project's own profile.
+-- Bytes as a debugger shows them. This project's own choice.
 use Rattle.std.specs.Prelude.{ℕ, ◌+◌, ◌-◌, ◌*◌, ◌/◌, ◌%◌, List, [], ◌∷◌, ◌++◌, map, min, codes, Option, Some, None}
 use Rattle.std.specs.List.{flat_map, range_with_len}
 use Rattle.text_line.specs.Words.{hex_byte}

@@ -1,4 +1,4 @@
--- The parts of a debugger's lines. This project's own profile.
+-- The parts of a debugger's lines. This project's own choice.
 use Rattle.std.specs.Prelude.{ℕ, ◌-◌, List, [], ◌∷◌, ◌++◌, length, replicate, codes}
 use Rattle.text_line.specs.Words.{hex_word}
 

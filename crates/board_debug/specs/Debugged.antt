@@ -1,4 +1,4 @@
--- What running a script does. This project's own profile.
+-- What running a script does. This project's own choice.
 use Rattle.std.specs.Prelude.{◌≡◌, ℕ, List, Option, Result, Ok, Err, take}
 use Rattle.outside_io.specs.Causes.{Raised}
 use Rattle.outside_io.specs.Known.{grown}

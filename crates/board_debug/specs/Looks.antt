@@ -1,4 +1,4 @@
--- What a debugger looks at, and how it reports what it found. This project's own profile.
+-- What a debugger looks at, and how it reports what it found. This project's own choice.
 use Rattle.std.specs.Prelude.{◌≡◌, ℕ, ◌==◌, Bool, not, ◌&&◌, List, [], ◌∷◌, ◌++◌, find, map, codes, decimal, nat_le, unwrap_or, Option, Some, None, if◌then◌else◌}
 use Rattle.std.specs.Option.{option_map}
 use Rattle.text_line.specs.Words.{line, hex_byte, hex_word}

@@ -1,5 +1,5 @@
 -- What it costs to show boards of a run in any order: one run to the last of them. This project's
--- own profile.
+-- own choice.
 use Rattle.std.specs.Prelude.{◌≡◌, ℕ, ◌+◌, ◌*◌, ◌<◌, ◌≤◌, Bool, true, false, ◌&&◌, nat_lt, List, Option, Some, None, length, get_or}
 use Rattle.tape_ports.specs.declared.entry.TapeEntry.{TapeEntry}
 use Rattle.keyframes.specs.declared.pages.TheConstants.{BOARD_PAGES}

@@ -1,5 +1,5 @@
 -- A debugger's session: the commands of its script over lockstep boards. This project's own
--- profile.
+-- choice.
 use Rattle.std.specs.Prelude.{ℕ, ◌-◌, List, [], ◌∷◌, ◌++◌, Option, Some, None, zero, suc}
 use Rattle.tape_ports.specs.declared.entry.TapeEntry.{TapeEntry}
 use Rattle.tape_ports.specs.Tape.{TapeValue}

@@ -1,4 +1,4 @@
--- Instructions of the vector generator as a debugger shows them. This project's own profile.
+-- Instructions of the vector generator as a debugger shows them. This project's own choice.
 use Rattle.std.specs.Prelude.{ℕ, ◌+◌, ◌-◌, ◌*◌, ◌%◌, List, [], ◌∷◌, ◌++◌, codes, unwrap_or, decimal, zero, suc}
 use Rattle.std.specs.Fmt.{signed_decimal}
 use Rattle.std.specs.List.{flat_map}

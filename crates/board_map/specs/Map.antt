@@ -1,4 +1,4 @@
--- The address map, as a list of ranges. This project's own profile.
+-- The address map, as a list of ranges. This project's own choice.
 use Rattle.std.specs.Prelude.{ℕ, ◌-◌, ◌%◌, ◌<◌, List, [], ◌∷◌, nat_le, ◌&&◌, if◌then◌else◌}
 use Rattle.board_base.specs.declared.board.TheConstants.{RAM_LEN}
 use Rattle.board_base.specs.declared.vector_memory.TheConstants.{VECTOR_RAM_LEN, VECTOR_ROM_LEN}

@@ -1,4 +1,4 @@
-/// What stands at a processor address. The map is this project's own profile.
+/// What stands at a processor address. The map is this project's own choice.
 ///
 /// `Ram`, `VectorRam`, `VectorRom` and `ProgramRom` have the offset in the region, `Sound1` and
 /// `Sound2` the POKEY's register 0 to 15, `EaromLatch` the cell 0 to 63. `In4` is read as the port

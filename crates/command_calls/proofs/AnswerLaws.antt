@@ -35,7 +35,7 @@ pub gives : (status : ℕ) (out notes stores text note kept : List ℕ) (used : 
     → used ≤ length before → length before < 2 ^ 63
     → used ≡ counted (length (laid_out status out notes stores)) → number ≡ 0 → report ≡ report_of 0 used 0
     → AnswersWith (laid_out status out notes stores) (call_of [] [] before after report number)
-gives status out notes stores text note kept used before after report number is_out is_notes is_stores filled room short is_used done told =
+gives status out notes stores text note kept used before after report number is_out is_notes is_stores filled room short is_used done stated =
     let whole : laid_out status text note kept ≡ laid_out status out notes stores =
     ap (λ l. laid_out status l note kept) is_out ∙ (ap (λ l. laid_out status out l kept) is_notes ∙ ap (λ l. laid_out status out notes l) is_stores) in
     let long = length (laid_out status out notes stores) in
@@ -43,7 +43,7 @@ gives status out notes stores text note kept used before after report number is_
     let used_is : used ≡ long = is_used ∙ small_count long below in
     inl (record {
       status = done;
-      report = told ∙ ap (λ n. report_of 0 n 0) used_is;
+      report = stated ∙ ap (λ n. report_of 0 n 0) used_is;
       buffer = filled ∙ ap (λ l. put_in l before) whole;
       room = subst (λ n. n ≤ length before) used_is room;
     })

@@ -1,4 +1,4 @@
--- What holds of the numbers of a command. This project's own profile.
+-- What holds of the numbers of a command. This project's own choice.
 use Rattle.std.specs.Prelude.{ℕ, ◌≤◌, List, length, All, AllPairs}
 use Rattle.std.specs.Option.{IfSome}
 use Rattle.board_base.specs.declared.board.TheConstants.{CLOCK_LIMIT}

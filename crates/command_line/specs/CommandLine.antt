@@ -1,4 +1,4 @@
--- How the words of a command line are read. This project's own profile.
+-- How the words of a command line are read. This project's own choice.
 use Rattle.std.specs.Prelude.{ℕ, not, List, [], ◌∷◌, drop, length, take_while, Option, None, option_and_then, option_map}
 use Rattle.command_line.specs.declared.verb.Verb.{Verb}
 use Rattle.command_line.specs.declared.verb.Verb.TheVariants.{Run, Asm, Debug, Show, Soak, Pcm, Frames, Seek, Profile}

@@ -1,4 +1,4 @@
--- A command with its words. This project's own profile.
+-- A command with its words. This project's own choice.
 use Rattle.std.specs.Prelude.{ℕ, List}
 use Rattle.command_line.specs.SettingsValue.{SettingsValue}
 

@@ -1,4 +1,4 @@
--- The numbers of the command line. This project's own profile.
+-- The numbers of the command line. This project's own choice.
 use Rattle.std.specs.Prelude.{ℕ, Bool, true, ◌==◌, ◌&&◌, List, [], ◌∷◌, length, nat_le, Option, Some, None, option_and_then, option_map, if◌then◌else◌}
 use Rattle.std.specs.List.{slice_split}
 use Rattle.board_base.specs.declared.board.TheConstants.{CLOCK_LIMIT}

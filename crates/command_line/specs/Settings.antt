@@ -1,4 +1,4 @@
--- How the options of a command are read. This project's own profile.
+-- How the options of a command are read. This project's own choice.
 use Rattle.std.specs.Prelude.{ℕ, true, false, ◌==◌, List, [], ◌∷◌, length, Option, Some, None, option_and_then, option_map, if◌then◌else◌}
 use Rattle.command_line.specs.declared.option.Opt.{Opt}
 use Rattle.command_line.specs.declared.option.Opt.TheVariants.{State, Earom, Until, Cuts, Save, Cost, Timers}

@@ -1,4 +1,4 @@
--- What the options of a command say. This project's own profile.
+-- What the options of a command say. This project's own choice.
 use Rattle.std.specs.Prelude.{ℕ, Bool, List, Option}
 
 -- the names of the files, the numbers and the flags; with no cut where the option isn't given

@@ -1,4 +1,4 @@
--- The words of the command line: the commands, their options and names. This project's own profile.
+-- The words of the command line: the commands, their options and names. This project's own choice.
 use Rattle.std.specs.Prelude.{ℕ, Bool, true, false, not, ◌&&◌, List, find, length, nat_eq, nat_lt, codes, bytes_eq, Option, Some, None, if◌then◌else◌}
 use Rattle.std.specs.List.{starts_with}
 use Rattle.command_line.specs.declared.option.Opt.{Opt}

@@ -1,5 +1,5 @@
 -- Sums and differences in decimal mode (MCS6500 Programming Manual, SED); what the digits A to F
--- give is this project's own profile.
+-- give is this project's own choice.
 use Rattle.std.specs.Prelude.{ℕ, ◌+◌, ◌-◌, ◌%◌, ◌==◌, nat_le, Bool, ◌||◌, if◌then◌else◌, ℤ, pos, negsuc, ◌+ℤ◌, ◌-ℤ◌, int_lt, unsigned_abs}
 use Rattle.std.specs.Int.{cast_signed, from_bool, int_rem_euclid, w8}
 use Rattle.cpu_alu.specs.declared.flags.Flags.{Flags}

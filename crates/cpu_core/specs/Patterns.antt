@@ -1,6 +1,6 @@
 -- The accesses of each instruction and sequence, clock by clock (MCS6500 Hardware Manual,
 -- appendix A). That an undocumented opcode stops the processor, and that a reset reads pc five
--- times before the vector, are this project's own profile. The operation is a parameter of each
+-- times before the vector, are this project's own choice. The operation is a parameter of each
 -- pattern.
 use Rattle.std.specs.Prelude.{◌+◌, ◌*◌, ◌/◌, ◌%◌, ◌==◌, ◌||◌, ℕ, Bool, true, false, nat_lt, if◌then◌else◌, Option, Some, None}
 use Rattle.cpu_table.specs.declared.instruction.Op.{Op}

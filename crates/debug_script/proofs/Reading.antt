@@ -38,17 +38,17 @@ module _ (text : List ℕ) (commands : List Command) (stops : StopsValue) (numbe
         fit = so_far.fit;
       }
 
-  some_line-told : (bytes : List ℕ) → bytes ≡ line → 0 < length bytes
+  some_line-stated : (bytes : List ℕ) → bytes ≡ line → 0 < length bytes
       → script_from (number + 1) stops (lines_of rest)
       ≡ with_command (number + 1) (next_command stops line) (λ command. script_from ((number + 1) + 1) (stops_after command stops) (lines_of after))
   unfolding script_from
-  some_line-told [] is some = absurd (omega arith)
-  some_line-told (byte ∷ bytes) is some = rw (parted, ← is) refl
+  some_line-stated [] is some = absurd (omega arith)
+  some_line-stated (byte ∷ bytes) is some = rw (parted, ← is) refl
 
   -- a malformed line
   pub so_far-bad : 0 < length line → None ≡ next_command stops line → script_of text ≡ Err (number + 1)
   so_far-bad some said =
-      let step : script_from (number + 1) stops (lines_of rest) ≡ Err (number + 1) = some_line-told line refl some ∙ rw (← said) refl in
+      let step : script_from (number + 1) stops (lines_of rest) ≡ Err (number + 1) = some_line-stated line refl some ∙ rw (← said) refl in
       sym so_far.script ∙ ap (with_front commands) step
 
   -- a command more
@@ -56,7 +56,7 @@ module _ (text : List ℕ) (commands : List Command) (stops : StopsValue) (numbe
       → ReadSoFar text (commands ++ command ∷ []) (stops_after command stops) (number + 1) after
   so_far-command command some said few =
       let more = script_from ((number + 1) + 1) (stops_after command stops) (lines_of after) in
-      let step : script_from (number + 1) stops (lines_of rest) ≡ with_first command more = some_line-told line refl some ∙ rw (← said) refl in
+      let step : script_from (number + 1) stops (lines_of rest) ≡ with_first command more = some_line-stated line refl some ∙ rw (← said) refl in
       let count = so_far.lines in
       record {
         script = sym (with_front-push commands command more) ∙ ap (with_front commands) (sym step) ∙ so_far.script;

@@ -1,4 +1,4 @@
--- Where a debugger's session stops. This project's own profile.
+-- Where a debugger's session stops. This project's own choice.
 use Rattle.std.specs.Prelude.{◌≡◌, ℕ, Bool, true, false, ◌&&◌, List, [], ◌∷◌, ◌++◌, length, nat_le}
 use Rattle.debug_script.specs.declared.command.Command.{Command}
 use Rattle.debug_script.specs.declared.command.Command.TheVariants.{Break, Watch, StopVg, Clear}

@@ -1,4 +1,4 @@
--- The commands of a debugger's script, as their lines give them. This project's own profile.
+-- The commands of a debugger's script, as their lines give them. This project's own choice.
 use Rattle.std.specs.Prelude.{ℕ, ◌+◌, ◌*◌, ◌%◌, ◌==◌, Bool, true, false, ◌&&◌, List, [], ◌∷◌, nat_le, Option, Some, None, option_and_then, option_map, bytes_eq, codes, if◌then◌else◌}
 use Rattle.board_map.specs.declared.map.Reads.{Reads}
 use Rattle.board_map.specs.declared.map.Reads.TheVariants.{Ram, VectorRam, VectorRom}

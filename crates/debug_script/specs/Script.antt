@@ -1,4 +1,4 @@
--- The text of a debugger's script. This project's own profile.
+-- The text of a debugger's script. This project's own choice.
 use Rattle.std.specs.Prelude.{◌≡◌, ℕ, ◌+◌, ◌<◌, ◌≤◌, List, [], ◌∷◌, length, Option, Some, None, Result, Ok, Err}
 use Rattle.plain_text.specs.Lines.{lines_of, words_of}
 use Rattle.debug_script.specs.declared.command.Command.{Command}

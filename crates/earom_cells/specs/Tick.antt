@@ -1,6 +1,6 @@
 -- The EAROM's latches, and the hold that an erase or a write takes (after the ER2055 data sheet).
 -- Which control bit is which line, how long a hold lasts, and that a write can only clear bits are
--- this project's own profile.
+-- this project's own choice.
 use Rattle.std.specs.Prelude.{ℕ, ◌+◌, ◌%◌, Bool, not, ◌&&◌, ◌==◌, nat_lt, if◌then◌else◌, slice_index, slice_set, bit_and}
 use Rattle.bit_words.specs.Bits.{is_bit}
 use Rattle.board_base.specs.declared.earom.TheConstants.{HOLD_CLOCKS}

@@ -5,7 +5,7 @@ ghost use Rattle.earom_cells.specs.Tick.{earom_tick, latched, controlled};
 
 use board_base::{Clocked, EaromState};
 
-/// An EAROM of 64 cells (ER2055 data sheet; its modes are this project's own profile).
+/// An EAROM of 64 cells (ER2055 data sheet; its modes are this project's own choice).
 pub trait CellUnit: Clocked {
     ghost use Rattle.board_base.specs.Earom.{EaromValue};
 

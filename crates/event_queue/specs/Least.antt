@@ -1,4 +1,4 @@
--- Deadlines: a time under some of the names 0 to 15. This project's own profile.
+-- Deadlines: a time under some of the names 0 to 15. This project's own choice.
 use Rattle.std.specs.Prelude.{◌≡◌, ◌≢◌, ℕ, ◌≤◌, List, Option, Some, None, slice_get, MatchOption, nat_lt, if◌then◌else◌}
 
 -- the least of the times that are held, and of the names that hold it the least

@@ -14,11 +14,11 @@ content_whole limit (Some whole) bytes first few =
     let short : length whole ≤ limit + 1 = omega (arith, count, few) in
     ap Some (sym (first ∙ take_all (limit + 1) whole short))
 
-came_whole : (told : Option Files) (name : List ℕ) (limit : ℕ) (bytes : List ℕ)
-    → Loads told name limit (Ok Found) bytes → length bytes ≤ limit → IfSome told (λ files. files name ≡ Some bytes)
+came_whole : (stated : Option Files) (name : List ℕ) (limit : ℕ) (bytes : List ℕ)
+    → Loads stated name limit (Ok Found) bytes → length bytes ≤ limit → IfSome stated (λ files. files name ≡ Some bytes)
 came_whole None name limit bytes loads few = tt
 came_whole (Some files) name limit bytes loads few = content_whole limit (files name) bytes loads.1 few
 
-pub found_whole : (told : Option Files) (name : List ℕ) (limit : ℕ) (answer : Loaded) (bytes : List ℕ)
-    → answer ≡ Found → Loads told name limit (Ok answer) bytes → length bytes ≤ limit → IfSome told (λ files. files name ≡ Some bytes)
-found_whole told name limit answer bytes found loads few = came_whole told name limit bytes (subst (λ a. Loads told name limit (Ok a) bytes) found loads) few
+pub found_whole : (stated : Option Files) (name : List ℕ) (limit : ℕ) (answer : Loaded) (bytes : List ℕ)
+    → answer ≡ Found → Loads stated name limit (Ok answer) bytes → length bytes ≤ limit → IfSome stated (λ files. files name ≡ Some bytes)
+found_whole stated name limit answer bytes found loads few = came_whole stated name limit bytes (subst (λ a. Loads stated name limit (Ok a) bytes) found loads) few

@@ -1,4 +1,4 @@
--- A bus over 65,536 bytes that notes its accesses (this project's own profile).
+-- A bus over 65,536 bytes that notes its accesses (this project's own choice).
 use Rattle.std.specs.Prelude.{◌≡◌, ◌-◌, ◌++◌, ℕ, List, [], ◌∷◌, length, replicate, slice_index, slice_set}
 use Rattle.flat_bus.specs.declared.logged.Logged.{Logged}
 use Rattle.flat_bus.specs.declared.logged.Direction.{Direction}

@@ -1,4 +1,4 @@
--- What the sources of an image give. This project's own profile.
+-- What the sources of an image give. This project's own choice.
 use Rattle.std.specs.Prelude.{ℕ, List, ◌++◌, Result, Ok, Err}
 use Rattle.asm_avg.specs.Sources.{source_assembled}
 use Rattle.asm_core.specs.Images.{assembled}

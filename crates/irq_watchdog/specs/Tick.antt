@@ -1,4 +1,4 @@
--- The interrupt divider and the watchdog. This project's own profile.
+-- The interrupt divider and the watchdog. This project's own choice.
 use Rattle.std.specs.Prelude.{◌+◌, ◌/◌, ◌%◌, ◌^◌, Bool, true, false, ◌==◌, if◌then◌else◌}
 use Rattle.board_base.specs.declared.divider.TheConstants.{DIVIDER_PERIOD, WATCHDOG_WRAPS}
 use Rattle.board_base.specs.declared.divider.Pending.TheVariants.{Nothing, Watchdog}

@@ -5,7 +5,7 @@ ghost use Rattle.irq_watchdog.specs.Tick.{divider_tick, acknowledged, watchdog_c
 
 use board_base::{Clocked, DIVIDER_PERIOD, DividerState, Pending};
 
-/// An interrupt divider with its watchdog. This project's own profile.
+/// An interrupt divider with its watchdog. This project's own choice.
 pub trait DividerUnit: Clocked {
     ghost use Rattle.board_base.specs.Divider.{DividerValue};
 

@@ -1,4 +1,4 @@
--- Boards kept along a run, in pages that they share. This project's own profile.
+-- Boards kept along a run, in pages that they share. This project's own choice.
 use Rattle.std.specs.Prelude.{◌≡◌, ◌≢◌, ℕ, ◌+◌, ◌*◌, ◌<◌, ◌≤◌, ◌||◌, Bool, true, false, zero, suc, List, [], ◌∷◌, ◌++◌, Option, Some, None, length, take, drop, get_or, flat_map}
 use Rattle.std.specs.Prelude.{eqb, nat_lt, nat_le, ◌-◌, if◌then◌else◌, MatchOption, not, bytes_eq}
 use Rattle.std.specs.List.{count_by, list_any, range_with_len}

@@ -1,4 +1,4 @@
--- Boards kept along a run, among which a clock is sought. This project's own profile.
+-- Boards kept along a run, among which a clock is sought. This project's own choice.
 use Rattle.std.specs.Prelude.{◌≡◌, ℕ, ◌+◌, ◌<◌, ◌≤◌, ◌⊎◌, List, [], ◌∷◌, ◌++◌, All, None, IfSome, length, get_or}
 use Rattle.board_base.specs.Board.{BoardValue}
 use Rattle.tape_ports.specs.declared.entry.TapeEntry.{TapeEntry}

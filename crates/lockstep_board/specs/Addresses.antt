@@ -1,4 +1,4 @@
--- The addresses at which an access reaches a device. This project's own profile.
+-- The addresses at which an access reaches a device. This project's own choice.
 use Rattle.std.specs.Prelude.{ℕ, List, [], ◌∷◌, Bool, nat_le, ◌&&◌}
 use Rattle.std.specs.List.{list_any}
 

@@ -1,5 +1,5 @@
 -- The device calls that a run may cost, counted over the clocks of the lockstep board. This
--- project's own profile.
+-- project's own choice.
 use Rattle.std.specs.Prelude.{ℕ, ◌+◌, ◌*◌, List, length, Bool, not, ◌&&◌, ◌==◌, Option, Some, None, if◌then◌else◌, zero, suc}
 use Rattle.std.specs.Int.{from_bool}
 use Rattle.board_base.specs.declared.divider.TheConstants.{DIVIDER_PERIOD}

@@ -1,5 +1,5 @@
 -- The lockstep board without its processor: its peripherals between two clocks, and the records
--- made since the last clearing. This project's own profile are the map, the order within a clock,
+-- made since the last clearing. This project's own choice are the map, the order within a clock,
 -- the open bus, which reads FF, and what a watchdog reset leaves: both POKEYs and the EAROM.
 use Rattle.std.specs.Prelude.{ℕ, ◌+◌, ◌%◌, List, [], ◌∷◌, ◌++◌, Bool, not, ◌&&◌, ◌||◌, ◌==◌, if◌then◌else◌, take, drop, slice_index, slice_set}
 use Rattle.board_base.specs.declared.vector_memory.TheConstants.{VECTOR_RAM_LEN, VECTOR_ROM_LEN}

@@ -1,4 +1,4 @@
--- The devices that reads and writes use. This project's own profile.
+-- The devices that reads and writes use. This project's own choice.
 use Rattle.std.specs.Prelude.{Bool, ◌||◌}
 use Rattle.board_map.specs.declared.map.Reads.{Reads}
 use Rattle.board_map.specs.declared.map.Reads.TheVariants as reads

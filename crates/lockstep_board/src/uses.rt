@@ -1,4 +1,4 @@
-//! The devices that reads and writes use. This project's own profile.
+//! The devices that reads and writes use. This project's own choice.
 ghost use Rattle.std.specs.Prelude.{◌≡◌, not};
 ghost use Rattle.lockstep_board.specs.Uses.{devices_read, devices_written, is_some_device};
 

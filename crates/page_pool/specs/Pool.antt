@@ -1,4 +1,4 @@
--- A pool of pages that several may hold. This project's own profile.
+-- A pool of pages that several may hold. This project's own choice.
 use Rattle.std.specs.Prelude.{ℕ, ◌+◌, ◌-◌, ◌==◌, if◌then◌else◌, List, Option, Some, None, option_map, option_and_then, is_some, IsSome, get_or, slice_set}
 use Rattle.std.specs.List.{count_by}
 

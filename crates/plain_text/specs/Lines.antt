@@ -1,4 +1,4 @@
--- The lines of a text and the words of a line. This project's own profile.
+-- The lines of a text and the words of a line. This project's own choice.
 use Rattle.std.specs.Prelude.{ℕ, ◌==◌, List, [], ◌∷◌, if◌then◌else◌}
 use Rattle.std.specs.List.{onto_first, slice_split}
 

@@ -15,7 +15,7 @@ use Rattle.pokey_chip.specs.Pulses.{has_pulse, pulses_of, asks, HasNoUnderflow, 
 use Rattle.pokey_chip.specs.Tick.{base_pulses, channel_ticked, channels_ticked, clocked, left_of, pokey_tick, pot_counted, requested, underflow_effect, underflows, with_bit, with_left}
 use Rattle.pokey_chip.specs.Quiet.{requests_after, IsEverQuiet, IsQuietBefore, AnswersEachLag}
 use Rattle.pokey_chip.proofs.KeptLaws.{kept}
-use Rattle.pokey_chip.proofs.UnderflowLaws.{calm-before, calm-now, calm-then, left-fallen, no-underflow, has-spare}
+use Rattle.pokey_chip.proofs.UnderflowLaws.{resting-before, resting-now, resting-then, left-fallen, no-underflow, has-spare}
 
 -- IRQST with the requests of channels 1, 2 and 4 made or not
 unfoldable made_of : Bool → Bool → Bool → ℕ → ℕ
@@ -96,40 +96,40 @@ tick-back p before now =
     (ap (made_of (calls p First) (calls p Second) (calls p Fourth)) (sym before) ∙ sym (irqst-tick p) ∙ now)
 
 module _ (c : Channel) (n : ℕ) (p : PokeyValue) where
-  silent-before : MakesNoRequest p c (suc n) → MakesNoRequest p c n
-  silent-before silent = λ asked. calm-before c n p (silent asked)
+  idle-before : MakesNoRequest p c (suc n) → MakesNoRequest p c n
+  idle-before idle = λ asked. resting-before c n p (idle asked)
 
-  silent-now : MakesNoRequest p c (suc n) → calls (times pokey_tick n p) c ≡ false
-  silent-now silent =
+  idle-now : MakesNoRequest p c (suc n) → calls (times pokey_tick n p) c ≡ false
+  idle-now idle =
       quiet-call c (times pokey_tick n p)
-      (λ asked. let calm : HasNoUnderflow p c (suc n) = silent (sym (asks-kept c n p) ∙ asked) in
-      calm-now c n p (left-fallen c n p (calm-before c n p calm)) calm)
+      (λ asked. let resting : HasNoUnderflow p c (suc n) = idle (sym (asks-kept c n p) ∙ asked) in
+      resting-now c n p (left-fallen c n p (resting-before c n p resting)) resting)
 
   still-some : HasNoUnderflow p c n → 0 < left_of c (times pokey_tick n p)
-  still-some calm = omega (arith, left-fallen c n p calm)
+  still-some resting = omega (arith, left-fallen c n p resting)
 
-  silent-then : MakesNoRequest p c n → calls (times pokey_tick n p) c ≡ false → MakesNoRequest p c (suc n)
-  silent-then silent none =
-      λ asked. let calm : HasNoUnderflow p c n = silent asked in
-      calm-then c n p (left-fallen c n p calm)
-      (spare-call c (times pokey_tick n p) (still-some calm) none (asks-kept c n p ∙ asked))
+  idle-then : MakesNoRequest p c n → calls (times pokey_tick n p) c ≡ false → MakesNoRequest p c (suc n)
+  idle-then idle none =
+      λ asked. let resting : HasNoUnderflow p c n = idle asked in
+      resting-then c n p (left-fallen c n p resting)
+      (spare-call c (times pokey_tick n p) (still-some resting) none (asks-kept c n p ∙ asked))
 
 module _ (p : PokeyValue) (at_rest : p.irqst ≡ 7) where
   -- no request stands after n clocks in which none is made
   pub quiet-after : (n : ℕ) → NoneRequests p n → requests_after n p ≡ 7
   unfolding ticks
-  quiet-after zero silent = at_rest
-  quiet-after (suc n) silent =
-      tick-quiet (times pokey_tick n p) (silent-now First n p silent.0) (silent-now Second n p silent.1) (silent-now Fourth n p silent.2)
-      ∙ quiet-after n (silent-before First n p silent.0, silent-before Second n p silent.1, silent-before Fourth n p silent.2)
+  quiet-after zero idle = at_rest
+  quiet-after (suc n) idle =
+      tick-quiet (times pokey_tick n p) (idle-now First n p idle.0) (idle-now Second n p idle.1) (idle-now Fourth n p idle.2)
+      ∙ quiet-after n (idle-before First n p idle.0, idle-before Second n p idle.1, idle-before Fourth n p idle.2)
 
   -- and where none stands after one clock more, none was made in it
-  pub silent-after : (n : ℕ) → NoneRequests p n → requests_after (suc n) p ≡ 7 → NoneRequests p (suc n)
+  pub idle-after : (n : ℕ) → NoneRequests p n → requests_after (suc n) p ≡ 7 → NoneRequests p (suc n)
   unfolding ticks
-  silent-after n silent now =
+  idle-after n idle now =
       let none : (calls (times pokey_tick n p) First ≡ false) × (calls (times pokey_tick n p) Second ≡ false) × (calls (times pokey_tick n p) Fourth ≡ false)
-      = tick-back (times pokey_tick n p) (quiet-after n silent) now in
-      (silent-then First n p silent.0 none.0, silent-then Second n p silent.1 none.1, silent-then Fourth n p silent.2 none.2)
+      = tick-back (times pokey_tick n p) (quiet-after n idle) now in
+      (idle-then First n p idle.0 none.0, idle-then Second n p idle.1 none.1, idle-then Fourth n p idle.2 none.2)
 
 FirstFails-both : (P Q : ℕ → Type 0) (m n : ℕ) → (m < n) ⊎ (n ≤ m) → FirstFails P (Some m) → FirstFails Q (Some n)
     → FirstFails (λ k. P k × Q k) (Some (min m n))
@@ -162,17 +162,17 @@ some-left Second p h = (All-get_or IsLeft p.left 1 0 (omega arith) h.pulses).0
 some-left Third p h = (All-get_or IsLeft p.left 2 0 (omega arith) h.pulses).0
 some-left Fourth p h = (All-get_or IsLeft p.left 3 0 (omega arith) h.pulses).0
 
-silent-at-first : (p : PokeyValue) → IsPokey p → NoneRequests p 0
+idle-at-first : (p : PokeyValue) → IsPokey p → NoneRequests p 0
 unfolding pulses_of
-silent-at-first p h = (λ _. some-left First p h, λ _. some-left Second p h, λ _. some-left Fourth p h)
+idle-at-first p h = (λ _. some-left First p h, λ _. some-left Second p h, λ _. some-left Fourth p h)
 
 -- the first clock with a request is the answer
 pub quiet-answer : (p : PokeyValue) → IsPokey p → p.irqst ≡ 7 → (r : Option ℕ) → FirstFails (NoneRequests p) r
     → MatchOption r (IsEverQuiet p) (IsQuietBefore p)
 quiet-answer p h at_rest None f = λ n. quiet-after p at_rest n (f n)
-quiet-answer p h at_rest (Some zero) f = absurd (f.0 (silent-at-first p h))
+quiet-answer p h at_rest (Some zero) f = absurd (f.0 (idle-at-first p h))
 quiet-answer p h at_rest (Some (suc n)) f = record {
-  stands = λ e. let here : n < suc n = omega arith in f.0 (silent-after p at_rest n (f.1 n here) e);
+  stands = λ e. let here : n < suc n = omega arith in f.0 (idle-after p at_rest n (f.1 n here) e);
   before = λ k below. quiet-after p at_rest k (f.1 k below);
 }
 

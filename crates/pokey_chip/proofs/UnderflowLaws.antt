@@ -28,22 +28,22 @@ fallen false left period h = grind (arith, nat_tests)
 -- a clock in which a channel has no underflow takes its pulse
 pub left-step : (c : Channel) (p : PokeyValue) → from_bool (has_pulse c p) < left_of c p
     → left_of c (pokey_tick p) + from_bool (has_pulse c p) ≡ left_of c p
-left-step c p calm = rw (left-tick c p, left-is (base_pulses p) p c) (fallen (has_pulse c p) (left_of c p) (period_of p.audf p.audctl c) calm)
+left-step c p resting = rw (left-tick c p, left-is (base_pulses p) p c) (fallen (has_pulse c p) (left_of c p) (period_of p.audf p.audctl c) resting)
 
 module _ (c : Channel) (n : ℕ) (p : PokeyValue) where
-  pub calm-before : HasNoUnderflow p c (suc n) → HasNoUnderflow p c n
+  pub resting-before : HasNoUnderflow p c (suc n) → HasNoUnderflow p c n
   unfolding pulses_of
-  calm-before calm = omega arith
+  resting-before resting = omega arith
 
-  pub calm-now : left_of c (times pokey_tick n p) + pulses_of c n p ≡ left_of c p → HasNoUnderflow p c (suc n)
+  pub resting-now : left_of c (times pokey_tick n p) + pulses_of c n p ≡ left_of c p → HasNoUnderflow p c (suc n)
       → from_bool (has_pulse c (times pokey_tick n p)) < left_of c (times pokey_tick n p)
   unfolding pulses_of
-  calm-now fallen calm = omega arith
+  resting-now fallen resting = omega arith
 
-  pub calm-then : left_of c (times pokey_tick n p) + pulses_of c n p ≡ left_of c p
+  pub resting-then : left_of c (times pokey_tick n p) + pulses_of c n p ≡ left_of c p
       → from_bool (has_pulse c (times pokey_tick n p)) < left_of c (times pokey_tick n p) → HasNoUnderflow p c (suc n)
   unfolding pulses_of
-  calm-then fallen calm = omega arith
+  resting-then fallen resting = omega arith
 
   pub fallen-then : left_of c (times pokey_tick n p) + pulses_of c n p ≡ left_of c p
       → left_of c (pokey_tick (times pokey_tick n p)) + from_bool (has_pulse c (times pokey_tick n p)) ≡ left_of c (times pokey_tick n p)
@@ -54,10 +54,10 @@ module _ (c : Channel) (n : ℕ) (p : PokeyValue) where
 -- what is left of a channel that has no underflow falls by its pulses
 pub left-fallen : (c : Channel) (n : ℕ) (p : PokeyValue) → HasNoUnderflow p c n → left_of c (times pokey_tick n p) + pulses_of c n p ≡ left_of c p
 unfolding ticks pulses_of
-left-fallen c zero p calm = add-zero (left_of c p)
-left-fallen c (suc n) p calm =
-    let before : left_of c (times pokey_tick n p) + pulses_of c n p ≡ left_of c p = left-fallen c n p (calm-before c n p calm) in
-    fallen-then c n p before (left-step c (times pokey_tick n p) (calm-now c n p before calm))
+left-fallen c zero p resting = add-zero (left_of c p)
+left-fallen c (suc n) p resting =
+    let before : left_of c (times pokey_tick n p) + pulses_of c n p ≡ left_of c p = left-fallen c n p (resting-before c n p resting) in
+    fallen-then c n p before (left-step c (times pokey_tick n p) (resting-now c n p before resting))
 
 -- a channel with a pulse to spare doesn't underflow
 spared : (pulse : Bool) (left : ℕ) → from_bool pulse < left → (pulse && nat_le left 1) ≡ false
@@ -65,7 +65,7 @@ spared true left h = grind (arith, nat_tests)
 spared false left h = refl
 
 pub no-underflow : (c : Channel) (p : PokeyValue) → from_bool (has_pulse c p) < left_of c p → underflows (base_pulses p) p c ≡ false
-no-underflow c p calm = underflow-is (base_pulses p) p c ∙ spared (has_pulse c p) (left_of c p) calm
+no-underflow c p resting = underflow-is (base_pulses p) p c ∙ spared (has_pulse c p) (left_of c p) resting
 
 -- a channel that doesn't underflow has a pulse to spare
 sparing : (pulse : Bool) (left : ℕ) → 0 < left → (pulse && nat_le left 1) ≡ false → from_bool pulse < left

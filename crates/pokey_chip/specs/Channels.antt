@@ -1,5 +1,5 @@
 -- The four channels, the clock of each and its period (POKEY C012294 data sheet: AUDCTL and AUDF).
--- That the lower channel of a joined pair stands still is this project's own profile.
+-- That the lower channel of a joined pair stands still is this project's own choice.
 use Rattle.std.specs.Prelude.{ℕ, ◌+◌, ◌*◌, Bool, false, ◌&&◌, if◌then◌else◌, List, slice_index}
 use Rattle.bit_words.specs.Bits.{is_bit}
 use Rattle.pokey_chip.specs.declared.control.TheConstants.{CHIP_CLOCK_1, CHIP_CLOCK_3, JOIN_1_2, JOIN_3_4}

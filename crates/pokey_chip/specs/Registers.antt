@@ -1,5 +1,5 @@
 -- The sixteen registers of a POKEY, read and written (POKEY C012294 data sheet). This project's own
--- profile are the pots, the registers of keyboard and serial port, which read FF, the bits of IRQEN
+-- choice are the pots, the registers of keyboard and serial port, which read FF, the bits of IRQEN
 -- and IRQST, which are the timers' three alone, and STIMER, which leaves the high-pass bits.
 use Rattle.std.specs.Prelude.{ℕ, ◌+◌, ◌-◌, ◌/◌, ◌%◌, ◌==◌, nat_lt, if◌then◌else◌, min, bit_or, [], ◌∷◌, map, slice_index, slice_set}
 use Rattle.bit_words.specs.Bits.{number}

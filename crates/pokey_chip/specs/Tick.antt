@@ -1,4 +1,4 @@
--- One clock of a POKEY, in five steps (POKEY C012294 data sheet). This project's own profile are
+-- One clock of a POKEY, in five steps (POKEY C012294 data sheet). This project's own choice are
 -- the order within a clock, the pots, the joined pair, whose lower channel stands still, the
 -- high-pass bit, which is copied with the filter on or off, and SKCTL's bits 3 to 7, which do
 -- nothing.

@@ -11,7 +11,7 @@ ghost use Rattle.pokey_chip.specs.Tick.{levels_made, pokey_gives, pokey_tick};
 use board_base::{CLOCK_END, Clocked, Part, PokeyState, Trail};
 
 /// A POKEY (C012294 data sheet; the pots, joined pairs and the order within a clock are this
-/// project's own profile).
+/// project's own choice).
 pub trait SoundUnit: Clocked {
     /// The POKEY as it stands.
     ghost device: { Self → PokeyValue };

@@ -1,5 +1,5 @@
 -- The polynomial registers of the POKEY (C012294 data sheet; the bit order is this project's own
--- profile). Bit 0 of a register is its lowest and its output.
+-- choice). Bit 0 of a register is its lowest and its output.
 use Rattle.std.specs.Prelude.{◌≡◌, ℕ, ◌<◌, Bool, [], ◌∷◌, ◌++◌, drop}
 use Rattle.std.proofs.Math.Bool.{xor}
 use Rattle.std.specs.Int.{bit_at}

@@ -1,4 +1,4 @@
--- Where an image's bytes stand in the processor's addresses. This project's own profile.
+-- Where an image's bytes stand in the processor's addresses. This project's own choice.
 use Rattle.std.specs.Prelude.{ℕ, ◌+◌, ◌-◌, List, Option, Some, None, nat_le, nat_lt, ◌&&◌, if◌then◌else◌, slice_index}
 use Rattle.std.specs.Option.{option_map}
 use Rattle.board_base.specs.declared.vector_memory.TheConstants.{VECTOR_ROM_LEN}

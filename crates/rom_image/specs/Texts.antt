@@ -1,4 +1,4 @@
--- The text of a fault. This project's own profile.
+-- The text of a fault. This project's own choice.
 use Rattle.std.specs.Prelude.{ℕ, List, ◌++◌, codes, decimal}
 use Rattle.rom_image.specs.declared.fault.ImageFault.{ImageFault}
 use Rattle.rom_image.specs.declared.fault.ImageFault.TheVariants.{Length, OutOfMemory}

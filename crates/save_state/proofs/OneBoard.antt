@@ -120,10 +120,10 @@ sequence_most q = elim q as (λ (q : Sequence). sequence_number q ≤ 3) [ Opcod
 -- processor does so too
 middle_by : (c cpu : CpuValue) (facts : Facts) (mid : Option MidValue) → c.mid ≡ mid → facts.jammed ≡ is_some c.jam → facts.idle
     ≡ (number_of mid == 0) → IfSome mid IsMid → IfSome mid (λ _. IsMiddle c) → IfSome mid (λ _. IsMiddle cpu) → AreSpelled cpu facts (sequence_rows ++ place_rows) mid
-middle_by c cpu facts None s e f range place told = rw f (search arith)
-middle_by c cpu facts (Some m) s e f range place told =
+middle_by c cpu facts None s e f range place stated = rw f (search arith)
+middle_by c cpu facts (Some m) s e f range place stated =
     let here : IsMiddle (record c { mid = Some m }) = subst (λ (x : Option MidValue). IsMiddle (record c { mid = x })) s place in
-    rw (e, here.0, f, not_zero m.sequence) ((refl, sequence_most m.sequence), ((refl, (here.1.begun, here.1.short)), ((range.bytes, told), tt)))
+    rw (e, here.0, f, not_zero m.sequence) ((refl, sequence_most m.sequence), ((refl, (here.1.begun, here.1.short)), ((range.bytes, stated), tt)))
 
 -- rows after others
 spelled_append : (cpu : CpuValue) (facts : Facts) (b : BoardValue) (xs ys : Rows) → AreSpelled cpu facts xs b → AreSpelled cpu facts ys b → AreSpelled cpu facts (xs ++ ys) b
@@ -451,19 +451,19 @@ second_has b h =
     (middle_by b.cpu b.cpu facts b.cpu.mid refl refl refl h.cpu.mid h.cpu.stands.place h.cpu.stands.place) in
     let has : All (Has file b) (table 2) = stand b.cpu facts b (table 2) [] 0 refl (offsets 2) long in
     let phase : slice_index file 45 ≡ b.vg.phase = sym (byte_is file 45) ∙ ap (λ (x : List ℕ). slice_index x 0) (has 29 no_row (omega arith)) in
-    let told : AreSpelled (processor_of file) (facts_of 2 file) (table 2) b =
+    let stated : AreSpelled (processor_of file) (facts_of 2 file) (table 2) b =
     whole_spelled 2 (processor_of file) (facts_of 2 file) b h most (flag_back (is_some b.cpu.jam)) (ap (λ (n : ℕ). n == 5) phase)
     (middle_by b.cpu (processor_of file) (facts_of 2 file) b.cpu.mid refl (flag_back (is_some b.cpu.jam)) refl h.cpu.mid h.cpu.stands.place (middle_told b b.cpu.mid refl h)) in
-    has_fields 2 file b (held_from 2 file b (table 2) told has) has
+    has_fields 2 file b (held_from 2 file b (table 2) stated has) has
 
 -- version 1
 first_has : (b : BoardValue) → IsWhole b → HasFields 1 (first_state_bytes b) b
 first_has b h =
     let file : List ℕ = first_state_bytes b in
-    let told : AreSpelled (processor_of file) (facts_of 1 file) (table 1) b = whole_spelled 1 (processor_of file) (facts_of 1 file) b h h.board.clock
+    let stated : AreSpelled (processor_of file) (facts_of 1 file) (table 1) b = whole_spelled 1 (processor_of file) (facts_of 1 file) b h h.board.clock
     (flag_back (is_some b.cpu.jam)) refl (zeros_spelled (processor_of file) (facts_of 1 file)).1 in
-    let has : All (Has file b) (table 1) = stand (processor_of file) (facts_of 1 file) b (table 1) [] 0 refl (offsets 1) told in
-    has_fields 1 file b (held_from 1 file b (table 1) told has) has
+    let has : All (Has file b) (table 1) = stand (processor_of file) (facts_of 1 file) b (table 1) [] 0 refl (offsets 1) stated in
+    has_fields 1 file b (held_from 1 file b (table 1) stated has) has
 
 pub second_version : (file : List ℕ) (b : BoardValue) → file ≡ state_bytes b → slice_index file 0 ≡ 2
 second_version file b e = ap (λ (x : List ℕ). slice_index x 0) e

@@ -46,11 +46,11 @@ left_by cpu false piece h = ((λ (e : false ≡ true). absurd cc), omega (arith,
 pub left_told : (file : List ℕ) (phase left : ℕ) → phase ≡ slice_index (take 1 (drop 45 file)) 0 → left ≡ from_le_bytes w16 (take 2 (drop 82 file))
     → IsInFieldRange (processor_of file) (left_range (slice_index file 45 == 5)) (take 2 (drop 82 file)) → (phase ≡ 5 → 1 ≤ left) × (left ≤ 8192) × (phase ≢ 5 → left ≡ 0)
 left_told file phase left e f h =
-    let told = left_by (processor_of file) (slice_index file 45 == 5) (take 2 (drop 82 file)) h in
+    let stated = left_by (processor_of file) (slice_index file 45 == 5) (take 2 (drop 82 file)) h in
     let here : phase ≡ slice_index file 45 = e ∙ byte_is file 45 in (
-      (λ (five : phase ≡ 5). subst (λ (n : ℕ). 1 ≤ n) (sym f) (told.0 (subst (λ (n : ℕ). (n == 5) ≡ true) here (subst (λ (n : ℕ). (n == 5) ≡ true) (sym five) refl)))),
-      subst (λ (n : ℕ). n ≤ 8192) (sym f) told.1,
-      (λ (other : phase ≢ 5). f ∙ told.2 (subst (λ (n : ℕ). (n == 5) ≡ false) here (not_equal phase 5 other))),
+      (λ (five : phase ≡ 5). subst (λ (n : ℕ). 1 ≤ n) (sym f) (stated.0 (subst (λ (n : ℕ). (n == 5) ≡ true) here (subst (λ (n : ℕ). (n == 5) ≡ true) (sym five) refl)))),
+      subst (λ (n : ℕ). n ≤ 8192) (sym f) stated.1,
+      (λ (other : phase ≢ 5). f ∙ stated.2 (subst (λ (n : ℕ). (n == 5) ≡ false) here (not_equal phase 5 other))),
     )
 
 -- a number from 1 to a greatest
@@ -194,17 +194,17 @@ place_broken version file other start bad =
     (record { before = []; broken = place_row; after = []; order = refl; good = All-nil (Holds version file); bad = bad; here = refl }))
 
 -- what the check of a table says of its rows
-pub told : {T : Type 0} (version : ℕ) (file : List ℕ) (base : ℕ) (fs : List Field) (rs : Rows) (r : Result T ℕ)
+pub stated : {T : Type 0} (version : ℕ) (file : List ℕ) (base : ℕ) (fs : List Field) (rs : Rows) (r : Result T ℕ)
     → AreSame (facts_of version file) base fs rs → MatchResult r (λ _. AreInRange version file base fs) (λ at. BreaksIn version file base fs at)
     → MatchResult r (λ _. All (Holds version file) rs) (λ at. IsFirstBroken version file rs at)
-told version file base fs rs (Ok x) e h = held version file base fs rs e h
-told version file base fs rs (Err at) e h = first_broken version file base fs rs at e h
+stated version file base fs rs (Ok x) e h = held version file base fs rs e h
+stated version file base fs rs (Err at) e h = first_broken version file base fs rs at e h
 
 pub first_told : {T : Type 0} (version : ℕ) (file : List ℕ) (r : Result T ℕ) → (version == 1) ≡ true
     → MatchResult r (λ _. AreInRange version file 0 NO_PLACE) (λ at. BreaksIn version file 0 NO_PLACE at)
     → MatchResult r (λ _. All (Holds version file) (middle_rows (version == 1))) (λ at. IsFirstBroken version file (middle_rows (version == 1)) at)
 first_told version file r same h = subst (λ (b : Bool). MatchResult r (λ _. All (Holds version file) (middle_rows b))
-    (λ at. IsFirstBroken version file (middle_rows b) at)) (sym same) (told version file 0 NO_PLACE (middle_rows true) r refl h)
+    (λ at. IsFirstBroken version file (middle_rows b) at)) (sym same) (stated version file 0 NO_PLACE (middle_rows true) r refl h)
 
 -- the error that a `?` returns
 pub early : {T : Type 0} (r : Result T ℕ) (P : T → Type 0) (Q : ℕ → Type 0) (e : ℕ) → IsErrAnd r (λ y. y ≡ e) → Q e → MatchResult r P Q

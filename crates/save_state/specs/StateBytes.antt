@@ -1,4 +1,4 @@
--- The format of a saved board: a table of its fields. This project's own profile.
+-- The format of a saved board: a table of its fields. This project's own choice.
 use Rattle.std.specs.Prelude.{ℕ, ◌+◌, ◌-◌, Bool, ◌==◌, if◌then◌else◌, List, [], ◌∷◌, ◌++◌, slice_index, take, drop, Option, Some, None}
 use Rattle.std.specs.Option.{is_some}
 use Rattle.std.specs.List.{concat}

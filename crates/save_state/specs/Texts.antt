@@ -1,4 +1,4 @@
--- The text of a fault. This project's own profile.
+-- The text of a fault. This project's own choice.
 use Rattle.std.specs.Prelude.{ℕ, List, ◌++◌, codes, decimal}
 use Rattle.save_state.specs.declared.fault.StateFault.{StateFault}
 use Rattle.save_state.specs.declared.fault.StateFault.TheVariants.{Field, Length, Version}

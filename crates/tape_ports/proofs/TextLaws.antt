@@ -144,9 +144,9 @@ is_entry_line before line entry [] parted said = absurd (cc)
 is_entry_line before line entry (first ∷ []) parted said = absurd (cc)
 is_entry_line before line entry (first ∷ second ∷ []) parted said = absurd (no_entry_told before entry (bytes_eq second (codes "END")) (decimal_of first) said)
 is_entry_line before line entry (first ∷ second ∷ third ∷ []) parted said =
-    let told = entry_told before entry (bytes_eq second (codes "END")) (decimal_of first) (value_of third) (port_of second) said in (
-      record { first = first; second = second; third = third; words = parted; clock = told.its_clock; range = told.range; port = told.its_port; value = told.its_value },
-      told.later,
+    let stated = entry_told before entry (bytes_eq second (codes "END")) (decimal_of first) (value_of third) (port_of second) said in (
+      record { first = first; second = second; third = third; words = parted; clock = stated.its_clock; range = stated.range; port = stated.its_port; value = stated.its_value },
+      stated.later,
     )
 is_entry_line before line entry (first ∷ second ∷ third ∷ fourth ∷ more) parted said = absurd (cc)
 
@@ -157,10 +157,10 @@ unfolding entry_line end_line
 is_end_line before line end [] parted said = absurd (cc)
 is_end_line before line end (first ∷ []) parted said = absurd (cc)
 is_end_line before line end (first ∷ second ∷ []) parted said =
-    let told = end_told before end (bytes_eq second (codes "END")) (decimal_of first) said in
-    let word : second ≡ codes "END" = (bytes_eq-Decides second (codes "END")).0 told.its_word in (
-      record { first = first; words = parted ∙ ap (λ (w : List ℕ). first ∷ w ∷ []) word; clock = told.its_clock; range = told.range },
-      told.later,
+    let stated = end_told before end (bytes_eq second (codes "END")) (decimal_of first) said in
+    let word : second ≡ codes "END" = (bytes_eq-Decides second (codes "END")).0 stated.its_word in (
+      record { first = first; words = parted ∙ ap (λ (w : List ℕ). first ∷ w ∷ []) word; clock = stated.its_clock; range = stated.range },
+      stated.later,
     )
 is_end_line before line end (first ∷ second ∷ third ∷ []) parted said =
     absurd (no_end_told before end (bytes_eq second (codes "END")) (decimal_of first) (value_of third) (port_of second) said)

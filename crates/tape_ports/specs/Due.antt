@@ -1,4 +1,4 @@
--- Which entries a clock has. This project's own profile.
+-- Which entries a clock has. This project's own choice.
 use Rattle.std.specs.Prelude.{◌≡◌, ℕ, ◌+◌, ◌==◌, List, filter}
 use Rattle.std.specs.List.{slice_range}
 use Rattle.std.specs.List.Sorted.{IsNonDecreasingBy}

@@ -1,4 +1,4 @@
--- How the text of a tape is read. This project's own profile.
+-- How the text of a tape is read. This project's own choice.
 use Rattle.std.specs.Prelude.{◌≡◌, ℕ, ◌+◌, ◌<◌, ◌≤◌, List, [], ◌∷◌, length, Result, Ok, Err, nat_lt, ok_or, bytes_eq, codes, if◌then◌else◌}
 use Rattle.plain_text.specs.Lines.{lines_of, words_of}
 use Rattle.plain_text.specs.Numbers.{decimal_of, value_of}

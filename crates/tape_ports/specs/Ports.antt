@@ -1,4 +1,4 @@
--- The ports that a tape sets, and their names. This project's own profile.
+-- The ports that a tape sets, and their names. This project's own choice.
 use Rattle.std.specs.Prelude.{ℕ, ◌+◌, ◌<◌, List, [], ◌∷◌, ◌++◌, map, Option, bytes_eq, codes, find}
 use Rattle.std.specs.List.{range_with_len}
 use Rattle.tape_ports.specs.declared.entry.Port.{Port}

@@ -1,4 +1,4 @@
--- A tape, as a plain record. This project's own profile.
+-- A tape, as a plain record. This project's own choice.
 use Rattle.std.specs.Prelude.{ℕ, ◌≤◌, List, All, count_by, nat_lt}
 use Rattle.std.specs.List.Sorted.{IsNonDecreasingBy}
 use Rattle.board_base.specs.declared.board.TheConstants.{CLOCK_LIMIT}

@@ -1,4 +1,4 @@
--- What the text of a tape is, line by line. This project's own profile.
+-- What the text of a tape is, line by line. This project's own choice.
 use Rattle.std.specs.Prelude.{◌≡◌, ℕ, ◌≤◌, List, [], ◌∷◌, ◌++◌, map, Some, AllPairs, codes}
 use Rattle.board_base.specs.declared.board.TheConstants.{CLOCK_LIMIT}
 use Rattle.tape_ports.specs.declared.entry.TapeEntry.{TapeEntry}

@@ -12,7 +12,7 @@ use std::marker::Model;
 pub const TAPE_LIMIT: usize = 16_777_216;
 
 /// The bytes that a run sets at the ports, each with its clock, and the clock at which the run
-/// ends. This project's own profile.
+/// ends. This project's own choice.
 #[derive(Drop)]
 pub struct Tape {
     entries: Vec<TapeEntry>,

@@ -1,4 +1,4 @@
--- The draws of a seed: a linear congruential generator of 64 bits. This project's own profile.
+-- The draws of a seed: a linear congruential generator of 64 bits. This project's own choice.
 use Rattle.std.specs.Prelude.{ℕ, ◌+◌, ◌*◌, ◌/◌, ◌%◌, ◌^◌, zero, suc, List, [], ◌∷◌}
 
 -- the number after one; the seed is the first

@@ -1,4 +1,4 @@
--- The tape. This project's own profile.
+-- The tape. This project's own choice.
 use Rattle.std.specs.Prelude.{ℕ, ◌+◌, ◌*◌, ◌%◌, List, [], ◌∷◌, length, drop, slice_index_or}
 use Rattle.tape_ports.specs.declared.entry.Port.{Port}
 use Rattle.tape_ports.specs.declared.entry.Port.TheVariants.{In0}

@@ -1,4 +1,4 @@
--- The words of the vector ROM. This project's own profile.
+-- The words of the vector ROM. This project's own choice.
 use Rattle.std.specs.Prelude.{ℕ, ◌+◌, ◌%◌, ◌==◌, if◌then◌else◌, List, [], ◌∷◌, ◌++◌, length, map}
 use Rattle.std.specs.List.{flat_map, range_with_len, zip}
 use Rattle.workload_gen.specs.declared.words.Choice.{Choice}

@@ -1,5 +1,5 @@
 //! The workload of a long run, from one number: an image and a tape that keep the processor, the
-//! vector generator and both POKEYs busy. All of it is this project's own profile.
+//! vector generator and both POKEYs busy. All of it is this project's own choice.
 #![tactic(auto)]
 
 mod draws;

@@ -1,4 +1,4 @@
--- `then` picks what was told. Assumes `Logic`.
+-- `then` picks what was stated. Assumes `Logic`.
 use Rattle.std.proofs.Common.{List, [], ◌∷◌, ◌++◌, refl}
 use seplogic.Ra.Ura.{Ura}
 use mir.Syntax.{Fn}
