@@ -4,6 +4,7 @@ use Rattle.std.proofs.lemmas.Bool.{ne_eqb}
 use Rattle.board_base.specs.declared.divider.TheConstants.{DIVIDER_PERIOD}
 use Rattle.board_base.specs.Divider.{DividerValue}
 use Rattle.board_base.specs.Ticks.{ticks, times}
+use Rattle.board_base.proofs.TickLaws.{times-add}
 use Rattle.irq_watchdog.specs.Tick.{divider_tick, acknowledged, watchdog_cleared, reset_taken}
 
 tick-quiet : (d : DividerValue) → d.phase + 1 < DIVIDER_PERIOD → divider_tick d ≡ record d { phase = d.phase + 1 }
@@ -43,6 +44,11 @@ pub pending-after : (n : ℕ) (d : DividerValue) → d.phase + n + 1 < DIVIDER_P
 pending-after n d h = ap (λ (e : DividerValue). e.pending) (times-after n d h)
 
 pub ruleset next_lines = (irq-after, pending-after)
+
+-- and after more ticks
+pub irq-later : (m n : ℕ) (d : DividerValue) → d.phase + (m + n) + 1 < DIVIDER_PERIOD
+    → (divider_tick (times divider_tick n (times divider_tick m d))).irq ≡ d.irq
+irq-later m n d h = ap (λ e. (divider_tick e).irq) (sym (times-add divider_tick m n d)) ∙ irq-after (m + n) d h
 
 -- what is done to its interrupt, its watchdog and its reset may be done before those ticks
 pub acknowledged-before : (n : ℕ) (d : DividerValue) → d.phase + n < DIVIDER_PERIOD → times divider_tick n (acknowledged d) ≡ acknowledged (times divider_tick n d)

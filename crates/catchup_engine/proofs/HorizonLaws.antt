@@ -20,7 +20,7 @@ use Rattle.catchup_engine.specs.declared.quiet.Horizon.{Horizon}
 use Rattle.catchup_engine.specs.declared.bus.TheConstants.{MAX_SEQUENCE_CLOCKS}
 use Rattle.catchup_engine.specs.StopConditions.{ConditionsValue, stops_at}
 use Rattle.catchup_engine.specs.Bus.{BusValue, Does, at_clock}
-use Rattle.catchup_engine.specs.Horizon.{IsHorizon, KeepsLines, LeavesLines, NothingDue}
+use Rattle.catchup_engine.specs.Horizon.{IsHorizon, KeepsLines, LeavesLines, NothingDue, is_before}
 use Rattle.lockstep_board.specs.Lockstep.{is_reset, sequence_due}
 use Rattle.catchup_engine.specs.Quiet.{later, passed}
 use Rattle.lockstep_board.specs.Run.{is_over}
@@ -160,11 +160,13 @@ opcode-due Nothing line masked e f = rw f refl
 opcode-due Power line masked e f = cc
 opcode-due Watchdog line masked e f = cc
 
-masked-off : (line irq_idle masked : Bool) → (irq_idle ≡ true → line ≡ false) → irq_idle || masked ≡ true → line && not masked ≡ false
-masked-off false irq_idle masked deasserted e = refl
-masked-off true irq_idle true deasserted e = refl
-masked-off true true false deasserted e = let f = deasserted refl in cc
-masked-off true false false deasserted e = cc
+masked-off : (line irq_idle masked asked : Bool) → (irq_idle ≡ true → line ≡ false) → (irq_idle || masked) || (asked && not line) ≡ true
+    → line && not masked ≡ false
+masked-off false irq_idle masked asked deasserted e = refl
+masked-off true irq_idle true asked deasserted e = refl
+masked-off true true false asked deasserted e = let f = deasserted refl in cc
+masked-off true false false true deasserted e = cc
+masked-off true false false false deasserted e = cc
 
 wired-ticked : (w : Peripherals) → (devices_ticked w).wired ≡ w.wired
 unfolding devices_ticked
@@ -194,33 +196,37 @@ all-true a b c e f h = rw (e, f, h) refl
 quiet-yet : (clock event : ℕ) → clock + MAX_SEQUENCE_CLOCKS ≤ event → nat_le (clock + MAX_SEQUENCE_CLOCKS) event ≡ true
 quiet-yet clock event h = grind (arith, nat_tests)
 
-pub horizon-goes_on : (limit : ℕ) (stops : ConditionsValue) (horizon : Horizon) (c : CpuValue) (s : BusValue) → c.mid ≡ None → s.peripherals.clock < horizon.until
-    → NothingDue limit horizon s → LeavesLines s.peripherals → is_none c.jam ≡ true → horizon.irq_idle || is_masked c.p ≡ true
+-- the parts of what is tested at a boundary
+is-before-parts : (clock until : ℕ) (running no_interrupt : Bool) → (nat_lt clock until && (running && no_interrupt)) ≡ true
+    → (clock < until) × (running ≡ true) × (no_interrupt ≡ true)
+is-before-parts clock until running no_interrupt e =
+    let both = and_parts (nat_lt clock until) (running && no_interrupt) e in
+    let more = and_parts running no_interrupt both.1 in
+    (grind (arith, nat_tests), more.0, more.1)
+
+pub horizon-goes_on : (asked : Bool) (limit : ℕ) (stops : ConditionsValue) (horizon : Horizon) (c : CpuValue) (s : BusValue) → c.mid ≡ None
+    → is_before asked horizon c s ≡ true → NothingDue limit horizon s → (s.peripherals.clock < horizon.until → LeavesLines s.peripherals)
     → stops_at stops (over_bus c s) ≡ false → GoesOn limit stops c s
 unfolding reads_opcode
-horizon-goes_on limit stops horizon c s boundary early are leaves running quiet_line elsewhere =
+horizon-goes_on asked limit stops horizon c s boundary is are ticks elsewhere =
+    let line = line_of (devices_ticked s.peripherals) in
+    let parts =
+    is-before-parts s.peripherals.clock horizon.until (is_none c.jam) ((horizon.irq_idle || is_masked c.p) || (asked && not line)) is in
+    let early = parts.0 in
+    let leaves = ticks early in
     let before = are.before in
     let no_event = are.no_event in
-    let not_taken : line_of (devices_ticked s.peripherals) && not (is_masked c.p) ≡ false =
-    masked-off (line_of (devices_ticked s.peripherals)) horizon.irq_idle (is_masked c.p)
-    (λ e. unwired s.peripherals (are.irq_idle e).0 leaves (are.irq_idle e).1) quiet_line in
+    let not_taken : line && not (is_masked c.p) ≡ false =
+    masked-off line horizon.irq_idle (is_masked c.p) asked (λ e. unwired s.peripherals (are.irq_idle e).0 leaves (are.irq_idle e).1) parts.2 in
     record {
       open_yet =
           both-false (is_over limit (over_bus c s)) (stops_at stops (over_bus c s))
-          (before-limit c.jam (is_none c.mid) limit s.peripherals.clock running (omega arith)) elsewhere;
+          (before-limit c.jam (is_none c.mid) limit s.peripherals.clock parts.1 (omega arith)) elsewhere;
       reads =
           all-true (is_none c.mid) (nat_le (s.peripherals.clock + MAX_SEQUENCE_CLOCKS) s.event_at) (is_opcode (sequence_due c (devices_ticked s.peripherals)))
           (rw boundary refl) (quiet-yet s.peripherals.clock s.event_at (omega arith))
-          (opcode-due (devices_ticked s.peripherals).divider.pending (line_of (devices_ticked s.peripherals)) (is_masked c.p) (leaves.pending ∙ are.pending) not_taken);
+          (opcode-due (devices_ticked s.peripherals).divider.pending line (is_masked c.p) (leaves.pending ∙ are.pending) not_taken);
     }
-
--- the parts of what is tested at a boundary
-pub is-before-parts : (clock until : ℕ) (running irq_idle masked : Bool) → (nat_lt clock until && (running && (irq_idle || masked))) ≡ true
-    → (clock < until) × (running ≡ true) × (irq_idle || masked ≡ true)
-is-before-parts clock until running irq_idle masked e =
-    let both = and_parts (nat_lt clock until) (running && (irq_idle || masked)) e in
-    let more = and_parts running (irq_idle || masked) both.1 in
-    (grind (arith, nat_tests), more.0, more.1)
 
 -- a fetch that reads an opcode finds no reset
 pub none-pending : (c : CpuValue) (w : Peripherals) → sequence_due c w ≡ Opcode → w.divider.pending ≡ Nothing

@@ -1,28 +1,30 @@
 -- A run up to the horizon, whose clocks the bus hasn't got yet.
-use Rattle.std.proofs.Common.{◌≡◌, ℕ, ◌+◌, ◌-◌, ◌≤◌, ◌<◌, Bool, true, false, not, ◌&&◌, ◌||◌, is_none, min, nat_lt, None, refl, ap, ◌∙◌, arith}
+use Rattle.std.proofs.Common.{◌≡◌, ℕ, List, ◌+◌, ◌-◌, ◌≤◌, ◌<◌, Bool, true, false, not, ◌&&◌, ◌||◌, min, None, refl, ap, ◌∙◌, arith}
 use Rattle.std.proofs.lemmas.Bool.{and_parts, or_parts}
 use Rattle.board_base.specs.declared.board.TheConstants.{CLOCK_LIMIT}
 use Rattle.board_base.specs.declared.divider.TheConstants.{DIVIDER_PERIOD}
 use Rattle.board_base.specs.declared.cpu.Sequence.TheVariants.{Opcode}
 use Rattle.board_base.specs.Cpu.{CpuValue}
-use Rattle.cpu_alu.specs.Flags.{is_masked}
+use Rattle.cpu_core.specs.BusCycles.{Access}
 use Rattle.cpu_core.specs.Registers.{registers_of}
 use Rattle.cpu_core.specs.Sequences.{Runs}
+use Rattle.tape_ports.specs.declared.entry.TapeEntry.{TapeEntry}
 use Rattle.tape_ports.specs.Tape.{TapeValue}
 use Rattle.catchup_engine.specs.StopConditions.{ConditionsValue, asks_generator, stops_at}
 use Rattle.lockstep_board.specs.Run.{is_over}
 use Rattle.catchup_engine.specs.declared.bus.TheConstants.{MAX_SEQUENCE_CLOCKS}
 use Rattle.catchup_engine.specs.declared.quiet.Horizon.{Horizon}
 use Rattle.catchup_engine.specs.Bus.{Accepts, BusStep, BusValue, Looked, room_of}
-use Rattle.catchup_engine.specs.Horizon.{IsHorizon, KeepsLines, NothingDue}
+use Rattle.catchup_engine.specs.Horizon.{IsHorizon, KeepsLines, NothingDue, is_before}
 use Rattle.catchup_engine.specs.Quiet.{IsCounted, later, passed, quiet_room}
 use Rattle.catchup_engine.specs.Runs.{GoesOn, HasRoomTo, IsInRange, TurnsOn, over_bus}
 use Rattle.catchup_engine.specs.Turn.{TurnedBus, reads_opcode}
 use Rattle.catchup_engine.proofs.BreaksOn.{turns-go_on, turns-start}
-use Rattle.catchup_engine.proofs.HorizonLaws.{are-kept, horizon-goes_on, is-before-parts, passed-leaves, passed-lines}
+use Rattle.catchup_engine.proofs.HorizonLaws.{are-kept, horizon-goes_on, passed-leaves, passed-lines, runs-keep}
 use Rattle.catchup_engine.proofs.OpcodeLaws.{reads-opcode}
 use Rattle.catchup_engine.proofs.QuietLaws.{counted-start, passed-zero}
 use Rattle.catchup_engine.proofs.RunsOn.{open-before}
+use Rattle.catchup_engine.proofs.Seen.{runs-seen}
 use Rattle.catchup_engine.proofs.StopLaws.{ends-looked, looked-clock, reads-looked, turns-looked}
 use Rattle.catchup_engine.proofs.Turns.{opcode-turn}
 
@@ -93,32 +95,29 @@ module _ (tape : TapeValue) (limit : ℕ) (stops : ConditionsValue) where
       opcode-turn tape e (passed elapsed t) (passed n u) f (reads-opcode e (passed elapsed t) goes.reads).reads at.on.run.goes.between at.counted.accepts runs boundary
 
   -- it goes on where the clock and the flags are so
-  tells-on : (horizon : Horizon) (f : CpuValue) (u : BusValue) (n : ℕ) (more : Bool) → f.mid ≡ None → IsCounted tape n u → NothingDue limit horizon u
+  tells-on : (asked : Bool) (horizon : Horizon) (f : CpuValue) (u : BusValue) (n : ℕ) (more : Bool) → f.mid ≡ None → IsCounted tape n u → NothingDue limit horizon u
       → (more ≡ true → u.peripherals.divider.phase + (u.event_at - u.peripherals.clock) < DIVIDER_PERIOD)
-      → (more ≡ true → ((nat_lt (u.peripherals.clock + n) horizon.until && (is_none f.jam && (horizon.irq_idle || is_masked f.p))) && not (stops_at stops (over_bus f (passed n u)))) ≡ true)
+      → (more ≡ true → (is_before asked horizon f (passed n u) && not (stops_at stops (over_bus f (passed n u)))) ≡ true)
       → more ≡ true → GoesOn limit stops f (passed n u)
   unfolding passed later
-  tells-on horizon f u n more boundary counted are wrap is on_yet =
-      let here = nat_lt (u.peripherals.clock + n) horizon.until && (is_none f.jam && (horizon.irq_idle || is_masked f.p)) in
-      let both = and_parts here (not (stops_at stops (over_bus f (passed n u)))) (is on_yet) in
-      let parts = is-before-parts (u.peripherals.clock + n) horizon.until (is_none f.jam) horizon.irq_idle (is_masked f.p) both.0 in
-      let early = parts.0 in
+  tells-on asked horizon f u n more boundary counted are wrap is on_yet =
+      let both = and_parts (is_before asked horizon f (passed n u)) (not (stops_at stops (over_bus f (passed n u)))) (is on_yet) in
       let no_event = are.no_event in
       let lines = passed-lines n u counted.no_event (wrap on_yet) in
-      horizon-goes_on limit stops horizon f (passed n u) boundary early (are-kept limit horizon u (passed n u) lines are)
-      (passed-leaves n u (omega arith) (wrap on_yet)) parts.1 parts.2 (not-true (stops_at stops (over_bus f (passed n u))) both.1)
+      horizon-goes_on asked limit stops horizon f (passed n u) boundary both.0 (are-kept limit horizon u (passed n u) lines are)
+      (λ early. passed-leaves n u (omega arith) (wrap on_yet)) (not-true (stops_at stops (over_bus f (passed n u))) both.1)
     where
       not-true : (b : Bool) → not b ≡ true → b ≡ false
       not-true false e = refl
       not-true true e = cc
 
-  pub horizon-goes : (horizon : Horizon) (c e f : CpuValue) (s t u : BusValue) (elapsed n : ℕ) (more then : Bool) → more ≡ true → limit ≤ CLOCK_LIMIT
+  pub horizon-goes : (asked : Bool) (horizon : Horizon) (c e f : CpuValue) (s t u : BusValue) (elapsed n : ℕ) (more then : Bool) → more ≡ true → limit ≤ CLOCK_LIMIT
       → AtHorizon tape limit stops horizon c s elapsed t e more
       → Runs (BusStep tape.entries) (registers_of e) Opcode (passed elapsed t) (passed n u) f → f.mid ≡ None → IsCounted tape n u → KeepsLines t u
       → (then ≡ true → u.peripherals.divider.phase + (u.event_at - u.peripherals.clock) < DIVIDER_PERIOD)
-      → (then ≡ true → ((nat_lt (u.peripherals.clock + n) horizon.until && (is_none f.jam && (horizon.irq_idle || is_masked f.p))) && not (stops_at stops (over_bus f (passed n u)))) ≡ true)
+      → (then ≡ true → (is_before asked horizon f (passed n u) && not (stops_at stops (over_bus f (passed n u)))) ≡ true)
       → AtHorizon tape limit stops horizon c s n u f then
-  horizon-goes horizon c e f s t u elapsed n more then on_yet last at runs boundary counted lines wrap is =
+  horizon-goes asked horizon c e f s t u elapsed n more then on_yet last at runs boundary counted lines wrap is =
       let goes = at.goes on_yet in
       let turned = horizon-turn horizon c e f s t u elapsed n more on_yet at runs boundary in
       let are = are-kept limit horizon t u lines at.are in
@@ -128,7 +127,7 @@ module _ (tape : TapeValue) (limit : ℕ) (stops : ConditionsValue) where
         on = turns-go_on tape.entries limit stops c s (passed elapsed t) (passed n u) e f last at.on goes.open_yet turned;
         counted = counted;
         are = are;
-        goes = tells-on horizon f u n then boundary counted are wrap is;
+        goes = tells-on asked horizon f u n then boundary counted are wrap is;
         later = λ _. omega arith;
       }
 
@@ -181,6 +180,19 @@ module _ (tape : TapeValue) (limit : ℕ) (stops : ConditionsValue) where
       let until = on.run.goes.until in
       let rooms : t.rooms.board ≡ s.rooms.board = ap (λ r. r.board) on.run.goes.rooms in
       omega arith
+
+-- an instruction over a bus that counts the clocks
+pub record IsQuietBy {S : Type 0} (entries : List TapeEntry) (bus : S → BusValue) (elapsed name : S → ℕ) (e f : CpuValue) (s t : S) : Type 0 where
+  pub runs : Runs (BusStep entries) (registers_of e) Opcode (passed (elapsed s) (bus s)) (passed (elapsed t) (bus t)) f
+  pub lines : KeepsLines (bus s) (bus t)
+  pub same : name t ≡ name s
+
+pub quiet-by : {S : Type 0} {T : Access → S → S → Type 0} (entries : List TapeEntry) (bus : S → BusValue) (elapsed name : S → ℕ)
+    → ((x : Access) (a b : S) → T x a b → (name b ≡ name a) × KeepsLines (bus a) (bus b) × BusStep entries x (passed (elapsed a) (bus a)) (passed (elapsed b) (bus b)))
+    → (e f : CpuValue) (s t : S) → Runs T (registers_of e) Opcode s t f → IsQuietBy entries bus elapsed name e f s t
+quiet-by {S} entries bus elapsed name lift e f s t runs =
+    let seen = runs-seen (BusStep entries) (λ (k : S). passed (elapsed k) (bus k)) name (λ x a b h. ((lift x a b h).0, (lift x a b h).2)) (registers_of e) Opcode s t f runs in
+    record { runs = seen.1; lines = runs-keep bus (λ x a b h. (lift x a b h).1) (registers_of e) Opcode s t f runs; same = seen.0 }
 
 -- the boundary is before the horizon, so that it goes on unless it is at a break
 pub and-then : (here at has : Bool) → here ≡ true → at ≡ has → not has ≡ true → (here && not at) ≡ true

@@ -1,12 +1,11 @@
 -- A run up to the horizon that is passed to a tracer.
-use Rattle.std.proofs.Common.{◌≡◌, ℕ, ◌+◌, ◌-◌, ◌≤◌, ◌<◌, Bool, true, false, not, ◌&&◌, ◌||◌, is_none, nat_lt, min, take, List, [], ◌++◌, None, refl, sym, ap, ◌∙◌, subst, add-zero, inl, inr, ◌⊎◌, arith}
+use Rattle.std.proofs.Common.{◌≡◌, ℕ, ◌+◌, ◌-◌, ◌≤◌, ◌<◌, Bool, true, false, not, ◌&&◌, min, take, List, [], ◌++◌, None, refl, sym, ap, ◌∙◌, subst, add-zero, inl, inr, ◌⊎◌, arith}
 use Rattle.std.proofs.lemmas.Bool.{or_parts}
 use Rattle.board_base.specs.declared.board.TheConstants.{CLOCK_LIMIT}
 use Rattle.board_base.specs.declared.divider.TheConstants.{DIVIDER_PERIOD}
 use Rattle.board_base.specs.declared.cpu.Sequence.{Sequence}
 use Rattle.board_base.specs.declared.cpu.Sequence.TheVariants.{Opcode}
 use Rattle.board_base.specs.Cpu.{CpuValue}
-use Rattle.cpu_alu.specs.Flags.{is_masked}
 use Rattle.cpu_core.specs.BusCycles as cycles
 use Rattle.cpu_core.specs.Registers.{registers_of}
 use Rattle.cpu_core.specs.Sequences.{Runs}
@@ -18,7 +17,7 @@ use Rattle.lockstep_board.specs.Run.{is_over}
 use Rattle.lockstep_board.specs.Peripherals.{Peripherals, byte_read, devices_ticked, ticked}
 use Rattle.catchup_engine.specs.declared.quiet.Horizon.{Horizon}
 use Rattle.catchup_engine.specs.Bus.{Accepts, BusStep, BusValue}
-use Rattle.catchup_engine.specs.Horizon.{IsHorizon, KeepsLines}
+use Rattle.catchup_engine.specs.Horizon.{IsHorizon, KeepsLines, is_before}
 use Rattle.catchup_engine.specs.Notes.{NoteValue, NotedStep, NotedValue, ReachedValue, note_of, nothing_reached, noting}
 use Rattle.catchup_engine.specs.Quiet.{IsCounted, later, passed}
 use Rattle.catchup_engine.specs.Runs.{GoesOn, HasRoomTo, IsInRange, over_bus}
@@ -67,8 +66,8 @@ module _ {T : Type 0} (next : T → TraceValue → ℕ → T) (enough : T → Bo
     pub few : r.accesses ≤ t.peripherals.clock + elapsed
     pub turns : IsFresh c s elapsed t e r ⊎ HasTurns together c s elapsed t e r more
 
-  pub noted-starts : (horizon : Horizon) (together : Bool) (c : CpuValue) (s : BusValue) (r : ReachedValue) → limit ≤ CLOCK_LIMIT → IsInRange c s → s.clock_open ≡ false → HasRoomTo limit s → Accepts tape s
-      → GoesOn limit no_conditions c s → IsHorizon limit horizon s → horizon.until ≡ min limit (s.event_at - 6) → r ≡ nothing_reached → AtNoted horizon together c s 0 s c r true
+  pub noted-starts : (horizon : Horizon) (together : Bool) (c : CpuValue) (s : BusValue) (r : ReachedValue) → limit ≤ CLOCK_LIMIT → IsInRange c s → s.clock_open ≡ false
+      → HasRoomTo limit s → Accepts tape s → GoesOn limit no_conditions c s → IsHorizon limit horizon s → horizon.until ≡ min limit (s.event_at - 6) → r ≡ nothing_reached → AtNoted horizon together c s 0 s c r true
   noted-starts horizon together c s r last range between room accepts goes known until none =
       let no_starts = ap (λ (k : ReachedValue). k.starts) none in
       let no_accesses = ap (λ (k : ReachedValue). k.accesses) none in
@@ -91,7 +90,9 @@ module _ {T : Type 0} (next : T → TraceValue → ℕ → T) (enough : T → Bo
       (at : AtNoted horizon together c s elapsed t e r more)
       (runs : Runs (NotedStep tape.entries) (registers_of e) Opcode (noting (passed elapsed t) r) (noting (passed n u) then) f) (boundary : f.mid ≡ None) where
     bus-runs : Runs (BusStep tape.entries) (registers_of e) Opcode (passed elapsed t) (passed n u) f
-    bus-runs = (runs-seen (BusStep tape.entries) (λ (k : NotedValue). k.bus) (λ k. 0) (λ x a b h. (refl, h.step)) (registers_of e) Opcode (noting (passed elapsed t) r) (noting (passed n u) then) f runs).1
+    bus-runs =
+        (runs-seen (BusStep tape.entries) (λ (k : NotedValue). k.bus) (λ k. 0) (λ x a b h. (refl, h.step)) (registers_of e) Opcode
+        (noting (passed elapsed t) r) (noting (passed n u) then) f runs).1
 
     reads : ReadsOpcode e (passed elapsed t)
     reads = (reads-opcode e (passed elapsed t) (at.at.goes on_yet).reads).reads
@@ -201,11 +202,11 @@ module _ {T : Type 0} (next : T → TraceValue → ℕ → T) (enough : T → Bo
         → (together ≡ true → (k : Peripherals) → k.ram ≡ s.peripherals.ram → k.program ≡ s.peripherals.program → plain (byte_read c.pc k) ≡ true)
         → IsCounted tape n u → KeepsLines t u → then.accesses ≤ u.peripherals.clock + n
         → (goes ≡ true → u.peripherals.divider.phase + (u.event_at - u.peripherals.clock) < DIVIDER_PERIOD)
-        → (goes ≡ true → (nat_lt (u.peripherals.clock + n) horizon.until && (is_none f.jam && (horizon.irq_idle || is_masked f.p))) ≡ true) → (goes ≡ true → then.starts ≡ [])
+        → (goes ≡ true → is_before false horizon f (passed n u) ≡ true) → (goes ≡ true → then.starts ≡ [])
         → (goes ≡ true → together ≡ true) → (goes ≡ true → (k : Peripherals) → k.ram ≡ u.peripherals.ram → k.program ≡ u.peripherals.program → plain (byte_read f.pc k) ≡ true)
         → AtNoted horizon together c s n u f then goes
     noted-goes goes last laws opcode counted lines few wrap before no_starts joined plain_then = record {
-      at = horizon-goes tape limit no_conditions horizon c e f s t u elapsed n more goes on_yet last at.at bus-runs boundary counted lines wrap (λ on. and-none _ (before on));
+      at = horizon-goes tape limit no_conditions false horizon c e f s t u elapsed n more goes on_yet last at.at bus-runs boundary counted lines wrap (λ on. and-none _ (before on));
       starts = no_starts;
       few = few;
       turns = inr (record { runs = λ w. by_turns at.turns w; joined = joined; opcode = plain_then });

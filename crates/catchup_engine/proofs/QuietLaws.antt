@@ -1,11 +1,9 @@
 -- Clocks in which no event is due.
-use Rattle.std.proofs.Common.{◌≡◌, ℕ, ◌+◌, ◌-◌, ◌*◌, ◌≤◌, ◌<◌, false, List, ◌++◌, length, refl, sym}
+use Rattle.std.proofs.Common.{◌≡◌, ℕ, ◌+◌, ◌-◌, ◌*◌, ◌≤◌, ◌<◌, Bool, true, false, ◌&&◌, ◌||◌, List, ◌++◌, length, refl, sym}
 use Rattle.std.proofs.Common.{ap, ◌∙◌, append_assoc, append-nil, add-zero, arith, slice_index, slice_set, ◌==◌, zero, suc, if◌then◌else◌}
 use Rattle.std.proofs.lemmas.Bool.Decides.{nat_tests}
 use Rattle.std.specs.Int.{from_bool}
-use Rattle.board_base.specs.declared.cpu.Sequence.{Sequence}
 use Rattle.board_base.specs.declared.record.Record.{Record}
-use Rattle.board_base.specs.Cpu.{CpuValue}
 use Rattle.board_base.specs.Pokey.{PokeyValue}
 use Rattle.board_base.specs.Ticks.{made, ticks, times}
 use Rattle.board_base.proofs.TickLaws.{ticks-add, made-add, ticks-more, ticks-times, made-more, times-add, times-more}
@@ -14,8 +12,6 @@ use Rattle.earom_cells.specs.Tick.{earom_tick}
 use Rattle.irq_watchdog.specs.Tick.{divider_tick}
 use Rattle.pokey_chip.specs.Tick.{levels_made, pokey_gives, pokey_tick}
 use Rattle.cpu_core.specs.BusCycles.{Access, read_of, write_of}
-use Rattle.cpu_core.specs.Registers.{RegistersValue}
-use Rattle.cpu_core.specs.Sequences.{Runs}
 use Rattle.tape_ports.specs.declared.entry.TapeEntry.{TapeEntry}
 use Rattle.tape_ports.specs.Tape.{TapeValue}
 use Rattle.board_map.specs.Map.{row_of}
@@ -25,11 +21,11 @@ use Rattle.catchup_engine.specs.Lags.{DeviceLags, all_lag, lagging_at}
 use Rattle.catchup_devices.specs.Lags.{lags}
 use Rattle.catchup_engine.specs.Bus.{Accepts, BusStep, BusValue, Does, Stays, at_clock, begin_price, done_clock, in_clock, room_of}
 use Rattle.catchup_engine.specs.Quiet.{IsCounted, later, passed, quiet_room}
-use Rattle.lockstep_board.specs.Peripherals.{Peripherals, byte_put, byte_read, devices_ticked}
+use Rattle.lockstep_board.specs.Peripherals.{Peripherals, byte_put, byte_read, devices_ticked, has_request}
 use Rattle.catchup_engine.proofs.AccessLaws.{write-step}
 use Rattle.catchup_engine.proofs.ClockLaws.{clock-back}
+use Rattle.catchup_engine.proofs.DividerLaws.{irq-later}
 use Rattle.catchup_engine.proofs.MapLaws.{row-program, row-ram}
-use Rattle.catchup_engine.proofs.Seen.{runs-seen}
 use Rattle.catchup_engine.proofs.TapeLaws.{fits-quiet, ticked-quiet}
 
 module _ {S : Type 0} (tick : ℕ → S → S) where
@@ -85,16 +81,32 @@ lagging-later a b c d e clock (suc n) ha hb hc hd he =
       later-some n,
     ) refl
 
+-- a POKEY that was moved up to an earlier clock
+pub requests-later : (from at n : ℕ) (p : PokeyValue) → from ≤ at
+    → has_request (pokey_tick (times pokey_tick n (times pokey_tick (at - from) p))) ≡ has_request (pokey_tick (times pokey_tick (at + n - from) p))
+requests-later from at n p h = ap (λ q. has_request (pokey_tick q)) (sym (times-later pokey_tick from at n p h))
+
+-- the first of two doesn't assert the line
+pub either-asks : (wired wired_too first second a b : Bool) → wired_too ≡ wired → a ≡ false → a ≡ (wired && first) → b ≡ (wired_too && second)
+    → b ≡ (wired && (first || second))
+either-asks false _ first second a b e f h k = rw e at k
+either-asks true _ false second a b e f h k = rw e at k
+either-asks true _ true second a b e f h k = cc
+
+pub ruleset later_lines = (irq-later, requests-later)
+
 pub ruleset later_devices = (ticks-later, made-later, times-later, append_assoc, lagging-later)
 
 -- no clock doesn't change the peripherals
-later-zero : (w : Peripherals) → later 0 w ≡ w
+pub later-zero : (w : Peripherals) → later 0 w ≡ w
 unfolding later ticks made
 later-zero w = rw (add-zero, append-nil, append-nil, append-nil) refl
 
 pub passed-zero : (s : BusValue) → passed 0 s ≡ s
 unfolding passed
 passed-zero s = ap (λ (w : Peripherals). let r : BusValue = record s { peripherals = w } in r) (later-zero s.peripherals)
+
+pub ruleset none_later = later-zero
 
 -- and one clock more has its devices' ticks
 later-more : (n : ℕ) (w : Peripherals) → later (n + 1) w ≡ done_clock (devices_ticked (later n w))
@@ -454,11 +466,3 @@ pub counted-start : (tape : TapeValue) (n : ℕ) (s : BusValue) → n ≡ 0 → 
     → IsCounted tape n s
 counted-start tape n s none accepts between no_event room =
     rw none (record { accepts = rw (passed-zero s) accepts; between = between; no_event = omega arith; last = omega arith; until = omega arith })
-
--- the accesses of a whole sequence, whose clocks the bus hasn't got yet
-pub quiet-runs : {S : Type 0} {T : Access → S → S → Type 0} (entries : List TapeEntry) (bus : S → BusValue) (elapsed : S → ℕ) (name : S → ℕ)
-    → ((x : Access) (a b : S) → T x a b → (name b ≡ name a) × BusStep entries x (passed (elapsed a) (bus a)) (passed (elapsed b) (bus b)))
-    → (r : RegistersValue) (q : Sequence) (s t : S) (e : CpuValue) → Runs T r q s t e
-    → (name t ≡ name s) × Runs (BusStep entries) r q (passed (elapsed s) (bus s)) (passed (elapsed t) (bus t)) e
-quiet-runs {S} entries bus elapsed name lift r q s t e runs =
-    runs-seen (BusStep entries) (λ (k : S). passed (elapsed k) (bus k)) name lift r q s t e runs

@@ -1,9 +1,9 @@
 //! Instructions in whose clocks no event is due, which are passed to a tracer.
-ghost use Rattle.std.specs.Prelude.{◌≡◌, ◌+◌, ◌-◌, ◌*◌, ◌^◌, ◌<◌, ◌≤◌, ◌&&◌, ◌||◌, ℕ, [], true, is_none, length, nat_lt, None, IfSome};
+ghost use Rattle.std.specs.Prelude.{◌≡◌, ◌+◌, ◌-◌, ◌*◌, ◌^◌, ◌<◌, ◌≤◌, ◌&&◌, ℕ, [], true, false, length, None, IfSome};
 ghost use Rattle.std.specs.Int.{from_bool};
+ghost use Rattle.board_base.specs.declared.board.TheConstants.{CLOCK_LIMIT};
 ghost use Rattle.board_base.specs.declared.divider.TheConstants.{DIVIDER_PERIOD};
 ghost use Rattle.board_map.specs.Map.{IsWithin, row_of};
-ghost use Rattle.cpu_alu.specs.Flags.{is_masked};
 ghost use Rattle.cpu_core.specs.BusCycles.{read_of, write_of};
 ghost use Rattle.cpu_core.specs.Registers.{registers_of};
 ghost use Rattle.cpu_core.specs.Sequences.{Runs};
@@ -13,6 +13,8 @@ ghost use Rattle.lockstep_board.specs.Peripherals.{Peripherals, byte_put, byte_r
 ghost use Rattle.catchup_engine.specs.StopConditions.{no_conditions};
 ghost use Rattle.catchup_engine.specs.Bus.{Accepts, Does, at_clock, is_private};
 ghost use Rattle.catchup_engine.specs.Lags.{lagging_at};
+ghost use Rattle.catchup_engine.specs.Horizon.{is_before};
+ghost use Rattle.catchup_engine.specs.Quiet.{passed};
 ghost use Rattle.catchup_engine.specs.Notes.{CanNote, IsNoted, with_reached};
 ghost use Rattle.catchup_engine.specs.Runs.{over_bus, CanTakeTurns, GoesOn, TurnsOn};
 ghost use Rattle.catchup_engine.specs.Together.{NotedRun};
@@ -194,12 +196,14 @@ impl<'a, S: Units, T: Tracer> NotedBus<'a, S, T> {
     #[inline(always)]
     fn goes_on(&self, horizon: &Horizon, cpu: &Cpu) -> bool
         requires no_event { self.now.quiet.bus.now.peripherals.clock + self.now.quiet.elapsed ≤ self.now.quiet.bus.now.event_at }
-        ensures before { result ≡ true → (nat_lt (self.now.quiet.bus.now.peripherals.clock + self.now.quiet.elapsed) horizon.now.until && (is_none cpu.now.jam && (horizon.now.irq_idle || is_masked cpu.now.p))) ≡ true }
+        requires event { horizon.now.until + 6 ≤ self.now.quiet.bus.now.event_at }
+        requires last { horizon.now.until ≤ CLOCK_LIMIT }
+        ensures before { result ≡ true → is_before false horizon.now cpu.now (passed self.now.quiet.elapsed self.now.quiet.bus.now) ≡ true }
         ensures starts { result ≡ true → self.now.reached.now.starts ≡ [] }
         ensures plain { result ≡ true → (w : Peripherals) → w.ram ≡ self.now.quiet.bus.now.peripherals.ram → w.program ≡ self.now.quiet.bus.now.peripherals.program → T.plain (byte_read cpu.now.pc w) ≡ true }
         ensures wrap { result ≡ true → self.now.quiet.bus.now.peripherals.divider.phase + (self.now.quiet.bus.now.event_at - self.now.quiet.bus.now.peripherals.clock) < DIVIDER_PERIOD }
     {
-        self.quiet.is_before(horizon, cpu)
+        self.quiet.is_before::<false>(horizon, cpu)
             && self.reached.has_no_starts()
             && T::is_plain(self.opcode_at(cpu.state().pc))
     }

@@ -1,13 +1,13 @@
 //! Instructions in whose clocks no event is due.
-ghost use Rattle.std.specs.Prelude.{◌≡◌, ◌+◌, ◌-◌, ◌≤◌, ◌<◌, ◌&&◌, ◌||◌, false, is_none, min, nat_lt, None};
+ghost use Rattle.std.specs.Prelude.{◌≡◌, ◌+◌, ◌-◌, ◌≤◌, ◌<◌, false, min, None};
+ghost use Rattle.board_base.specs.declared.board.TheConstants.{CLOCK_LIMIT};
 ghost use Rattle.board_base.specs.declared.divider.Pending.TheVariants.{Nothing};
 ghost use Rattle.board_base.specs.declared.divider.TheConstants.{DIVIDER_PERIOD};
-ghost use Rattle.cpu_alu.specs.Flags.{is_masked};
 ghost use Rattle.cpu_core.specs.Sequences.{Runs};
 ghost use Rattle.cpu_core.specs.Places.{Fetches};
 ghost use Rattle.cpu_core.specs.Registers.{registers_of};
 ghost use Rattle.catchup_engine.specs.Bus.{Accepts, Looked};
-ghost use Rattle.catchup_engine.specs.Horizon.{IsHorizon, KeepsLines};
+ghost use Rattle.catchup_engine.specs.Horizon.{IsHorizon, KeepsLines, is_before};
 ghost use Rattle.lockstep_board.specs.Peripherals.{devices_ticked};
 ghost use Rattle.catchup_engine.specs.Quiet.{IsCounted, passed};
 ghost use Rattle.catchup_engine.specs.Runs.{CanTakeTurns, GoesOn, TurnsOn, over_bus};
@@ -59,6 +59,9 @@ pub(crate) struct QuietBus<'a, S: Units, U> {
     pub(crate) elapsed: u64,
     pub(crate) user: PhantomData<U>,
 }
+
+/// The user of the bus in a loop up to breaks, which asks for the interrupt line or doesn't.
+struct Loop<B, const WIRED: bool>(PhantomData<B>);
 
 impl<'a, S: Units, U> QuietBus<'a, S, U> {
     /// A bus with no clock counted yet.
@@ -136,16 +139,22 @@ impl<'a, S: Units, U> QuietBus<'a, S, U> {
         self.bus.clock_after(self.elapsed)
     }
 
-    /// Whether this boundary is before the horizon, so that its fetch reads an opcode.
+    /// Whether this boundary is before the horizon and its fetch reads an opcode. With `WIRED` it
+    /// asks for the interrupt line where the horizon doesn't tell.
     #[inline(always)]
-    pub(crate) fn is_before(&self, horizon: &Horizon, cpu: &Cpu) -> bool
+    #[tactic(auto, unfolding(crate::specs::Quiet::later, crate::specs::Quiet::passed))]
+    pub(crate) fn is_before<const WIRED: bool>(&self, horizon: &Horizon, cpu: &Cpu) -> bool
         requires no_event { self.now.bus.now.peripherals.clock + self.now.elapsed ≤ self.now.bus.now.event_at }
-        ensures value { result ≡ (nat_lt (self.now.bus.now.peripherals.clock + self.now.elapsed) horizon.now.until && (is_none cpu.now.jam && (horizon.now.irq_idle || is_masked cpu.now.p))) }
+        requires event { horizon.now.until + 6 ≤ self.now.bus.now.event_at }
+        requires last { horizon.now.until ≤ CLOCK_LIMIT }
+        ensures value { result ≡ is_before WIRED horizon.now cpu.now (passed self.now.elapsed self.now.bus.now) }
         ensures wrap { self.now.bus.now.peripherals.divider.phase + (self.now.bus.now.event_at - self.now.bus.now.peripherals.clock) < DIVIDER_PERIOD }
     {
         self.bus.clock_after(self.elapsed) < horizon.until
             && cpu.state().jam.is_none()
-            && (horizon.irq_idle || Flags::from_byte(cpu.state().p).interrupt)
+            && (horizon.irq_idle
+                || Flags::from_byte(cpu.state().p).interrupt
+                || WIRED && !self.bus.line_after(self.elapsed))
     }
 }
 
@@ -195,7 +204,7 @@ impl<'a, S: Units, U> Bus for QuietBus<'a, S, U> {
 /// to the first at which the run stops. The board gets their clocks where a device is reached, and
 /// at the end.
 #[inline(always)]
-pub(crate) fn run_to_horizon<S: Units, B: Breaks>(
+pub(crate) fn run_to_horizon<S: Units, B: Breaks, const WIRED: bool>(
     mut cpu: Cpu,
     bus: &mut BoardBus<S>,
     tape: &Tape,
@@ -209,11 +218,11 @@ pub(crate) fn run_to_horizon<S: Units, B: Breaks>(
     ensures accepts { Accepts tape.now bus.new }
 {
     let horizon = horizon_from(bus, limit);
-    let mut quiet = QuietBus::<S, B>::new(bus);
+    let mut quiet = QuietBus::<S, Loop<B, WIRED>>::new(bus);
     let mut goes_on = true;
     while goes_on {
         let _fetched = quiet.instruction(&mut cpu, tape);
-        goes_on = quiet.is_before(&horizon, &cpu) && !quiet.is_stop(&cpu, breaks);
+        goes_on = quiet.is_before::<WIRED>(&horizon, &cpu) && !quiet.is_stop(&cpu, breaks);
     }
     quiet.flush();
     let QuietBus {

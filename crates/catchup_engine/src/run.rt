@@ -70,7 +70,7 @@ fn goes_fast<S: Units, B: Breaks>(cpu: &Cpu, bus: &mut BoardBus<S>, limit: u64, 
 /// A run without a tracer makes most of its clocks here. As nothing that this loop calls takes the processor,
 /// LLVM keeps its registers out of memory.
 #[inline(always)]
-fn run_fast<S: Units, B: Breaks>(
+fn run_fast<S: Units, B: Breaks, const WIRED: bool>(
     mut cpu: Cpu,
     bus: &mut BoardBus<S>,
     tape: &Tape,
@@ -84,7 +84,7 @@ fn run_fast<S: Units, B: Breaks>(
 {
     let mut on = goes_fast(&cpu, bus, limit, breaks);
     while on {
-        cpu = run_to_horizon(cpu, bus, tape, limit, breaks);
+        cpu = run_to_horizon::<S, B, WIRED>(cpu, bus, tape, limit, breaks);
         on = goes_fast(&cpu, bus, limit, breaks);
     }
     cpu
@@ -93,9 +93,10 @@ fn run_fast<S: Units, B: Breaks>(
 /// Does whole sequences up to the limit, or to where the run stops.
 ///
 /// All runs without stops and tracers share one such loop, since LLVM puts the processor into it
-/// only where it is called once. Runs to stops have a second.
+/// only where it is called once. Runs to stops have a second, and so has either where the POKEYs
+/// are wired: a loop that asks for the interrupt line is slower.
 #[inline(never)]
-fn run_turns<S: Units, B: Breaks>(
+fn run_turns<S: Units, B: Breaks, const WIRED: bool>(
     mut cpu: Cpu,
     bus: &mut BoardBus<S>,
     tape: &Tape,
@@ -112,10 +113,32 @@ fn run_turns<S: Units, B: Breaks>(
     let mut ended = is_at_end(&cpu, bus, limit, breaks);
     while !ended {
         cpu = step_slow(cpu, bus, tape, MAX_SEQUENCE_CLOCKS);
-        cpu = run_fast(cpu, bus, tape, limit, breaks);
+        cpu = run_fast::<S, B, WIRED>(cpu, bus, tape, limit, breaks);
         ended = is_at_end(&cpu, bus, limit, breaks);
     }
     cpu
+}
+
+/// Does whole sequences up to the limit, or to where the run stops, by the loop of the board's
+/// wiring.
+#[inline(always)]
+fn run_by_wiring<S: Units, B: Breaks>(
+    cpu: Cpu,
+    bus: &mut BoardBus<S>,
+    tape: &Tape,
+    limit: u64,
+    breaks: &B,
+) -> Cpu
+    requires ready { CanTakeTurns limit tape.now cpu bus.old }
+    requires boundary { cpu.mid ≡ None }
+    ensures runs { TurnsRun tape.now.entries limit (B.conditions breaks.now) cpu bus.old bus.new result }
+    ensures accepts { Accepts tape.now bus.new }
+{
+    if bus.is_wired() {
+        run_turns::<S, B, true>(cpu, bus, tape, limit, breaks)
+    } else {
+        run_turns::<S, B, false>(cpu, bus, tape, limit, breaks)
+    }
 }
 
 /// Does the rest of the sequence under way, if there is one, and then whole sequences up to the
@@ -134,7 +157,7 @@ pub(crate) fn run_until<S: Units>(
     if cpu.state().mid.is_some() {
         cpu = step_slow(cpu, bus, tape, MAX_SEQUENCE_CLOCKS);
     }
-    run_turns(cpu, bus, tape, limit, &Nowhere)
+    run_by_wiring(cpu, bus, tape, limit, &Nowhere)
 }
 
 /// Does a turn, unless the processor is jammed, and then others up to the limit or to where the run
@@ -155,7 +178,7 @@ pub(crate) fn run_to_stop<S: Units>(
     if cpu.state().jam.is_none() {
         cpu = step_slow(cpu, bus, tape, MAX_SEQUENCE_CLOCKS);
     }
-    run_turns(cpu, bus, tape, limit, stops)
+    run_by_wiring(cpu, bus, tape, limit, stops)
 }
 
 /// Does turns up to the limit, each of which is passed to a tracer, or up to one after which it has
@@ -221,7 +244,7 @@ pub(crate) fn run_to_cut<S: Units>(
         let clocks = clocks_to(bus.clock(), cut);
         cpu = step_slow(cpu, bus, tape, clocks);
         if cpu.state().mid.is_none() {
-            cpu = run_turns(cpu, bus, tape, near, &Nowhere);
+            cpu = run_by_wiring(cpu, bus, tape, near, &Nowhere);
         }
     }
     cpu

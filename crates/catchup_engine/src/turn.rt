@@ -145,7 +145,7 @@ pub(crate) fn step_slow<S: Units>(
 /// Whether the next fetch reads an opcode and no event is due in its sequence's clocks, asked
 /// before them.
 #[inline(always)]
-#[tactic(auto, using(crate::proofs::OpcodeLaws::opcodes), unfolding(crate::specs::Turn::reads_opcode))]
+#[tactic(auto, using(crate::proofs::OpcodeLaws::opcodes, crate::proofs::QuietLaws::none_later), unfolding(crate::specs::Turn::reads_opcode))]
 pub(crate) fn reads_opcode<S: Units>(cpu: &Cpu, bus: &BoardBus<S>) -> bool
     requires clock { bus.now.peripherals.clock < CLOCK_END }
     ensures { result ≡ reads_opcode cpu.now bus.now }
@@ -154,5 +154,5 @@ pub(crate) fn reads_opcode<S: Units>(cpu: &Cpu, bus: &BoardBus<S>) -> bool
     state.mid.is_none()
         && bus.is_quiet()
         && bus.next_pending() == Pending::Nothing
-        && (Flags::from_byte(state.p).interrupt || !bus.next_line())
+        && (Flags::from_byte(state.p).interrupt || !bus.line_after(0))
 }

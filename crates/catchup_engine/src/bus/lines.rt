@@ -1,8 +1,9 @@
 //! The lines to the processor: the interrupt, and the pending reset with what its first clock does.
 ghost use Rattle.std.specs.Prelude.{◌≡◌, ◌&&◌, not, ◌+◌, ◌-◌, ◌≤◌, ◌<◌, ◌||◌, length, ◌++◌, ◌∷◌, []};
 ghost use Rattle.catchup_engine.specs.Bus.{Does, at_clock};
+ghost use Rattle.catchup_engine.specs.Quiet.{later};
 ghost use Rattle.irq_watchdog.specs.Tick.{reset_taken};
-ghost use Rattle.lockstep_board.specs.Peripherals.{devices_ticked, line_of, reset_begun};
+ghost use Rattle.lockstep_board.specs.Peripherals.{devices_ticked, has_request, line_of, reset_begun};
 
 use crate::bus::BoardBus;
 use crate::devices::Units;
@@ -23,17 +24,35 @@ impl<S: Units> BoardBus<S> {
             || self.sound2.asserts_irq(self.clock)
     }
 
-    /// The interrupt line after the next clock's ticks, where no event is due in it.
+    /// The interrupt line after so many clocks and the ticks of the clock that comes next, where no
+    /// event is due in them.
     #[inline(always)]
-    #[tactic(auto, using(crate::proofs::DividerLaws::next_lines), unfolding(lockstep_board::specs::Peripherals::line_of, lockstep_board::specs::Peripherals::devices_ticked))]
-    pub fn next_line(&self) -> bool
-        requires no_event { self.now.peripherals.clock < self.now.event_at }
-        requires clock { self.now.peripherals.clock < CLOCK_END }
-        ensures { result ≡ line_of (devices_ticked self.now.peripherals) }
+    #[tactic(auto, using(crate::proofs::QuietLaws::later_lines), unfolding(lockstep_board::specs::Peripherals::line_of, lockstep_board::specs::Peripherals::devices_ticked, crate::specs::Quiet::later))]
+    pub fn line_after(&self, clocks: u64) -> bool
+        requires no_event { self.now.peripherals.clock + clocks < self.now.event_at }
+        requires clock { self.now.peripherals.clock + clocks < CLOCK_END }
+        ensures { result ≡ line_of (devices_ticked (later clocks self.now.peripherals)) }
     {
-        self.divider.unit.irq()
-            || self.sound1.asserts_irq_next(self.clock)
-            || self.sound2.asserts_irq_next(self.clock)
+        self.divider.unit.irq() || self.has_request_after(clocks)
+    }
+
+    /// Whether a POKEY asserts the interrupt line after so many clocks and the ticks of the next one.
+    #[inline(always)]
+    #[tactic(auto, using(crate::proofs::QuietLaws::later_lines), unfolding(lockstep_board::specs::Peripherals::devices_ticked, crate::specs::Quiet::later))]
+    fn has_request_after(&self, clocks: u64) -> bool
+        requires clock { self.now.peripherals.clock + clocks < CLOCK_END }
+        ensures { result ≡ (self.now.peripherals.wired && (has_request (devices_ticked (later clocks self.now.peripherals)).sound1 || has_request (devices_ticked (later clocks self.now.peripherals)).sound2)) }
+    {
+        let clock = self.clock + clocks;
+        self.sound1.asserts_irq_next(clock) || self.sound2.asserts_irq_next(clock)
+    }
+
+    /// Whether the POKEYs' requests reach the interrupt line.
+    #[inline(always)]
+    pub fn is_wired(&self) -> bool
+        ensures { result ≡ self.now.peripherals.wired }
+    {
+        self.sound1.wired
     }
 
     /// Whether the interrupt line is deasserted until the next event: no POKEY is wired to it.

@@ -31,7 +31,8 @@ returns-then-addr-ge-WATCHDOG_START g c =
 
 pub returns-else-addr-ge-WATCHDOG_START : goal.returns-else-addr-ge-WATCHDOG_START
 returns-else-addr-ge-WATCHDOG_START g c =
-    noted-written c.args._tape.now c.args.elapsed c.args.addr c.args.value c.args.bus.now c.pass.new.self c.put_noted-else-addr-ge-WATCHDOG_START.new.bus c.args.reached.now c.put_noted-else-addr-ge-WATCHDOG_START.new.reached
+    noted-written c.args._tape.now c.args.elapsed c.args.addr c.args.value c.args.bus.now c.pass.new.self
+    c.put_noted-else-addr-ge-WATCHDOG_START.new.bus c.args.reached.now c.put_noted-else-addr-ge-WATCHDOG_START.new.reached
     c.requires c.pass.ensures.value
     (passed-keeps (c.args.elapsed + 1) c.args.bus.now c.pass.new.self c.pass.ensures.value c.pass.ensures.irq c.pass.ensures.pending)
     c.put_noted-else-addr-ge-WATCHDOG_START.ensures.does c.put_noted-else-addr-ge-WATCHDOG_START.ensures.few c.put_noted-else-addr-ge-WATCHDOG_START.ensures.reached

@@ -1,17 +1,15 @@
-use Rattle.std.proofs.Common.{◌&&◌, ◌||◌, is_none, nat_lt, sym, ◌∙◌, ◌+◌, refl}
-use Rattle.board_base.specs.declared.cpu.Sequence.TheVariants.{Opcode}
-use Rattle.cpu_alu.specs.Flags.{is_masked}
-use Rattle.cpu_core.specs.Registers.{registers_of}
+use Rattle.std.proofs.Common.{◌-◌, ◌<◌, sym, ◌∙◌, refl, true, arith}
 use Rattle.catchup_engine.specs.StopConditions.{asks_generator, stops_at}
 use Rattle.lockstep_board.specs.Peripherals.{devices_ticked}
 use Rattle.catchup_engine.specs.Quiet.{passed}
 use Rattle.catchup_engine.specs.Runs.{over_bus}
-use Rattle.catchup_engine.proofs.HorizonLaws.{none-pending, runs-keep}
-use Rattle.catchup_engine.proofs.HorizonRuns.{horizon-looked, and-else, and-then, horizon-goes, horizon-room, horizon-smaller, horizon-starts}
+use Rattle.catchup_engine.proofs.HorizonLaws.{none-pending}
+use Rattle.catchup_engine.proofs.HorizonRuns.{IsQuietBy, horizon-looked, and-else, and-then, horizon-goes, horizon-room, horizon-smaller, horizon-starts, quiet-by}
 use Rattle.catchup_engine.proofs.OpcodeLaws.{reads-opcode}
-use Rattle.catchup_engine.proofs.QuietLaws.{quiet-runs}
 use Rattle.catchup_engine.proofs.StopLaws.{looked-clock}
+use Rattle.catchup_engine.proofs.quiet.run_to_horizon.Given
 use Rattle.catchup_engine.proofs.quiet.run_to_horizon.Goals as goal
+use Rattle.catchup_engine.proofs.quiet.run_to_horizon.Goals.{After-instruction-fetched}
 
 pub horizon_from-horizon-requires-clause-no_event : goal.horizon_from-horizon-requires-clause-no_event
 horizon_from-horizon-requires-clause-no_event g c = (reads-opcode c.args.cpu c.args.bus.now c.requires.goes_on.reads).reads.no_event
@@ -34,26 +32,39 @@ instruction-fetched-requires-clause-room g c =
     horizon-room c.args.tape.now c.args.limit (g.B.Breaks.conditions c.args.breaks.now) c.horizon_from-horizon.result c.args.cpu c.loop-goes_on.cpu c.args.bus.now
     c.loop-goes_on.quiet.bus.now c.loop-goes_on.quiet.elapsed c.loop-goes_on.goes_on c.loop-goes_on-test.true c.requires.ready.within c.requires.ready.room c.loop-goes_on.invariant.at
 
+-- what the instruction did
+did : (g : Given.Over) (c : After-instruction-fetched g) → IsQuietBy c.args.tape.now.entries (λ s. s.bus.now) (λ s. s.elapsed) (λ s. s.bus.ghost_name)
+    c.loop-goes_on.cpu c.instruction-fetched.new.cpu c.loop-goes_on.quiet c.instruction-fetched.new.self
+did g c =
+    quiet-by c.args.tape.now.entries (λ s. s.bus.now) (λ s. s.elapsed) (λ s. s.bus.ghost_name) (λ x a b h. h)
+    c.loop-goes_on.cpu c.instruction-fetched.new.cpu c.loop-goes_on.quiet c.instruction-fetched.new.self c.instruction-fetched.ensures.runs
+
+smaller : (g : Given.Over) (c : After-instruction-fetched g) → c.args.limit - (passed c.instruction-fetched.new.self.elapsed c.instruction-fetched.new.self.bus.now).peripherals.clock
+    < c.args.limit - (passed c.loop-goes_on.quiet.elapsed c.loop-goes_on.quiet.bus.now).peripherals.clock
+smaller g c =
+    horizon-smaller c.args.tape.now c.args.limit (g.B.Breaks.conditions c.args.breaks.now) c.horizon_from-horizon.result c.args.cpu c.loop-goes_on.cpu
+    c.instruction-fetched.new.cpu c.args.bus.now c.loop-goes_on.quiet.bus.now c.instruction-fetched.new.self.bus.now c.loop-goes_on.quiet.elapsed
+    c.instruction-fetched.new.self.elapsed c.loop-goes_on.goes_on c.loop-goes_on-test.true c.loop-goes_on.invariant.at (did g c).runs c.instruction-fetched.ensures.boundary
+
 pub loop-goes_on-smaller-then-is_before : goal.loop-goes_on-smaller-then-is_before
 loop-goes_on-smaller-then-is_before g c =
-    let seen =
-    quiet-runs c.args.tape.now.entries (λ s. s.bus.now) (λ s. s.elapsed) (λ s. s.bus.ghost_name) (λ x a b h. (h.0, h.2)) (registers_of c.loop-goes_on.cpu) Opcode
-    c.loop-goes_on.quiet c.instruction-fetched.new.self c.instruction-fetched.new.cpu c.instruction-fetched.ensures.runs in
     let same =
     looked-clock (asks_generator (g.B.Breaks.conditions c.args.breaks.now)) (passed c.instruction-fetched.new.self.elapsed c.instruction-fetched.new.self.bus.now)
     (passed c.is_stop.new.self.elapsed c.is_stop.new.self.bus.now) c.is_stop.ensures.looked in
-    rw same (horizon-smaller c.args.tape.now c.args.limit (g.B.Breaks.conditions c.args.breaks.now) c.horizon_from-horizon.result c.args.cpu c.loop-goes_on.cpu
-    c.instruction-fetched.new.cpu c.args.bus.now c.loop-goes_on.quiet.bus.now c.instruction-fetched.new.self.bus.now c.loop-goes_on.quiet.elapsed
-    c.instruction-fetched.new.self.elapsed c.loop-goes_on.goes_on c.loop-goes_on-test.true c.loop-goes_on.invariant.at seen.1 c.instruction-fetched.ensures.boundary)
+    rw same (smaller g (goal.at.loop-goes_on-smaller-then-is_before g c).After-instruction-fetched)
+
+pub loop-goes_on-smaller : goal.loop-goes_on-smaller
+loop-goes_on-smaller g c = smaller g (goal.at.loop-goes_on-smaller g c).After-instruction-fetched
+
+pub is_before-requires-clause-event : goal.is_before-requires-clause-event
+is_before-requires-clause-event g c =
+    let event = (did g (goal.at.is_before-requires-clause-event g c).After-instruction-fetched).lines.event in
+    let no_event = c.loop-goes_on.invariant.at.are.no_event in
+    omega arith
 
 pub loop-goes_on-preserved-then-is_before : goal.loop-goes_on-preserved-then-is_before
 loop-goes_on-preserved-then-is_before g c =
-    let seen =
-    quiet-runs c.args.tape.now.entries (λ s. s.bus.now) (λ s. s.elapsed) (λ s. s.bus.ghost_name) (λ x a b h. (h.0, h.2)) (registers_of c.loop-goes_on.cpu) Opcode
-    c.loop-goes_on.quiet c.instruction-fetched.new.self c.instruction-fetched.new.cpu c.instruction-fetched.ensures.runs in
-    let lines =
-    runs-keep (λ s. s.bus.now) (λ x a b h. h.1) (registers_of c.loop-goes_on.cpu) Opcode c.loop-goes_on.quiet c.instruction-fetched.new.self
-    c.instruction-fetched.new.cpu c.instruction-fetched.ensures.runs in
+    let went = did g (goal.at.loop-goes_on-preserved-then-is_before g c).After-instruction-fetched in
     let stops = g.B.Breaks.conditions c.args.breaks.now in
     let t = c.instruction-fetched.new.self.bus.now in
     let n = c.instruction-fetched.new.self.elapsed in
@@ -62,43 +73,26 @@ loop-goes_on-preserved-then-is_before g c =
     record {
       at =
           horizon-looked c.args.tape.now c.args.limit stops horizon c.args.cpu f c.args.bus.now t c.is_stop.new.self.bus.now n c.is_stop.new.self.elapsed _
-          (horizon-goes c.args.tape.now c.args.limit stops horizon c.args.cpu c.loop-goes_on.cpu f c.args.bus.now c.loop-goes_on.quiet.bus.now t c.loop-goes_on.quiet.elapsed n
-          c.loop-goes_on.goes_on _ c.loop-goes_on-test.true c.requires.ready.within c.loop-goes_on.invariant.at seen.1 c.instruction-fetched.ensures.boundary
-          c.instruction-fetched.ensures.accepts lines (λ _. c.is_before.ensures.wrap)
-          (and-then (nat_lt (t.peripherals.clock + n) horizon.until && (is_none f.jam && (horizon.irq_idle || is_masked f.p))) (stops_at stops (over_bus f (passed n t))) c.is_stop.result
-          (sym c.is_before.ensures.value ∙ c.if-is_before.true) (sym c.is_stop.ensures.value)))
+          (horizon-goes c.args.tape.now c.args.limit stops _ horizon c.args.cpu c.loop-goes_on.cpu f c.args.bus.now c.loop-goes_on.quiet.bus.now t c.loop-goes_on.quiet.elapsed n
+          c.loop-goes_on.goes_on _ c.loop-goes_on-test.true c.requires.ready.within c.loop-goes_on.invariant.at went.runs c.instruction-fetched.ensures.boundary
+          c.instruction-fetched.ensures.accepts went.lines (λ _. c.is_before.ensures.wrap)
+          (and-then _ (stops_at stops (over_bus f (passed n t))) c.is_stop.result (sym c.is_before.ensures.value ∙ c.if-is_before.true) (sym c.is_stop.ensures.value)))
           c.is_stop.ensures.looked c.is_stop.ensures.lines (c.is_stop.ensures.counted c.args.tape.now c.instruction-fetched.ensures.accepts);
-      same = c.is_stop.ensures.same_reference ∙ seen.0 ∙ c.loop-goes_on.invariant.same;
+      same = c.is_stop.ensures.same_reference ∙ went.same ∙ c.loop-goes_on.invariant.same;
     }
-
-pub loop-goes_on-smaller : goal.loop-goes_on-smaller
-loop-goes_on-smaller g c =
-    let seen =
-    quiet-runs c.args.tape.now.entries (λ s. s.bus.now) (λ s. s.elapsed) (λ s. s.bus.ghost_name) (λ x a b h. (h.0, h.2)) (registers_of c.loop-goes_on.cpu) Opcode
-    c.loop-goes_on.quiet c.instruction-fetched.new.self c.instruction-fetched.new.cpu c.instruction-fetched.ensures.runs in
-    horizon-smaller c.args.tape.now c.args.limit (g.B.Breaks.conditions c.args.breaks.now) c.horizon_from-horizon.result c.args.cpu c.loop-goes_on.cpu
-    c.instruction-fetched.new.cpu c.args.bus.now c.loop-goes_on.quiet.bus.now c.instruction-fetched.new.self.bus.now c.loop-goes_on.quiet.elapsed
-    c.instruction-fetched.new.self.elapsed c.loop-goes_on.goes_on c.loop-goes_on-test.true c.loop-goes_on.invariant.at seen.1 c.instruction-fetched.ensures.boundary
 
 pub loop-goes_on-preserved : goal.loop-goes_on-preserved
 loop-goes_on-preserved g c =
-    let seen =
-    quiet-runs c.args.tape.now.entries (λ s. s.bus.now) (λ s. s.elapsed) (λ s. s.bus.ghost_name) (λ x a b h. (h.0, h.2)) (registers_of c.loop-goes_on.cpu) Opcode
-    c.loop-goes_on.quiet c.instruction-fetched.new.self c.instruction-fetched.new.cpu c.instruction-fetched.ensures.runs in
-    let lines =
-    runs-keep (λ s. s.bus.now) (λ x a b h. h.1) (registers_of c.loop-goes_on.cpu) Opcode c.loop-goes_on.quiet c.instruction-fetched.new.self
-    c.instruction-fetched.new.cpu c.instruction-fetched.ensures.runs in
+    let went = did g (goal.at.loop-goes_on-preserved g c).After-instruction-fetched in
     let stops = g.B.Breaks.conditions c.args.breaks.now in
     let t = c.instruction-fetched.new.self.bus.now in
     let n = c.instruction-fetched.new.self.elapsed in
     let f = c.instruction-fetched.new.cpu in
-    let horizon = c.horizon_from-horizon.result in
     record {
       at =
-          horizon-goes c.args.tape.now c.args.limit stops horizon c.args.cpu c.loop-goes_on.cpu f c.args.bus.now c.loop-goes_on.quiet.bus.now t c.loop-goes_on.quiet.elapsed n
-          c.loop-goes_on.goes_on _ c.loop-goes_on-test.true c.requires.ready.within c.loop-goes_on.invariant.at seen.1 c.instruction-fetched.ensures.boundary
-          c.instruction-fetched.ensures.accepts lines (λ _. c.is_before.ensures.wrap)
-          (and-else (nat_lt (t.peripherals.clock + n) horizon.until && (is_none f.jam && (horizon.irq_idle || is_masked f.p))) c.is_before.result (stops_at stops (over_bus f (passed n t)))
-          c.if-is_before.false);
-      same = seen.0 ∙ c.loop-goes_on.invariant.same;
+          horizon-goes c.args.tape.now c.args.limit stops true c.horizon_from-horizon.result c.args.cpu c.loop-goes_on.cpu f c.args.bus.now c.loop-goes_on.quiet.bus.now t
+          c.loop-goes_on.quiet.elapsed n c.loop-goes_on.goes_on _ c.loop-goes_on-test.true c.requires.ready.within c.loop-goes_on.invariant.at went.runs c.instruction-fetched.ensures.boundary
+          c.instruction-fetched.ensures.accepts went.lines (λ _. c.is_before.ensures.wrap)
+          (and-else _ c.is_before.result (stops_at stops (over_bus f (passed n t))) c.if-is_before.false);
+      same = went.same ∙ c.loop-goes_on.invariant.same;
     }

@@ -31,9 +31,9 @@ loop-bus-preserved-then-is_none g c =
     c.step_slow-cpu.result c.requires.ready.within c.loop-bus.invariant.at open_yet (omega arith) (rw here at c.clocks_to-clocks.ensures.all) c.step_slow-cpu.ensures.turned in
     record {
       at =
-          cut-turns c.args.tape.now.entries c.args.cut c.args.wrap c.min-near.result c.args.cpu c.args.bus.now c.step_slow-cpu.new.bus c.run_turns-cpu.new.bus
-          c.step_slow-cpu.result c.run_turns-cpu.result (c.min-near.ensures ∙ ap (min c.args.wrap) c.saturating_sub.ensures) at c.run_turns-cpu.ensures.runs;
-      accepts = c.run_turns-cpu.ensures.accepts;
+          cut-turns c.args.tape.now.entries c.args.cut c.args.wrap c.min-near.result c.args.cpu c.args.bus.now c.step_slow-cpu.new.bus c.run_by_wiring-cpu.new.bus
+          c.step_slow-cpu.result c.run_by_wiring-cpu.result (c.min-near.ensures ∙ ap (min c.args.wrap) c.saturating_sub.ensures) at c.run_by_wiring-cpu.ensures.runs;
+      accepts = c.run_by_wiring-cpu.ensures.accepts;
     }
 
 pub loop-bus-preserved : goal.loop-bus-preserved

@@ -6,7 +6,7 @@ use Rattle.catchup_engine.proofs.run.run_to_stop.Goals as goal
 use Rattle.catchup_engine.proofs.run.run_to_stop.Goals.{then-is_none, else-is_none}
 
 -- the first turn is made unless the processor is jammed
-first : (g : Given.Over) (c : goal.After-run_turns g)
+first : (g : Given.Over) (c : goal.After-run_by_wiring g)
     → AtTurn c.args.tape.now.entries c.args.limit c.args.stops.now c.args.cpu c.args.bus.now c.if-is_none.bus c.if-is_none.cpu
 first g c =
     let jammed : is_some c.args.cpu.jam ≡ not c.is_none.result =
@@ -25,6 +25,6 @@ first g c =
 pub returns : goal.returns
 returns g c = record {
   runs =
-      break-ends c.args.tape.now.entries c.args.limit c.args.stops.now c.args.cpu c.args.bus.now c.if-is_none.bus c.run_turns.new.bus c.if-is_none.cpu c.run_turns.result
-      (first g c) c.run_turns.ensures.runs;
+      break-ends c.args.tape.now.entries c.args.limit c.args.stops.now c.args.cpu c.args.bus.now c.if-is_none.bus c.run_by_wiring.new.bus c.if-is_none.cpu c.run_by_wiring.result
+      (first g c) c.run_by_wiring.ensures.runs;
 }

@@ -6,7 +6,7 @@ use Rattle.catchup_engine.proofs.run.run_until.Goals as goal
 use Rattle.catchup_engine.proofs.run.run_until.Goals.{then-is_some, else-is_some}
 
 -- a sequence under way is ended first
-first : (g : Given.Over) (c : goal.After-run_turns g) → AtBoundary c.args.tape.now.entries c.args.limit c.args.cpu c.args.bus.now c.if-is_some.bus c.if-is_some.cpu
+first : (g : Given.Over) (c : goal.After-run_by_wiring g) → AtBoundary c.args.tape.now.entries c.args.limit c.args.cpu c.args.bus.now c.if-is_some.bus c.if-is_some.cpu
 first g c =
     let middle : is_some c.args.cpu.mid ≡ c.is_some.result =
     ap (λ (k : CpuValue). is_some k.mid) (sym (c.behind-cpu.view_is ∙ c.state.ensures.value)) ∙ sym c.is_some.ensures in
@@ -24,7 +24,7 @@ first g c =
 pub returns : goal.returns
 returns g c = record {
   runs =
-      boundary-turns c.args.tape.now.entries c.args.limit c.args.cpu c.args.bus.now c.if-is_some.bus c.run_turns.new.bus c.if-is_some.cpu c.run_turns.result
+      boundary-turns c.args.tape.now.entries c.args.limit c.args.cpu c.args.bus.now c.if-is_some.bus c.run_by_wiring.new.bus c.if-is_some.cpu c.run_by_wiring.result
       (first g c)
-      c.run_turns.ensures.runs;
+      c.run_by_wiring.ensures.runs;
 }
