@@ -1,6 +1,7 @@
 -- Single bits of small numbers.
 use borrow.Author.Tests.{ltb-true}
-use Rattle.std.proofs.Common.{nat_lt, ◌≡◌, ℕ, ◌*◌, ◌%◌, ◌^◌, ◌<◌, Bool, true, false, refl, bit_and, bit_or}
+use Rattle.std.proofs.Common.{nat_lt, ◌≡◌, ℕ, ◌*◌, ◌%◌, ◌^◌, ◌<◌, ◌≤◌, Bool, true, false, refl, arith, bit_and, bit_or}
+use Rattle.std.proofs.lemmas.Nat.{or_lt}
 use Rattle.std.specs.Int.{bit_not, w8}
 use Rattle.bit_words.proofs.Tables.{same_by_tables}
 use Rattle.pokey_chip.specs.Tick.{with_bit}
@@ -31,20 +32,17 @@ pass_fits k h n small false = same_by_tables 2 4 (λ k n. nat_lt (with_bit n k f
 pub with_bit_fits_two : (k : ℕ) → k < 2 → (n : ℕ) → n < 4 → (bit : Bool) → with_bit n k bit < 4
 with_bit_fits_two k h n small bit = ltb-true (with_bit n k bit) 4 (pass_fits k h n small bit)
 
-request_fits : (k : ℕ) → k < 3 → (n : ℕ) → n < 8 → nat_lt (with_bit n k false) 8 ≡ true
+-- a bit made 0 makes no number greater, so three bits stay three
+pub lowered : (n k : ℕ) → with_bit n k false ≤ n
 unfolding with_bit
-request_fits = same_by_tables 3 8 (λ k n. nat_lt (with_bit n k false) 8) (λ k n. true) refl
+lowered n k = omega arith
 
--- three bits stay three
 pub with_bit_fits_three : (k : ℕ) → k < 3 → (n : ℕ) → n < 8 → with_bit n k false < 8
-with_bit_fits_three k h n small = ltb-true (with_bit n k false) 8 (request_fits k h n small)
+with_bit_fits_three k h n small = omega (arith, lowered n k)
 
 pub ruleset bit_writes = (bit_set, bit_cleared, with_bit_fits, with_bit_fits_two, with_bit_fits_three)
 
-request_joins : (a : ℕ) → a < 8 → (b : ℕ) → b < 8 → nat_lt (bit_or a b) 8 ≡ true
-request_joins = same_by_tables 8 8 (λ a b. nat_lt (bit_or a b) 8) (λ a b. true) refl
-
 pub bit_or_fits : (a b : ℕ) → a < 8 → b < 8 → bit_or a b < 8
-bit_or_fits a b h g = ltb-true (bit_or a b) 8 (request_joins a h b g)
+bit_or_fits a b h g = or_lt 3 a b h g
 
 pub ruleset bit_joins = bit_or_fits

@@ -1,14 +1,11 @@
 -- The records of clocks one after another.
-use Rattle.std.proofs.Common.{◌≡◌, ℕ, ◌+◌, ◌-◌, ◌≤◌, Bool, true, false, nat_eq, if◌then◌else◌, refl, List, [], ◌∷◌, ◌++◌, length, slice_index, ap, ◌∙◌, arith}
+use Rattle.std.proofs.Common.{◌≡◌, ℕ, ◌+◌, ◌-◌, ◌≤◌, refl, List, [], ◌++◌, length, ap, ◌∙◌, arith}
 use Rattle.std.proofs.lemmas.Cmp.{nat_list_eq_equiv}
-use Rattle.std.specs.Cmp.Lexicographic.{pointwise}
 use Rattle.board_base.proofs.ExtendedLaws.{Extended-none, Extended-more}
 use Rattle.board_base.proofs.TickLaws.{made-more, made-next, made-zero, length-made, ticks-times}
 use Rattle.board_base.proofs.RecordLaws.{made-ticks}
-use Rattle.board_base.specs.declared.part.Part.{Part}
 use Rattle.board_base.specs.declared.part.Part.TheVariants.{Pokey1, Pokey2}
-use Rattle.board_base.specs.declared.record.Record.TheVariants.{Levels}
-use Rattle.board_base.specs.Records.{Makes, MadeBetween}
+use Rattle.board_base.specs.Records.{MadeBetween}
 use Rattle.board_base.specs.Pokey.{PokeyValue}
 use Rattle.board_base.specs.Ticks.{times}
 use Rattle.board_base.specs.Trail.{TrailValue, Extended}
@@ -45,59 +42,28 @@ levels-zero from p = made-zero (λ _. pokey_tick) pokey_gives from p
 pub begun-records : (from : ℕ) (p : PokeyValue) (t : TrailValue) → Extended t t (levels_made from 0 p)
 begun-records from p t = rw (levels-zero from p) (Extended-none t)
 
-one-change : (clock : ℕ) (before now : List ℕ) → length (change clock before now) ≤ 1
-unfolding change
-one-change clock before now = at_most (pointwise nat_eq now before)
-  where
-    at_most : (b : Bool) → length (if b then [] else (Levels clock (slice_index now 0) (slice_index now 1) (slice_index now 2) (slice_index now 3) ∷ [])) ≤ 1
-    at_most true = omega arith
-    at_most false = omega arith
-
 pub gives-one : (clock : ℕ) (p : PokeyValue) → length (pokey_gives clock p) ≤ 1
-unfolding pokey_gives
-gives-one clock p = one-change clock p.last (pokey_tick p).last
+unfolding pokey_gives change
+gives-one clock p = grind arith
 
 -- n clocks give n records at most
 pub length-levels : (from n : ℕ) (p : PokeyValue) → length (levels_made from n p) ≤ n
 length-levels from n p = length-made (λ _. pokey_tick) pokey_gives from n p gives-one
 
 -- a POKEY's records are levels of their clocks, whichever of the two it is
-pub record MakesLevels (part : Part) : Type 0 where
-  pub kind : (clock l1 l2 l3 l4 : ℕ) → Makes part (Levels clock l1 l2 l3 l4)
-
-first-is : MakesLevels Pokey1
-first-is = record { kind = λ clock l1 l2 l3 l4. tt }
-
-second-is : MakesLevels Pokey2
-second-is = record { kind = λ clock l1 l2 l3 l4. tt }
-
-change-made : (part : Part) → MakesLevels part → (clock : ℕ) (before now : List ℕ) → MadeBetween part clock (change clock before now) (clock + 1)
-unfolding change
-change-made part is clock before now = by_change (pointwise nat_eq now before)
-  where
-    by_change : (b : Bool) → MadeBetween part clock (if b then [] else (Levels clock (slice_index now 0) (slice_index now 1) (slice_index now 2) (slice_index now 3) ∷ [])) (clock + 1)
-    by_change true = omega arith
-    by_change false =
-        (is.kind clock (slice_index now 0) (slice_index now 1) (slice_index now 2) (slice_index now 3), omega arith, omega arith, omega arith)
-
-gives-made : (part : Part) → MakesLevels part → (clock : ℕ) (p : PokeyValue) → MadeBetween part clock (pokey_gives clock p) (clock + 1)
-unfolding pokey_gives
-gives-made part is clock p = change-made part is clock p.last (pokey_tick p).last
-
-levels-between : (part : Part) → MakesLevels part → (from n : ℕ) (p : PokeyValue) → MadeBetween part from (levels_made from n p) (from + n)
-levels-between part is from n p = made-ticks part (λ _. pokey_tick) pokey_gives (gives-made part is) from n p
-
 pub gives-made1 : (clock : ℕ) (p : PokeyValue) → MadeBetween Pokey1 clock (pokey_gives clock p) (clock + 1)
-gives-made1 = gives-made Pokey1 first-is
+unfolding pokey_gives change
+gives-made1 clock p = grind arith
 
 pub gives-made2 : (clock : ℕ) (p : PokeyValue) → MadeBetween Pokey2 clock (pokey_gives clock p) (clock + 1)
-gives-made2 = gives-made Pokey2 second-is
+unfolding pokey_gives change
+gives-made2 clock p = grind arith
 
 pub levels-between1 : (from n : ℕ) (p : PokeyValue) → MadeBetween Pokey1 from (levels_made from n p) (from + n)
-levels-between1 = levels-between Pokey1 first-is
+levels-between1 = made-ticks Pokey1 (λ _. pokey_tick) pokey_gives gives-made1
 
 pub levels-between2 : (from n : ℕ) (p : PokeyValue) → MadeBetween Pokey2 from (levels_made from n p) (from + n)
-levels-between2 = levels-between Pokey2 second-is
+levels-between2 = made-ticks Pokey2 (λ _. pokey_tick) pokey_gives gives-made2
 
 pub ruleset few_records = (gives-one, length-levels, gives-made1, gives-made2, levels-between1, levels-between2)
 

@@ -1,6 +1,6 @@
 -- When a request is made.
 use Rattle.std.proofs.Common.{◌≡◌, ◌≢◌, ℕ, ◌+◌, ◌-◌, ◌<◌, ◌≤◌, min, Bool, true, false, not, ◌&&◌, nat_le, ◌⊎◌, inl}
-use Rattle.std.proofs.Common.{inr, if◌then◌else◌, ◌==◌, zero, suc, refl, add-zero, add-suc, sym, ap, ◌∙◌, arith, Option, Some, None, MatchOption}
+use Rattle.std.proofs.Common.{inr, if◌then◌else◌, ◌==◌, zero, suc, refl, add-zero, add-suc, sym, ◌∙◌, arith, Option, Some, None, MatchOption}
 use Rattle.std.proofs.lemmas.Bool.Decides.{nat_tests}
 use Rattle.std.proofs.lemmas.Bool.{cases_lt}
 use Rattle.std.proofs.lemmas.List.Elements.{All-get_or}
@@ -11,11 +11,14 @@ use Rattle.pokey_chip.specs.declared.channel.Channel.{Channel}
 use Rattle.pokey_chip.specs.declared.channel.Channel.TheVariants.{First, Second, Third, Fourth}
 use Rattle.bit_words.specs.Bits.{is_bit}
 use Rattle.board_base.specs.Sooner.{sooner_of}
+use Rattle.pokey_chip.specs.Channels.{place}
 use Rattle.pokey_chip.specs.Pulses.{has_pulse, pulses_of, asks, HasNoUnderflow, MakesNoRequest, NoneRequests, FirstFails}
 use Rattle.pokey_chip.specs.Tick.{base_pulses, channel_ticked, channels_ticked, clocked, left_of, pokey_tick, pot_counted, requested, underflow_effect, underflows, with_bit, with_left}
 use Rattle.pokey_chip.specs.Quiet.{requests_after, IsEverQuiet, IsQuietBefore, AnswersEachLag}
-use Rattle.pokey_chip.proofs.KeptLaws.{kept}
-use Rattle.pokey_chip.proofs.UnderflowLaws.{resting-before, resting-now, resting-then, left-fallen, no-underflow, has-spare}
+use Rattle.pokey_chip.proofs.BitLemmas.{lowered}
+use Rattle.pokey_chip.proofs.RegisterLaws.{kept}
+use Rattle.pokey_chip.proofs.ToneLaws.{place-few}
+use Rattle.pokey_chip.proofs.CountLaws.{left-fallen, no-underflow, has-spare}
 
 -- IRQST with the requests of channels 1, 2 and 4 made or not
 unfoldable made_of : Bool → Bool → Bool → ℕ → ℕ
@@ -25,12 +28,10 @@ made_of a b d irqst =
     if d then with_bit second 2 false else second
 
 nested : (underflow enabled : Bool) (x r : ℕ) → (if underflow then (if enabled then x else r) else r) ≡ (if underflow && enabled then x else r)
-nested true enabled x r = refl
-nested false enabled x r = refl
+nested underflow enabled x r = grind arith
 
 same-choice : (underflow : Bool) (r : ℕ) → (if underflow then r else r) ≡ r
-same-choice true r = refl
-same-choice false r = refl
+same-choice underflow r = grind arith
 
 -- whether a channel makes a request in a clock
 abbrev calls : PokeyValue → Channel → Bool
@@ -53,66 +54,43 @@ made-none irqst = refl
 
 made-back : (a b d : Bool) → made_of a b d 7 ≡ 7 → (a ≡ false) × (b ≡ false) × (d ≡ false)
 unfolding made_of with_bit
-made-back false false false e = (refl, refl, refl)
-made-back true false false e = absurd (omega arith)
-made-back false true false e = absurd (omega arith)
-made-back true true false e = absurd (omega arith)
-made-back false false true e = absurd (omega arith)
-made-back true false true e = absurd (omega arith)
-made-back false true true e = absurd (omega arith)
-made-back true true true e = absurd (omega arith)
-
-both : (u a : Bool) → (a ≡ true → u ≡ false) → (u && a) ≡ false
-both u true h = rw (h refl) refl
-both true false h = refl
-both false false h = refl
-
-only : (u a : Bool) → (u && a) ≡ false → a ≡ true → u ≡ false
-only false a e f = refl
-only true true e f = e
-only true false e f = cc
+made-back a b d e = grind arith
 
 -- a channel that asks for nothing, or has a pulse to spare, makes no request
 quiet-call : (c : Channel) (p : PokeyValue) → (asks p c ≡ true → from_bool (has_pulse c p) < left_of c p) → calls p c ≡ false
-quiet-call c p spare = both (underflows (base_pulses p) p c) (asks p c) (λ asked. no-underflow c p (spare asked))
+quiet-call c p spare = grind (arith, no-underflow c p)
 
 -- and if it makes none and asks for one, it has a pulse to spare
 spare-call : (c : Channel) (p : PokeyValue) → 0 < left_of c p → calls p c ≡ false → asks p c ≡ true → from_bool (has_pulse c p) < left_of c p
-spare-call c p some none asked = has-spare c p some (only (underflows (base_pulses p) p c) (asks p c) none asked)
+spare-call c p some none asked = has-spare c p some (grind arith)
 
 asks-kept : (c : Channel) (n : ℕ) (p : PokeyValue) → asks (times pokey_tick n p) c ≡ asks p c
-asks-kept First n p = rw (kept n p).irqen_kept refl
-asks-kept Second n p = rw (kept n p).irqen_kept refl
-asks-kept Third n p = refl
-asks-kept Fourth n p = rw (kept n p).irqen_kept refl
+asks-kept c n p = grind (arith, (kept n p).irqen)
 
 -- a clock without a request keeps IRQST
 tick-quiet : (p : PokeyValue) → calls p First ≡ false → calls p Second ≡ false → calls p Fourth ≡ false → (pokey_tick p).irqst ≡ p.irqst
 tick-quiet p a b d = irqst-tick p ∙ rw (a, b, d) (made-none p.irqst)
 
 tick-back : (p : PokeyValue) → p.irqst ≡ 7 → (pokey_tick p).irqst ≡ 7 → (calls p First ≡ false) × (calls p Second ≡ false) × (calls p Fourth ≡ false)
-tick-back p before now =
-    made-back (calls p First) (calls p Second) (calls p Fourth)
-    (ap (made_of (calls p First) (calls p Second) (calls p Fourth)) (sym before) ∙ sym (irqst-tick p) ∙ now)
+tick-back p before now = grind (arith, irqst-tick p, made-back)
 
 module _ (c : Channel) (n : ℕ) (p : PokeyValue) where
   idle-before : MakesNoRequest p c (suc n) → MakesNoRequest p c n
-  idle-before idle = λ asked. resting-before c n p (idle asked)
+  unfolding pulses_of
+  idle-before idle = λ asked. let resting : HasNoUnderflow p c (suc n) = idle asked in omega arith
 
   idle-now : MakesNoRequest p c (suc n) → calls (times pokey_tick n p) c ≡ false
+  unfolding pulses_of
   idle-now idle =
       quiet-call c (times pokey_tick n p)
-      (λ asked. let resting : HasNoUnderflow p c (suc n) = idle (sym (asks-kept c n p) ∙ asked) in
-      resting-now c n p (left-fallen c n p (resting-before c n p resting)) resting)
-
-  still-some : HasNoUnderflow p c n → 0 < left_of c (times pokey_tick n p)
-  still-some resting = omega (arith, left-fallen c n p resting)
+      (λ asked. let resting : HasNoUnderflow p c (suc n) = idle (sym (asks-kept c n p) ∙ asked) in omega (arith, left-fallen c n p (omega arith)))
 
   idle-then : MakesNoRequest p c n → calls (times pokey_tick n p) c ≡ false → MakesNoRequest p c (suc n)
+  unfolding pulses_of
   idle-then idle none =
-      λ asked. let resting : HasNoUnderflow p c n = idle asked in
-      resting-then c n p (left-fallen c n p resting)
-      (spare-call c (times pokey_tick n p) (still-some resting) none (asks-kept c n p ∙ asked))
+      λ asked. let fallen : left_of c (times pokey_tick n p) + pulses_of c n p ≡ left_of c p = left-fallen c n p (idle asked) in
+      let resting : HasNoUnderflow p c n = idle asked in
+      omega (arith, fallen, spare-call c (times pokey_tick n p) (omega arith) none (asks-kept c n p ∙ asked))
 
 module _ (p : PokeyValue) (at_rest : p.irqst ≡ 7) where
   -- no request stands after n clocks in which none is made
@@ -157,10 +135,7 @@ abbrev IsLeft : ℕ → Type 0
 IsLeft left = (1 ≤ left) × (left ≤ 65542)
 
 some-left : (c : Channel) (p : PokeyValue) → IsPokey p → 1 ≤ left_of c p
-some-left First p h = (All-get_or IsLeft p.left 0 0 (omega arith) h.pulses).0
-some-left Second p h = (All-get_or IsLeft p.left 1 0 (omega arith) h.pulses).0
-some-left Third p h = (All-get_or IsLeft p.left 2 0 (omega arith) h.pulses).0
-some-left Fourth p h = (All-get_or IsLeft p.left 3 0 (omega arith) h.pulses).0
+some-left c p h = (All-get_or IsLeft p.left (place c) 0 (omega (arith, place-few c)) h.pulses).0
 
 idle-at-first : (p : PokeyValue) → IsPokey p → NoneRequests p 0
 unfolding pulses_of
@@ -192,20 +167,9 @@ next-of-three p a b d f g i =
     (FirstFails-sooner (MakesNoRequest p Second) (MakesNoRequest p Fourth) b d g i))
 
 -- a request that stands goes on: IRQST doesn't rise by itself
-lowered : (n k : ℕ) → with_bit n k false ≤ n
-unfolding with_bit
-lowered n k = omega arith
-
-lowered-if : (b : Bool) (n k : ℕ) → (if b then with_bit n k false else n) ≤ n
-lowered-if true n k = lowered n k
-lowered-if false n k = omega arith
-
 made-lowers : (a b d : Bool) (irqst : ℕ) → made_of a b d irqst ≤ irqst
 unfolding made_of
-made-lowers a b d irqst =
-    let first : ℕ = if a then with_bit irqst 0 false else irqst in
-    let second : ℕ = if b then with_bit first 1 false else first in
-    omega (arith, lowered-if a irqst 0, lowered-if b first 1, lowered-if d second 2)
+made-lowers a b d irqst = grind (arith, lowered)
 
 pub never-rises : (a b : ℕ) (p : PokeyValue) → requests_after (a + b) p ≤ requests_after a p
 unfolding ticks
@@ -219,31 +183,20 @@ never-rises a (suc b) p =
       made-lowers (calls (times pokey_tick (a + b) p) First) (calls (times pokey_tick (a + b) p) Second) (calls (times pokey_tick (a + b) p) Fourth) (times pokey_tick (a + b) p).irqst,
     ))
 
+later-below : (a b : ℕ) (p : PokeyValue) → a ≤ b → requests_after b p ≤ requests_after a p
+later-below a b p h = let e : a + (b - a) ≡ b = omega arith in rw e at (never-rises a (b - a) p)
+
 from-start : (n : ℕ) (p : PokeyValue) → requests_after n p ≤ p.irqst
 unfolding ticks
-from-start n p = let e : 0 + n ≡ n = omega arith in rw e at (never-rises 0 n p)
-
--- a test of a number that is 7, and of one that is below it
-quiet-test : (irqst n lag : ℕ) → irqst ≡ 7 → lag < n → (irqst == 7) ≡ not (nat_le n lag)
-quiet-test irqst n lag e h = grind (arith, nat_tests)
-
-loud-test : (irqst n lag : ℕ) → irqst < 7 → n ≤ lag → (irqst == 7) ≡ not (nat_le n lag)
-loud-test irqst n lag e h = grind (arith, nat_tests)
-
-below-seven : (start at now : ℕ) → start < 8 → at ≤ start → at ≢ 7 → now ≤ at → now < 7
-below-seven start at now a b c d = omega arith
+from-start n p = later-below 0 n p (omega arith)
 
 -- a POKEY that lags has a request exactly where its answer is not above the lag
 pub requests-within : (p : PokeyValue) → p.irqst < 8 → (r : Option ℕ) → MatchOption r (IsEverQuiet p) (IsQuietBefore p)
     → AnswersEachLag p r
 requests-within p small None quiet lag = rw (quiet lag) refl
-requests-within p small (Some n) quiet lag = within (cases_lt lag n)
+requests-within p small (Some n) quiet lag = within
   where
-    within : (lag < n) ⊎ (n ≤ lag) → (requests_after lag p == 7) ≡ not (nat_le n lag)
-    within (inl h) = quiet-test (requests_after lag p) n lag (quiet.before lag h) h
-    within (inr h) =
-        let e : n + (lag - n) ≡ lag = omega arith in
-        let now : requests_after lag p ≤ requests_after n p = rw e at (never-rises n (lag - n) p) in
-        loud-test (requests_after lag p) n lag (below-seven p.irqst (requests_after n p) (requests_after lag p) small (from-start n p) quiet.stands now) h
+    within : (requests_after lag p == 7) ≡ not (nat_le n lag)
+    within = grind (arith, nat_tests, quiet.before lag, quiet.stands, later-below n lag p, from-start n p)
 
 pub ruleset requests = (quiet-answer, quiet-now, requests-within)

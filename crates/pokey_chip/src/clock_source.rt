@@ -25,7 +25,7 @@ pub enum ClockSource {
 impl ClockSource {
     /// The clock source of a channel.
     #[inline(always)]
-    #[tactic(auto, using(crate::proofs::PulseLaws::paces))]
+    #[tactic(auto, using(crate::proofs::RegisterLaws::paces))]
     pub fn of(state: &PokeyState, channel: Channel) -> ClockSource
         ensures pulses { (n : ℕ) → pulses_of channel n state.now ≡ source_pulses result n }
         ensures prescaler { IsClockSource result }

@@ -13,7 +13,7 @@ use pokey_timer::{prescaler_after, pulses_in};
 
 /// How often the pots are counted in the next `n` clocks.
 #[inline(always)]
-#[tactic(auto, using(crate::proofs::PulseLaws::pots))]
+#[tactic(auto, using(crate::proofs::RegisterLaws::pots))]
 fn pot_rises(state: &PokeyState, n: u64) -> u64
     requires { n ≤ CLOCK_END }
     ensures { result ≡ rises_of n state.now }
@@ -29,7 +29,7 @@ fn pot_rises(state: &PokeyState, n: u64) -> u64
 
 /// The pot count after `n` clocks.
 #[inline(always)]
-#[tactic(auto, using(crate::proofs::PulseLaws::few_rises))]
+#[tactic(auto, using(crate::proofs::RegisterLaws::few_rises))]
 fn pot_after(state: &PokeyState, n: u64) -> u8
     requires { n ≤ CLOCK_END }
     ensures { result ≡ min POT_LIMIT (state.now.pot + rises_of n state.now) }

@@ -1,18 +1,75 @@
--- Many shifts at once: a register is a window on the bits that leave it from a value on.
-use Rattle.std.proofs.Common.{◌≡◌, ℕ, ◌+◌, ◌*◌, ◌-◌, ◌/◌, ◌%◌, ◌^◌, ◌<◌, ◌≤◌, ◌==◌, ◌⊎◌, inl, inr, zero, suc, bit_and, arith, add-one, pow_pos, sym, ap, ◌∙◌}
+-- Words made longer, bit by bit; and many shifts at once: a register is a window on the bits that
+-- leave it from a value on.
+use Rattle.std.proofs.Common.{◌≡◌, ℕ, ◌+◌, ◌*◌, ◌-◌, ◌/◌, ◌%◌, ◌^◌, ◌<◌, bit_and, bit_or, bit_xor, arith, pow_pos, sym, ap, ◌∙◌, ◌≤◌, ◌==◌, ◌⊎◌, inl, inr, zero, suc, add-one}
+use Rattle.std.proofs.Math.Nat.{add-zero, div-div-eq-div-mul, mul-div_left, mul-mod_left}
+use Rattle.std.proofs.lemmas.Nat.{and_mask, div-add-mod', mod-pow-add, pow-add, pow_below}
+use Rattle.std.proofs.lemmas.Nat.Bits.{bit_at_xor, bit_at_cat_low, bit_at_cat_high, same_from_bits_below}
 use Rattle.std.proofs.lemmas.Bool.{cases_lt}
-use Rattle.std.proofs.lemmas.Nat.{and_mask, pow_below}
-use Rattle.std.proofs.lemmas.Nat.Bits.{same_from_bits_below}
 use Rattle.std.specs.Int.{bit_at}
+use Rattle.std.specs.Int.Bits.{or_shifted_r}
 use Rattle.bit_words.specs.Bits.{is_bit}
 use Rattle.board_base.specs.Ticks.{times}
 use Rattle.board_base.proofs.TickLaws.{times-add, times-more, times-zero}
 use Rattle.pokey_poly.specs.declared.poly.Poly.{Poly}
 use Rattle.pokey_poly.specs.declared.poly.Poly.TheVariants.{Four, Five, Nine, Seventeen}
 use Rattle.pokey_poly.specs.Shift.{leaving, moved, shifted, width_of, IsAhead}
-use Rattle.pokey_poly.proofs.BitLaws.{moved-below, moved-top}
-use Rattle.pokey_poly.proofs.Moves.{incoming-sum, moved-lt}
-use Rattle.pokey_poly.proofs.WordLaws.{further, lowest}
+use Rattle.pokey_poly.proofs.Moves.{incoming-sum, moved-below, moved-lt, moved-top}
+
+-- a bit of a number that has moved down
+pub further : (n k j : ℕ) → bit_at (n / 2 ^ k) j ≡ bit_at n (k + j)
+further n k j =
+    ap (λ (m : ℕ). m % 2) (div-div-eq-div-mul n (2 ^ k) (2 ^ j) ∙ ap (λ (p : ℕ). n / p) (sym (pow-add 2 k j)))
+
+-- the lowest bits of a number
+pub lowest : (n width j : ℕ) → j < width → bit_at (n % 2 ^ width) j ≡ bit_at n j
+lowest n width j h =
+    sym (bit_at_cat_low (n / 2 ^ width) width (n % 2 ^ width) j h) ∙ ap (λ (m : ℕ). bit_at m j) (div-add-mod' n (2 ^ width))
+
+-- a number moved up in 64 bits
+moved-up : (x place : ℕ) → place < 64 → x * 2 ^ place % 2 ^ 64 ≡ x % 2 ^ (64 - place) * 2 ^ place
+moved-up x place few =
+    let split : 64 ≡ (64 - place) + place = omega arith in
+    let down : x * 2 ^ place / 2 ^ place ≡ x = mul-div_left x (pow_pos place) in
+    ap (λ (n : ℕ). x * 2 ^ place % 2 ^ n) split
+    ∙ mod-pow-add (x * 2 ^ place) (64 - place) place
+    ∙ ap (λ (n : ℕ). n % 2 ^ (64 - place) * 2 ^ place + x * 2 ^ place % 2 ^ place) down
+    ∙ ap (λ (n : ℕ). x % 2 ^ (64 - place) * 2 ^ place + n) (mul-mod_left x (2 ^ place))
+    ∙ add-zero (x % 2 ^ (64 - place) * 2 ^ place)
+
+module _ (word place tap : ℕ) (few : place < 64) where
+  -- the bits that come in
+  abbrev coming : ℕ
+  coming = bit_xor word (word / 2 ^ tap)
+
+  -- the word as the code computes it
+  abbrev coded : ℕ
+  coded = bit_or (bit_and word (1 * 2 ^ place % 2 ^ 64 - 1)) (coming * 2 ^ place % 2 ^ 64)
+
+  -- as a sum of its two parts
+  parts : coded ≡ coming % 2 ^ (64 - place) * 2 ^ place + word % 2 ^ place
+  parts =
+      let mask : 1 * 2 ^ place % 2 ^ 64 ≡ 2 ^ place = omega (arith, pow_below place 64 few) in
+      rw (mask, and_mask word place, moved-up coming place few)
+      (or_shifted_r (coming % 2 ^ (64 - place)) place (word % 2 ^ place) (omega (arith, pow_pos place)))
+
+  pub longer-low : (j : ℕ) → j < place → bit_at coded j ≡ bit_at word j
+  longer-low j below =
+      ap (λ (n : ℕ). bit_at n j) parts
+      ∙ bit_at_cat_low (coming % 2 ^ (64 - place)) place (word % 2 ^ place) j below
+      ∙ lowest word place j below
+
+  pub longer-high : (j : ℕ) → j + place < 64 → bit_at coded (j + place) ≡ (bit_at word j + bit_at word (j + tap)) % 2
+  longer-high j below =
+      let back : j + place - place ≡ j = omega arith in
+      let other : tap + j ≡ j + tap = omega arith in
+      ap (λ (n : ℕ). bit_at n (j + place)) parts
+      ∙ bit_at_cat_high (coming % 2 ^ (64 - place)) place (word % 2 ^ place) (j + place) (omega (arith, pow_pos place)) (omega arith)
+      ∙ ap (bit_at (coming % 2 ^ (64 - place))) back
+      ∙ lowest coming (64 - place) j (omega arith)
+      ∙ bit_at_xor word (word / 2 ^ tap) j
+      ∙ ap (λ (d : ℕ). (bit_at word j + d) % 2) (further word tap j ∙ ap (bit_at word) other)
+
+pub ruleset words = (longer-low, longer-high)
 
 module _ (top tap r : ℕ) (small : r < 2 ^ (top + 1)) where
   -- the register after some shifts
@@ -64,76 +121,56 @@ module _ (top tap r : ℕ) (small : r < 2 ^ (top + 1)) where
       same_from_bits_below (top + 1) (word / 2 ^ k % 2 ^ (top + 1)) (after k) (omega (arith, pow_pos (top + 1))) (after-lt k)
       (λ j below. lowest (word / 2 ^ k) (top + 1) j below ∙ further word k j ∙ ahead (k + j) (omega arith) ∙ sym (leaves j k below))
 
-  -- a word that begins with the register, and whose later bits are such sums, is one of them
-  module _ (word n : ℕ) (inside : tap ≤ top) (start : (j : ℕ) → j < top + 1 → bit_at word j ≡ bit_at r j)
-      (next : (m : ℕ) → m < n → bit_at word (m + (top + 1)) ≡ (bit_at word (m + tap) + bit_at word m) % 2) where
-    grown : (bound j : ℕ) → j < bound → j < n + (top + 1) → (j < top + 1) ⊎ (top + 1 ≤ j) → bit_at word j ≡ out j
-    grown zero j under known _ = elim under [ ]
-    grown (suc bound) j under known (inl lower) =
-        start j lower ∙ starts j lower
-    grown (suc bound) j under known (inr higher) =
-        let m : ℕ = j - (top + 1) in
-        let place : m + (top + 1) ≡ j = omega arith in
-        let former : bit_at word m ≡ out m = grown bound m (omega arith) (omega arith) (cases_lt m (top + 1)) in
-        let latter : bit_at word (m + tap) ≡ out (m + tap) = grown bound (m + tap) (omega arith) (omega arith) (cases_lt (m + tap) (top + 1)) in
-        ap (bit_at word) (sym place)
-        ∙ next m (omega arith)
-        ∙ ap (λ (d : ℕ). (d + bit_at word m) % 2) latter
-        ∙ ap (λ (d : ℕ). (out (m + tap) + d) % 2) former
-        ∙ sym (sums inside m)
-        ∙ ap out place
+-- each bit that leaves a register is the sum of two that left it before
+pub record AreSums (poly : Poly) (r place tap : ℕ) : Type 0 where
+  pub sum : (m : ℕ) → leaving poly r (m + place) ≡ (leaving poly r (m + tap) + leaving poly r m) % 2
 
-    pub grows : (j : ℕ) → j < n + (top + 1) → bit_at word j ≡ out j
-    grows j known = grown (suc j) j (omega arith) known (cases_lt j (top + 1))
-
--- sums of two bits so far back are also sums of two bits twice as far back
-pub doubled : (out : ℕ → ℕ) (place tap : ℕ) → ((m : ℕ) → out (m + place) ≡ (out (m + tap) + out m) % 2)
-    → (m : ℕ) → out (m + (place + place)) ≡ (out (m + (tap + tap)) + out m) % 2
-doubled out place tap sum m =
-    let far : m + (place + place) ≡ m + place + place = omega arith in
-    let crossed : m + place + tap ≡ m + tap + place = omega arith in
-    let near : m + tap + tap ≡ m + (tap + tap) = omega arith in
-    let first : out (m + (place + place)) ≡ (out (m + tap + place) + out (m + place)) % 2
-    = ap out far ∙ sum (m + place) ∙ ap (λ (k : ℕ). (out k + out (m + place)) % 2) crossed in
-    let second : out (m + tap + place) ≡ (out (m + (tap + tap)) + out (m + tap)) % 2
-    = sum (m + tap) ∙ ap (λ (k : ℕ). (out k + out (m + tap)) % 2) near in
-    omega (arith, first, second, sum m)
+-- and then also the sum of two twice as far back
+pub doubled : {poly : Poly} {r place tap : ℕ} → AreSums poly r place tap → AreSums poly r (place + place) (tap + tap)
+doubled {poly} {r} {place} {tap} sums = record { sum = λ m. twice m }
+  where
+    twice : (m : ℕ) → leaving poly r (m + (place + place)) ≡ (leaving poly r (m + (tap + tap)) + leaving poly r m) % 2
+    twice m =
+        let far : m + (place + place) ≡ m + place + place = omega arith in
+        let crossed : m + place + tap ≡ m + tap + place = omega arith in
+        let near : m + tap + tap ≡ m + (tap + tap) = omega arith in
+        let first : leaving poly r (m + (place + place)) ≡ (leaving poly r (m + tap + place) + leaving poly r (m + place)) % 2
+        = ap (leaving poly r) far ∙ sums.sum (m + place) ∙ ap (λ (k : ℕ). (leaving poly r k + leaving poly r (m + place)) % 2) crossed in
+        let second : leaving poly r (m + tap + place) ≡ (leaving poly r (m + (tap + tap)) + leaving poly r (m + tap)) % 2
+        = sums.sum (m + tap) ∙ ap (λ (k : ℕ). (leaving poly r k + leaving poly r (m + tap)) % 2) near in
+        omega (arith, first, second, sums.sum m)
 
 -- a word of bits that leave, made longer by such sums
-module _ (poly : Poly) (r place tap known more word new : ℕ) (inside : tap ≤ place) (enough : place ≤ known) (some : more + tap ≤ known + place) (few : more ≤ 64)
-    (sum : (m : ℕ) → leaving poly r (m + place) ≡ (leaving poly r (m + tap) + leaving poly r m) % 2) (ahead : IsAhead poly r known word)
-    (low : (j : ℕ) → j < place → bit_at new j ≡ bit_at word j)
-    (high : (j : ℕ) → j + place < 64 → bit_at new (j + place) ≡ (bit_at word j + bit_at word (j + tap)) % 2) where
-  longer-bit : (j : ℕ) → j < more → (j < place) ⊎ (place ≤ j) → bit_at new j ≡ leaving poly r j
-  longer-bit j below (inl lower) = low j lower ∙ ahead.bit j (omega arith)
-  longer-bit j below (inr higher) =
-      let m : ℕ = j - place in
-      let here : m + place ≡ j = omega arith in
-      let tapped : bit_at word (m + tap) ≡ leaving poly r (m + tap) = ahead.bit (m + tap) (omega arith) in
-      let direct : bit_at word m ≡ leaving poly r m = ahead.bit m (omega arith) in
-      let made : bit_at new (m + place) ≡ (bit_at word m + bit_at word (m + tap)) % 2 = high m (omega arith) in
-      let whole : bit_at new (m + place) ≡ leaving poly r (m + place) = omega (arith, tapped, direct, made, sum m) in
-      ap (bit_at new) (sym here) ∙ whole ∙ ap (leaving poly r) here
-
-  pub longer : IsAhead poly r more new
-  longer = record { bit = λ j below. longer-bit j below (cases_lt j place) }
+pub longer : {poly : Poly} {r place tap known more word new : ℕ} → AreSums poly r place tap → IsAhead poly r known word
+    → ((j : ℕ) → j < place → bit_at new j ≡ bit_at word j) → ((j : ℕ) → j + place < 64 → bit_at new (j + place) ≡ (bit_at word j + bit_at word (j + tap)) % 2)
+    → (tap ≤ place) × (place ≤ known) × (more + tap ≤ known + place) × (more ≤ 64) → IsAhead poly r more new
+longer {poly} {r} {place} {tap} {known} {more} {word} {new} sums ahead low high fits = record { bit = λ j below. longer-bit j below (cases_lt j place) }
+  where
+    longer-bit : (j : ℕ) → j < more → (j < place) ⊎ (place ≤ j) → bit_at new j ≡ leaving poly r j
+    longer-bit j below (inl lower) = low j lower ∙ ahead.bit j (omega arith)
+    longer-bit j below (inr higher) =
+        let m : ℕ = j - place in
+        let here : m + place ≡ j = omega arith in
+        let whole : bit_at new (m + place) ≡ leaving poly r (m + place)
+        = omega (arith, ahead.bit (m + tap) (omega arith), ahead.bit m (omega arith), high m (omega arith), sums.sum m) in
+        ap (bit_at new) (sym here) ∙ whole ∙ ap (leaving poly r) here
 
 -- the two long registers
-pub nine-sums : (r : ℕ) → r < 2 ^ 9 → (m : ℕ) → leaving Nine r (m + 9) ≡ (leaving Nine r (m + 4) + leaving Nine r m) % 2
+pub nine-sums : (r : ℕ) → r < 2 ^ 9 → AreSums Nine r 9 4
 unfolding shifted
-nine-sums r small = sums 8 4 r small (omega arith)
+nine-sums r small = record { sum = sums 8 4 r small (omega arith) }
 
 pub nine-start : (r : ℕ) → r < 2 ^ 9 → IsAhead Nine r 9 r
 unfolding shifted
-nine-start r small = record { bit = λ j below. starts 8 4 r small j below }
+nine-start r small = record { bit = starts 8 4 r small }
 
-pub seventeen-sums : (r : ℕ) → r < 2 ^ 17 → (m : ℕ) → leaving Seventeen r (m + 17) ≡ (leaving Seventeen r (m + 5) + leaving Seventeen r m) % 2
+pub seventeen-sums : (r : ℕ) → r < 2 ^ 17 → AreSums Seventeen r 17 5
 unfolding shifted
-seventeen-sums r small = sums 16 5 r small (omega arith)
+seventeen-sums r small = record { sum = sums 16 5 r small (omega arith) }
 
 pub seventeen-start : (r : ℕ) → r < 2 ^ 17 → IsAhead Seventeen r 17 r
 unfolding shifted
-seventeen-start r small = record { bit = λ j below. starts 16 5 r small j below }
+seventeen-start r small = record { bit = starts 16 5 r small }
 
 -- of each register
 pub poly-window : (poly : Poly) (r word known k : ℕ) → r < 2 ^ width_of poly → IsAhead poly r known word → k + width_of poly ≤ known
@@ -152,16 +189,10 @@ poly-after-lt Nine k r small = after-lt 8 4 r small k
 poly-after-lt Seventeen k r small = after-lt 16 5 r small k
 
 width-few : (poly : Poly) → width_of poly < 64
-width-few Four = omega arith
-width-few Five = omega arith
-width-few Nine = omega arith
-width-few Seventeen = omega arith
+width-few poly = grind arith
 
 width-some : (poly : Poly) → 1 ≤ width_of poly
-width-some Four = omega arith
-width-some Five = omega arith
-width-some Nine = omega arith
-width-some Seventeen = omega arith
+width-some poly = grind arith
 
 -- a word of the bits that leave a register begins with it
 pub ahead-start : (poly : Poly) (r word known : ℕ) → r < 2 ^ width_of poly → width_of poly ≤ known → IsAhead poly r known word → word % 2 ^ width_of poly ≡ r

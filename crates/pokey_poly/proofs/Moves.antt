@@ -1,10 +1,11 @@
--- A shift by arithmetic: half the number, and the new bit at the top.
-use Rattle.std.proofs.Common.{◌≡◌, ℕ, ◌+◌, ◌*◌, ◌/◌, ◌%◌, ◌^◌, ◌<◌, ◌≤◌, ◌==◌, Bool, true, false, zero, suc, bit_and, bit_or, bit_xor, [], ◌∷◌, ◌++◌, map, refl, arith, sym, ap, ◌∙◌, add-one}
+-- A shift by arithmetic: half the number, and the new bit at the top; and what it says of each bit.
+use Rattle.std.proofs.Common.{◌≡◌, ℕ, ◌+◌, ◌*◌, ◌/◌, ◌%◌, ◌^◌, ◌<◌, ◌≤◌, ◌==◌, Bool, zero, suc, bit_and, bit_or, bit_xor, [], ◌∷◌, ◌++◌, map, refl, arith, sym, ap, ◌∙◌, add-one, add_comm}
 use Rattle.std.proofs.Math.Bool.{xor}
-use Rattle.std.proofs.Math.Nat.{two-pow-succ, div-div-eq-div-mul}
+use Rattle.std.proofs.Math.Nat.{sub_self, two-pow-succ, div-div-eq-div-mul}
 use Rattle.std.specs.Int.Bits.{or_shifted_r}
 use Rattle.std.proofs.lemmas.Nat.{and_mask, pow_below}
-use Rattle.std.proofs.lemmas.Nat.Bits.{bit_at-lt, bit_at_lowest, bit_at_xor}
+use Rattle.std.proofs.lemmas.Bool.Decides.{nat_tests}
+use Rattle.std.proofs.lemmas.Nat.Bits.{bit_at-lt, bit_at-suc, bit_at_cat_high, bit_at_cat_low, bit_at_lowest, bit_at_xor}
 use Rattle.std.specs.Int.{bit_at, from_bool}
 use Rattle.std.specs.List.{range_with_len}
 use Rattle.bit_words.specs.Bits.{is_bit, number}
@@ -12,9 +13,7 @@ use Rattle.pokey_poly.specs.Shift.{incoming, moved}
 
 -- a digit as a Bool and back
 digit-bool : (d : ℕ) → d < 2 → from_bool (d == 1) ≡ d
-digit-bool zero two = refl
-digit-bool (suc zero) two = refl
-digit-bool (suc (suc d)) two = absurd (omega arith)
+digit-bool d two = grind (arith, nat_tests)
 
 pub from-is_bit : (r k : ℕ) → from_bool (is_bit r k) ≡ bit_at r k
 from-is_bit r k = digit-bool (bit_at r k) (bit_at-lt r k)
@@ -36,10 +35,7 @@ number-from (suc width) a r b h =
 
 sum-xor : (a b : Bool) → from_bool (xor a b) ≡ (from_bool a + from_bool b) % 2
 unfolding xor
-sum-xor true true = refl
-sum-xor true false = refl
-sum-xor false true = refl
-sum-xor false false = refl
+sum-xor a b = grind arith
 
 -- the bit that comes in
 pub incoming-sum : (tap r : ℕ) → from_bool (incoming tap r) ≡ (bit_at r tap + bit_at r 0) % 2
@@ -90,4 +86,34 @@ moves top tap r low h =
     let joined : bit_or (r / 2) (from_bool (incoming tap r) * 2 ^ top) ≡ from_bool (incoming tap r) * 2 ^ top + r / 2 = or_shifted_r (from_bool (incoming tap r)) top (r / 2) half in
     rw (masked r tap, fits, joined, moved-sum top tap r h) (omega arith)
 
-pub ruleset shifts = (moves, moved-lt)
+-- bit k of the new register is bit k + 1 of the old one
+pub moved-below : (top tap r k : ℕ) → r < 2 ^ (top + 1) → k < top → bit_at (moved (top + 1) tap r) k ≡ bit_at r (k + 1)
+moved-below top tap r k h below =
+    ap (λ (n : ℕ). bit_at n k) (moved-sum top tap r h ∙ add_comm (r / 2) (from_bool (incoming tap r) * 2 ^ top))
+    ∙ bit_at_cat_low (from_bool (incoming tap r)) top (r / 2) k below
+    ∙ rw add-one (sym (bit_at-suc r k))
+
+digit : (t : ℕ) → t < 2 → bit_at t 0 ≡ t
+digit t two = omega (arith, bit_at_lowest t)
+
+-- the top bit of the new register is the exclusive or of the tap and bit 0
+pub moved-top : (top tap r : ℕ) → r < 2 ^ (top + 1) → bit_at (moved (top + 1) tap r) top ≡ from_bool (incoming tap r)
+moved-top top tap r h =
+    let doubled : 2 ^ suc top ≡ 2 ^ top + 2 ^ top = two-pow-succ top in
+    let half : r / 2 < 2 ^ top = omega (arith, rw add-one at h) in
+    ap (λ (n : ℕ). bit_at n top) (moved-sum top tap r h ∙ add_comm (r / 2) (from_bool (incoming tap r) * 2 ^ top))
+    ∙ bit_at_cat_high (from_bool (incoming tap r)) top (r / 2) top half (omega arith)
+    ∙ ap (λ (k : ℕ). bit_at (from_bool (incoming tap r)) k) (sub_self top)
+    ∙ digit (from_bool (incoming tap r)) (incoming-lt tap r)
+
+bool-digit : (b : Bool) → (from_bool b == 1) ≡ b
+bool-digit b = grind arith
+
+-- as tests of a bit
+pub is-below : (top tap r k : ℕ) → r < 2 ^ (top + 1) → k < top → is_bit (moved (top + 1) tap r) k ≡ is_bit r (k + 1)
+is-below top tap r k h below = ap (λ (n : ℕ). n == 1) (moved-below top tap r k h below)
+
+pub is-top : (top tap r : ℕ) → r < 2 ^ (top + 1) → is_bit (moved (top + 1) tap r) top ≡ incoming tap r
+is-top top tap r h = ap (λ (n : ℕ). n == 1) (moved-top top tap r h) ∙ bool-digit (incoming tap r)
+
+pub ruleset shifts = (moves, moved-lt, is-below, is-top)

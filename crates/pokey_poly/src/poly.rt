@@ -115,7 +115,7 @@ impl Poly {
 
     /// Fewer shifts that come to the same: the 9-bit register is back at each value after 511.
     #[inline(always)]
-    #[tactic(auto, using(crate::proofs::PeriodLaws::periods))]
+    #[tactic(auto, using(crate::proofs::TableLaws::periods))]
     fn wrapped(self, n: u64) -> u64
         ensures { (r : ℕ) → r < 2 ^ width_of self → times (shifted self) result r ≡ times (shifted self) n r }
     {
@@ -224,7 +224,7 @@ fn seventeen_on(r: u32) -> u64
 /// Where each bit that leaves a register is the sum of two that left it before, it is also the sum
 /// of two twice as far back; so a word grows by more, the more of these bits it has.
 #[inline(always)]
-#[tactic(auto, using(crate::proofs::WordLaws::words))]
+#[tactic(auto, using(crate::proofs::LeapLaws::words))]
 fn lengthened(word: u64, place: u32, tap: u32) -> u64
     requires tap { tap ≤ place }
     requires place { place < 64 }
@@ -238,7 +238,7 @@ fn lengthened(word: u64, place: u32, tap: u32) -> u64
 /// A register whose top bit has the place `top` after one shift, where bit `tap` goes with bit 0
 /// into the new top bit.
 #[inline(always)]
-#[tactic(auto, using(crate::proofs::Moves::shifts, crate::proofs::BitLaws::bits_moved))]
+#[tactic(auto, using(crate::proofs::Moves::shifts))]
 fn moved_down(r: u32, tap: u32, top: u32) -> u32
     requires tap { tap ≤ top }
     requires top { top < 31 }

@@ -1,14 +1,15 @@
-use Rattle.std.proofs.Common.{◌≡◌, ◌+◌, ◌<◌, ◌≤◌, ◌==◌, if◌then◌else◌, Some, refl, ap, sym, ◌∙◌, arith}
+use Rattle.std.proofs.Common.{◌≡◌, ◌+◌, ◌<◌, ◌≤◌, ◌==◌, if◌then◌else◌, Some, ap, sym, ◌∙◌, arith}
 use Rattle.board_base.proofs.TickLaws.{times-still}
 use Rattle.board_base.specs.Pokey.{PokeyValue}
 use Rattle.pokey_chip.specs.declared.channel.Channel.{Channel}
 use Rattle.pokey_chip.specs.declared.channel.Channel.TheVariants.{First, Second, Third, Fourth}
+use Rattle.pokey_chip.specs.Moves.{IsLeft}
 use Rattle.pokey_chip.specs.Tick.{pokey_tick}
 use Rattle.pokey_chip.specs.Tones.{levels_on}
-use Rattle.pokey_chip.proofs.RecordLemmas.{begun-records}
-use Rattle.pokey_chip.proofs.MovedLaws.{HasMoved, begun, is-timed, left-end, moved, moved-records, moved-state}
-use Rattle.pokey_chip.proofs.PlanLaws.{voice_of}
 use Rattle.pokey_chip.proofs.TickLaws.{IsSmall}
+use Rattle.pokey_chip.proofs.RecordLemmas.{begun-records}
+use Rattle.pokey_chip.proofs.MovedLaws.{HasMoved, begun, is-left-end, is-timed, moved, moved-records, moved-state}
+use Rattle.pokey_chip.proofs.PlanLaws.{voice_of}
 use Rattle.pokey_chip.proofs.fast.ByUnderflowsMoves.run.Goals as goal
 
 pub returns-then-n-eq0-clause-state : goal.returns-then-n-eq0-clause-state
@@ -33,25 +34,14 @@ loop-at-init c =
     (ap (λ (q : PokeyValue). q.last) c.start.view_is) c.start.invariant.levels
     c.of.ensures.first c.of.ensures.second c.of.ensures.third c.of.ensures.fourth c.skipping-voices.ensures
 
-pub after-voices-requires-clause-first : goal.after-voices-requires-clause-first
-after-voices-requires-clause-first c =
-    is-timed c.args.state.now c.args.from c.args.n c.loop-at.at c.args.trail.now c.loop-at.trail
-    c.loop-at.voices c.loop-at.noise c.loop-at.tones c.loop-at.last_on c.loop-at.last c.loop-at.invariant (omega arith) First
-
-pub after-voices-requires-clause-second : goal.after-voices-requires-clause-second
-after-voices-requires-clause-second c =
-    is-timed c.args.state.now c.args.from c.args.n c.loop-at.at c.args.trail.now c.loop-at.trail
-    c.loop-at.voices c.loop-at.noise c.loop-at.tones c.loop-at.last_on c.loop-at.last c.loop-at.invariant (omega arith) Second
-
-pub after-voices-requires-clause-third : goal.after-voices-requires-clause-third
-after-voices-requires-clause-third c =
-    is-timed c.args.state.now c.args.from c.args.n c.loop-at.at c.args.trail.now c.loop-at.trail
-    c.loop-at.voices c.loop-at.noise c.loop-at.tones c.loop-at.last_on c.loop-at.last c.loop-at.invariant (omega arith) Third
-
-pub after-voices-requires-clause-fourth : goal.after-voices-requires-clause-fourth
-after-voices-requires-clause-fourth c =
-    is-timed c.args.state.now c.args.from c.args.n c.loop-at.at c.args.trail.now c.loop-at.trail
-    c.loop-at.voices c.loop-at.noise c.loop-at.tones c.loop-at.last_on c.loop-at.last c.loop-at.invariant (omega arith) Fourth
+pub after-voices-requires : goal.after-voices-requires
+after-voices-requires c = record {
+  first = is-timed c.loop-at.invariant First;
+  second = is-timed c.loop-at.invariant Second;
+  third = is-timed c.loop-at.invariant Third;
+  fourth = is-timed c.loop-at.invariant Fourth;
+  at = omega arith;
+}
 
 each : (c : goal.After-soonest-at) (ch : Channel) → voice_of c.after-voices.result ch ≡ record (voice_of c.loop-at.voices ch) {
   due = if (voice_of c.loop-at.voices ch).due == c.loop-at.at then (voice_of c.loop-at.voices ch).due + (voice_of c.loop-at.voices ch).step else (voice_of c.loop-at.voices ch).due;
@@ -66,8 +56,7 @@ done : (c : goal.After-soonest-at) → (c.loop-at.at < c.soonest-at.result)
     × HasMoved c.args.state.now c.args.from c.args.n c.soonest-at.result c.args.trail.now c.record_levels.new.trail c.after-voices.result
     c.reaching-noise.result c.after-tones.result (Some c.on-on.result) c.record_levels.new.last
 done c =
-    moved c.args.state.now c.args.from c.args.n c.loop-at.at c.args.trail.now c.loop-at.trail
-    c.loop-at.voices c.loop-at.noise c.loop-at.tones c.loop-at.last_on c.loop-at.last c.loop-at.invariant (omega arith)
+    moved c.loop-at.invariant
     (omega arith) c.of-tuning.result c.outputs.result c.due.result c.on-on.result c.soonest-at.result c.record_levels.new.trail c.after-voices.result
     c.reaching-noise.result c.after-tones.result c.record_levels.new.last
     c.of-tuning.ensures c.reaching-noise.ensures.noise c.reaching-noise.ensures.since
@@ -83,39 +72,18 @@ loop-at-smaller c = omega (arith, (done c).0)
 pub loop-at-preserved : goal.loop-at-preserved
 loop-at-preserved c = (done c).1
 
-pub put_counts-requires-clause-first : goal.put_counts-requires-clause-first
-put_counts-requires-clause-first c =
-    left-end c.args.state.now c.args.from c.args.n c.loop-at.at c.args.trail.now c.loop-at.trail
-    c.loop-at.voices c.loop-at.noise c.loop-at.tones c.loop-at.last_on c.loop-at.last c.loop-at.invariant (omega arith) (omega arith) (omega arith) First
-
-pub put_counts-requires-clause-second : goal.put_counts-requires-clause-second
-put_counts-requires-clause-second c =
-    left-end c.args.state.now c.args.from c.args.n c.loop-at.at c.args.trail.now c.loop-at.trail
-    c.loop-at.voices c.loop-at.noise c.loop-at.tones c.loop-at.last_on c.loop-at.last c.loop-at.invariant (omega arith) (omega arith) (omega arith) Second
-
-pub put_counts-requires-clause-third : goal.put_counts-requires-clause-third
-put_counts-requires-clause-third c =
-    left-end c.args.state.now c.args.from c.args.n c.loop-at.at c.args.trail.now c.loop-at.trail
-    c.loop-at.voices c.loop-at.noise c.loop-at.tones c.loop-at.last_on c.loop-at.last c.loop-at.invariant (omega arith) (omega arith) (omega arith) Third
-
-pub put_counts-requires-clause-fourth : goal.put_counts-requires-clause-fourth
-put_counts-requires-clause-fourth c =
-    left-end c.args.state.now c.args.from c.args.n c.loop-at.at c.args.trail.now c.loop-at.trail
-    c.loop-at.voices c.loop-at.noise c.loop-at.tones c.loop-at.last_on c.loop-at.last c.loop-at.invariant (omega arith) (omega arith) (omega arith) Fourth
+pub put_counts-requires : goal.put_counts-requires
+put_counts-requires c =
+    let left : (ch : Channel) → IsLeft (voice_of c.loop-at.voices ch) c.args.n = is-left-end c.loop-at.invariant (omega arith) (omega arith) in
+    record { some = omega arith; n = omega arith; first = left First; second = left Second; third = left Third; fourth = left Fourth }
 
 pub returns-clause-records : goal.returns-clause-records
-returns-clause-records c =
-    moved-records c.args.state.now c.args.from c.args.n c.loop-at.at c.args.trail.now c.loop-at.trail
-    c.loop-at.voices c.loop-at.noise c.loop-at.tones c.loop-at.last_on c.loop-at.last c.loop-at.invariant (omega arith) (omega arith) (omega arith)
+returns-clause-records c = moved-records c.loop-at.invariant (omega arith) (omega arith)
 
 small-pot : (c : goal.After-put_counts) → c.args.state.now.pot ≤ 228
-small-pot c =
-    let same : c.start.inside.pot ≡ c.args.state.now.pot = ap (λ (q : PokeyValue). q.pot) c.start.view_is in
-    omega (arith, same, c.start.invariant.pot)
+small-pot c = omega (arith, ap (λ (q : PokeyValue). q.pot) c.start.view_is, c.start.invariant.pot)
 
 pub returns-clause-state : goal.returns-clause-state
 returns-clause-state c =
-    moved-state c.args.state.now c.args.from c.args.n c.loop-at.at c.args.trail.now c.loop-at.trail
-    c.loop-at.voices c.loop-at.noise c.loop-at.tones c.loop-at.last_on c.loop-at.last c.loop-at.invariant (omega arith) (omega arith) (omega arith)
-    c.args.state.now c.put_tones.new.state c.put_counts.new.state (small-pot c) refl
+    moved-state c.loop-at.invariant (omega arith) (omega arith) c.put_tones.new.state c.put_counts.new.state (small-pot c)
     (rw c.put.ensures at c.put_tones.ensures) c.put_counts.ensures

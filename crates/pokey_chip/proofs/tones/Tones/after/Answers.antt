@@ -1,16 +1,11 @@
-use Rattle.std.proofs.Common.{◌<◌, arith, ap, ◌∙◌, Bool, if◌then◌else◌}
+use Rattle.std.proofs.Common.{arith, ap, ◌∙◌, Bool, if◌then◌else◌}
 use Rattle.bit_words.specs.Bits.{is_bit}
 use Rattle.pokey_chip.specs.Channels.{place}
-use Rattle.pokey_chip.proofs.ToneLaws.{is_bit-or, place-few, tone-after, two-up}
+use Rattle.pokey_chip.proofs.ToneLaws.{is_bit-and, is_bit-not, is_bit-or, place-few, two-up}
 use Rattle.pokey_chip.proofs.tones.Tones.after.Goals as goal
 
 pub returns-clause-tone : goal.returns-clause-tone
-returns-clause-tone c =
-    λ ch.
-    let few : place ch < 8 = omega (arith, place-few ch) in
-    tone-after c.args.tuning.now c.args.outputs c.args.due c.args.self.tone c.all.result c.all-2.result c.all-3.result c.pick-noise.result c.pick-next.result c.pick-tone.result ch (omega arith)
-    (c.all.ensures.bits ch) (c.all-2.ensures.bits ch) (c.all-3.ensures.bits ch)
-    (c.pick-noise.ensures.bits (place ch) few) (c.pick-next.ensures.bits (place ch) few) (c.pick-tone.ensures.bits (place ch) few)
+returns-clause-tone c = λ ch. grind (arith, is_bit-and, is_bit-not, is_bit-or, place-few ch)
 
 pub returns-clause-pass : goal.returns-clause-pass
 returns-clause-pass c =

@@ -1,5 +1,5 @@
 use Rattle.std.proofs.Common.{◌-◌, ◌/◌, ◌≤◌, arith}
-use Rattle.pokey_chip.proofs.DueLaws.{last-step, step-back, step-some}
+use Rattle.pokey_chip.proofs.VoiceLaws.{last-step, step-back, step-some}
 use Rattle.pokey_chip.proofs.voice.Voice.last_set.Goals as goal
 
 pub loop-at-init : goal.loop-at-init

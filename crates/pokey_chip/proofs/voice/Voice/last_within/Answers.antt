@@ -1,5 +1,5 @@
 use Rattle.std.proofs.Common.{◌-◌, ◌/◌, ◌≤◌, inr, arith}
-use Rattle.pokey_chip.proofs.DueLaws.{last-most, last-step, step-some}
+use Rattle.pokey_chip.proofs.VoiceLaws.{last-most, last-step, step-some}
 use Rattle.pokey_chip.proofs.voice.Voice.last_within.Goals as goal
 
 pub returns : goal.returns

@@ -1,4 +1,4 @@
-use Rattle.std.proofs.Common.{arith}
+use Rattle.std.proofs.Common.{◌<◌, arith}
 use Rattle.pokey_poly.specs.declared.poly.Poly.TheVariants.{Four, Five, Nine, Seventeen}
 use Rattle.pokey_poly.proofs.LeapLaws.{ahead-start}
 use Rattle.pokey_poly.proofs.TableLaws.{five-ahead, four-ahead}
@@ -6,17 +6,13 @@ use Rattle.pokey_poly.proofs.poly.Poly.ahead.Goals as goal
 
 pub returns-in-Four : goal.returns-in-Four
 returns-in-Four c =
-    rw c.in-Four.is (record {
-      ahead = four-ahead c.args.r 51 (rw c.in-Four.is at c.requires.in_range) (omega arith);
-      start = ahead-start Four c.args.r _ 51 (rw c.in-Four.is at c.requires.in_range) (omega arith) (four-ahead c.args.r 51 (rw c.in-Four.is at c.requires.in_range) (omega arith));
-    })
+    let small : c.args.r < 16 = rw c.in-Four.is at c.requires.in_range in
+    rw c.in-Four.is (record { ahead = four-ahead c.args.r 51 small (omega arith); start = ahead-start Four c.args.r _ 51 small (omega arith) (four-ahead c.args.r 51 small (omega arith)) })
 
 pub returns-in-Five : goal.returns-in-Five
 returns-in-Five c =
-    rw c.in-Five.is (record {
-      ahead = five-ahead c.args.r 52 (rw c.in-Five.is at c.requires.in_range) (omega arith);
-      start = ahead-start Five c.args.r _ 52 (rw c.in-Five.is at c.requires.in_range) (omega arith) (five-ahead c.args.r 52 (rw c.in-Five.is at c.requires.in_range) (omega arith));
-    })
+    let small : c.args.r < 32 = rw c.in-Five.is at c.requires.in_range in
+    rw c.in-Five.is (record { ahead = five-ahead c.args.r 52 small (omega arith); start = ahead-start Five c.args.r _ 52 small (omega arith) (five-ahead c.args.r 52 small (omega arith)) })
 
 pub returns-in-Nine-clause-start : goal.returns-in-Nine-clause-start
 returns-in-Nine-clause-start c = rw c.in-Nine.is (ahead-start Nine c.args.r c.nine_on.result 59 (rw c.in-Nine.is at c.requires.in_range) (omega arith) c.nine_on.ensures.ahead)
