@@ -2,7 +2,7 @@ use Rattle.std.proofs.Common.{◌≡◌, ℕ, ◌+◌, ◌-◌, ◌*◌, ◌/◌
 use Rattle.std.proofs.lemmas.Int.{ints}
 use Rattle.std.specs.Int.{cast_signed, from_bool, w8}
 use Rattle.bit_words.proofs.Tables.{same_by_table}
-use Rattle.cpu_alu.proofs.StatusLemmas.{flags_of_byte}
+use Rattle.cpu_alu.proofs.StatusLemmas.{at_most_one, flags_of_byte}
 use Rattle.cpu_alu.specs.declared.flags.Flags.{Flags}
 use Rattle.cpu_alu.specs.Arithmetic.{adc_of, binary_adc, overflows, sbc_of, with_byte}
 use Rattle.bit_words.specs.Bits.{is_bit}
@@ -52,13 +52,8 @@ overflow_is : (a m c : ℕ) → a < 256 → m < 256 → c ≤ 1 → overflows a 
 unfolding overflows leaves_byte
 overflow_is a m c ha hm hc = rw (sign a ha, sign m hm, sign ((a + m + c) % 256) (omega arith)) (grind (arith, ints))
 
-at_most_one : (b : Bool) → from_bool b ≤ 1
-at_most_one true = omega arith
-at_most_one false = omega arith
-
 not_digit : (b : Bool) → from_bool (not b) ≡ 1 - from_bool b
-not_digit true = refl
-not_digit false = refl
+not_digit b = grind arith
 
 ninth_bit : (s : ℕ) → s < 512 → from_bool (nat_lt 255 s) ≡ s / 256
 ninth_bit = same_by_table 512 (λ s. from_bool (nat_lt 255 s)) (λ s. s / 256) refl
