@@ -1,10 +1,12 @@
--- A line's address is the value of the last `.org` before it and the sizes of the lines between.
-use Rattle.std.proofs.Common.{◌≡◌, ℕ, ◌+◌, ◌⊎◌, inl, inr, not, List, [], ◌∷◌, ◌++◌, Result, Ok, Option, Some, None, length, refl, sym, ap, ◌∙◌, arith, Bool, false, ℤ, pos, neg_ℤ, nat_abs}
+-- Pass 1 over the lines of a source: where each line stands, and that no two lines share a byte.
+use Rattle.std.proofs.Common.{◌≡◌, ℕ, ◌+◌, ◌<◌, ◌≤◌, true, false, List, [], ◌∷◌, ◌++◌, Result, Ok, Err, Option, Some, None}
+use Rattle.std.proofs.Common.{length, length-append, get_or, refl, sym, ap, ◌∙◌, append_assoc, append-nil, arith, Bool, ℤ, pos, nat_abs}
 use Rattle.std.specs.List.{All, list_any}
-use Rattle.std.specs.Option.{option_map, option_map_or}
-use Rattle.std.proofs.lemmas.List.Elements.{All-head, All-push, All-tail}
+use Rattle.std.proofs.lemmas.Bool.Decides.{nat_tests}
+use Rattle.std.proofs.lemmas.List.Elements.{All-append, All-cons, All-head, All-nil, All-push, All-tail}
+use Rattle.std.proofs.lemmas.List.Folds.{list_any_at}
+use Rattle.std.proofs.lemmas.List.Quantifiers.{all_pairs_push}
 use Rattle.std.proofs.lemmas.List.Sums.{sum_by-cons}
-use Rattle.asm_text.specs.declared.fault.AsmCause.TheVariants.{OutOfRange, OutsideRom, Overlap, TwiceNamed}
 use Rattle.asm_text.specs.declared.fault.AsmFault.{AsmFault}
 use Rattle.asm_text.specs.Lines.{lines_with_ends}
 use Rattle.asm_core.specs.declared.cell.Cell.{Cell}
@@ -13,14 +15,13 @@ use Rattle.asm_core.specs.declared.line.Body.{Body}
 use Rattle.asm_core.specs.declared.line.Body.TheVariants.{Nothing, Equals, Origin, Gives}
 use Rattle.asm_core.specs.declared.line.Line.{Line}
 use Rattle.asm_core.specs.declared.placed.Placed.{Placed}
-use Rattle.asm_core.specs.Cells.{all_fine, is_in_range, size_of}
+use Rattle.asm_core.specs.Cells.{size_of}
 use Rattle.asm_core.specs.Expressions.{NameValues, value_of}
 use Rattle.asm_core.specs.Images.{at_the_start}
-use Rattle.asm_core.specs.Laws.{HasNoOrigin, IsAddressAfter, IsInPlace, ReadLine, body_size, lines_read, line_origin, origin_value, sizes_of}
+use Rattle.asm_core.specs.Laws.{AreApart, AreInRom, HasNoOrigin, IsAddressAfter, IsInPlace, IsInRom, ReadLine, body_size, line_origin, lines_read, origin_value, sizes_of}
 use Rattle.asm_core.specs.Lines.{Language}
-use Rattle.asm_core.specs.Passes.{Known, body_looked_at, pass_one, found_before, is_in_rom, is_named, line_read, looked_at}
-use Rattle.asm_core.specs.Passes.{meets, ranged, room_for, text_looked_at, then_on, unless, with_label, with_name}
-use Rattle.asm_core.proofs.Apart.{fine, ok-same, then-ok, unless-ok}
+use Rattle.asm_core.specs.PassOne.{gives}
+use Rattle.asm_core.specs.Passes.{Known, body_looked_at, bytes_looked_at, equals_looked_at, found_before, line_read, looked_at, meets, pass_one, ranged, text_looked_at, then_on, with_label}
 
 -- the address behind a line, by its `.org` or by its size
 abbrev moved_by : Option ℕ → ℕ → ℕ
@@ -43,191 +44,176 @@ behind-none : (at : ℕ) (lines : List ReadLine) → All HasNoOrigin lines → a
 behind-none at [] none = omega arith
 behind-none at (read ∷ lines) none =
     let size = body_size read.line.body in
-    let here : moved at read ≡ at + size = ap (λ o. moved_by o (at + size)) (All-head HasNoOrigin read lines none) in
     let rest = behind-none (at + size) lines (All-tail HasNoOrigin read lines none) in
-    let sizes : sizes_of (read ∷ lines) ≡ size + sizes_of lines = sum_by-cons (λ (r : ReadLine). body_size r.line.body) read lines in
-    let sum : at + size + sizes_of lines ≡ at + sizes_of (read ∷ lines) = omega (arith, sizes) in
-    ap (λ a. address_behind a lines) here ∙ rest ∙ sum
+    ap (λ org. address_behind (moved_by org (at + size)) lines) (All-head HasNoOrigin read lines none) ∙ rest ∙ omega (arith, sum_by-cons (λ (r : ReadLine). body_size r.line.body) read lines)
 
 is-behind : (first : ℕ) (lines : List ReadLine) → IsAddressAfter first lines (address_behind first lines)
 is-behind first lines = record {
   last = λ before between org value split given none.
-      ap (λ all. address_behind first all) split
-      ∙ behind-append first before (org ∷ between)
-      ∙ ap (λ o. address_behind (moved_by o (address_behind first before + body_size org.line.body)) between) given
-      ∙ behind-none value between none;
+      rw (split, behind-append)
+      (ap (λ o. address_behind (moved_by o (address_behind first before + body_size org.line.body)) between) given ∙ behind-none value between none);
   none = λ none. behind-none first lines none;
 }
 
--- the lines that give bytes stay, or a line is added at its address
-abbrev Places : ℕ → ℕ → Body → List Placed → List Placed → Type 0
-Places number at body before after =
-    (after ≡ before) ⊎ ((cells : List Cell) × (body ≡ Gives cells) × (after ≡ before ++ record { line = number; at = at; cells = cells } ∷ []))
+-- the line that gives a statement's bytes, and those that give the bytes of lines
+abbrev given : ℕ → ℕ → Body → List Placed
+given number at Nothing = []
+given number at (Equals name e) = []
+given number at (Origin e) = []
+given number at (Gives cells) = record { line = number; at = at; cells = cells } ∷ []
 
-ranged-ok : (number : ℕ) (low high : ℤ) (even : Bool) (found : Option ℤ) (value : ℤ) → ranged number low high even found ≡ Ok value → found ≡ Some value
-ranged-ok number low high even None value is = absurd (cc)
-ranged-ok number low high even (Some v) value is =
-    let ok : Result ℤ AsmFault = Ok v in
-    let same = (unless-ok (not (is_in_range low high even v)) number OutOfRange ok value is).1 in
-    some-same v value same
-  where
-    some-same : (x y : ℤ) → fine x ≡ fine y → Some x ≡ Some y
-    some-same x y is = cc
+abbrev placed_by : ℕ → ℕ → List ReadLine → List Placed
+placed_by number at [] = []
+placed_by number at (read ∷ lines) = given number at read.line.body ++ placed_by (number + 1) (moved at read) lines
 
-room-size : (rom : Rom) (number : ℕ) (known : Known) (cells : List Cell) (size : ℕ) → room_for rom number known cells ≡ Ok size → size ≡ size_of cells
-room-size rom number known cells size is =
-    let met : Bool = list_any (meets known.at (size_of cells)) known.placed in
-    let whole : Result ℕ AsmFault = Ok (size_of cells) in
-    let room : Result ℕ AsmFault = unless met number Overlap whole in
-    let inside : Result ℕ AsmFault = unless (not (is_in_rom rom known.at (size_of cells))) number OutsideRom room in
-    let fine_cells = unless-ok (not (all_fine known.names cells)) number OutOfRange inside size is in
-    let inside_rom = unless-ok (not (is_in_rom rom known.at (size_of cells))) number OutsideRom room size fine_cells.1 in
-    let apart = unless-ok met number Overlap whole size inside_rom.1 in
-    size-same (size_of cells) size apart.1
-  where
-    size-same : (x y : ℕ) → fine x ≡ fine y → y ≡ x
-    size-same x y is = cc
+-- each of these lines is in its place
+given-among : (before : List ReadLine) (read : ReadLine) (lines : List ReadLine) (body : Body) → read.line.body ≡ body
+    → All (IsInPlace (before ++ read ∷ lines)) (given (1 + length before) (address_behind 0 before) body)
+given-among before read lines Nothing is = All-nil (IsInPlace (before ++ read ∷ lines))
+given-among before read lines (Equals name e) is = All-nil (IsInPlace (before ++ read ∷ lines))
+given-among before read lines (Origin e) is = All-nil (IsInPlace (before ++ read ∷ lines))
+given-among before read lines (Gives cells) is =
+    All-cons (IsInPlace (before ++ read ∷ lines)) _ [] (record { before = before; line = read; behind = lines; split = refl; number = refl; gives = is; at = is-behind 0 before })
+    (All-nil (IsInPlace (before ++ read ∷ lines)))
 
--- where the next line stands, and which lines give bytes
-abbrev Steps : ℕ → NameValues → Body → Known → Known → Type 0
-Steps number names body known next =
-    (next.at ≡ moved_by (origin_value names body) (known.at + body_size body)) × Places number known.at body known.placed next.placed
+placed-among : (before lines : List ReadLine) → All (IsInPlace (before ++ lines)) (placed_by (1 + length before) (address_behind 0 before) lines)
+placed-among before [] = All-nil (IsInPlace (before ++ []))
+placed-among before (read ∷ lines) =
+    let whole : (before ++ read ∷ []) ++ lines ≡ before ++ read ∷ lines = append_assoc before (read ∷ []) lines in
+    let count : 1 + length (before ++ read ∷ []) ≡ 1 + length before + 1 = omega (arith, length-append before (read ∷ [])) in
+    All-append (IsInPlace (before ++ read ∷ lines)) _ _ (given-among before read lines read.line.body refl)
+    (rw (whole, count, behind-append 0 before (read ∷ [])) at (placed-among (before ++ read ∷ []) lines))
 
-steps-stated : (number : ℕ) (names : NameValues) (body : Body) (known stated next : Known) → fine stated ≡ fine next → Steps number names body known stated → Steps number names body known next
-steps-stated number names body known stated next is steps = rw (← ok-same stated next is) steps
+-- what is known where nothing was refused
+pub then-ok : {X Y : Type 0} (next : X → Result Y AsmFault) (before : Result X AsmFault) (y : Y) → then_on next before ≡ Ok y → (x : X) × (before ≡ Ok x) × (next x ≡ Ok y)
+then-ok next (Ok x) y is = (x, refl, is)
+then-ok next (Err e) y is = absurd (cc)
+
+abbrev pub fine : {X : Type 0} → X → Result X AsmFault
+fine x = Ok x
+
+pub ok-same : {X : Type 0} (x y : X) → fine x ≡ fine y → x ≡ y
+ok-same x y is = cc
+
+-- what a statement that isn't refused makes known: where the next line stands, and its bytes, which
+-- are in the ROM and no earlier line's
+record Steps (rom : Rom) (number : ℕ) (names : NameValues) (body : Body) (known next : Known) : Type 0 where
+  at : next.at ≡ moved_by (origin_value names body) (known.at + body_size body)
+  placed : next.placed ≡ known.placed ++ given number known.at body
+  inside : AreInRom rom known.placed → AreInRom rom next.placed
+  apart : AreApart known.placed → AreApart next.placed
+
+stays : (rom : Rom) (number : ℕ) (names : NameValues) (body : Body) (known next : Known) → given number known.at body ≡ []
+    → next.at ≡ moved_by (origin_value names body) (known.at + body_size body) → next.placed ≡ known.placed → Steps rom number names body known next
+stays rom number names body known next none at same =
+    record { at = at; placed = same ∙ rw none (sym (append-nil known.placed)); inside = λ inside. rw same inside; apart = λ apart. rw same apart }
+
+equals-steps : (number : ℕ) (found : Option ℤ) (known next : Known) (name : List ℕ) → equals_looked_at number found known name ≡ Ok next
+    → (next.at ≡ known.at) × (next.placed ≡ known.placed)
+equals-steps number found known next name is = grind (arith, nat_tests)
+
+origin-steps : (number : ℕ) (found : Option ℤ) (even : Bool) (known next : Known)
+    → then_on (λ value. Ok (record { names = known.names; at = nat_abs value; placed = known.placed })) (ranged number (pos 0) (pos 65535) even found) ≡ Ok next
+    → (v : ℤ) × (found ≡ Some v) × (next.at ≡ nat_abs v) × (next.placed ≡ known.placed)
+origin-steps number found even known next is = grind (arith, nat_tests)
+
+gives-steps : (rom : Rom) (number : ℕ) (known next : Known) (cells : List Cell) → bytes_looked_at rom number known cells ≡ Ok next
+    → (next.at ≡ known.at + size_of cells) × (next.placed ≡ known.placed ++ record { line = number; at = known.at; cells = cells } ∷ [])
+    × (rom.low ≤ known.at) × (known.at + size_of cells ≤ rom.high) × (list_any (meets known.at (size_of cells)) known.placed ≡ false)
+gives-steps rom number known next cells is = grind (arith, nat_tests)
+
+-- two lines that don't meet share no byte
+apart-pair : (p one : Placed) (addr : ℕ) → meets p.at (size_of p.cells) one ≡ false → gives addr one ≡ true → gives addr p ≡ false
+apart-pair p one addr none given = grind (arith, nat_tests)
+
+no-meeting : (at count : ℕ) (placed : List Placed) (k : ℕ) (d : Placed) → list_any (meets at count) placed ≡ false → k < length placed → meets at count (get_or placed k d) ≡ false
+no-meeting at count placed k d none inside = grind (arith, list_any_at)
 
 body-steps : (rom : Rom) (number : ℕ) (names : NameValues) (known next : Known) (body : Body)
-    → body_looked_at rom number (found_before names body) known body ≡ Ok next → Steps number names body known next
+    → body_looked_at rom number (found_before names body) known body ≡ Ok next → Steps rom number names body known next
 unfolding body_looked_at
-body-steps rom number names known next Nothing is = steps-stated number names Nothing known known next is (omega arith, inl refl)
+body-steps rom number names known next Nothing is =
+    let same = ok-same known next is in stays rom number names Nothing known next refl (rw (← same) (omega arith)) (rw (← same) refl)
 body-steps rom number names known next (Equals name e) is =
-    let after : ℤ → Result Known AsmFault = λ value. Ok (record { names = with_name known.names name value; at = known.at; placed = known.placed }) in
-    let value : Result ℤ AsmFault = ranged number (neg_ℤ (pos 65536)) (pos 65535) false (value_of names e) in
-    let named = unless-ok (is_named known.names name) number TwiceNamed (then_on after value) next is in
-    let then = then-ok after value next named.1 in
-    steps-stated number names (Equals name e) known (record { names = with_name known.names name then.0; at = known.at; placed = known.placed }) next then.2 (omega arith, inl refl)
+    let steps = equals-steps number (value_of names e) known next name is in stays rom number names (Equals name e) known next refl (omega (arith, steps.0)) steps.1
 body-steps rom number names known next (Origin e) is =
-    let after : ℤ → Result Known AsmFault = λ value. Ok (record { names = known.names; at = nat_abs value; placed = known.placed }) in
-    let value : Result ℤ AsmFault = ranged number (pos 0) (pos 65535) rom.even (value_of names e) in
-    let then = then-ok after value next is in
-    let found : value_of names e ≡ Some then.0 = ranged-ok number (pos 0) (pos 65535) rom.even (value_of names e) then.0 then.1 in
-    steps-stated number names (Origin e) known (record { names = known.names; at = nat_abs then.0; placed = known.placed }) next then.2
-    (sym (ap (λ v. moved_by (option_map nat_abs v) (known.at + 0)) found), inl refl)
+    let (v, found, at, placed) = origin-steps number (value_of names e) rom.even known next is in stays rom number names (Origin e) known next refl (rw found at) placed
 body-steps rom number names known next (Gives cells) is =
     let p : Placed = record { line = number; at = known.at; cells = cells } in
-    let after : ℕ → Result Known AsmFault = λ size. Ok (record { names = known.names; at = known.at + size; placed = known.placed ++ p ∷ [] }) in
-    let then = then-ok after (room_for rom number known cells) next is in
-    let size = room-size rom number known cells then.0 then.1 in
-    steps-stated number names (Gives cells) known (record { names = known.names; at = known.at + then.0; placed = known.placed ++ p ∷ [] }) next then.2
-    (ap (λ n. known.at + n) size, inr (cells, refl, refl))
+    let (at, placed, low, high, none) = gives-steps rom number known next cells is in
+    record {
+      at = at;
+      placed = placed;
+      inside = λ inside. rw placed (All-push (IsInRom rom) known.placed p inside (record { low = low; high = high }));
+      apart = λ apart. rw placed (all_pairs_push (λ one other. (addr : ℕ) → gives addr one ≡ true → gives addr other ≡ false) known.placed p apart
+          (λ k d within addr given. apart-pair p (get_or known.placed k d) addr (no-meeting known.at (size_of cells) known.placed k d none within) given));
+    }
 
 -- a line that isn't refused is read
-pub record LineSteps (language : Language) (rom : Rom) (number : ℕ) (known next : Known) (text : List ℕ) : Type 0 where
-  pub line : Line
-  pub read : line_read language number known text ≡ Ok line
-  pub looked : looked_at rom number known line ≡ Ok next
-  pub steps : Steps number known.names line.body known next
-
-line-steps : (language : Language) (rom : Rom) (number : ℕ) (known next : Known) (text : List ℕ)
-    → text_looked_at language rom number known text ≡ Ok next → LineSteps language rom number known next text
+line-steps : (language : Language) (rom : Rom) (number : ℕ) (known next : Known) (text : List ℕ) → text_looked_at language rom number known text ≡ Ok next
+    → (line : Line) × (line_read language number known text ≡ Ok line) × (looked_at rom number known line ≡ Ok next)
+    × (body_looked_at rom number (found_before known.names line.body) (record { names = with_label known.names line.label known.at; at = known.at; placed = known.placed }) line.body ≡ Ok next)
 unfolding text_looked_at looked_at
-line-steps language rom number known next text is =
-    let line = then-ok (λ (l : Line). looked_at rom number known l) (line_read language number known text) next is in
-    let l : Line = line.0 in
-    let named : Known = record { names = with_label known.names l.label known.at; at = known.at; placed = known.placed } in
-    let twice = unless-ok (option_map_or (is_named known.names) l.label false) number TwiceNamed (body_looked_at rom number (found_before known.names l.body) named l.body) next line.2 in
-    record { line = l; read = line.1; looked = line.2; steps = body-steps rom number known.names named next l.body twice.1 }
+line-steps language rom number known next text is = grind (arith, nat_tests)
 
-lines-next : (language : Language) (rom : Rom) (number : ℕ) (known next : Known) (text : List ℕ) (texts : List (List ℕ)) (line : Line)
-    → line_read language number known text ≡ Ok line → looked_at rom number known line ≡ Ok next
-    → lines_read language rom number known (text ∷ texts) ≡ record { names = known.names; line = line } ∷ lines_read language rom (number + 1) next texts
-unfolding lines_read
-lines-next language rom number known next text texts line read looked = rw (read, looked) refl
+-- each line is read, the address goes on from line to line, and the lines that give bytes share no
+-- byte and stay in the ROM
+record PassSteps (rom : Rom) (number : ℕ) (known after : Known) (lines : List ReadLine) (count : ℕ) : Type 0 where
+  all : length lines ≡ count
+  at : after.at ≡ address_behind known.at lines
+  placed : after.placed ≡ known.placed ++ placed_by number known.at lines
+  inside : AreInRom rom known.placed → AreInRom rom after.placed
+  apart : AreApart known.placed → AreApart after.placed
 
--- each line is read, and the address goes on from line to line
-pass-behind : (language : Language) (rom : Rom) (number : ℕ) (known after : Known) (texts : List (List ℕ))
-    → pass_one language rom number known texts ≡ Ok after
-    → (length (lines_read language rom number known texts) ≡ length texts) × (after.at ≡ address_behind known.at (lines_read language rom number known texts))
+pass-steps : (language : Language) (rom : Rom) (number : ℕ) (known after : Known) (texts : List (List ℕ)) → pass_one language rom number known texts ≡ Ok after
+    → PassSteps rom number known after (lines_read language rom number known texts) (length texts)
 unfolding pass_one lines_read
-pass-behind language rom number known after [] is = (refl, ap (λ (k : Known). k.at) (sym (ok-same known after is)))
-pass-behind language rom number known after (text ∷ texts) is =
-    let next = then-ok (λ (k : Known). pass_one language rom (number + 1) k texts) (text_looked_at language rom number known text) after is in
-    let first = line-steps language rom number known next.0 text next.1 in
-    let lines = lines-next language rom number known next.0 text texts first.line first.read first.looked in
-    let rest = pass-behind language rom (number + 1) next.0 after texts next.2 in (
-      ap length lines ∙ ap (λ n. Prim.Native.Nat.suc n) rest.0,
-      rest.1 ∙ ap (λ a. address_behind a (lines_read language rom (number + 1) next.0 texts)) first.steps.0 ∙ sym (ap (λ all. address_behind known.at all) lines),
-    )
+pass-steps language rom number known after [] is =
+    rw (← ok-same known after is) (record { all = refl; at = refl; placed = sym (append-nil known.placed); inside = λ inside. inside; apart = λ apart. apart })
+pass-steps language rom number known after (text ∷ texts) is =
+    let (next, looked, behind) = then-ok (λ (k : Known). pass_one language rom (number + 1) k texts) (text_looked_at language rom number known text) after is in
+    let (line, read, looked_line, stated) = line-steps language rom number known next text looked in
+    let named : Known = record { names = with_label known.names line.label known.at; at = known.at; placed = known.placed } in
+    let steps = body-steps rom number known.names named next line.body stated in
+    let lines : lines_read language rom number known (text ∷ texts) ≡ record { names = known.names; line = line } ∷ lines_read language rom (number + 1) next texts = rw (read, looked_line) refl in
+    let rest = pass-steps language rom (number + 1) next after texts behind in
+    rw lines (record {
+      all = ap (λ n. Prim.Native.Nat.suc n) rest.all;
+      at = rest.at ∙ ap (λ a. address_behind a (lines_read language rom (number + 1) next texts)) steps.at;
+      placed = rest.placed ∙ rw (steps.placed, steps.at) (append_assoc known.placed (given number known.at line.body) _);
+      inside = λ inside. rest.inside (steps.inside inside);
+      apart = λ apart. rest.apart (steps.apart apart);
+    })
 
--- a line that gives bytes, among lines that are counted from a number on
-record IsAmong (number first : ℕ) (lines : List ReadLine) (placed : Placed) : Type 0 where
-  before : List ReadLine
-  line : ReadLine
-  behind : List ReadLine
-  split : lines ≡ before ++ line ∷ behind
-  counted : placed.line ≡ number + length before
-  gives : line.line.body ≡ Gives placed.cells
-  at : placed.at ≡ address_behind first before
-
-pass-placed : (language : Language) (rom : Rom) (number : ℕ) (known after : Known) (texts : List (List ℕ))
-    → pass_one language rom number known texts ≡ Ok after → (P : Placed → Type 0) → All P known.placed
-    → ((placed : Placed) → IsAmong number known.at (lines_read language rom number known texts) placed → P placed) → All P after.placed
+-- what is known after some lines is known whatever stands behind them
+pub pass-prefix : (language : Language) (rom : Rom) (number : ℕ) (known : Known) (texts more : List (List ℕ))
+    → pass_one language rom number known (texts ++ more) ≡ then_on (λ next. pass_one language rom (number + length texts) next more) (pass_one language rom number known texts)
 unfolding pass_one
-pass-placed language rom number known after [] is P earlier stated = rw (← ok-same known after is) earlier
-pass-placed language rom number known after (text ∷ texts) is P earlier stated =
-    let next = then-ok (λ (k : Known). pass_one language rom (number + 1) k texts) (text_looked_at language rom number known text) after is in
-    let first = line-steps language rom number known next.0 text next.1 in
-    let lines = lines-next language rom number known next.0 text texts first.line first.read first.looked in
-    pass-placed language rom (number + 1) next.0 after texts next.2 P
-    (placed-next first lines)
-    (λ placed among. stated placed (record {
-      before = record { names = known.names; line = first.line } ∷ among.before;
-      line = among.line;
-      behind = among.behind;
-      split = lines ∙ ap (λ all. record { names = known.names; line = first.line } ∷ all) among.split;
-      counted = omega (arith, among.counted);
-      gives = among.gives;
-      at = among.at ∙ ap (λ a. address_behind a among.before) first.steps.0;
-    }))
+pass-prefix language rom number known [] more = let same : number + 0 ≡ number = omega arith in rw same refl
+pass-prefix language rom number known (text ∷ texts) more =
+    let count : number + length (text ∷ texts) ≡ number + 1 + length texts = omega arith in
+    let looked = text_looked_at language rom number known text in
+    rw count ((λ i. then_on (λ (next : Known). pass-prefix language rom (number + 1) next texts more i) looked) ∙ in_turn _ _ looked)
   where
-    placed-next : {next : Known} → (first : LineSteps language rom number known next text)
-        → lines_read language rom number known (text ∷ texts) ≡ record { names = known.names; line = first.line } ∷ lines_read language rom (number + 1) next texts
-        → All P next.placed
-    placed-next {next} first lines = elim first.steps.1 [
-      | inl same ↦ rw same earlier
-      | inr added ↦
-          let p : Placed = record { line = number; at = known.at; cells = added.0 } in
-          rw added.2 (All-push P known.placed p earlier (stated p (record {
-            before = [];
-            line = record { names = known.names; line = first.line };
-            behind = lines_read language rom (number + 1) next texts;
-            split = lines;
-            counted = omega arith;
-            gives = added.1;
-            at = refl;
-          })))
-    ]
+    in_turn : (first then : Known → Result Known AsmFault) (before : Result Known AsmFault) → then_on (λ known. then_on then (first known)) before ≡ then_on then (then_on first before)
+    in_turn first then (Ok known) = refl
+    in_turn first then (Err fault) = refl
 
 pub lines-all : (language : Language) (rom : Rom) (number : ℕ) (known next : Known) (texts : List (List ℕ))
     → pass_one language rom number known texts ≡ Ok next → length (lines_read language rom number known texts) ≡ length texts
-lines-all language rom number known next texts is = (pass-behind language rom number known next texts is).0
+lines-all language rom number known next texts is = (pass-steps language rom number known next texts is).all
 
 pub lines-behind : (language : Language) (rom : Rom) (number : ℕ) (known next : Known) (texts : List (List ℕ))
     → pass_one language rom number known texts ≡ Ok next → IsAddressAfter known.at (lines_read language rom number known texts) next.at
-lines-behind language rom number known next texts is =
-    rw ((pass-behind language rom number known next texts is).1) (is-behind known.at (lines_read language rom number known texts))
+lines-behind language rom number known next texts is = rw ((pass-steps language rom number known next texts is).at) (is-behind known.at (lines_read language rom number known texts))
 
 pub source-placed : (language : Language) (rom : Rom) (text : List ℕ) (known : Known)
     → pass_one language rom 1 at_the_start (lines_with_ends text) ≡ Ok known → All (IsInPlace (lines_read language rom 1 at_the_start (lines_with_ends text))) known.placed
 source-placed language rom text known is =
-    let lines = lines_read language rom 1 at_the_start (lines_with_ends text) in
-    pass-placed language rom 1 at_the_start known (lines_with_ends text) is (IsInPlace lines) (λ k d within. absurd (omega arith))
-    (λ placed among. record {
-      before = among.before;
-      line = among.line;
-      behind = among.behind;
-      split = among.split;
-      number = among.counted;
-      gives = among.gives;
-      at = rw among.at (is-behind 0 among.before);
-    })
+    rw ((pass-steps language rom 1 at_the_start known (lines_with_ends text) is).placed) (placed-among [] (lines_read language rom 1 at_the_start (lines_with_ends text)))
+
+pub source-apart : (language : Language) (rom : Rom) (text : List ℕ) (known : Known) → pass_one language rom 1 at_the_start (lines_with_ends text) ≡ Ok known → AreApart known.placed
+source-apart language rom text known is = (pass-steps language rom 1 at_the_start known (lines_with_ends text) is).apart (λ i j d less within. absurd (omega arith))
+
+pub source-inside : (language : Language) (rom : Rom) (text : List ℕ) (known : Known) → pass_one language rom 1 at_the_start (lines_with_ends text) ≡ Ok known → AreInRom rom known.placed
+source-inside language rom text known is = (pass-steps language rom 1 at_the_start known (lines_with_ends text) is).inside (λ k d within. absurd (omega arith))

@@ -1,10 +1,11 @@
 -- Which bytes of the ROM the earlier lines give.
-use Rattle.std.proofs.Common.{◌≡◌, ℕ, ◌+◌, ◌-◌, ◌<◌, ◌≤◌, ◌⊎◌, inl, inr, Bool, true, false, ◌&&◌, ◌||◌, List, [], ◌∷◌, ◌++◌}
-use Rattle.std.proofs.Common.{Ok, length, get_or, take, drop, replicate, refl, sym, ap, ◌∙◌, arith, ltb, leb, Vec, Global}
+use Rattle.std.proofs.Common.{◌≡◌, ℕ, ◌+◌, ◌-◌, ◌<◌, ◌≤◌, ◌⊎◌, inl, inr, Bool, true, false, ◌&&◌, List, [], ◌∷◌, ◌++◌}
+use Rattle.std.proofs.Common.{Ok, length, get_or, take, drop, replicate, refl, sym, ap, ◌∙◌, arith, Vec, Global}
 use Rattle.std.specs.List.{All, list_any}
 use Rattle.std.specs.Cmp.Derive.{both_true}
 use Rattle.std.proofs.Math.Bool.{and-false, or-false, or-true}
-use Rattle.std.proofs.lemmas.Bool.{cases_lt, le-leb, le-ltb, leb-true, lt-leb, lt-ltb, ltb-true}
+use Rattle.std.proofs.lemmas.Bool.{cases_lt, le-leb, le-ltb, lt-leb, lt-ltb}
+use Rattle.std.proofs.lemmas.Bool.Decides.{nat_tests}
 use Rattle.std.proofs.lemmas.Grind.{common_steps}
 use Rattle.std.proofs.lemmas.List.{get_or_default, get_or-drop, get_or-take}
 use Rattle.std.proofs.lemmas.List.Elements.{All-push}
@@ -39,48 +40,22 @@ size-some (cell ∷ cells) whole =
     let some = (whole.each 0 cell (omega arith)).some in
     omega (arith, first, some)
 
--- a byte that a line gives
-pub given-by : (addr : ℕ) (p : Placed) → gives addr p ≡ true → (p.at ≤ addr) × (addr < p.at + size_of p.cells)
-given-by addr p given =
-    let both = both_pass (leb p.at addr) (ltb addr (p.at + size_of p.cells)) given in
-    (leb-true _ _ both.0, ltb-true _ _ both.1)
-
+-- a line gives its bytes and no others; it meets other bytes where it gives one of them
 pub gives-byte : (addr : ℕ) (p : Placed) → p.at ≤ addr → addr < p.at + size_of p.cells → gives addr p ≡ true
 gives-byte addr p low high = both_true (le-leb _ _ low) (lt-ltb _ _ high)
 
--- a byte before or after a line's
-pub not-given : (addr : ℕ) (p : Placed) → (addr < p.at) ⊎ (p.at + size_of p.cells ≤ addr) → gives addr p ≡ false
+not-given : (addr : ℕ) (p : Placed) → (addr < p.at) ⊎ (p.at + size_of p.cells ≤ addr) → gives addr p ≡ false
 not-given addr p (inl before) = rw (lt-leb p.at addr before) refl
 not-given addr p (inr behind) = rw (le-ltb addr (p.at + size_of p.cells) behind) (and-false _)
 
--- a byte of a line and of others, from an address on
-pub met-at : (at count : ℕ) (p : Placed) (k : ℕ) → k < count → gives (at + k) p ≡ true → meets at count p ≡ true
-met-at at count p k inside given =
-    let here = given-by (at + k) p given in
-    let low : at < p.at + size_of p.cells = omega (arith, here.0, here.1) in
-    let high : p.at < at + count = omega (arith, here.0, here.1) in
-    both_true (lt-ltb _ _ low) (lt-ltb _ _ high)
+met-at : (at count k : ℕ) (p : Placed) → k < count → gives (at + k) p ≡ true → meets at count p ≡ true
+met-at at count k p inside given = grind (arith, nat_tests)
 
-pub met-byte : (at count : ℕ) (p : Placed) → 1 ≤ count → 1 ≤ size_of p.cells → meets at count p ≡ true
-    → (k : ℕ) × (k < count) × (gives (at + k) p ≡ true)
-met-byte at count p some whole met =
-    let both = both_pass (ltb at (p.at + size_of p.cells)) (ltb p.at (at + count)) met in
-    let before = ltb-true _ _ both.0 in
-    let after = ltb-true _ _ both.1 in
-    elim (cases_lt at p.at) [
-      | inl later ↦ (p.at - at, omega arith, gives-byte (at + (p.at - at)) p (omega arith) (omega arith))
-      | inr first ↦ (0, omega arith, gives-byte (at + 0) p (omega arith) (omega arith))
-    ]
-
--- a line in the place of one that is the same
-met-there : (at count : ℕ) (q p : Placed) → q ≡ p → meets at count p ≡ true → meets at count q ≡ true
-met-there at count q p same met = rw same met
-
-given-there : (addr : ℕ) (q p : Placed) → q ≡ p → gives addr p ≡ true → gives addr q ≡ true
-given-there addr q p same given = rw same given
+met-byte : (at count : ℕ) (p : Placed) → 1 ≤ count → 1 ≤ size_of p.cells → meets at count p ≡ true → ((p.at - at) < count) × (gives (at + (p.at - at)) p ≡ true)
+met-byte at count p some whole met = grind (arith, nat_tests)
 
 -- some bytes of a ROM are given where an earlier line shares one with them
-pub given-meets : (rom : Rom) (taken : List Bool) (placed : List Placed) (at count : ℕ)
+given-meets : (rom : Rom) (taken : List Bool) (placed : List Placed) (at count : ℕ)
     → Covers rom taken placed → All (IsPlaced rom) placed → rom.low ≤ at → 1 ≤ count → (at - rom.low) + count ≤ length taken
     → list_any (λ given. given) (take count (drop (at - rom.low) taken)) ≡ list_any (meets at count) placed
 given-meets rom taken placed at count covers each low some inside =
@@ -92,44 +67,32 @@ given-meets rom taken placed at count covers each low some inside =
     get_or-take count (drop from taken) k false within ∙ get_or-drop from taken k false ∙ covers (from + k) (omega arith) ∙ ap (λ a. list_any (gives a) placed) place in
     same_tests (list_any (λ given. given) part) (list_any (meets at count) placed)
     (λ passed.
-    let any = Any-from_list_any (λ given. given) part passed in
-    let k = any.0 in
-    let within : k < count = omega (arith, any.2, part_len) in
-    let here : list_any (gives (at + k)) placed ≡ true = sym (item k within) ∙ get_or_default part k false any.1 any.2 ∙ any.3 ∙ any.4 in
-    let line = Any-from_list_any (gives (at + k)) placed here in
-    let met = met-at at count line.1 k within line.4 in
-    list_any_at (meets at count) placed line.0 line.1 line.2 (met-there at count (get_or placed line.0 line.1) line.1 line.3 met))
+    let (k, d, within, is, given) = Any-from_list_any (λ given. given) part passed in
+    let inside : k < count = omega (arith, within, part_len) in
+    let (i, line, there, same, gave) = Any-from_list_any (gives (at + k)) placed (sym (item k inside) ∙ get_or_default part k false d within ∙ is ∙ given) in
+    list_any_at (meets at count) placed i line there (rw same (met-at at count k line inside gave)))
     (λ passed.
-    let line = Any-from_list_any (meets at count) placed passed in
-    let whole = each line.0 line.1 line.2 in
-    let size = rw line.3 at (size-some _ whole.cells) in
-    let byte = met-byte at count line.1 some size line.4 in
-    let given : list_any (gives (at + byte.0)) placed ≡ true = list_any_at _ placed line.0 line.1 line.2 (given-there (at + byte.0) (get_or placed line.0 line.1) line.1 line.3 byte.2) in
-    list_any_at (λ given. given) part byte.0 false (omega (arith, byte.1, part_len)) (item byte.0 byte.1 ∙ given))
+    let (i, line, there, same, met) = Any-from_list_any (meets at count) placed passed in
+    let (inside, gave) = met-byte at count line some (rw same at (size-some _ (each i line there).cells)) met in
+    let given : list_any (gives (at + (line.at - at))) placed ≡ true = list_any_at _ placed i line there (rw same gave) in
+    list_any_at (λ given. given) part (line.at - at) false (omega (arith, inside, part_len)) (item (line.at - at) inside ∙ given))
 
 -- the bytes that are given once a line is placed
-pub Covers-push : (rom : Rom) (taken : List Bool) (placed : List Placed) (p : Placed)
+Covers-push : (rom : Rom) (taken : List Bool) (placed : List Placed) (p : Placed)
     → Covers rom taken placed → rom.low ≤ p.at → (p.at - rom.low) + size_of p.cells ≤ length taken
     → Covers rom (take (p.at - rom.low) taken ++ replicate (size_of p.cells) true ++ drop ((p.at - rom.low) + size_of p.cells) taken) (placed ++ p ∷ [])
 Covers-push rom taken placed p covers low inside i within =
     let from = p.at - rom.low in
     let count = size_of p.cells in
-    let more : list_any (gives (rom.low + i)) (placed ++ p ∷ []) ≡ (list_any (gives (rom.low + i)) placed || gives (rom.low + i) p) =
-    list_any-append (gives (rom.low + i)) placed (p ∷ []) ∙ ap (λ b. list_any (gives (rom.low + i)) placed || b) (or-false (gives (rom.low + i) p)) in
-    let at : rom.low + from ≡ p.at = omega arith in
-    elim (cases_lt i from) [
-      | inl before ↦
-          let old : get_or (take from taken ++ replicate count true ++ drop (from + count) taken) i false ≡ get_or taken i false = grind (arith, common_steps) in
-          old ∙ covers i (omega arith) ∙ sym (more ∙ ap (λ b. list_any (gives (rom.low + i)) placed || b) (not-given (rom.low + i) p (inl (omega arith))) ∙ or-false _)
+    let same : i < length taken = grind (arith, common_steps) in
+    rw (list_any-append (gives (rom.low + i)) placed (p ∷ []), ← covers i same)
+    (elim (cases_lt i from) [
+      | inl before ↦ rw (not-given (rom.low + i) p (inl (omega arith))) (grind (arith, common_steps, or-false))
       | inr behind ↦ elim (cases_lt i (from + count)) [
-        | inl here ↦
-            let new : get_or (take from taken ++ replicate count true ++ drop (from + count) taken) i false ≡ true = grind (arith, common_steps) in
-            new ∙ sym (more ∙ ap (λ b. list_any (gives (rom.low + i)) placed || b) (gives-byte (rom.low + i) p (omega arith) (omega arith)) ∙ or-true _)
-        | inr after ↦
-            let old : get_or (take from taken ++ replicate count true ++ drop (from + count) taken) i false ≡ get_or taken i false = grind (arith, common_steps) in
-            old ∙ covers i (grind (arith, common_steps)) ∙ sym (more ∙ ap (λ b. list_any (gives (rom.low + i)) placed || b) (not-given (rom.low + i) p (inr (omega arith))) ∙ or-false _)
+        | inl here ↦ rw (gives-byte (rom.low + i) p (omega arith) (omega arith)) (grind (arith, common_steps, or-true))
+        | inr after ↦ rw (not-given (rom.low + i) p (inr (omega arith))) (grind (arith, common_steps, or-false))
       ]
-    ]
+    ])
 
 -- what is known of a line's room where its values are in their ranges and its bytes in the ROM
 pub room-stated : (rom : Rom) (number : ℕ) (known : Known) (cells : List Cell) (met : Bool)
@@ -163,3 +126,5 @@ pass-next rom pass line cells given placed size is_rom whole are here low high n
       covers = rw (new, here, more) pushed;
       each = rw more (All-push (IsPlaced rom) pass.placed p whole.each (record { low = low; high = rw here at high; cells = are }));
     }
+
+pub ruleset rooms = (room-given, room-stated)

@@ -1,14 +1,11 @@
 pub mod Addresses
-pub mod Apart
 pub mod Checking
 pub mod Covering
 pub mod FindingNames
 pub mod Items
 pub mod Lists
 pub mod LongItems
-pub mod Looking
 pub mod Putting
 pub mod SourceLaws
 pub mod Standing
-pub mod Terms
 pub mod WordPieces

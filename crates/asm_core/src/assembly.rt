@@ -17,6 +17,7 @@ use rom_image::Image;
 use std::alloc::Global;
 
 /// The words of a line, where all its pieces are tokens or blanks.
+#[tactic(auto, using(crate::proofs::Checking::lines))]
 fn read_words<'a>(text: &'a [u8], number: u32) -> Result<Words<'a>, AsmFault>
     ensures words { Answers (λ words. words) result (words_read number text.now) }
 {
@@ -90,6 +91,7 @@ fn start<'a>(alloc: Global, rom: Rom) -> Result<PassOne<'a>, AsmFault>
 }
 
 /// Pass 1 over the lines of a text.
+#[tactic(auto, using(crate::proofs::Lists::texts), unfolding(crate::specs::Passes::pass_one))]
 fn look_at_lines<'a, D: Dialect>(
     alloc: Global,
     dialect: &D,
@@ -118,6 +120,7 @@ fn look_at_lines<'a, D: Dialect>(
 ///
 /// It is refused for its first bad line: of all lines, looked at under the names of earlier ones,
 /// and then of those that give bytes, under all names. After a refusal the image's bytes are open.
+#[tactic(auto, unfolding(crate::specs::Images::given_by))]
 pub fn assemble<D: Dialect>(
     alloc: Global,
     dialect: &D,

@@ -61,6 +61,7 @@ fn minus(word: &Word) -> Option<bool>
 }
 
 /// The terms of a sum, of which the first has this sign.
+#[tactic(auto, using(crate::proofs::Lists::steps), unfolding(crate::specs::Expressions::terms_of))]
 fn read_terms<'a>(
     alloc: Global,
     first: bool,
@@ -154,6 +155,7 @@ fn summed(negative: bool, sum: i128, value: i128) -> i128
 }
 
 /// The sum of terms. Any number of terms that stands in memory has one of 128 bits.
+#[tactic(auto, using(crate::proofs::Lists::steps), unfolding(crate::specs::Expressions::sum_value))]
 fn sum_value(names: &Names, terms: &[Term]) -> Option<i128>
     ensures value { result ≡ sum_value names.now (pos 0) terms.now }
     ensures small { IfSome result (λ sum. unsigned_abs sum ≤ 2 ^ 95) }

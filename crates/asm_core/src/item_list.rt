@@ -38,6 +38,7 @@ pub fn value_cell<'a>(
 }
 
 /// A cell of so many bytes for each expression of a list that commas part, each in memory.
+#[tactic(auto, using(crate::proofs::Lists::steps), unfolding(crate::specs::Lists::cells_of))]
 fn read_each<'a>(
     alloc: Global,
     words: &Words<'a>,
@@ -65,6 +66,7 @@ fn read_each<'a>(
 }
 
 /// Whether a list gives more bytes than the largest ROM has, where each item gives so many.
+#[tactic(auto, using(crate::proofs::LongItems::lengths))]
 fn is_long(words: &Words, size: u8) -> bool
     ensures { result ≡ nat_lt PROGRAM_ROM_LEN (length (items_of words.now) * size) }
 {
@@ -82,6 +84,7 @@ fn is_long(words: &Words, size: u8) -> bool
 }
 
 /// A list of more bytes than a ROM has, whose text is kept, where each item is an expression.
+#[tactic(auto, using(crate::proofs::LongItems::lists), unfolding(crate::specs::Lists::cells_of))]
 fn read_long<'a>(
     alloc: Global,
     words: &Words<'a>,

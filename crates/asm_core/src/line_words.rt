@@ -16,7 +16,7 @@ fn is_blank_byte(byte: u8) -> bool
 }
 
 /// The code behind the blanks at its front.
-#[tactic(auto, using(crate::proofs::WordPieces::words))]
+#[tactic(auto, using(crate::proofs::WordPieces::blanks))]
 fn after_blanks(code: &[u8]) -> &[u8]
     ensures words { words_in result.now ≡ words_in code.now }
     ensures front { begins_blank result.now ≡ false }
@@ -89,6 +89,7 @@ impl<'a> Words<'a> {
     }
 
     /// Whether there is no word.
+    #[tactic(auto, using(crate::proofs::WordPieces::blanks))]
     pub fn is_empty(&self) -> bool
         ensures { (result ≡ true) ↔ (self.now ≡ []) }
     {

@@ -69,6 +69,7 @@ impl<'a> LongList<'a> {
     }
 
     /// A long list gives more bytes than the largest ROM has. It states a law, and does nothing.
+    #[tactic(auto, using(crate::proofs::LongItems::lengths))]
     pub(crate) fn lemma_long(&self)
         ensures { PROGRAM_ROM_LEN < size_of self.now }
     {
@@ -76,6 +77,7 @@ impl<'a> LongList<'a> {
     }
 
     /// Whether all items' values are in the range of their place, or aren't known.
+    #[tactic(auto, using(crate::proofs::Lists::steps), unfolding(crate::specs::Lists::cells_of))]
     pub(crate) fn all_fine(&self, names: &Names) -> Result<bool, OutOfMemory>
         ensures { IfOk result (λ fine. fine ≡ all_fine names.now self.now) }
     {

@@ -112,6 +112,7 @@ fn size_in_rom(rom: Rom, at: u32, cells: &[Cell]) -> Option<u32>
 
 /// The size of a line's statement, where its values are in their ranges, and its bytes in the ROM
 /// and no earlier line's.
+#[tactic(auto, using(crate::proofs::Covering::rooms))]
 fn room_for(pass: &PassOne, rom: Rom, line: u32, cells: &[Cell]) -> Result<u32, AsmFault>
     requires rom { IsRom rom }
     requires pass { IsPassOne rom pass.now }

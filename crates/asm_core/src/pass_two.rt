@@ -43,6 +43,7 @@ fn bit(place: u8) -> u64
 }
 
 /// The number that holds a value in a place.
+#[tactic(auto, using(crate::proofs::Putting::bits))]
 fn held(place: &Place, value: i128) -> u64
     requires { IsFieldPlace place.now }
     ensures number { result ≡ held place.now value }
@@ -77,6 +78,7 @@ fn cell_number(names: &Names, cell: &Cell) -> u64
 }
 
 /// Puts the lowest bytes of a number into an image, from an address on.
+#[tactic(auto, using(crate::proofs::Putting::bytes), unfolding(crate::specs::Images::with_bytes))]
 fn put_number(image: &mut Image, at: u32, size: u8, number: u64)
     requires within { at + size ≤ 65536 }
     requires inside { (addr : ℕ) → at ≤ addr → addr < at + size → IsSome (offset_of addr) }
@@ -94,6 +96,7 @@ fn put_number(image: &mut Image, at: u32, size: u8, number: u64)
 }
 
 /// Puts the bytes of a statement into an image, from an address on.
+#[tactic(auto, using(crate::proofs::Putting::bytes), unfolding(crate::specs::Images::with_bytes))]
 fn put_cells(image: &mut Image, names: &Names, at: u32, cells: &[Cell])
     requires cells { All IsCell cells.now }
     requires within { at + size_of cells.now ≤ 65536 }
@@ -108,6 +111,7 @@ fn put_cells(image: &mut Image, names: &Names, at: u32, cells: &[Cell])
 }
 
 /// Puts the bytes of a line into an image: pass 2.
+#[tactic(auto, unfolding(crate::specs::Passes::placed_bytes))]
 fn write_line(image: &mut Image, names: &Names, rom: Rom, placed: &Placed) -> Result<(), AsmFault>
     requires rom { IsRom rom }
     requires placed { IsPlaced rom placed.now }
@@ -138,6 +142,7 @@ fn list_line(placed: &Placed) -> ListingLine
 }
 
 /// Puts the bytes of all lines into an image, and lists the lines.
+#[tactic(auto, using(crate::proofs::Lists::steps), unfolding(crate::specs::Images::pass_two))]
 pub(crate) fn write_lines(
     alloc: Global,
     names: &Names,
