@@ -1,20 +1,16 @@
 -- The fields of a statement, place by place.
-use Rattle.std.proofs.Common.{◌≡◌, ℕ, List, [], ◌∷◌, ◌++◌, ◌+◌, ◌<◌, ◌≤◌, Some, None, refl, ap, append-nil, length, drop, get_or, true, false, if◌then◌else◌, arith}
+use Rattle.std.proofs.Common.{◌≡◌, ℕ, List, [], ◌∷◌, ◌+◌, ◌<◌, Some, refl, append_assoc, append-nil, length, drop, get_or, true, false, if◌then◌else◌}
+use Rattle.std.proofs.lemmas.Grind.{common_steps}
 use Rattle.std.proofs.lemmas.List.{drop_all, drop_more}
 use Rattle.std.specs.List.{onto_first}
 use Rattle.std.specs.Option.{option_map}
-use Rattle.asm_core.specs.declared.cell.Field.{Field}
 use Rattle.asm_core.specs.declared.cell.Place.{Place}
 use Rattle.asm_core.specs.declared.expression.Expression.{Expression}
 use Rattle.asm_core.specs.declared.word.Word.{Word}
 use Rattle.asm_core.specs.Expressions.{expression_of}
 use Rattle.asm_core.specs.Words.{is_comma, items_of}
 use Rattle.asm_avg.specs.Operands.{fields_of}
-
--- what stands from a place of a list on has a first element
-first_of_rest : {X : Type 0} (xs : List X) (i : ℕ) → i < length xs → (x : X) × (drop i xs ≡ x ∷ drop (i + 1) xs)
-first_of_rest [] i inside = absurd (omega arith)
-first_of_rest (x ∷ xs) i inside = (get_or (x ∷ xs) i x, drop_more (x ∷ xs) i x inside)
+use Rattle.asm_avg.specs.Statements.{target}
 
 -- a list has an item
 some_item : (ws : List Word) → (item : List Word) × (items : List (List Word)) × (items_of ws ≡ item ∷ items)
@@ -29,21 +25,12 @@ some_item (w ∷ ws) = elim (is_comma w) as (λ comma. (item : List Word) × (it
     onto_some w [] = (w ∷ [], [], refl)
     onto_some w (item ∷ items) = (w ∷ item, items, refl)
 
--- a place without an item
-pub fields-few : (origin : ℕ) (places : List Place) (i : ℕ) → i < length places → fields_of origin (drop i places) [] ≡ None
-unfolding fields_of
-fields-few origin places i inside = let first = first_of_rest places i inside in rw (first.1) refl
+pub items-some : (ws : List Word) → items_of ws ≡ get_or (items_of ws) 0 [] ∷ drop 1 (items_of ws)
+items-some ws = rw ((some_item ws).2) refl
 
--- items without a place
-pub fields-many : (origin : ℕ) (places : List Place) (i : ℕ) (ws : List Word) → length places ≤ i → fields_of origin (drop i places) (items_of ws) ≡ None
-unfolding fields_of
-fields-many origin places i ws past = let some = some_item ws in rw (drop_all i places past, some.2) refl
-
--- an item that is no expression
-pub fields-bad : (origin : ℕ) (places : List Place) (i : ℕ) (item : List Word) (items : List (List Word)) → i < length places → None ≡ expression_of item
-    → fields_of origin (drop i places) (item ∷ items) ≡ None
-unfolding fields_of
-fields-bad origin places i item items inside bad = let first = first_of_rest places i inside in rw (first.1, ← bad) refl
+-- what stands from a place of a list on has a first element
+pub drop-place : (places : List Place) (i : ℕ) → i < length places → drop i places ≡ get_or places i target ∷ drop (i + 1) places
+drop-place places i inside = drop_more places i target inside
 
 -- a place's item
 pub fields-next : (origin : ℕ) (places : List Place) (i : ℕ) (any : Place) (item : List Word) (items : List (List Word)) (e : Expression)
@@ -53,8 +40,4 @@ pub fields-next : (origin : ℕ) (places : List Place) (i : ℕ) (any : Place) (
 unfolding fields_of
 fields-next origin places i any item items e inside good = rw (drop_more places i any inside, ← good) refl
 
--- no place and no item more
-pub fields-end : (origin : ℕ) (places : List Place) (i : ℕ) (fields : List Field) → length places ≤ i
-    → option_map (λ more. fields ++ more) (fields_of origin (drop i places) []) ≡ Some fields
-unfolding fields_of
-fields-end origin places i fields past = rw (drop_all i places past) (ap (λ all. Some all) (append-nil fields))
+pub ruleset steps = (common_steps, append_assoc, append-nil, drop_all, drop-place, items-some)

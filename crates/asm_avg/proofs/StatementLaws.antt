@@ -1,12 +1,14 @@
 -- A statement's values and its bytes.
-use Rattle.std.proofs.Common.{◌≡◌, ◌∙◌, Bool, true, false, ◌&&◌, List, [], ◌∷◌, map, ◌+◌, Some, refl, sym, ap, inl, inr, append-nil, ℤ}
+use Rattle.std.proofs.Common.{◌≡◌, ◌∙◌, true, List, [], ◌∷◌, map, ◌+◌, Some, sym, ap, append-nil, ℤ, arith}
 use Rattle.std.specs.List.{list_all}
+use Rattle.std.proofs.Math.Bool.{and-true}
 use Rattle.asm_core.specs.declared.cell.Cell.{Cell}
 use Rattle.asm_core.specs.declared.cell.Field.{Field}
 use Rattle.asm_core.specs.declared.dialect.Form.TheVariants as form
 use Rattle.asm_core.specs.declared.word.Word.{Word}
 use Rattle.asm_core.specs.Cells.{all_fine, all_known, cell_bytes, cells_bytes, is_fine, is_known, low_bytes}
 use Rattle.asm_core.specs.Expressions.{NameValues}
+use Rattle.asm_core.proofs.Covering.{both_pass}
 use Rattle.asm_avg.specs.declared.mnemonic.Mnemonic.{Mnemonic}
 use Rattle.asm_avg.specs.Language.{cell_of, statement_of}
 use Rattle.asm_avg.specs.Operands.{fields_of, operands_of}
@@ -14,25 +16,12 @@ use Rattle.asm_avg.specs.ReadBack.{FitsWords, IsReadBack, Said, said_by, values_
 use Rattle.asm_avg.specs.Statements.{base_of, mnemonic_origin, places_of, mnemonic_size}
 use Rattle.asm_avg.proofs.Accepted.{accepted}
 use Rattle.asm_avg.proofs.ReadBackLaws.{read_back}
-use Rattle.asm_avg.proofs.Values.{added, both, option_cases, taken, valued}
+use Rattle.asm_avg.proofs.Values.{added, taken, valued}
 
 -- the fields of a statement that gives bytes
-pub record Fields (mnemonic : Mnemonic) (rest : List Word) (cells : List Cell) : Type 0 where
-  pub fields : List Field
-  pub are : fields_of (mnemonic_origin mnemonic) (places_of mnemonic) (operands_of rest) ≡ Some fields
-  pub cells_are : cells ≡ cell_of mnemonic fields ∷ []
-
-fields_in : (mnemonic : Mnemonic) (rest : List Word) (cells : List Cell) → statement_of mnemonic rest ≡ form.Gives cells → Fields mnemonic rest cells
-fields_in mnemonic rest cells gives = elim (option_cases (fields_of (mnemonic_origin mnemonic) (places_of mnemonic) (operands_of rest))) [
-  | inl none ↦ let no : form.NoSuchForm ≡ form.Gives cells = rw none at gives in cc
-  | inr (fields, are) ↦
-      let same : form.Gives (cell_of mnemonic fields ∷ []) ≡ form.Gives cells = rw are at gives in
-      record { fields = fields; are = are; cells_are = cc }
-]
-
-all_of_one : (b : Bool) → (b && true) ≡ b
-all_of_one true = refl
-all_of_one false = refl
+fields_in : (mnemonic : Mnemonic) (rest : List Word) (cells : List Cell) → statement_of mnemonic rest ≡ form.Gives cells
+    → (fields : List Field) × (fields_of (mnemonic_origin mnemonic) (places_of mnemonic) (operands_of rest) ≡ Some fields) × (cells ≡ cell_of mnemonic fields ∷ [])
+fields_in mnemonic rest cells gives = grind arith
 
 -- the values of a statement that gives bytes
 pub record Worth (names : NameValues) (mnemonic : Mnemonic) (rest : List Word) (cells : List Cell) : Type 0 where
@@ -44,15 +33,14 @@ pub record Worth (names : NameValues) (mnemonic : Mnemonic) (rest : List Word) (
 worth_of : (names : NameValues) (mnemonic : Mnemonic) (rest : List Word) (cells : List Cell) → statement_of mnemonic rest ≡ form.Gives cells → all_known names cells ≡ true
     → Worth names mnemonic rest cells
 worth_of names mnemonic rest cells gives known =
-    let f = fields_in mnemonic rest cells gives in
-    let all : (list_all (λ field. is_known names field) f.fields && true) ≡ true = rw f.cells_are at known in
-    let each = (both (list_all (λ field. is_known names field) f.fields) true all).0 in
-    let v = valued names (mnemonic_origin mnemonic) (places_of mnemonic) (operands_of rest) f.fields f.are each in
+    let (fields, are, cells_are) = fields_in mnemonic rest cells gives in
+    let (each, _) = both_pass (list_all (λ field. is_known names field) fields) true (rw cells_are at known) in
+    let v = valued names (mnemonic_origin mnemonic) (places_of mnemonic) (operands_of rest) fields are each in
     record {
       values = v.values;
       values_are = v.items_are;
-      fine = ap (λ cs. all_fine names cs) f.cells_are ∙ (all_of_one (list_all (λ field. is_fine names field) f.fields) ∙ v.fine);
-      bytes = ap (λ cs. cells_bytes names cs) f.cells_are ∙ (append-nil (cell_bytes names (cell_of mnemonic f.fields)) ∙ ap (λ n. low_bytes (mnemonic_size mnemonic) (base_of mnemonic + n)) v.number);
+      fine = ap (λ cs. all_fine names cs) cells_are ∙ and-true (list_all (λ field. is_fine names field) fields) ∙ v.fine;
+      bytes = ap (λ cs. cells_bytes names cs) cells_are ∙ append-nil (cell_bytes names (cell_of mnemonic fields)) ∙ ap (λ n. low_bytes (mnemonic_size mnemonic) (base_of mnemonic + n)) v.number;
     }
 
 pub statement_back : (names : NameValues) (mnemonic : Mnemonic) (rest : List Word) (cells : List Cell)
@@ -68,3 +56,5 @@ pub statement_fine : (names : NameValues) (mnemonic : Mnemonic) (rest : List Wor
 statement_fine names mnemonic rest cells said gives known says fits =
     let w = worth_of names mnemonic rest cells gives known in
     w.fine ∙ accepted mnemonic w.values said (rw w.values_are at says) fits
+
+pub ruleset statements = (statement_back, statement_fine)

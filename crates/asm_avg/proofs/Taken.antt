@@ -1,5 +1,5 @@
 -- The values that places take, and the numbers that hold them.
-use Rattle.std.proofs.Common.{◌≡◌, ℕ, ◌+◌, ◌-◌, ◌*◌, ◌/◌, ◌%◌, ◌^◌, ◌<◌, ◌≤◌, true, refl, ap, ℤ, pos, negsuc, ◌-ℤ◌, arith}
+use Rattle.std.proofs.Common.{◌≡◌, ◌↔◌, ℕ, ◌+◌, ◌-◌, ◌*◌, ◌/◌, ◌%◌, ◌^◌, ◌<◌, ◌≤◌, true, refl, ap, ℤ, pos, negsuc, ◌-ℤ◌, arith}
 use Rattle.std.proofs.lemmas.Bool.Decides.{nat_tests}
 use Rattle.std.proofs.lemmas.Grind.{common_steps}
 use Rattle.std.proofs.lemmas.Int.{ints}
@@ -10,32 +10,16 @@ use Rattle.asm_avg.specs.Statements.{long_distance, number, short_distance, targ
 
 -- a value that is counted from 0
 pub from_zero : (v : ℤ) → v -ℤ pos 0 ≡ v
-from_zero (pos n) = grind (arith, ints)
-from_zero (negsuc n) = grind (arith, ints)
+from_zero v = omega (arith, ints)
 
--- a long distance is one of 13 bits
-pub long_range : (shift : ℕ) (d : ℤ) → takes (long_distance shift) d ≡ true → IsLong d
-long_range shift (pos n) h = grind (arith, ints, nat_tests)
-long_range shift (negsuc n) h = grind (arith, ints, nat_tests)
+-- a long distance is one of 13 bits, and a short one is twice one of 5 bits
+pub long_takes : (shift : ℕ) (d : ℤ) → (takes (long_distance shift) d ≡ true) ↔ IsLong d
+long_takes shift (pos n) = (λ h. grind (arith, ints, nat_tests), λ h. grind (arith, ints, nat_tests))
+long_takes shift (negsuc n) = (λ h. grind (arith, ints, nat_tests), λ h. grind (arith, ints, nat_tests))
 
-long_takes : (shift : ℕ) (d : ℤ) → IsLong d → takes (long_distance shift) d ≡ true
-long_takes shift (pos n) h = grind (arith, ints, nat_tests)
-long_takes shift (negsuc n) h = grind (arith, ints, nat_tests)
-
-pub long_taken : (shift : ℕ) (d : ℤ) → IsLong d → takes (long_distance shift) (d -ℤ pos 0) ≡ true
-long_taken shift d h = rw (from_zero d) (long_takes shift d h)
-
--- a short distance is twice one of 5 bits
-pub short_range : (shift : ℕ) (d : ℤ) → takes (short_distance shift) d ≡ true → IsShort d
-short_range shift (pos n) h = grind (arith, ints, nat_tests)
-short_range shift (negsuc n) h = grind (arith, ints, nat_tests)
-
-short_takes : (shift : ℕ) (d : ℤ) → IsShort d → takes (short_distance shift) d ≡ true
-short_takes shift (pos n) h = grind (arith, ints, nat_tests)
-short_takes shift (negsuc n) h = grind (arith, ints, nat_tests)
-
-pub short_taken : (shift : ℕ) (d : ℤ) → IsShort d → takes (short_distance shift) (d -ℤ pos 0) ≡ true
-short_taken shift d h = rw (from_zero d) (short_takes shift d h)
+pub short_takes : (shift : ℕ) (d : ℤ) → (takes (short_distance shift) d ≡ true) ↔ IsShort d
+short_takes shift (pos n) = (λ h. grind (arith, ints, nat_tests), λ h. grind (arith, ints, nat_tests))
+short_takes shift (negsuc n) = (λ h. grind (arith, ints, nat_tests), λ h. grind (arith, ints, nat_tests))
 
 -- a number from 0 up isn't negative, and has so many bits
 pub number_range : (bits shift : ℕ) (v : ℤ) → 1 ≤ 2 ^ bits → takes (number bits shift) v ≡ true → (n : ℕ) × (v ≡ pos n) × (n < 2 ^ bits)
@@ -74,15 +58,3 @@ short_below (negsuc n) = omega arith
 
 pub held_number : (bits shift n : ℕ) → n < 2 ^ bits → held (number bits shift) (pos n) ≡ n * 2 ^ shift
 held_number bits shift n h = let same : n % (1 * 2 ^ bits) / 1 ≡ n = grind (arith, common_steps) in ap (λ k. k * 2 ^ shift) same
-
--- a number of 16 bits is that of its two bytes
-pub one_word : (n : ℕ) → n < 65536 → n % 256 + 256 * (n / 256 % 256) ≡ n
-one_word n h = omega arith
-
--- and two of them are those of their four bytes
-pub first_word : (first second n : ℕ) → first < 65536 → n ≡ first + second * 65536 → n % 256 + 256 * (n / 256 % 256) ≡ first
-first_word first second n below is = omega arith
-
-pub second_word : (first second n : ℕ) → first < 65536 → second < 65536 → n ≡ first + second * 65536
-    → n / 256 / 256 % 256 + 256 * (n / 256 / 256 / 256 % 256) ≡ second
-second_word first second n below more is = omega arith

@@ -1,5 +1,5 @@
 -- The values in a statement's fields.
-use Rattle.std.proofs.Common.{◌≡◌, ℕ, ◌+◌, ◌∙◌, Bool, true, false, ◌&&◌, ◌⊎◌, inl, inr, List, [], ◌∷◌, map, sum_by, Option, Some, None, is_some, refl, sym, ap, ℤ, pos, ◌-ℤ◌}
+use Rattle.std.proofs.Common.{◌≡◌, ℕ, ◌+◌, ◌∙◌, Bool, true, false, ◌&&◌, List, [], ◌∷◌, map, sum_by, Option, Some, is_some, refl, ap, ℤ, pos, ◌-ℤ◌, arith}
 use Rattle.std.specs.List.{list_all}
 use Rattle.std.proofs.lemmas.List.Sums.{sum_by-cons}
 use Rattle.std.specs.Option.{option_and_then}
@@ -7,6 +7,7 @@ use Rattle.asm_core.specs.declared.cell.Field.{Field}
 use Rattle.asm_core.specs.declared.cell.Place.{Place}
 use Rattle.asm_core.specs.declared.expression.Expression.{Expression}
 use Rattle.asm_core.specs.declared.word.Word.{Word}
+use Rattle.asm_core.proofs.Covering.{both_pass}
 use Rattle.asm_core.specs.Cells.{field_number, held, is_fine, is_known, takes}
 use Rattle.asm_core.specs.Expressions.{NameValues, expression_of, value_of}
 use Rattle.asm_avg.specs.Operands.{fields_of}
@@ -35,22 +36,14 @@ pub record Valued (names : NameValues) (origin : ℕ) (places : List Place) (ite
   pub fine : list_all (λ field. is_fine names field) fields ≡ taken origin places values
   pub number : sum_by (λ field. field_number names field) fields ≡ added origin places values
 
--- none or one
-pub option_cases : {X : Type 0} (o : Option X) → (o ≡ None) ⊎ ((x : X) × (o ≡ Some x))
-option_cases None = inl refl
-option_cases (Some x) = inr (x, refl)
-
--- both of two that hold together
-pub both : (a b : Bool) → (a && b) ≡ true → (a ≡ true) × (b ≡ true)
-both true b h = (refl, h)
-both false b h = (h, cc)
+-- the first field of a statement, and the others
+fields-first : (origin : ℕ) (place : Place) (places : List Place) (item : List Word) (items : List (List Word)) (fields : List Field) → fields_of origin (place ∷ places) (item ∷ items) ≡ Some fields
+    → (e : Expression) × (rest : List Field) × (expression_of item ≡ Some e) × (fields_of origin places items ≡ Some rest) × (fields ≡ record { expression = e; origin = origin; place = place } ∷ rest)
+unfolding fields_of
+fields-first origin place places item items fields is = grind arith
 
 some_value : (o : Option ℤ) → is_some o ≡ true → (v : ℤ) × (o ≡ Some v)
-some_value None h = cc
-some_value (Some v) h = (v, refl)
-
-some_same : {X : Type 0} (x y : X) → Some x ≡ Some y → x ≡ y
-some_same x y h = cc
+some_value o some = grind arith
 
 -- one field more
 valued_more : (names : NameValues) (origin : ℕ) (place : Place) (places : List Place) (item : List Word) (items : List (List Word)) (e : Expression) (fields : List Field) (v : ℤ)
@@ -69,21 +62,12 @@ valued_more names origin place places item items e fields v is worth rest = reco
 pub valued : (names : NameValues) (origin : ℕ) (places : List Place) (items : List (List Word)) (fields : List Field)
     → fields_of origin places items ≡ Some fields → list_all (λ field. is_known names field) fields ≡ true → Valued names origin places items fields
 unfolding fields_of
-valued names origin [] [] fields is known =
-    let none : fields ≡ [] = sym (some_same [] fields is) in
-    rw none (record { values = []; items_are = refl; fine = refl; number = refl })
+valued names origin [] [] [] is known = record { values = []; items_are = refl; fine = refl; number = refl }
+valued names origin [] [] (field ∷ fields) is known = cc
 valued names origin [] (item ∷ items) fields is known = cc
 valued names origin (place ∷ places) [] fields is known = cc
-valued names origin (place ∷ places) (item ∷ items) fields is known = elim (option_cases (expression_of item)) [
-  | inl none ↦ let no : None ≡ Some fields = rw none at is in cc
-  | inr (e, good) ↦ elim (option_cases (fields_of origin places items)) [
-    | inl none ↦ let no : None ≡ Some fields = rw (good, none) at is in cc
-    | inr (rest, more) ↦
-        let first : Field = record { expression = e; origin = origin; place = place } in
-        let all : Some (first ∷ rest) ≡ Some fields = rw (good, more) at is in
-        let same : fields ≡ first ∷ rest = sym (some_same (first ∷ rest) fields all) in
-        let parts = both (is_known names first) (list_all (λ field. is_known names field) rest) (rw same at known) in
-        let worth = some_value (value_of names e) parts.0 in
-        rw same (valued_more names origin place places item items e rest worth.0 good worth.1 (valued names origin places items rest more parts.1))
-  ]
-]
+valued names origin (place ∷ places) (item ∷ items) fields is known =
+    let (e, rest, good, more, same) = fields-first origin place places item items fields is in
+    let (first, others) = both_pass (is_some (value_of names e)) (list_all (λ field. is_known names field) rest) (rw same at known) in
+    let (v, worth) = some_value (value_of names e) first in
+    rw same (valued_more names origin place places item items e rest v good worth (valued names origin places items rest more others))

@@ -1,10 +1,9 @@
 -- The words that begin statements.
-use Rattle.std.proofs.Common.{◌≡◌, ℕ, ◌∙◌, ◌↔◌, inl, inr, Bool, true, List, [], ◌∷◌, Some, find, refl, sym, ap}
+use Rattle.std.proofs.Common.{◌≡◌, ℕ, ◌∙◌, ◌↔◌, inl, inr, Bool, true, List, [], ◌∷◌, Some, find, sym, ap, arith}
 use Rattle.std.specs.Str.{bytes_eq, str_to_ascii_lowercase}
 use Rattle.std.proofs.lemmas.Slice.Eq.{bytes_eq-Decides}
 use Rattle.asm_text.proofs.Parting.{bool_cases}
 use Rattle.asm_avg.specs.declared.mnemonic.Mnemonic.{Mnemonic}
-use Rattle.asm_avg.specs.declared.mnemonic.Mnemonic.TheVariants.{Vctr, Svec, Stat, Scal, Cntr, Halt, Jsrl, Rtsl, Jmpl}
 use Rattle.asm_avg.specs.Statements.{mnemonic_of, mnemonics, text_of}
 
 -- what is found passes the test
@@ -17,36 +16,19 @@ find-passes p (y ∷ ys) x h = elim (bool_cases (p y)) [
 
 -- each text is in lower case
 lower : (mnemonic : Mnemonic) → str_to_ascii_lowercase (text_of mnemonic) ≡ text_of mnemonic
-lower Vctr = refl
-lower Svec = refl
-lower Stat = refl
-lower Scal = refl
-lower Cntr = refl
-lower Halt = refl
-lower Jsrl = refl
-lower Rtsl = refl
-lower Jmpl = refl
+lower mnemonic = grind arith
 
 -- a text begins its own statement
 own : (mnemonic : Mnemonic) → find (λ m. bytes_eq (text_of mnemonic) (str_to_ascii_lowercase (text_of m))) mnemonics ≡ Some mnemonic
-own Vctr = refl
-own Svec = refl
-own Stat = refl
-own Scal = refl
-own Cntr = refl
-own Halt = refl
-own Jsrl = refl
-own Rtsl = refl
-own Jmpl = refl
+own mnemonic = grind arith
 
 -- a word begins a statement exactly where its letters, in lower case, are the statement's text
 pub word_text : (word : List ℕ) (mnemonic : Mnemonic) → (mnemonic_of word ≡ Some mnemonic) ↔ (str_to_ascii_lowercase word ≡ text_of mnemonic)
-word_text word mnemonic = (to, from)
-  where
-    to : mnemonic_of word ≡ Some mnemonic → str_to_ascii_lowercase word ≡ text_of mnemonic
-    to h =
-        let passes = find-passes (λ m. bytes_eq (str_to_ascii_lowercase word) (str_to_ascii_lowercase (text_of m))) mnemonics mnemonic h in
-        (bytes_eq-Decides (str_to_ascii_lowercase word) (str_to_ascii_lowercase (text_of mnemonic))).0 passes ∙ lower mnemonic
+word_text word mnemonic = (
+  λ h.
+      let passes = find-passes (λ m. bytes_eq (str_to_ascii_lowercase word) (str_to_ascii_lowercase (text_of m))) mnemonics mnemonic h in
+      (bytes_eq-Decides (str_to_ascii_lowercase word) (str_to_ascii_lowercase (text_of mnemonic))).0 passes ∙ lower mnemonic,
+  λ h. ap (λ text. find (λ m. bytes_eq text (str_to_ascii_lowercase (text_of m))) mnemonics) h ∙ own mnemonic,
+)
 
-    from : str_to_ascii_lowercase word ≡ text_of mnemonic → mnemonic_of word ≡ Some mnemonic
-    from h = ap (λ text. find (λ m. bytes_eq text (str_to_ascii_lowercase (text_of m))) mnemonics) h ∙ own mnemonic
+pub ruleset words = (word_text)

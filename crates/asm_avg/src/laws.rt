@@ -13,12 +13,14 @@ ghost use Rattle.asm_avg.specs.ReadBack.{FitsWords, IsReadBack, Said, said_by, v
 ghost use Rattle.asm_avg.specs.Statements.{mnemonic_of, text_of};
 
 /// A word begins a statement exactly where its letters, in lower case, are the statement's text.
+#[tactic(auto, using(crate::proofs::WordLaws::words))]
 pub fn words_in_either_case()
     ensures { (word : List ℕ) → (mnemonic : Mnemonic) → (mnemonic_of word ≡ Some mnemonic) ↔ (str_to_ascii_lowercase word ≡ text_of mnemonic) }
 {}
 
 /// In the bytes of a statement whose values are known and in their ranges the generator reads what
 /// the statement says. The bits that no field has are 0.
+#[tactic(auto, using(crate::proofs::StatementLaws::statements))]
 pub fn statements_are_read_back()
     ensures { (names : NameValues) → (mnemonic : Mnemonic) → (rest : List Word) → (cells : List Cell)
         → statement_of mnemonic rest ≡ Gives cells → all_known names cells ≡ true → all_fine names cells ≡ true
@@ -26,6 +28,7 @@ pub fn statements_are_read_back()
 {}
 
 /// A statement's values are in their ranges where what it says fits its words.
+#[tactic(auto, using(crate::proofs::StatementLaws::statements))]
 pub fn ranges_are_whole()
     ensures { (names : NameValues) → (mnemonic : Mnemonic) → (rest : List Word) → (cells : List Cell) → (said : Said)
         → statement_of mnemonic rest ≡ Gives cells → all_known names cells ≡ true → said_by mnemonic (values_of names rest) ≡ Some said → FitsWords said

@@ -20,6 +20,7 @@ fn operand_list<'a>(words: &Words<'a>) -> Option<Words<'a>>
 
 /// The fields of a statement that has these places: an expression for each of them, with commas
 /// between them.
+#[tactic(auto, using(crate::proofs::Fields::steps), unfolding(crate::specs::Operands::fields_of))]
 pub(crate) fn read_fields<'a>(
     alloc: Global,
     origin: u32,

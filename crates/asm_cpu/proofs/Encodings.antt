@@ -1,17 +1,17 @@
 -- The bytes of an instruction, and what they are decoded to.
+use Prim.Native.Nat.{suc}
 use Rattle.std.proofs.Common.{◌≡◌, ℕ, ◌+◌, ◌-◌, ◌*◌, ◌/◌, ◌%◌, ◌<◌, true, false, List, [], ◌∷◌, length, take, All, Option, Some, None, unwrap_or}
-use Rattle.std.proofs.Common.{nat_lt, Bool, ◌&&◌, is_some, cond, refl, sym, ap, ◌∙◌, subst, arith, ℤ, pos, negsuc, neg_ℤ, ◌-ℤ◌, append-nil}
+use Rattle.std.proofs.Common.{nat_lt, Bool, cond, refl, sym, ap, ◌∙◌, subst, arith, ℤ, pos, negsuc, ◌-ℤ◌, append-nil, zero, lit<, ◌^◌}
 use Rattle.std.proofs.lemmas.List.{take_all}
 use Rattle.std.proofs.lemmas.List.Elements.{All-cons, All-head, All-nil, All-tail}
-use Rattle.std.proofs.lemmas.Bool.{false≢true}
+use Rattle.std.proofs.lemmas.Bool.{le-ltb}
 use Rattle.std.specs.Option.{option_map}
 use Rattle.asm_core.specs.declared.word.Word.{Word}
 use Rattle.asm_core.specs.declared.cell.Cell.{Cell}
-use Rattle.asm_core.specs.declared.cell.Place.{Place}
 use Rattle.asm_core.specs.declared.dialect.Form.TheVariants as form
 use Rattle.asm_core.specs.declared.expression.Expression.{Expression}
 use Rattle.bit_words.specs.Residues.{residue}
-use Rattle.asm_core.specs.Cells.{all_known, cell_bytes, cells_bytes, cell_number, low_bytes}
+use Rattle.asm_core.specs.Cells.{all_known, cell_bytes, cells_bytes, low_bytes}
 use Rattle.asm_core.specs.Expressions.{NameValues, expression_of, value_of}
 use Rattle.cpu_table.specs.declared.instruction.Op.{Op}
 use Rattle.cpu_table.specs.declared.instruction.Mode.{Mode}
@@ -26,118 +26,47 @@ use Rattle.asm_cpu.specs.Statements.{bare_form, cell_form, instruction_of, mode_
 use Rattle.asm_cpu.specs.declared.operand.Shape.{Shape}
 use Rattle.asm_cpu.specs.Operands.{is_register, shape_of}
 
-residue-byte : (z : ℤ) → residue 256 z < 256
-residue-byte (pos n) = omega arith
-residue-byte (negsuc n) = omega arith
-
-residue-word : (z : ℤ) → residue 65536 z < 65536
-residue-word (pos n) = omega arith
-residue-word (negsuc n) = omega arith
-
-residue-one : (z : ℤ) → residue 1 z ≡ 0
-residue-one (pos n) = omega arith
-residue-one (negsuc n) = omega arith
-
--- the lowest bytes of a number that has one byte, two bytes or three
-low-one : (n : ℕ) → low_bytes 1 n ≡ n % 256 ∷ []
-unfolding low_bytes
-low-one n = refl
-
-low-two : (opcode operand : ℕ) → opcode < 256 → operand < 256 → low_bytes 2 (opcode + operand * 256) ≡ opcode ∷ operand ∷ []
-unfolding low_bytes
-low-two opcode operand small byte =
-    let first : (opcode + operand * 256) % 256 ≡ opcode = omega arith in
-    let second : (opcode + operand * 256) / 256 % 256 ≡ operand = omega arith in
-    rw (first, second) refl
-
-low-three : (opcode operand : ℕ) → opcode < 256 → low_bytes 3 (opcode + operand * 256) ≡ opcode ∷ operand % 256 ∷ operand / 256 % 256 ∷ []
-unfolding low_bytes
-low-three opcode operand small =
-    let first : (opcode + operand * 256) % 256 ≡ opcode = omega arith in
-    let rest : (opcode + operand * 256) / 256 ≡ operand = omega arith in
-    rw (first, rest) refl
-
--- the bytes of a cell
-opcode-bytes : (names : NameValues) (opcode : ℕ) → opcode < 256 → cell_bytes names (opcode_cell opcode) ≡ opcode ∷ []
-unfolding low_bytes
-opcode-bytes names opcode small = let same : (opcode + 0) % 256 ≡ opcode = omega arith in rw same refl
-
-abbrev one_field : ℕ → ℕ → Expression → ℕ → Place → Cell
-one_field size opcode e origin place = record { size = size; base = opcode; fields = record { expression = e; origin = origin; place = place } ∷ [] }
-
-abbrev small_place : ℤ → ℤ → ℕ → Place
-small_place low high bits = record { low = low; high = high; even = false; bits = bits; shift = 8 }
-
--- a cell of one field has the sum of its own number and the field's
-number-byte : (names : NameValues) (size opcode origin : ℕ) (e : Expression) (value low high : ℤ) → value_of names e ≡ Some value
-    → cell_number names (one_field size opcode e origin (small_place low high 8)) ≡ opcode + residue 256 (value -ℤ pos origin) * 256
-number-byte names size opcode origin e value low high known = rw known (omega arith)
-
-number-word : (names : NameValues) (size opcode origin : ℕ) (e : Expression) (value low high : ℤ) → value_of names e ≡ Some value
-    → cell_number names (one_field size opcode e origin (small_place low high 16)) ≡ opcode + residue 65536 (value -ℤ pos origin) * 256
-number-word names size opcode origin e value low high known = rw known (omega arith)
-
-cell-one : (names : NameValues) (opcode origin : ℕ) (e : Expression) (value low high : ℤ) → opcode < 256 → value_of names e ≡ Some value
-    → cell_bytes names (one_field 1 opcode e origin (small_place low high 8)) ≡ opcode ∷ []
-cell-one names opcode origin e value low high small known =
-    let first : (opcode + residue 256 (value -ℤ pos origin) * 256) % 256 ≡ opcode = omega arith in
-    ap (λ n. low_bytes 1 n) (number-byte names 1 opcode origin e value low high known) ∙ low-one (opcode + residue 256 (value -ℤ pos origin) * 256) ∙ ap (λ byte. byte ∷ []) first
-
-cell-two : (names : NameValues) (opcode origin : ℕ) (e : Expression) (value low high : ℤ) → opcode < 256 → value_of names e ≡ Some value
-    → cell_bytes names (one_field 2 opcode e origin (small_place low high 8)) ≡ opcode ∷ residue 256 (value -ℤ pos origin) ∷ []
-cell-two names opcode origin e value low high small known =
-    ap (λ n. low_bytes 2 n) (number-byte names 2 opcode origin e value low high known)
-    ∙ low-two opcode (residue 256 (value -ℤ pos origin)) small (residue-byte (value -ℤ pos origin))
-
-cell-three : (names : NameValues) (opcode origin : ℕ) (e : Expression) (value low high : ℤ) → opcode < 256 → value_of names e ≡ Some value
-    → cell_bytes names (one_field 3 opcode e origin (small_place low high 16)) ≡ opcode ∷ residue 65536 (value -ℤ pos origin) % 256 ∷ residue 65536 (value -ℤ pos origin) / 256 % 256 ∷ []
-cell-three names opcode origin e value low high small known =
-    ap (λ n. low_bytes 3 n) (number-word names 3 opcode origin e value low high known) ∙ low-three opcode (residue 65536 (value -ℤ pos origin)) small
-
--- what is decoded of bytes of a mode's length
-decoded-one : (opcode : ℕ) (op : Op) (mode : Mode) → row_of opcode ≡ Some (op, mode) → length_of mode ≡ 1 → decoded (opcode ∷ []) ≡ Some (op, mode, 0)
-decoded-one opcode op mode row long = rw (row, long) refl
-
-decoded-two : (opcode operand : ℕ) (op : Op) (mode : Mode) → row_of opcode ≡ Some (op, mode) → length_of mode ≡ 2 → decoded (opcode ∷ operand ∷ []) ≡ Some (op, mode, operand)
-decoded-two opcode operand op mode row long =
-    let same : operand + 256 * 0 ≡ operand = omega arith in
-    rw (row, long, same) refl
-
-decoded-three : (opcode low high : ℕ) (op : Op) (mode : Mode) → row_of opcode ≡ Some (op, mode) → length_of mode ≡ 3
-    → decoded (opcode ∷ low ∷ high ∷ []) ≡ Some (op, mode, low + 256 * high)
-decoded-three opcode low high op mode row long =
-    let same : high + 256 * 0 ≡ high = omega arith in
-    rw (row, long, same) refl
-
 abbrev IsByte : ℕ → Type 0
 IsByte byte = byte < 256
 
-encodes-one : (opcode : ℕ) (op : Op) (mode : Mode) → opcode_of op mode ≡ Some opcode → length_of mode ≡ 1 → Encodes (opcode ∷ []) op mode 0
-encodes-one opcode op mode found long = record {
-  small = All-cons IsByte opcode [] (opcode_is_byte opcode op mode found) (All-nil IsByte);
-  whole = sym long;
-  says = decoded-one opcode op mode (row_of_opcode opcode op mode found) long;
-}
+residue-less : (modulus : ℕ) (z : ℤ) → 0 < modulus → residue modulus z < modulus
+residue-less modulus (pos n) some = omega arith
+residue-less modulus (negsuc n) some = omega arith
 
-encodes-two : (opcode operand : ℕ) (op : Op) (mode : Mode) → opcode_of op mode ≡ Some opcode → length_of mode ≡ 2 → operand < 256 → Encodes (opcode ∷ operand ∷ []) op mode operand
-encodes-two opcode operand op mode found long byte = record {
-  small = All-cons IsByte opcode (operand ∷ []) (opcode_is_byte opcode op mode found) (All-cons IsByte operand [] byte (All-nil IsByte));
-  whole = sym long;
-  says = decoded-two opcode operand op mode (row_of_opcode opcode op mode found) long;
-}
+-- the lowest bytes of a number have its value, where they are enough
+record AreLowBytes (count n : ℕ) (bytes : List ℕ) : Type 0 where
+  long : length bytes ≡ count
+  small : All IsByte bytes
+  number : little_endian bytes ≡ n
 
-encodes-three : (opcode operand : ℕ) (op : Op) (mode : Mode) → opcode_of op mode ≡ Some opcode → length_of mode ≡ 3 → operand < 65536
-    → Encodes (opcode ∷ operand % 256 ∷ operand / 256 % 256 ∷ []) op mode operand
-encodes-three opcode operand op mode found long word =
-    let same : operand % 256 + 256 * (operand / 256 % 256) ≡ operand = omega arith in
-    let low : operand % 256 < 256 = omega arith in
-    let high : operand / 256 % 256 < 256 = omega arith in
-    let behind = All-cons IsByte (operand % 256) (operand / 256 % 256 ∷ []) low (All-cons IsByte (operand / 256 % 256) [] high (All-nil IsByte)) in
+low-bytes : (count n : ℕ) → n < 256 ^ count → AreLowBytes count n (low_bytes count n)
+unfolding low_bytes
+low-bytes zero n less = record { long = refl; small = All-nil IsByte; number = omega (arith, less) }
+low-bytes (suc count) n less =
+    let rest = low-bytes count (n / 256) (omega (arith, less)) in
     record {
-      small = All-cons IsByte opcode (operand % 256 ∷ operand / 256 % 256 ∷ []) (opcode_is_byte opcode op mode found) behind;
-      whole = sym long;
-      says = decoded-three opcode (operand % 256) (operand / 256 % 256) op mode (row_of_opcode opcode op mode found) long ∙ ap (λ n. Some (op, mode, n)) same;
+      long = ap (λ k. suc k) rest.long;
+      small = All-cons IsByte (n % 256) (low_bytes count (n / 256)) (omega arith) rest.small;
+      number = omega (arith, rest.number);
     }
+
+-- an opcode with an operand behind it
+encodes : (opcode operand count : ℕ) (op : Op) (mode : Mode) → opcode_of op mode ≡ Some opcode → length_of mode ≡ suc count → operand < 256 ^ count
+    → Encodes (low_bytes (suc count) (opcode + operand * 256)) op mode operand
+unfolding low_bytes
+encodes opcode operand count op mode found size less =
+    let byte = opcode_is_byte opcode op mode found in
+    let behind = low-bytes count operand less in
+    let bytes = low_bytes count operand in
+    let first : (opcode + operand * 256) % 256 ≡ opcode = omega arith in
+    let rest : (opcode + operand * 256) / 256 ≡ operand = omega arith in
+    let fewer : length_of mode - 1 ≡ count = omega arith in
+    let enough : nat_lt (length bytes) count ≡ false = le-ltb (length bytes) count (omega (arith, behind.long)) in
+    rw (first, rest) (record {
+      small = All-cons IsByte opcode bytes byte behind.small;
+      whole = ap (λ k. suc k) behind.long ∙ sym size;
+      says = rw (row_of_opcode opcode op mode found, fewer, enough, take_all count bytes (omega (arith, behind.long)), behind.number) refl;
+    })
 
 none-some : {A : Type 0} (read : Op × Mode × ℕ) → None ≡ Some read → A
 none-some read none = cc
@@ -193,39 +122,36 @@ encoded : (bytes : List ℕ) (op : Op) (mode : Mode) (operand : ℕ) → Encodes
 encoded bytes op mode operand these = record { these = these; alone = λ others other. encodes-alone bytes others op mode operand these other }
 
 -- the bytes of an opcode with an operand, in each mode
-operand-one : (names : NameValues) (op : Op) (mode : Mode) (opcode origin : ℕ) (e : Expression) (value low high : ℤ) → opcode_of op mode ≡ Some opcode → value_of names e ≡ Some value
-    → length_of mode ≡ 1 → Encodes (cell_bytes names (one_field 1 opcode e origin (small_place low high 8))) op mode (residue 1 (value -ℤ pos origin))
-operand-one names op mode opcode origin e value low high found known long =
-    rw (cell-one names opcode origin e value low high (opcode_is_byte opcode op mode found) known, residue-one (value -ℤ pos origin)) (encodes-one opcode op mode found long)
-
-operand-two : (names : NameValues) (op : Op) (mode : Mode) (opcode origin : ℕ) (e : Expression) (value low high : ℤ) → opcode_of op mode ≡ Some opcode → value_of names e ≡ Some value
-    → length_of mode ≡ 2 → Encodes (cell_bytes names (one_field 2 opcode e origin (small_place low high 8))) op mode (residue 256 (value -ℤ pos origin))
-operand-two names op mode opcode origin e value low high found known long =
-    rw (cell-two names opcode origin e value low high (opcode_is_byte opcode op mode found) known)
-    (encodes-two opcode (residue 256 (value -ℤ pos origin)) op mode found long (residue-byte (value -ℤ pos origin)))
-
-operand-three : (names : NameValues) (op : Op) (mode : Mode) (opcode origin : ℕ) (e : Expression) (value low high : ℤ) → opcode_of op mode ≡ Some opcode → value_of names e ≡ Some value
-    → length_of mode ≡ 3 → Encodes (cell_bytes names (one_field 3 opcode e origin (small_place low high 16))) op mode (residue 65536 (value -ℤ pos origin))
-operand-three names op mode opcode origin e value low high found known long =
-    rw (cell-three names opcode origin e value low high (opcode_is_byte opcode op mode found) known)
-    (encodes-three opcode (residue 65536 (value -ℤ pos origin)) op mode found long (residue-word (value -ℤ pos origin)))
+operand-bytes : (names : NameValues) (at opcode : ℕ) (e : Expression) (value : ℤ) (mode : Mode) → value_of names e ≡ Some value
+    → cell_bytes names (operand_cell at mode e opcode) ≡ low_bytes (length_of mode) (opcode + operand_number mode at value * 256)
+unfolding low_bytes
+operand-bytes names at opcode e value Implied known = rw known (ap (λ byte. byte ∷ []) (omega arith))
+operand-bytes names at opcode e value Accumulator known = rw known (ap (λ byte. byte ∷ []) (omega arith))
+operand-bytes names at opcode e value Immediate known = rw known (ap (λ n. low_bytes 2 n) (omega arith))
+operand-bytes names at opcode e value ZeroPage known = rw known (ap (λ n. low_bytes 2 n) (omega arith))
+operand-bytes names at opcode e value ZeroPageX known = rw known (ap (λ n. low_bytes 2 n) (omega arith))
+operand-bytes names at opcode e value ZeroPageY known = rw known (ap (λ n. low_bytes 2 n) (omega arith))
+operand-bytes names at opcode e value Absolute known = rw known (ap (λ n. low_bytes 3 n) (omega arith))
+operand-bytes names at opcode e value AbsoluteX known = rw known (ap (λ n. low_bytes 3 n) (omega arith))
+operand-bytes names at opcode e value AbsoluteY known = rw known (ap (λ n. low_bytes 3 n) (omega arith))
+operand-bytes names at opcode e value Indirect known = rw known (ap (λ n. low_bytes 3 n) (omega arith))
+operand-bytes names at opcode e value IndirectX known = rw known (ap (λ n. low_bytes 2 n) (omega arith))
+operand-bytes names at opcode e value IndirectY known = rw known (ap (λ n. low_bytes 2 n) (omega arith))
+operand-bytes names at opcode e value Relative known = rw known (ap (λ n. low_bytes 2 n) (omega arith))
 
 operand-encodes : (names : NameValues) (op : Op) (at opcode : ℕ) (e : Expression) (value : ℤ) (mode : Mode) → opcode_of op mode ≡ Some opcode → value_of names e ≡ Some value
     → Encodes (cell_bytes names (operand_cell at mode e opcode)) op mode (operand_number mode at value)
-operand-encodes names op at opcode e value Implied found known = operand-one names op Implied opcode 0 e value (pos 0) (pos 255) found known refl
-operand-encodes names op at opcode e value Accumulator found known = operand-one names op Accumulator opcode 0 e value (pos 0) (pos 255) found known refl
-operand-encodes names op at opcode e value Immediate found known = operand-two names op Immediate opcode 0 e value (neg_ℤ (pos 128)) (pos 255) found known refl
-operand-encodes names op at opcode e value ZeroPage found known = operand-two names op ZeroPage opcode 0 e value (pos 0) (pos 255) found known refl
-operand-encodes names op at opcode e value ZeroPageX found known = operand-two names op ZeroPageX opcode 0 e value (pos 0) (pos 255) found known refl
-operand-encodes names op at opcode e value ZeroPageY found known = operand-two names op ZeroPageY opcode 0 e value (pos 0) (pos 255) found known refl
-operand-encodes names op at opcode e value Absolute found known = operand-three names op Absolute opcode 0 e value (pos 0) (pos 65535) found known refl
-operand-encodes names op at opcode e value AbsoluteX found known = operand-three names op AbsoluteX opcode 0 e value (pos 0) (pos 65535) found known refl
-operand-encodes names op at opcode e value AbsoluteY found known = operand-three names op AbsoluteY opcode 0 e value (pos 0) (pos 65535) found known refl
-operand-encodes names op at opcode e value Indirect found known = operand-three names op Indirect opcode 0 e value (pos 0) (pos 65535) found known refl
-operand-encodes names op at opcode e value IndirectX found known = operand-two names op IndirectX opcode 0 e value (pos 0) (pos 255) found known refl
-operand-encodes names op at opcode e value IndirectY found known = operand-two names op IndirectY opcode 0 e value (pos 0) (pos 255) found known refl
-operand-encodes names op at opcode e value Relative found known =
-    operand-two names op Relative opcode (operand_origin Relative at) e value (neg_ℤ (pos 128)) (pos 127) found known refl
+operand-encodes names op at opcode e value mode found known =
+    let size : length_of mode ≡ suc (length_of mode - 1) = long mode in
+    let less = residue-less (256 ^ (length_of mode - 1)) (value -ℤ pos (operand_origin mode at)) (some (length_of mode - 1)) in
+    rw (operand-bytes names at opcode e value mode known) (rw (← size) at (encodes opcode (operand_number mode at value) (length_of mode - 1) op mode found size less))
+  where
+    long : (mode : Mode) → length_of mode ≡ suc (length_of mode - 1)
+    long mode = grind arith
+
+    some : (k : ℕ) → 0 < 256 ^ k
+    some zero = lit< tt
+    some (suc k) = omega (arith, some k)
 
 -- the bytes of a statement of one cell
 one-cell : (names : NameValues) (cell : Cell) (cells : List Cell) → form.Gives (cell ∷ []) ≡ form.Gives cells → cells_bytes names cells ≡ cell_bytes names cell
@@ -243,8 +169,7 @@ bare-alone names op mode cells long gives = by-opcode (opcode_of op mode) refl g
     by-opcode : (found : Option ℕ) → opcode_of op mode ≡ found → cell_form (option_map opcode_cell found) ≡ form.Gives cells → AloneEncodes (cells_bytes names cells) op mode 0
     by-opcode None is gives = no-cells cells gives
     by-opcode (Some opcode) is gives =
-        rw (one-cell names (opcode_cell opcode) cells gives, opcode-bytes names opcode (opcode_is_byte opcode op mode is))
-        (encoded (opcode ∷ []) op mode 0 (encodes-one opcode op mode is long))
+        rw (one-cell names (opcode_cell opcode) cells gives) (encoded (cell_bytes names (opcode_cell opcode)) op mode 0 (encodes opcode 0 0 op mode is long (lit< tt)))
 
 -- the bytes of an instruction with an expression
 pub mode-alone : (names : NameValues) (op : Op) (at : ℕ) (mode : Mode) (e : Expression) (value : ℤ) (cells : List Cell) → mode_form op at mode e ≡ form.Gives cells → value_of names e ≡ Some value
@@ -259,24 +184,9 @@ mode-alone names op at mode e value cells gives known = by-opcode (opcode_of op 
         (encoded (cell_bytes names (operand_cell at mode e opcode)) op mode (operand_number mode at value) (operand-encodes names op at opcode e value mode is known))
 
 -- the bytes of any instruction
-some-known : (names : NameValues) (e : Expression) (found : Option ℤ) → value_of names e ≡ found → is_some found ≡ true → (value : ℤ) × (value_of names e ≡ Some value)
-some-known names e None is some = absurd (false≢true some)
-some-known names e (Some value) is some = (value, is)
-
 known-value : (names : NameValues) (op : Op) (at : ℕ) (mode : Mode) (e : Expression) (cells : List Cell) → mode_form op at mode e ≡ form.Gives cells → all_known names cells ≡ true
     → (value : ℤ) × (value_of names e ≡ Some value)
-known-value names op at mode e cells gives known = by-opcode (opcode_of op mode) gives
-  where
-    only : (b : Bool) → ((b && true) && true) ≡ true → b ≡ true
-    only true all = refl
-    only false all = all
-
-    by-opcode : (found : Option ℕ) → cell_form (option_map (operand_cell at mode e) found) ≡ form.Gives cells → (value : ℤ) × (value_of names e ≡ Some value)
-    by-opcode None gives = no-cells cells gives
-    by-opcode (Some opcode) gives =
-        let these : operand_cell at mode e opcode ∷ [] ≡ cells = cc in
-        let all : all_known names (operand_cell at mode e opcode ∷ []) ≡ true = subst (λ (all : List Cell). all_known names all ≡ true) (sym these) known in
-        some-known names e (value_of names e) refl (only (is_some (value_of names e)) all)
+known-value names op at mode e cells gives known = grind arith
 
 pub instruction-alone : (names later : NameValues) (at : ℕ) (op : Op) (ws : List Word) (cells : List Cell) → instruction_of names at op ws ≡ form.Gives cells → all_known later cells ≡ true
     → HasOneEncoding (cells_bytes later cells) op
@@ -298,3 +208,5 @@ instruction-alone names later at op (w ∷ ws) cells gives known = by-register (
     by-register : (b : Bool) → cond b (bare_form op Accumulator) (operand_form names at op (shape_of (w ∷ ws))) ≡ form.Gives cells → HasOneEncoding (cells_bytes later cells) op
     by-register true gives = (Accumulator, 0, bare-alone later op Accumulator cells refl gives)
     by-register false gives = by-shape (shape_of (w ∷ ws)) gives
+
+pub ruleset encodings = (instruction-alone)

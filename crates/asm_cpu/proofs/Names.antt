@@ -8,3 +8,5 @@ pub name-back : (op : Op) → op_of (name_of op) ≡ Some op
 unfolding op_of
 name-back Adc = refl
 name-back _ = refl
+
+pub ruleset names = (name-back)

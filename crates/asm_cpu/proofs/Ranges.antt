@@ -65,3 +65,5 @@ address-stays ZeroPageX at value low long taken = zero-page (value -ℤ pos 0) t
 address-stays ZeroPageY at value low long taken = zero-page (value -ℤ pos 0) taken ∙ minus-none value
 address-stays IndirectX at value low long taken = zero-page (value -ℤ pos 0) taken ∙ minus-none value
 address-stays IndirectY at value low long taken = zero-page (value -ℤ pos 0) taken ∙ minus-none value
+
+pub ruleset ranges = (branch-reaches, address-stays)

@@ -24,6 +24,7 @@ pub fn source_addresses()
 {}
 
 /// An operation's name is a word that names it.
+#[tactic(auto, using(crate::proofs::Names::names))]
 pub fn operations_by_their_names()
     ensures { (op : Op) → op_of (name_of op) ≡ Some op }
 {}
@@ -44,6 +45,7 @@ pub fn bytes_of_an_operand()
 
 /// The bytes of any instruction, of which all names have a value in the end, are the one list that
 /// is decoded to its operation, a mode and an operand.
+#[tactic(auto, using(crate::proofs::Encodings::encodings))]
 pub fn bytes_of_an_instruction()
     ensures { (names later : NameValues) (at : ℕ) (op : Op) (words : List Word) (cells : List Cell) → instruction_of names at op words ≡ Gives cells
         → all_known later cells ≡ true → HasOneEncoding (cells_bytes later cells) op }
@@ -51,12 +53,14 @@ pub fn bytes_of_an_instruction()
 
 /// What the byte behind a branch's opcode adds, as a signed number, to the address of the next
 /// instruction makes the branch's target.
+#[tactic(auto, using(crate::proofs::Ranges::ranges))]
 pub fn branch_to_its_target()
     ensures { (at : ℕ) (value : ℤ) → is_taken Relative at value ≡ true
         → pos (at + 2) +ℤ signed_byte (operand_number Relative at value) ≡ value }
 {}
 
 /// The address that an instruction holds, in its range, is its expression's value.
+#[tactic(auto, using(crate::proofs::Ranges::ranges))]
 pub fn address_of_an_operand()
     ensures { (mode : Mode) (at : ℕ) (value : ℤ) → (place_of mode).low ≡ pos 0 → 2 ≤ length_of mode → is_taken mode at value ≡ true
         → pos (operand_number mode at value) ≡ value }

@@ -46,40 +46,18 @@ joined-fault before (Ok first) rest (Line line cause) said = absurd (cc)
 pub EndsBy-up : (place later : ℕ) (tokens : List Token) → place ≤ later → All (EndsBy place) tokens → All (EndsBy later) tokens
 EndsBy-up place later tokens up early = All-weaker (EndsBy place) (EndsBy later) (λ token ends. let low : token.end ≤ place = ends.1 in (ends.0, omega arith)) tokens early
 
+pub EndsBy-push : (place end : ℕ) (tokens : List Token) (token : Token) → place ≤ end → token.start < token.end → token.end ≤ end → All (EndsBy place) tokens → All (EndsBy end) (tokens ++ token ∷ [])
+EndsBy-push place end tokens token up some low early = All-push (EndsBy end) tokens token (EndsBy-up place end tokens up early) (some, low)
+
+pub pieces-none : pieces_of [] ≡ []
+unfolding pieces_of
+pieces-none = refl
+
 -- the tokens of a line's pieces before a place are pushed, the first of which begins at `start`
 pub record IsPushedTo (line start stop : ℕ) (old : List Token) (given : Result (List Token) AsmFault) (place : ℕ) (rest : List ℕ) (tokens : List Token) : Type 0 where
   pub within : place + length rest ≤ stop
   pub so_far : onto tokens (piece_tokens line place (pieces_of rest)) ≡ given
   pub spans : All (EndsBy start) old → All (EndsBy place) tokens
-
--- one piece more
-module _ (line start stop : ℕ) (old : List Token) (given : Result (List Token) AsmFault) (place : ℕ) (rest : List ℕ) (tokens : List Token)
-    (read : IsPushedTo line start stop old given place rest tokens) (piece after : List ℕ) (parted : pieces_of rest ≡ piece ∷ pieces_of after) (whole : rest ≡ piece ++ after) where
-  size : place + length piece + length after ≤ stop
-  size = omega (arith, read.within, ap length whole, length-append piece after)
-
-  pub bad_piece : (cause : AsmCause) → Err cause ≡ kind_of piece → given ≡ Err (Line line cause)
-  unfolding piece_tokens
-  bad_piece cause said = sym read.so_far ∙ rw (parted, ← said) refl
-
-  pub blank_pushed : Ok None ≡ kind_of piece → IsPushedTo line start stop old given (place + length piece) after tokens
-  unfolding piece_tokens
-  blank_pushed said = record { within = size; so_far = rw (parted, ← said) at read.so_far; spans = λ early. EndsBy-up place (place + length piece) tokens (omega arith) (read.spans early) }
-
-  pub token_pushed : (kind : Kind) (more : List Token) → Ok (Some kind) ≡ kind_of piece → 0 < length piece
-      → more ≡ tokens ++ record { kind = kind; start = place; end = place + length piece; line = line } ∷ [] → IsPushedTo line start stop old given (place + length piece) after more
-  unfolding piece_tokens
-  token_pushed kind more said some pushed =
-      let token : Token = record { kind = kind; start = place; end = place + length piece; line = line } in
-      let so_far = sym (onto-append tokens (token ∷ []) (piece_tokens line (place + length piece) (pieces_of after))) ∙ (rw (parted, ← said) at read.so_far) in
-      let early_ones = λ (early : All (EndsBy start) old). EndsBy-up place (place + length piece) tokens (omega arith) (read.spans early) in
-      rw pushed (record { within = size; so_far = so_far; spans = λ early. All-push (EndsBy (place + length piece)) tokens token (early_ones early) (omega arith, omega arith) })
-
--- the tokens are all, where no piece is left
-pub all_pushed : (line start stop : ℕ) (old : List Token) (given : Result (List Token) AsmFault) (place : ℕ) (rest : List ℕ) (tokens : List Token)
-    → IsPushedTo line start stop old given place rest tokens → length rest ≡ 0 → given ≡ Ok tokens
-unfolding piece_tokens pieces_of
-all_pushed line start stop old given place rest tokens read none = sym read.so_far ∙ rw (nil_from_length rest none) (ap (λ xs. Ok xs) (append-nil tokens))
 
 -- the tokens of a text up to a place
 pub record Covers (text : List ℕ) (place : ℕ) (tokens : List Token) : Type 0 where
@@ -224,3 +202,5 @@ pieces_read text line begin stop end (suc fuel) place (byte ∷ code) after befo
     let later = piece_tokens line (place + length piece) (pieces_of rest) in
     rw found.1.pieces (piece_read text line begin stop end place (byte ∷ code) after is left found.0 found.1 piece rest split long before (kind_of piece) later so_far refl
     (λ more covers. pieces_read text line begin stop end fuel (place + length piece) rest after more is (omega (arith, length-drop found.0 code)) next covers))
+
+pub ruleset pieces = (append-nil, onto-append, EndsBy-up, nil_from_length, All-push, EndsBy-push, pieces-none)

@@ -176,3 +176,5 @@ all_read text line place rest tokens read none =
     let empty : rest ≡ [] = nil_from_length rest none in
     let all : place ≡ length text = omega (arith, read.size) in
     (sym (rw empty at read.so_far) ∙ ap (λ ts. Ok ts) (append-nil tokens), rw all at read.covers)
+
+pub ruleset lines = (line_refused, all_read, nil_from_length)

@@ -2,6 +2,7 @@ ghost use Rattle.std.specs.Prelude.{◌≡◌, ◌≤◌};
 ghost use Rattle.asm_text.specs.Numbers.{digits_in, number_of};
 
 /// The number that digits of a base write.
+#[tactic(auto, using(crate::proofs::Numerals::digits))]
 fn read_digits(base: u32, digits: &[u8]) -> Option<u16>
     requires low { 2 ≤ base }
     requires high { base ≤ 16 }

@@ -17,6 +17,7 @@ pub const TEXT_LIMIT: usize = 1_048_576;
 ///
 /// It is refused for its first bad token, or because memory ran out; then `tokens` is only to be
 /// dropped.
+#[tactic(auto, using(crate::proofs::LinePieces::pieces), unfolding(crate::specs::Tokens::piece_tokens))]
 pub fn push_line(
     tokens: &mut Vec<Token>,
     text: &[u8],
@@ -63,6 +64,7 @@ pub fn push_line(
 /// a comment.
 ///
 /// The text has at most `TEXT_LIMIT` bytes. Memory is taken for the tokens alone.
+#[tactic(auto, using(crate::proofs::TextLines::lines))]
 pub fn tokens(alloc: Global, text: &[u8]) -> Result<Vec<Token>, AsmFault>
     ensures tokens { Answers (λ tokens. tokens.items) result (tokens_of text.now) }
     ensures too_long { (result ≡ Err AsmFault.TooLong) ↔ (TEXT_LIMIT < length text.now) }

@@ -1,11 +1,8 @@
--- One digit more, and a number that is too great stays so.
-use Rattle.std.proofs.Common.{◌≡◌, ℕ, ◌+◌, ◌<◌, Bool, leb, ◌&&◌, cond, Some, None, refl, ◌∙◌, arith}
-use Rattle.std.specs.Char.{is_digit}
+-- A number that is too great stays so.
+use Rattle.std.proofs.Common.{◌≡◌, ℕ, ◌+◌, ◌<◌, Bool, leb, ◌&&◌, cond, Some, None, arith}
 use Rattle.std.specs.Str.Parse.{digits_value}
-use Rattle.std.proofs.lemmas.Bool.{lt-ltb}
 use Rattle.std.proofs.lemmas.Bool.Decides.{nat_tests}
 use Rattle.std.proofs.lemmas.Int.Digits.{digits_value_more}
-use Rattle.std.proofs.lemmas.List.Folds.{list_all_more}
 use Rattle.std.proofs.lemmas.Str.Parse.{digits_value-take-le}
 use Rattle.asm_text.proofs.numeral.read_digits.Goals as goal
 
@@ -17,13 +14,3 @@ returns-then-value-gt65535 c =
     let next = digits_value_more c.args.base c.args.digits.now c.loop-byte.byte-index c.loop-byte-test.true in
     let whole = digits_value-take-le c.args.base c.args.digits.now (c.loop-byte.byte-index + 1) (omega arith) in
     none_above _ (digits_value c.args.base c.args.digits.now) (omega (arith, rw (next, ← c.loop-byte.invariant.value, ← c.in_ok-value.ensures.value.1) at whole))
-
-pub loop-byte-preserved : goal.loop-byte-preserved
-loop-byte-preserved c =
-    let next = digits_value_more c.args.base c.args.digits.now c.loop-byte.byte-index c.loop-byte-test.true in
-    let digit = lt-ltb _ _ c.in_ok-value.ensures.value.0 in
-    record {
-      digits = list_all_more (λ d. is_digit d c.args.base) c.args.digits.now c.loop-byte.byte-index 0 c.loop-byte-test.true ∙ rw (c.loop-byte.invariant.digits, digit) refl;
-      value = rw (next, ← c.loop-byte.invariant.value, c.in_ok-value.ensures.value.1) refl;
-      small = omega arith;
-    }
