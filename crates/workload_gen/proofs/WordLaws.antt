@@ -1,13 +1,13 @@
 -- Words that are drawn, one after another.
-use Rattle.std.proofs.Common.{◌≡◌, ◌≢◌, ℕ, ◌+◌, ◌%◌, zero, List, [], ◌∷◌, ◌++◌, length, refl, sym, ap, ◌∙◌, suc-add, length-append, append_assoc, arith}
+use Rattle.std.proofs.Common.{◌≡◌, ℕ, ◌+◌, zero, List, [], ◌∷◌, ◌++◌, length, refl, sym, ap, ◌∙◌, suc-add, zero-add, length-append, append_assoc, arith}
 use Rattle.std.specs.List.{flat_map, range_with_len}
 use Rattle.std.proofs.lemmas.Grind.{flat_map-append}
-use Rattle.std.proofs.lemmas.Bool.{ne_eqb}
+use Rattle.std.proofs.lemmas.Bool.Decides.{nat_tests}
 use Rattle.std.proofs.lemmas.List.{append-nil}
-use Rattle.workload_gen.proofs.DrawLaws.{number_after-add, number_after-one, number_after-two}
+use Rattle.workload_gen.proofs.DrawLaws.{number_after-add}
 use Rattle.workload_gen.specs.declared.words.Choice.{Choice}
 use Rattle.workload_gen.specs.Draws.{draw_of, draws_of, next_of, number_after}
-use Rattle.workload_gen.specs.Words.{choices, choices_at, choices_before, colour, drawn_word, drawn_words, scale, vector, words_of}
+use Rattle.workload_gen.specs.Words.{choices, choices_at, choices_before, drawn_word, drawn_words, scale, vector, words_of}
 
 -- words that are drawn, and others behind them
 pub drawn_words-append : (some more : List Choice) (number : ℕ) → drawn_words number (some ++ more) ≡ drawn_words number some ++ drawn_words (number_after number (length some)) more
@@ -16,56 +16,22 @@ drawn_words-append [] more number = refl
 drawn_words-append (choice ∷ some) more number =
     ap (λ words. drawn_word choice (draw_of (next_of number)) ∷ words) (drawn_words-append some more (next_of number))
 
-pub drawn_words-one : (choice : Choice) (number : ℕ) → drawn_words number (choice ∷ []) ≡ drawn_word choice (draw_of (next_of number)) ∷ []
-unfolding drawn_words draws_of
-drawn_words-one choice number = refl
-
-pub drawn_words-two : (first second : Choice) (number : ℕ)
-    → drawn_words number (first ∷ second ∷ []) ≡ drawn_word first (draw_of (next_of number)) ∷ drawn_word second (draw_of (next_of (next_of number))) ∷ []
-unfolding drawn_words draws_of
-drawn_words-two first second number = refl
-
 pub length-drawn_words : (some : List Choice) (number : ℕ) → length (drawn_words number some) ≡ length some
 unfolding drawn_words draws_of
 length-drawn_words [] number = refl
 length-drawn_words (choice ∷ some) number = ap (λ n. Prim.Native.Nat.suc n) (length-drawn_words some (next_of number))
 
--- a vector with a colour before it, and one without
-pub choices_at-colour : (k : ℕ) → k % 30 ≡ 0 → choices_at k ≡ colour ∷ vector ∷ []
-choices_at-colour k zeroth = rw zeroth refl
-
-pub choices_at-plain : (k : ℕ) → k % 30 ≢ 0 → choices_at k ≡ vector ∷ []
-choices_at-plain k other = rw (ne_eqb (k % 30) 0 other) refl
-
--- the words that a vector adds: with a colour before it, and alone
-pub words-two : (number k first last : ℕ) (old between new : List ℕ) → k % 30 ≡ 0
-    → first ≡ drawn_word colour (draw_of (next_of number)) → last ≡ drawn_word vector (draw_of (next_of (next_of number)))
-    → between ≡ old ++ first ∷ [] → new ≡ between ++ last ∷ [] → new ≡ old ++ drawn_words number (choices_at k)
-words-two number k first last old between new zeroth f l b n =
-    let both : first ∷ last ∷ [] ≡ drawn_words number (choices_at k) = rw (choices_at-colour k zeroth, drawn_words-two) cc in
-    n ∙ ap (λ w. w ++ last ∷ []) b ∙ append_assoc old (first ∷ []) (last ∷ []) ∙ ap (λ w. old ++ w) both
-
-pub words-one : (number k last : ℕ) (old new : List ℕ) → k % 30 ≢ 0 → last ≡ drawn_word vector (draw_of (next_of number))
-    → new ≡ old ++ last ∷ [] → new ≡ old ++ drawn_words number (choices_at k)
-words-one number k last old new other l n =
-    let alone : last ∷ [] ≡ drawn_words number (choices_at k) = rw (choices_at-plain k other, drawn_words-one) cc in
-    n ∙ ap (λ w. old ++ w) alone
-
 -- numbers, and one more
 range-more : (n from : ℕ) → range_with_len from (n + 1) ≡ range_with_len from n ++ (from + n) ∷ []
 range-more zero from = let same : from + 0 ≡ from = omega arith in ap (λ last. last ∷ []) (sym same)
-range-more (Prim.Native.Nat.suc n) from =
-    let same : from + 1 + n ≡ from + Prim.Native.Nat.suc n = omega arith in
-    ap (λ count. range_with_len from count) (suc-add n 1)
-    ∙ ap (λ more. from ∷ more) (range-more n (from + 1) ∙ ap (λ last. range_with_len (from + 1) n ++ last ∷ []) same)
+range-more (Prim.Native.Nat.suc n) from = let same : from + 1 + n ≡ from + Prim.Native.Nat.suc n = omega arith in rw (suc-add n 1, range-more n (from + 1), same) refl
 
 -- what is drawn before the next vector
 pub choices_before-next : (k : ℕ) → choices_before (k + 1) ≡ choices_before k ++ choices_at k
 unfolding choices_before
 choices_before-next k =
-    let same : 0 + k ≡ k = omega arith in
     ap (λ some. scale ∷ some)
-    (ap (λ ks. flat_map choices_at ks) (range-more k 0 ∙ ap (λ last. range_with_len 0 k ++ last ∷ []) same)
+    (ap (λ ks. flat_map choices_at ks) (rw (zero-add k) at (range-more k 0))
     ∙ flat_map-append choices_at (range_with_len 0 k) (k ∷ [])
     ∙ ap (λ some. flat_map choices_at (range_with_len 0 k) ++ some) (append-nil (choices_at k)))
 
@@ -77,12 +43,12 @@ drawn_words-next k number =
 
 -- the words before the first vector
 pub drawn_words-first : (number : ℕ) → drawn_words number (choices_before 0) ≡ drawn_word scale (draw_of (next_of number)) ∷ []
-unfolding choices_before
-drawn_words-first number = drawn_words-one scale number
+unfolding choices_before drawn_words draws_of
+drawn_words-first number = refl
 
 pub number-first : (number : ℕ) → number_after number (length (choices_before 0)) ≡ next_of number
-unfolding choices_before
-number-first number = number_after-one number
+unfolding choices_before number_after
+number-first number = refl
 
 pub choices-all : choices_before 300 ≡ choices
 unfolding choices
@@ -108,4 +74,6 @@ number-next k number =
     sym (number_after-add (length (choices_before k)) (length (choices_at k)) number)
     ∙ ap (λ count. number_after number count) (sym (length-append (choices_before k) (choices_at k)) ∙ ap (λ some. length some) (sym (choices_before-next k)))
 
-pub ruleset steps = (choices_at-colour, choices_at-plain, number_after-one, number_after-two)
+pub ruleset steps = (nat_tests)
+
+pub ruleset vectors = (append_assoc, choices-all, drawn_words-first, drawn_words-next, number-first, number-next, words_of-all)

@@ -33,6 +33,7 @@ impl Draws {
     }
 
     /// The next draw.
+    #[tactic(auto, unfolding(crate::specs::Draws::draw_of, crate::specs::Draws::next_of))]
     pub fn draw(&mut self) -> u16
         ensures number { self.new ≡ next_of self.old }
         ensures value { result ≡ draw_of (next_of self.old) }

@@ -38,6 +38,7 @@ fn word_bytes(alloc: Global, words: &[u16]) -> Result<Vec<u8>, OutOfMemory>
 }
 
 /// Puts bytes into an image, from an address on.
+#[tactic(auto, using(crate::proofs::ImageLaws::steps), unfolding(crate::specs::Putting::with_bytes))]
 fn put_bytes(image: &mut Image, at: u16, bytes: &[u8])
     requires room { at + length bytes.now ≤ 2 ^ 16 }
     requires inside { (k : ℕ) → k < length bytes.now → offset_of (at + k) ≡ Some (place_of at + k) }
@@ -49,6 +50,7 @@ fn put_bytes(image: &mut Image, at: u16, bytes: &[u8])
 }
 
 /// The image with these words in its vector ROM, and with the program.
+#[tactic(auto, using(crate::proofs::ImageLaws::parts), unfolding(crate::specs::Roms::program, crate::specs::Roms::interrupt_vectors))]
 pub fn workload_image(alloc: Global, words: &[u16]) -> Result<Image, OutOfMemory>
     requires { 2 * length words.now ≤ VECTOR_ROM_LEN }
     ensures { IfOk result (λ image. image ≡ image_with words.now) }

@@ -44,6 +44,7 @@ fn drawn_port(draw: u16) -> Port
 }
 
 /// The entries of the tape, each with the next two draws: its port, and then its value.
+#[tactic(auto, using(crate::proofs::TapeLaws::steps))]
 pub fn tape_entries(alloc: Global, draws: &mut Draws) -> Result<Vec<TapeEntry>, OutOfMemory>
     ensures { IfOk result (λ made. made.items ≡ entries_from 1 (draws_of draws.old 400)) }
 {

@@ -54,7 +54,7 @@ fn drawn_word(draws: &mut Draws, choice: Choice) -> u16
 }
 
 /// Adds vector `k`, and the colour before it where it has one.
-#[tactic(auto, using(crate::proofs::WordLaws::steps))]
+#[tactic(auto, using(crate::proofs::WordLaws::steps), unfolding(crate::specs::Words::drawn_words, crate::specs::Draws::draws_of, crate::specs::Draws::number_after))]
 fn push_vector(words: &mut Vec<u16>, draws: &mut Draws, k: u16) -> Result<(), OutOfMemory>
     ensures words { OnOk result (words.new.items ≡ words.old.items ++ drawn_words draws.old (choices_at k)) }
     ensures number { OnOk result (draws.new ≡ number_after draws.old (length (choices_at k))) }
@@ -67,6 +67,7 @@ fn push_vector(words: &mut Vec<u16>, draws: &mut Draws, k: u16) -> Result<(), Ou
 }
 
 /// The words of the vector ROM: a picture of short vectors.
+#[tactic(auto, using(crate::proofs::WordLaws::vectors), unfolding(crate::specs::Words::words_of))]
 pub fn vector_words(alloc: Global, draws: &mut Draws) -> Result<Vec<u16>, OutOfMemory>
     ensures words { IfOk result (λ made. made.items ≡ words_of draws.old) }
     ensures number { OnOk result (draws.new ≡ number_after draws.old (length choices)) }

@@ -15,6 +15,7 @@ use tape_ports::Tape;
 const END: u64 = 20_000_000;
 
 /// Makes the image and the tape of the workload that a seed gives.
+#[tactic(auto, using(crate::proofs::SizeLaws::made), unfolding(crate::specs::Tape::tape_of))]
 pub fn make(alloc: Global, seed: u64) -> Result<(Image, Tape), OutOfMemory>
     ensures image { IfOk result (λ made. made.0 ≡ image_of seed) }
     ensures tape { IfOk result (λ made. made.1 ≡ tape_of seed) }
