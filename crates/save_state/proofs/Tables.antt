@@ -1,9 +1,10 @@
 -- The code's tables have the fields of the definition's.
 use Rattle.std.proofs.Common.{zero, suc, ◌<◌, length, ◌≡◌, ◌≢◌, ◌+◌, ◌==◌, ◌≤◌, ℕ, Bool, true, false, List, [], ◌∷◌, All, take, drop, refl, sym, ap, subst, ◌∙◌, arith, ◌++◌, map}
-use Rattle.std.proofs.Common.{get_or, Result, Ok, Err, append_assoc, rules, ◌^◌, cond, Option, Some, None, IfSome, IsSome, slice_index, w16, w64, get_or-drop, get_or-take}
+use Rattle.std.proofs.Common.{get_or, Result, Ok, Err, append_assoc, ◌^◌, cond, Option, None, IfSome, IsSome, slice_index, w16, w64, get_or-drop, get_or-take}
 use Rattle.std.proofs.Common.{eqb-true, MatchResult, IsErrAnd}
 use Rattle.std.specs.Bool.{then_some}
 use Rattle.std.specs.Int.{from_le_bytes}
+use Rattle.std.proofs.lemmas.Bool.Decides.{nat_tests}
 use Rattle.std.proofs.lemmas.List.Elements.{All-map, All-cons, All-nil, All-head, All-tail, All-append, All-from_recursion, recursion_from_All}
 use Rattle.board_base.specs.Board.{BoardValue}
 use Rattle.board_base.specs.Cpu.{CpuValue, MidValue}
@@ -13,7 +14,7 @@ use Rattle.save_state.specs.StateBytes.{earom_rows, memory_rows, back_rows, last
 use Rattle.save_state.specs.Check.{width_of, range_of, IsInRange, AreInRange, BreaksIn}
 use Rattle.cpu_table.specs.Opcodes.{row_of}
 use Rattle.save_state.specs.declared.table.Field.{Field}
-use Rattle.save_state.specs.declared.table.TheConstants.{PLACE, NO_PLACE, BACK}
+use Rattle.save_state.specs.declared.table.TheConstants.{BACK}
 use Rattle.save_state.specs.Reading.{Holds, IsFirstBroken, BreaksFirst}
 
 -- a row of no table
@@ -48,18 +49,14 @@ pub left_told : (file : List ℕ) (phase left : ℕ) → phase ≡ slice_index (
 left_told file phase left e f h =
     let stated = left_by (processor_of file) (slice_index file 45 == 5) (take 2 (drop 82 file)) h in
     let here : phase ≡ slice_index file 45 = e ∙ byte_is file 45 in (
-      (λ (five : phase ≡ 5). subst (λ (n : ℕ). 1 ≤ n) (sym f) (stated.0 (subst (λ (n : ℕ). (n == 5) ≡ true) here (subst (λ (n : ℕ). (n == 5) ≡ true) (sym five) refl)))),
-      subst (λ (n : ℕ). n ≤ 8192) (sym f) stated.1,
-      (λ (other : phase ≢ 5). f ∙ stated.2 (subst (λ (n : ℕ). (n == 5) ≡ false) here (not_equal phase 5 other))),
+      (λ (five : phase ≡ 5). let least = stated.0 (grind (arith, nat_tests)) in omega (arith, least)),
+      omega (arith, stated.1),
+      (λ (other : phase ≢ 5). f ∙ stated.2 (grind (arith, nat_tests))),
     )
 
 -- a number from 1 to a greatest
 pub count_told : (n m : ℕ) → n ≡ m → (1 ≤ m) × (m ≤ 65542) → (1 ≤ n) × (n ≤ 65542)
 count_told n m e h = (omega (arith, e, h.0), omega (arith, e, h.1))
-
--- lists with the same parts
-pub cons_same : (p q : List ℕ) (ps qs : List (List ℕ)) → p ≡ q → ps ≡ qs → p ∷ ps ≡ q ∷ qs
-cons_same p q ps qs e f = rw (e, f) refl
 
 -- a flag, and the opcode that jams
 pub flag_told : (n : ℕ) (piece : List ℕ) → n ∷ [] ≡ piece → slice_index piece 0 ≤ 1 → flag (n == 1) ≡ piece
@@ -74,9 +71,10 @@ pub jam_told : (cpu : CpuValue) (flag opcode : ℕ) (p q : List ℕ) → flag �
 jam_told cpu zero opcode p q e f h fit =
     let none : slice_index (opcode ∷ []) 0 ≤ 0 = subst (λ (x : List ℕ). slice_index x 0 ≤ 0) (sym f) fit in
     let zero : opcode ≡ 0 = omega (arith, none) in
-    (cons_same (0 ∷ []) p ((0 ∷ []) ∷ []) (q ∷ []) e (cons_same (0 ∷ []) q [] [] (subst (λ (k : ℕ). k ∷ [] ≡ q) zero f) refl), tt)
+    let written : 0 ∷ [] ≡ q = subst (λ (k : ℕ). k ∷ [] ≡ q) zero f in
+    (λ i. e i ∷ written i ∷ [], tt)
 jam_told cpu (suc zero) opcode p q e f h fit =
-    (cons_same (1 ∷ []) p ((opcode ∷ []) ∷ []) (q ∷ []) e (cons_same (opcode ∷ []) q [] [] f refl), subst (λ (x : List ℕ). row_of (slice_index x 0) ≡ None) (sym f) fit)
+    (λ i. e i ∷ f i ∷ [], subst (λ (x : List ℕ). row_of (slice_index x 0) ≡ None) (sym f) fit)
 jam_told cpu (suc (suc n)) opcode p q e f h fit = absurd (omega (arith, h))
 
 abbrev pub Rows : Type 0
@@ -176,35 +174,12 @@ first_broken version file base fs rs o e b =
 abbrev pub place_row : Row BoardValue
 place_row = get_or (middle_rows false) 2 no_row
 
-pub middle_held : (version : ℕ) (file : List ℕ) → (version == 1) ≡ false → AreInRange version file 0 PLACE → Holds version file place_row → All (Holds version file) (middle_rows (version == 1))
-middle_held version file other start place =
-    subst (λ (b : Bool). All (Holds version file) (middle_rows b)) (sym other)
-    (All-append (Holds version file) place_start (place_row ∷ []) (held version file 0 PLACE place_start refl start) (All-cons (Holds version file) place_row [] place (All-nil (Holds version file))))
-
-pub start_broken : (version : ℕ) (file : List ℕ) (o : ℕ) → (version == 1) ≡ false → BreaksIn version file 0 PLACE o → IsFirstBroken version file (middle_rows (version == 1)) o
-start_broken version file o other b =
-    subst (λ (b : Bool). IsFirstBroken version file (middle_rows b) o) (sym other)
-    (sooner version file place_start (place_row ∷ []) o (first_broken version file 0 PLACE place_start o refl b))
-
-pub place_broken : (version : ℕ) (file : List ℕ) → (version == 1) ≡ false → AreInRange version file 0 PLACE → ¬ Holds version file place_row
-    → IsFirstBroken version file (middle_rows (version == 1)) 32
-place_broken version file other start bad =
-    subst (λ (b : Bool). IsFirstBroken version file (middle_rows b) 32) (sym other)
-    (later version file place_start (place_row ∷ []) 32 (held version file 0 PLACE place_start refl start)
-    (record { before = []; broken = place_row; after = []; order = refl; good = All-nil (Holds version file); bad = bad; here = refl }))
-
 -- what the check of a table says of its rows
 pub stated : {T : Type 0} (version : ℕ) (file : List ℕ) (base : ℕ) (fs : List Field) (rs : Rows) (r : Result T ℕ)
     → AreSame (facts_of version file) base fs rs → MatchResult r (λ _. AreInRange version file base fs) (λ at. BreaksIn version file base fs at)
     → MatchResult r (λ _. All (Holds version file) rs) (λ at. IsFirstBroken version file rs at)
 stated version file base fs rs (Ok x) e h = held version file base fs rs e h
 stated version file base fs rs (Err at) e h = first_broken version file base fs rs at e h
-
-pub first_told : {T : Type 0} (version : ℕ) (file : List ℕ) (r : Result T ℕ) → (version == 1) ≡ true
-    → MatchResult r (λ _. AreInRange version file 0 NO_PLACE) (λ at. BreaksIn version file 0 NO_PLACE at)
-    → MatchResult r (λ _. All (Holds version file) (middle_rows (version == 1))) (λ at. IsFirstBroken version file (middle_rows (version == 1)) at)
-first_told version file r same h = subst (λ (b : Bool). MatchResult r (λ _. All (Holds version file) (middle_rows b))
-    (λ at. IsFirstBroken version file (middle_rows b) at)) (sym same) (stated version file 0 NO_PLACE (middle_rows true) r refl h)
 
 -- the error that a `?` returns
 pub early : {T : Type 0} (r : Result T ℕ) (P : T → Type 0) (Q : ℕ → Type 0) (e : ℕ) → IsErrAnd r (λ y. y ≡ e) → Q e → MatchResult r P Q
@@ -269,6 +244,9 @@ hold_in version file (s ∷ ss) h =
 pub sections_of : (version : ℕ) (file : List ℕ) → All (Holds version file) (table version) → HoldIn version file (sections version)
 sections_of version file h = hold_in version file (sections version) (subst (All (Holds version file)) (table_is version) h)
 
+pub zeros_of : (version : ℕ) (file : List ℕ) → All (Holds version file) (table version) → All (Holds version file) (rows_of (λ b. tt) zero_rows)
+zeros_of version file h = (parts (Holds version file) (rows_of (λ b. tt) zero_rows) (rows_of (λ b. b.vg) vg_rows) (sections_of version file h).1.1.0).0
+
 pub vg_of : (version : ℕ) (file : List ℕ) → All (Holds version file) (table version) → All (Holds version file) (rows_of (λ b. b.vg) vg_rows)
 vg_of version file h = (parts (Holds version file) (rows_of (λ b. tt) zero_rows) (rows_of (λ b. b.vg) vg_rows) (sections_of version file h).1.1.0).1
 
@@ -288,18 +266,14 @@ pub count_of : (version : ℕ) (file : List ℕ) → All (Holds version file) (t
 count_of version file h = count_by version file (version == 1) (sections_of version file h).1.0
 
 -- the clock, which is smaller inside a sequence
-none_some : (mid : Option MidValue) → mid ≡ None → IsSome mid → ⊥
-none_some None e s = search rules
-none_some (Some m) e s = absurd cc
-
 idle_by : (version : ℕ) (file : List ℕ) (one : Bool) → All (Holds version file) (middle_rows one) → one ≡ true → slice_index file 30 ≡ 0
 idle_by version file true h e = omega (arith, h 0 no_row (omega arith), byte_is file 30)
 idle_by version file false h e = absurd cc
 
 clock_by : (a b : Bool) (clock : ℕ) (mid : Option MidValue) → clock ≤ cond a (2 ^ 48 + 16) (cond b (2 ^ 48 + 16) (2 ^ 48)) → (a ≡ true → mid ≡ None)
     → (b ≡ true → mid ≡ None) → (clock ≤ 2 ^ 48 + 16) × (IsSome mid → clock ≤ 2 ^ 48)
-clock_by true b clock mid h f g = (h, λ s. absurd (none_some mid (f refl) s))
-clock_by false true clock mid h f g = (h, λ s. absurd (none_some mid (g refl) s))
+clock_by true b clock mid h f g = (h, λ s. let none = f refl in absurd cc)
+clock_by false true clock mid h f g = (h, λ s. let none = g refl in absurd cc)
 clock_by false false clock mid h f g = (omega (arith, h), λ s. h)
 
 pub clock_told : (version : ℕ) (file : List ℕ) (clock : ℕ) (mid : Option MidValue) → All (Holds version file) (table version) → clock

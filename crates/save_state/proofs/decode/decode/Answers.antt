@@ -1,5 +1,5 @@
-use Rattle.std.proofs.Common.{rules, List, ℕ, ◌∷◌, [], refl, ap, arith}
-use Rattle.save_state.proofs.Tables.{no_row, cons_same, sections_of, count_of, vg_of, second_of, earom_of, clock_told}
+use Rattle.std.proofs.Common.{rules, List, ℕ, ◌∷◌, [], ap, arith}
+use Rattle.save_state.proofs.Tables.{no_row, sections_of, count_of, vg_of, second_of, earom_of, clock_told}
 use Rattle.save_state.proofs.decode.decode.Goals as goal
 
 pub decode_processor-requires-clause-front : goal.decode_processor-requires-clause-front
@@ -39,7 +39,7 @@ returns-clause-decoded c = record {
   clock = ap (λ (x : List ℕ). x ∷ []) c.u64_at.ensures.bytes;
   registers = c.decode_processor.ensures.pieces;
   jam = c.decode_processor.ensures.jam;
-  ports = cons_same _ _ _ _ c.byte_at.ensures.bytes (cons_same _ _ _ _ c.byte_at-2.ensures.bytes (cons_same _ _ _ _ c.byte_at-3.ensures.bytes (cons_same _ _ _ _ c.byte_at-4.ensures.bytes refl)));
+  ports = λ i. c.byte_at.ensures.bytes i ∷ c.byte_at-2.ensures.bytes i ∷ c.byte_at-3.ensures.bytes i ∷ c.byte_at-4.ensures.bytes i ∷ [];
   divider = c.decode_divider.ensures;
   outside = c.decode_processor.ensures.outside;
   inside = c.decode_processor.ensures.inside;
@@ -47,5 +47,5 @@ returns-clause-decoded c = record {
   sound1 = c.decode_pokey.ensures;
   sound2 = c.decode_pokey-2.ensures;
   earom = c.decode_earom.ensures;
-  memory = cons_same _ _ _ _ c.array_at.ensures (cons_same _ _ _ _ c.array_at-2.ensures refl);
+  memory = λ i. c.array_at.ensures i ∷ c.array_at-2.ensures i ∷ [];
 }

@@ -1,6 +1,6 @@
-use Rattle.std.proofs.Common.{◌≡◌, ℕ, [], ◌∷◌, refl, ap, ◌∙◌, arith}
+use Rattle.std.proofs.Common.{◌≡◌, ℕ, [], ◌∷◌, ap, ◌∙◌, arith}
 use Rattle.board_base.specs.Divider.{reset_number}
-use Rattle.save_state.proofs.Tables.{no_row, flag_told, cons_same}
+use Rattle.save_state.proofs.Tables.{no_row, flag_told}
 use Rattle.save_state.proofs.decode.decode_divider.Goals as goal
 use Rattle.save_state.proofs.decode.decode_divider.Goals.{in-0, in-1, in_default}
 
@@ -18,7 +18,5 @@ returns c =
       | in-1 w ↦ rw w.result-is (omega (arith, w.in-1))
       | in_default w ↦ rw w.result-is (omega (arith, w.in_default, c.byte_at-3.ensures.number, c.requires.1 18 no_row (omega arith)))
     ] in
-    cons_same _ _ _ _ c.u16_at.ensures.bytes
-    (cons_same _ _ _ _ (flag_told c.byte_at.result _ c.byte_at.ensures.bytes (c.requires.1 16 no_row (omega arith)))
-    (cons_same _ _ _ _ c.byte_at-2.ensures.bytes
-    (cons_same _ _ _ _ (ap (λ (n : ℕ). n ∷ []) pending ∙ c.byte_at-3.ensures.bytes) refl)))
+    let irq = flag_told c.byte_at.result _ c.byte_at.ensures.bytes (c.requires.1 16 no_row (omega arith)) in
+    λ i. c.u16_at.ensures.bytes i ∷ irq i ∷ c.byte_at-2.ensures.bytes i ∷ (ap (λ (n : ℕ). n ∷ []) pending ∙ c.byte_at-3.ensures.bytes) i ∷ []
