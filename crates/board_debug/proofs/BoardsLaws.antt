@@ -1,5 +1,5 @@
 -- The texts of boards of a run, one after another.
-use Rattle.std.proofs.Common.{◌≡◌, ℕ, ◌+◌, ◌<◌, ◌≤◌, List, [], ◌∷◌, ◌++◌, length, drop, get_or, sym, ap, ◌∙◌, add-one}
+use Rattle.std.proofs.Common.{◌≡◌, ℕ, ◌+◌, ◌<◌, ◌≤◌, List, [], ◌++◌, length, drop, get_or, ap, add-one}
 use Rattle.std.proofs.Math.Seq.{drop-cons}
 use Rattle.std.proofs.lemmas.List.{drop_all}
 use Rattle.board_base.specs.Board.{BoardValue}
@@ -17,10 +17,9 @@ pub board-on : (entries : List TapeEntry) (clocks : List ℕ) (i d : ℕ) (b sta
     → boards_text entries (drop i clocks) b ≡ board_text state ++ boards_text entries (drop (i + 1) clocks) b
 unfolding boards_text
 board-on entries clocks i d b start now state inside reached same is =
-    ap (λ (asked : List ℕ). boards_text entries asked b)
-    (drop-cons clocks i d inside ∙ ap (λ n. get_or clocks i d ∷ drop n clocks) (sym (add-one i)))
-    ∙ ap (λ (s : BoardValue). board_text s ++ boards_text entries (drop (i + 1) clocks) b)
-    (sym (is ∙ ap state_of (reached ∙ ap (λ (from : Board). cleared (to_clock entries (get_or clocks i d) from)) same)))
+    let first = drop-cons clocks i d inside in
+    let next = add-one i in
+    cc
 
 -- after the last of them
 pub board-last : (entries : List TapeEntry) (clocks : List ℕ) (i : ℕ) (b : Board) → length clocks ≤ i → boards_text entries (drop i clocks) b ≡ []

@@ -82,9 +82,8 @@ pub row-is : (seen : Seen) (from count k rows left address : ℕ) (text : List �
 row-is seen from count k rows left address text bytes ceil inside few at are is =
     let within : k < rows_of count = (let e = rows-ceil count in omega arith) in
     let short : left ≡ min ROW (count - ROW * k) = omega arith in
-    let line = is ∙ ap (mem_line address) (are ∙ ap (bytes_from seen address) short)
-    ∙ ap (λ a. mem_line a (bytes_from seen a (min ROW (count - ROW * k)))) at in
-    mem-more seen from count k within ∙ ap (λ (l : List ℕ). l ++ mem_rest seen from count (k + 1)) (sym line)
+    let more = mem-more seen from count k within in
+    cc
 
 pub rows-last : (seen : Seen) (from count k rows : ℕ) → rows ≡ count / 16 + min 1 (count % 16) → rows ≤ k → mem_rest seen from count k ≡ []
 rows-last seen from count k rows ceil all = mem-last seen from count k (let e = rows-ceil count in omega arith)
@@ -127,12 +126,7 @@ dis-more seen address i count inside = let e : count - i ≡ suc (count - (i + 1
 pub dis-is : (seen : Seen) (address i count size next : ℕ) (text bytes : List ℕ) → i < count → bytes ≡ readable seen address 3
     → text ≡ dis_line address bytes → size ≡ dis_size bytes → next ≡ further address size
     → dis_text seen address (count - i) ≡ text ++ dis_text seen next (count - (i + 1))
-dis-is seen address i count size next text bytes inside are is big at =
-    dis-more seen address i count inside
-    ∙ sym (
-    ap (λ (l : List ℕ). l ++ dis_text seen next (count - (i + 1))) (is ∙ ap (dis_line address) are)
-    ∙ ap (λ a. dis_line address (readable seen address 3) ++ dis_text seen a (count - (i + 1))) (at ∙ ap (further address) (big ∙ ap dis_size are))
-    )
+dis-is seen address i count size next text bytes inside are is big at = let more = dis-more seen address i count inside in cc
 
 pub dis-last : (seen : Seen) (address i count : ℕ) → count ≤ i → dis_text seen address (count - i) ≡ []
 unfolding dis_text
@@ -142,13 +136,7 @@ pub vdis-is : (seen : Seen) (address n word second size more next : ℕ) (text :
     → second ≡ word_seen seen (vg_further address 2) → text ≡ vdis_line address word second → size ≡ more → next ≡ vg_further address size
     → vdis_line address (word_seen seen address) (word_seen seen (vg_further address 2)) ++ vdis_text seen (vg_further address more) n
     ≡ text ++ vdis_text seen next n
-vdis-is seen address n word second size more next text first then is big at =
-    sym (
-    ap (λ (l : List ℕ). l ++ vdis_text seen next n)
-    (is ∙ ap (λ w. vdis_line address w second) first ∙ ap (vdis_line address (word_seen seen address)) then)
-    ∙ ap (λ a. vdis_line address (word_seen seen address) (word_seen seen (vg_further address 2)) ++ vdis_text seen a n)
-    (at ∙ ap (vg_further address) big)
-    )
+vdis-is seen address n word second size more next text first then is big at = cc
 
 pub vdis-last : (seen : Seen) (address i count : ℕ) → count ≤ i → vdis_text seen address (count - i) ≡ []
 unfolding vdis_text

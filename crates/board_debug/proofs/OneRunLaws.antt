@@ -1,8 +1,8 @@
 -- Boards kept from the least clock to the greatest: one run comes to all of them.
-use Rattle.std.proofs.Common.{◌≡◌, ℕ, ◌+◌, ◌-◌, ◌*◌, ◌<◌, ◌≤◌, ◌&&◌, ◌||◌, nat_lt, nat_le, cond, Bool, true, false, zero, suc, List, []}
+use Rattle.std.proofs.Common.{◌≡◌, ℕ, ◌+◌, ◌-◌, ◌*◌, ◌<◌, ◌≤◌, ◌&&◌, nat_lt, cond, Bool, true, false, zero, suc, List, []}
 use Rattle.std.proofs.Common.{◌∷◌, ◌++◌, All, Option, Some, None, IfSome, length, length-append, get_or, refl, sym, ap, ◌∙◌, subst, inl, inr, arith}
 use Rattle.std.specs.List.{count_by}
-use Rattle.std.proofs.lemmas.Bool.{cases_lt, true≢false}
+use Rattle.std.proofs.lemmas.Bool.{cases_lt}
 use Rattle.std.proofs.lemmas.Bool.Decides.{nat_tests}
 use Rattle.std.proofs.lemmas.List.{get_or_append_left, get_or_push}
 use Rattle.std.proofs.lemmas.List.Sums.{sum_by-cons, count_by-le-length}
@@ -17,28 +17,6 @@ use Rattle.keyframes.specs.Keys.{Keyframe, KeyframesValue, is_crowded, last_of, 
 use Rattle.keyframes.specs.Seeking.{AddsBoard, Along, state_of}
 use Rattle.keyframes.proofs.AlongLaws.{clock-past}
 use Rattle.board_debug.specs.OneRun.{HasRoom, IsNextOf, IsReached, chosen, lesser}
-
--- tests of two numbers
-lt-true : (a b : ℕ) → nat_lt a b ≡ true → a < b
-lt-true a b e = grind (arith, nat_tests)
-
-lt-false : (a b : ℕ) → nat_lt a b ≡ false → b ≤ a
-lt-false a b e = grind (arith, nat_tests)
-
-lt-is : (a b : ℕ) → a < b → nat_lt a b ≡ true
-lt-is a b h = grind (arith, nat_tests)
-
-lt-not : (a b : ℕ) → b ≤ a → nat_lt a b ≡ false
-lt-not a b h = grind (arith, nat_tests)
-
-both-first : (a b c : ℕ) → nat_lt a b && nat_lt b c ≡ true → a < b
-both-first a b c e = grind (arith, nat_tests)
-
-both-second : (a b c : ℕ) → nat_lt a b && nat_lt b c ≡ true → b < c
-both-second a b c e = grind (arith, nat_tests)
-
-both-false : (a b c : ℕ) → nat_lt a b && nat_lt b c ≡ false → a < b → c ≤ b
-both-false a b c e h = grind (arith, nat_tests)
 
 -- the least of some clocks above one, a clock more
 module _ (clocks : List ℕ) (last index clock : ℕ) (at : (d : ℕ) → get_or clocks index d ≡ clock) where
@@ -80,59 +58,37 @@ module _ (clocks : List ℕ) (last index clock : ℕ) (at : (d : ℕ) → get_or
   )
 
   pub next-step : (found : Option ℕ) → IsNextOf clocks index last found → IsNextOf clocks (index + 1) last (lesser last found clock)
-  next-step None before = step-none (nat_lt last clock) (lt-true last clock) (lt-false last clock) before
-  next-step (Some found) before =
-      step-some (nat_lt last clock && nat_lt clock found) found (λ e. (both-first last clock found e, both-second last clock found e))
-      (both-false last clock found) before
+  next-step None before = step-none (nat_lt last clock) (λ e. grind (arith, nat_tests)) (λ e. grind (arith, nat_tests)) before
+  next-step (Some found) before = step-some (nat_lt last clock && nat_lt clock found) found
+      (λ e. (grind (arith, nat_tests), grind (arith, nat_tests))) (λ e up. grind (arith, nat_tests)) before
 
 -- how many of some clocks are above one
 abbrev pub above : List ℕ → ℕ → ℕ
 above clocks last = count_by (nat_lt last) clocks
 
-le-cond : (s t : Bool) → (s ≡ true → t ≡ true) → cond s 1 0 ≤ cond t 1 0
-le-cond false t h = omega arith
-le-cond true true h = omega arith
-le-cond true false h = absurd (true≢false (sym (h refl)))
-
 above-cons : (x : ℕ) (xs : List ℕ) (last : ℕ) → above (x ∷ xs) last ≡ cond (nat_lt last x) 1 0 + above xs last
 above-cons x xs last = sum_by-cons (λ y. cond (nat_lt last y) 1 0) x xs
 
 fewer-one : (last next x : ℕ) → last ≤ next → cond (nat_lt next x) 1 0 ≤ cond (nat_lt last x) 1 0
-fewer-one last next x h = le-cond (nat_lt next x) (nat_lt last x) (λ e. let f = lt-true next x e in lt-is last x (omega (arith, h, f)))
+fewer-one last next x h = grind (arith, nat_tests)
 
 above-le : (clocks : List ℕ) (last next : ℕ) → last ≤ next → above clocks next ≤ above clocks last
 above-le [] last next h = omega arith
-above-le (x ∷ xs) last next h =
-    let a = fewer-one last next x h in
-    let b = above-le xs last next h in
-    let c = above-cons x xs next in
-    let d = above-cons x xs last in
-    omega (arith, a, b, c, d)
+above-le (x ∷ xs) last next h = omega (arith, above-cons x xs next, above-cons x xs last, fewer-one last next x h, above-le xs last next h)
 
 above-less : (clocks : List ℕ) (last next i : ℕ) → i < length clocks → ((d : ℕ) → get_or clocks i d ≡ next) → last < next
     → above clocks next + 1 ≤ above clocks last
 above-less [] last next i h at up = absurd (omega (arith, h))
 above-less (x ∷ xs) last next zero h at up =
     let is : x ≡ next = at 0 in
-    let a : cond (nat_lt next x) 1 0 ≡ 0 = ap {B = ℕ} (λ t. cond t 1 0) (lt-not next x (omega (arith, is))) in
-    let b : cond (nat_lt last x) 1 0 ≡ 1 = ap {B = ℕ} (λ t. cond t 1 0) (lt-is last x (omega (arith, is, up))) in
-    let e = above-le xs last next (omega (arith, up)) in
-    let c = above-cons x xs next in
-    let d = above-cons x xs last in
-    omega (arith, a, b, c, d, e)
+    let first : cond (nat_lt next x) 1 0 + 1 ≤ cond (nat_lt last x) 1 0 = grind (arith, nat_tests) in
+    omega (arith, first, above-cons x xs next, above-cons x xs last, above-le xs last next (omega (arith, up)))
 above-less (x ∷ xs) last next (suc i) h at up =
-    let a = fewer-one last next x (omega (arith, up)) in
-    let b = above-less xs last next i (omega (arith, h)) at up in
-    let c = above-cons x xs next in
-    let d = above-cons x xs last in
-    omega (arith, a, b, c, d)
+    omega (arith, above-cons x xs next, above-cons x xs last, fewer-one last next x (omega (arith, up)), above-less xs last next i (omega (arith, h)) at up)
 
 -- there is room for a board more
-tests-false : (capacity live len limit : ℕ) → live + 16 ≤ capacity → len + 1 ≤ limit → nat_lt capacity (live + 16) || nat_le limit len ≡ false
-tests-false capacity live len limit h k = grind (arith, nat_tests)
-
 pub not-crowded : (keys : KeyframesValue) → live_of keys + 16 ≤ keys.capacity → length keys.kept + 1 ≤ keys.limit → is_crowded keys ≡ false
-not-crowded keys h k = tests-false keys.capacity (live_of keys) (length keys.kept) keys.limit h k
+not-crowded keys h k = grind (arith, nat_tests)
 
 -- what holds of the last holds at the last place
 last-get : (P : Keyframe → Type 0) (kept : List Keyframe) → IfSome (last_of kept) P → 0 < length kept → (d : Keyframe) → P (get_or kept (length kept - 1) d)
@@ -173,33 +129,27 @@ pub record Way (entries : List TapeEntry) (clocks : List ℕ) (b : Board) (befor
 pub way-begins : (entries : List TapeEntry) (clocks : List ℕ) (b : Board) (before : ℕ) (keys : KeyframesValue) (last : ℕ) → HasRoom keys (length clocks)
     → Along keys.kept entries b → ((d : Keyframe) → last ≡ (get_or keys.kept 0 d).board.clock) → Way entries clocks b before keys before last
 way-begins entries clocks b before keys last room along at =
-    let alone = room.alone in
     let first : (d : Keyframe) → (get_or keys.kept 0 d).board.clock ≡ b.peripherals.clock = λ d. ap (λ (s : BoardValue). s.clock) (along.first d) in
-    let place : length keys.kept - 1 ≡ 0 = omega (arith, alone) in
+    let place : length keys.kept - 1 ≡ 0 = omega (arith, room.alone) in
     let ends : (d : Keyframe) → last_clock keys.kept d ≡ b.peripherals.clock =
     λ d. ap (λ n. (get_or keys.kept n d).board.clock) place ∙ first d in
     let d0 : Keyframe = record { board = state_of b; pages = [] } in
     let is : last ≡ b.peripherals.clock = at d0 ∙ first d0 in
     let few = count_by-le-length (nat_lt last) clocks in
-    let pages = room.pages in
-    let frames = room.frames in
     record {
-      some = omega (arith, alone);
-      pages = omega (arith, pages, few);
-      frames = omega (arith, frames, few, alone);
+      some = omega (arith, room.alone);
+      pages = omega (arith, room.pages, few);
+      frames = omega (arith, room.frames, few, room.alone);
       start = omega (arith, is);
-      least = λ d. let e = ends d in omega (arith, e);
-      most = λ d. let e = ends d in omega (arith, e, is);
-      cost = λ d. let e = ends d in omega (arith, e);
+      least = λ d. omega (arith, ends d);
+      most = λ d. omega (arith, ends d, is);
+      cost = λ d. omega (arith, ends d);
       within = λ most h all. omega (arith, is, h);
       reached = λ k d h low high. (
         0,
-        omega (arith, alone),
-        (λ d. let e = first d in omega (arith, e, low)),
-        (λ e.
-            let same = ap (λ (c : Board). c.peripherals.clock) (clock-past entries (get_or clocks k d) b (omega (arith, high, is))) in
-            let f = first e in
-            omega (arith, same, f)),
+        omega (arith, room.alone),
+        (λ d. omega (arith, first d, low)),
+        (λ e. omega (arith, ap (λ (c : Board). c.peripherals.clock) (clock-past entries (get_or clocks k d) b (omega (arith, high, is))), first e)),
       );
     }
 
@@ -208,12 +158,11 @@ reached-more : (entries : List TapeEntry) (b : Board) (kept : List Keyframe) (on
     → IsReached entries b (kept ++ one ∷ []) clock
 reached-more entries b kept one clock r =
     let same : (d : Keyframe) → get_or (kept ++ one ∷ []) r.0 d ≡ get_or kept r.0 d = λ d. get_or_append_left kept (one ∷ []) d r.0 r.1 in
-    let len = length-append kept (one ∷ []) in
-    let inside = r.1 in (
+    let len = length-append kept (one ∷ []) in (
       r.0,
-      omega (arith, len, inside),
-      (λ d. let e = ap (λ (k : Keyframe). k.board.clock) (same d) in let f = r.2 d in omega (arith, e, f)),
-      (λ d. let e = ap (λ (k : Keyframe). k.board.clock) (same d) in let f = r.3 d in omega (arith, e, f)),
+      omega (arith, len, r.1),
+      (λ d. omega (arith, ap (λ (k : Keyframe). k.board.clock) (same d), r.2 d)),
+      (λ d. omega (arith, ap (λ (k : Keyframe). k.board.clock) (same d), r.3 d)),
     )
 
 module _ (entries : List TapeEntry) (clocks : List ℕ) (b now : Board) (before done done' last next : ℕ) (keys keys' : KeyframesValue)
@@ -224,36 +173,23 @@ module _ (entries : List TapeEntry) (clocks : List ℕ) (b now : Board) (before 
   clock = ap (λ (c : Board). c.peripherals.clock) board
 
   later : b.peripherals.clock ≤ now.peripherals.clock
-  later = let e = clock in let f = clock-later entries next b in omega (arith, e, f)
+  later = omega (arith, clock, clock-later entries next b)
 
   upto : now.peripherals.clock ≤ next
-  upto =
-      let e = clock in
-      let s = way.start in
-      let up = found.0 in
-      let f = clock-most entries next b (omega (arith, s, up)) in
-      omega (arith, e, f)
+  upto = omega (arith, clock, clock-most entries next b (omega (arith, way.start, found.0)))
 
   fewer : above clocks next + 1 ≤ above clocks last
   fewer = above-less clocks last next found.1.0 found.1.1 found.1.2 found.0
 
   pub roomy : is_crowded keys ≡ false
-  roomy =
-      let f = fewer in
-      let pages = way.pages in
-      let frames = way.frames in
-      not-crowded keys (omega (arith, f, pages)) (omega (arith, f, frames))
+  roomy = not-crowded keys (omega (arith, fewer, way.pages)) (omega (arith, fewer, way.frames))
 
   -- the way to the next clock from the last kept board
   spent : (d : Keyframe) → done' + last_clock keys.kept d ≤ done + now.peripherals.clock
-  spent d =
-      let some = way.some in
-      let most = way.most d in
-      let up = found.0 in
-      cost (length keys.kept - 1) d (omega (arith, some)) (omega (arith, most, up))
+  spent d = cost (length keys.kept - 1) d (omega (arith, way.some)) (omega (arith, way.most d, found.0))
 
   within-next : (most : ℕ) → b.peripherals.clock ≤ most → All (λ clock. clock ≤ most) clocks → next ≤ most
-  within-next most h all = let e = all found.1.0 0 found.1.1 in let is = found.1.2 0 in omega (arith, e, is)
+  within-next most h all = omega (arith, all found.1.0 0 found.1.1, found.1.2 0)
 
   -- a clock up to the next one was reached before, or is the next one
   upto-next : (kept : List Keyframe) → ((clock : ℕ) → IsReached entries b keys.kept clock → IsReached entries b kept clock) → IsReached entries b kept next
@@ -280,33 +216,23 @@ module _ (entries : List TapeEntry) (clocks : List ℕ) (b now : Board) (before 
       ap (λ n. (get_or keys'.kept n d).board.clock) place
       ∙ ap (λ (l : List Keyframe). (get_or l (length keys.kept) d).board.clock) joined
       ∙ ap (λ (k : Keyframe). k.board.clock) (get_or_push keys.kept one d (length keys.kept) refl) in
-      let f = fewer in
-      let old_pages = way.pages in
-      let old_frames = way.frames in
-      let start = way.start in
-      let up = found.0 in
-      let lower = later in
-      let upper = upto in
       record {
         some = omega (arith, len);
-        pages = omega (arith, f, old_pages, live, capacity);
-        frames = omega (arith, f, old_frames, len, limit);
-        start = omega (arith, start, up);
-        least = λ d. let e = end d in omega (arith, e, lower);
-        most = λ d. let e = end d in omega (arith, e, upper);
-        cost = λ d. let e = end d in let old = way.cost d in let s = spent d in omega (arith, e, old, s);
+        pages = omega (arith, fewer, way.pages, live, capacity);
+        frames = omega (arith, fewer, way.frames, len, limit);
+        start = omega (arith, way.start, found.0);
+        least = λ d. omega (arith, end d, later);
+        most = λ d. omega (arith, end d, upto);
+        cost = λ d. omega (arith, end d, way.cost d, spent d);
         within = within-next;
         reached =
             subst (λ (l : List Keyframe). (k d : ℕ) → k < length clocks → b.peripherals.clock ≤ get_or clocks k d → get_or clocks k d ≤ next
             → IsReached entries b l (get_or clocks k d)) (sym joined)
             (upto-next (keys.kept ++ one ∷ []) (reached-more entries b keys.kept one) (
               length keys.kept,
-              (let e = length-append keys.kept (one ∷ []) in omega (arith, e)),
-              (λ d. let e = ap (λ (k : Keyframe). k.board.clock) (get_or_push keys.kept one d (length keys.kept) refl) in omega (arith, e, upper)),
-              (λ d.
-                  let e = ap (λ (k : Keyframe). k.board.clock) (get_or_push keys.kept one d (length keys.kept) refl) in
-                  let g = clock in
-                  omega (arith, e, g)),
+              omega (arith, length-append keys.kept (one ∷ [])),
+              (λ d. omega (arith, ap (λ (k : Keyframe). k.board.clock) (get_or_push keys.kept one d (length keys.kept) refl), upto)),
+              (λ d. omega (arith, ap (λ (k : Keyframe). k.board.clock) (get_or_push keys.kept one d (length keys.kept) refl), clock)),
             ));
       }
 
@@ -317,25 +243,20 @@ module _ (entries : List TapeEntry) (clocks : List ℕ) (b now : Board) (before 
       let some = way.some in
       let end : (d : Keyframe) → now.peripherals.clock ≤ last_clock keys.kept d =
       last-get (λ keyframe. now.peripherals.clock ≤ keyframe.board.clock) keys.kept ended some in
-      let f = fewer in
-      let old_pages = way.pages in
-      let old_frames = way.frames in
-      let start = way.start in
-      let up = found.0 in
       record {
         some = some;
-        pages = omega (arith, f, old_pages);
-        frames = omega (arith, f, old_frames);
-        start = omega (arith, start, up);
+        pages = omega (arith, fewer, way.pages);
+        frames = omega (arith, fewer, way.frames);
+        start = omega (arith, way.start, found.0);
         least = way.least;
-        most = λ d. let e = way.most d in omega (arith, e, up);
-        cost = λ d. let e = end d in let old = way.cost d in let s = spent d in omega (arith, e, old, s);
+        most = λ d. omega (arith, way.most d, found.0);
+        cost = λ d. omega (arith, end d, way.cost d, spent d);
         within = within-next;
         reached = upto-next keys.kept (λ clock r. r) (
           length keys.kept - 1,
           omega (arith, some),
-          (λ d. let e = way.most d in omega (arith, e, up)),
-          (λ d. let e = end d in let g = clock in omega (arith, e, g)),
+          (λ d. omega (arith, way.most d, found.0)),
+          (λ d. omega (arith, end d, clock)),
         );
       }
       )
@@ -353,31 +274,26 @@ module _ (entries : List TapeEntry) (clocks : List ℕ) (b : Board) (before done
   pub way-cost : (most : ℕ) → All (λ clock. clock ≤ most) clocks → done ≤ before + (most - b.peripherals.clock)
   way-cost most all =
       let d0 : Keyframe = record { board = state_of b; pages = [] } in
-      let cost = way.cost d0 in
-      let upto = way.most d0 in
       elim (cases_lt most b.peripherals.clock) [
         | inl below ↦
             let low = way.within b.peripherals.clock (omega arith) (λ k d h. let e = all k d h in omega (arith, e, below)) in
-            omega (arith, cost, upto, low)
-        | inr up ↦ let high = way.within most up all in omega (arith, cost, upto, high)
+            omega (arith, way.cost d0, way.most d0, low)
+        | inr up ↦ let high = way.within most up all in omega (arith, way.cost d0, way.most d0, high)
       ]
 
   pub way-reached : IsNextOf clocks (length clocks) last None → All (λ clock. b.peripherals.clock ≤ clock → IsReached entries b keys.kept clock) clocks
   way-reached none = λ k d h low. way.reached k d h low (none k d h)
 
 -- to go to a clock that is reached takes no clock
-pub reached-free : (entries : List TapeEntry) (b now : Board) (kept : List Keyframe) (clock done done' : ℕ)
-    → (b.peripherals.clock ≤ clock → IsReached entries b kept clock) → now ≡ cleared (to_clock entries clock b)
+pub reached-free : (entries : List TapeEntry) (b from now : Board) (kept : List Keyframe) (clock done done' most : ℕ) → from ≡ b → now ≡ cleared (to_clock entries clock from)
+    → (b.peripherals.clock ≤ clock → IsReached entries b kept clock)
     → All (λ keyframe. keyframe.board.clock ≤ clock → done' + keyframe.board.clock ≤ done + now.peripherals.clock) kept
-    → (clock < b.peripherals.clock → done' ≤ done) → done' ≤ done
-reached-free entries b now kept clock done done' reached board cost early = elim (cases_lt clock b.peripherals.clock) [
-  | inl below ↦ early below
+    → (clock < from.peripherals.clock → done' ≤ done) → done ≤ most → done' ≤ most
+reached-free entries b from now kept clock done done' most same board reached cost early old = elim (cases_lt clock b.peripherals.clock) [
+  | inl below ↦ let free = early (subst (λ (x : Board). clock < x.peripherals.clock) (sym same) below) in omega (arith, free, old)
   | inr up ↦
       let d0 : Keyframe = record { board = state_of b; pages = [] } in
       let r = reached up in
-      let low = r.2 d0 in
-      let high = r.3 d0 in
-      let is : now.peripherals.clock ≡ (to_clock entries clock b).peripherals.clock = ap (λ (c : Board). c.peripherals.clock) board in
-      let e = cost r.0 d0 r.1 low in
-      omega (arith, low, high, is, e)
+      let is : now.peripherals.clock ≡ (to_clock entries clock b).peripherals.clock = ap (λ (c : Board). c.peripherals.clock) (board ∙ ap (λ (x : Board). cleared (to_clock entries clock x)) same) in
+      omega (arith, r.2 d0, r.3 d0, is, cost r.0 d0 r.1 (r.2 d0), old)
 ]

@@ -102,9 +102,9 @@ pub first-said : (now start : List ℕ) → now ≡ start → now ≡ spoken sta
 unfolding spoken
 first-said now start is = is
 
-pub said : (now next start word : List ℕ) (words : List (List ℕ)) → next ≡ now ++ 32 ∷ word → now ≡ spoken start words
+pub said : {now next : List ℕ} (start word : List ℕ) (words : List (List ℕ)) → next ≡ now ++ 32 ∷ word → now ≡ spoken start words
     → next ≡ spoken start (words ++ word ∷ [])
-said now next start word words after before = after ∙ ap (λ l. l ++ 32 ∷ word) before ∙ sym (spoken-more start words word)
+said {now} {next} start word words after before = after ∙ ap (λ l. l ++ 32 ∷ word) before ∙ sym (spoken-more start words word)
 
 -- make a line
 spoken-joined : (start : List ℕ) (words : List (List ℕ)) → spoken start words ≡ join_with_byte 32 (start ∷ words)

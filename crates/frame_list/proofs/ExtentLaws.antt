@@ -9,7 +9,7 @@ use Rattle.std.proofs.lemmas.List.{map-append}
 use Rattle.std.proofs.lemmas.List.Elements.{All-nil, All-cons, All-append, All-weaker, Contains-push, Contains-push_cases, Contains-append_left, Contains-append_right}
 use Rattle.std.proofs.lemmas.List.Concat.{flat_map-cons}
 use Rattle.board_base.specs.declared.record.Record.{Record}
-use Rattle.board_base.specs.declared.record.Record.TheVariants.{Stroke, Levels, Latch, WatchdogReset}
+use Rattle.board_base.specs.declared.record.Record.TheVariants.{Stroke}
 use Rattle.frame_list.specs.declared.frame.Bounds.{Bounds}
 use Rattle.frame_list.specs.declared.frame.Point.{Point}
 use Rattle.frame_list.specs.Bounds.{joined, of_ends, widened}
@@ -93,9 +93,7 @@ bounds-counted frame (Stroke clock x0 y0 x1 y1 colour intensity) xs has =
     let from : Point = record { x = x0; y = y0 } in
     let to : Point = record { x = x1; y = y1 } in
     bounds-widened frame.bounds (of_ends from to) xs (from ∷ to ∷ []) has (bounds-ends from to)
-bounds-counted frame (Levels clock l1 l2 l3 l4) xs has = subst (HasBounds frame.bounds) (sym (append-nil xs)) has
-bounds-counted frame (Latch clock value) xs has = subst (HasBounds frame.bounds) (sym (append-nil xs)) has
-bounds-counted frame (WatchdogReset clock) xs has = subst (HasBounds frame.bounds) (sym (append-nil xs)) has
+bounds-counted frame _ xs has = subst (HasBounds frame.bounds) (sym (append-nil xs)) has
 
 bounds-all : (frame : FrameValue) (strokes : List Record) (xs : List Point) → HasBounds frame.bounds xs
     → HasBounds (under_way frame (map stroke_of strokes)).bounds (xs ++ flat_map ends_of strokes)

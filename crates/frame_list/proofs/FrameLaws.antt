@@ -3,7 +3,7 @@ use Rattle.std.proofs.Common.{◌≡◌, ℕ, ◌+◌, ◌<◌, ◌≤◌, arith
 use Rattle.std.proofs.Math.Seq.{take-suc}
 use Rattle.std.proofs.lemmas.List.{map-append}
 use Rattle.board_base.specs.declared.record.Record.{Record}
-use Rattle.board_base.specs.declared.record.Record.TheVariants.{Stroke, Levels, Latch, WatchdogReset}
+use Rattle.board_base.specs.declared.record.Record.TheVariants.{Stroke}
 use Rattle.frame_list.specs.Events.{Event, stroke_of, mark_at}
 use Rattle.frame_list.specs.Frames.{FrameValue, begun, counted, next, under_way, ended}
 
@@ -45,16 +45,12 @@ one_more frame strokes k made below =
 -- a stroke leaves the number of the frame
 pub counted-number : (frame : FrameValue) (made : Record) → (counted frame made).number ≡ frame.number
 counted-number frame (Stroke clock x0 y0 x1 y1 colour intensity) = refl
-counted-number frame (Levels clock l1 l2 l3 l4) = refl
-counted-number frame (Latch clock value) = refl
-counted-number frame (WatchdogReset clock) = refl
+counted-number frame _ = refl
 
 -- and adds one at most to the number of strokes
 pub counted-most : (frame : FrameValue) (made : Record) → (counted frame made).strokes ≤ frame.strokes + 1
 counted-most frame (Stroke clock x0 y0 x1 y1 colour intensity) = omega arith
-counted-most frame (Levels clock l1 l2 l3 l4) = omega arith
-counted-most frame (Latch clock value) = omega arith
-counted-most frame (WatchdogReset clock) = omega arith
+counted-most frame _ = omega arith
 
 pub strokes-number : (frame : FrameValue) (strokes : List Record) → (under_way frame (map stroke_of strokes)).number ≡ frame.number
 unfolding under_way

@@ -11,7 +11,7 @@ use Rattle.std.proofs.lemmas.Bool.Decides.{leb_tells}
 use Rattle.std.proofs.lemmas.Grind.{flat_map-append}
 use Rattle.board_base.specs.declared.part.Part.TheVariants.{Generator}
 use Rattle.board_base.specs.declared.record.Record.{Record}
-use Rattle.board_base.specs.declared.record.Record.TheVariants.{Stroke, Levels, Latch, WatchdogReset}
+use Rattle.board_base.specs.declared.record.Record.TheVariants.{Stroke}
 use Rattle.board_base.specs.Records.{clock_of, Makes}
 use Rattle.board_map.specs.Map.{address_map, row_of}
 use Rattle.board_map.proofs.Rows.{passing}
@@ -23,9 +23,7 @@ use Rattle.frame_list.proofs.FrameLaws.{under_way-append, ended-append, ended-st
 -- a stroke is counted once
 pub stroke-exact : (frame : FrameValue) (made : Record) → Makes Generator made → (counted frame made).strokes ≡ frame.strokes + 1
 stroke-exact frame (Stroke clock x0 y0 x1 y1 colour intensity) is = refl
-stroke-exact frame (Levels clock l1 l2 l3 l4) is = absurd is
-stroke-exact frame (Latch clock value) is = absurd is
-stroke-exact frame (WatchdogReset clock) is = absurd is
+stroke-exact frame _ is = absurd is
 
 pub strokes-exact : (frame : FrameValue) (strokes : List Record) → All (Makes Generator) strokes
     → (under_way frame (map stroke_of strokes)).strokes ≡ frame.strokes + length strokes

@@ -131,10 +131,9 @@ pub next_generator : (t : ℕ) (v a b d rest : List Record) (made : Record) → 
     → TakesAt t v rest (Some made) → (merged v a b d ≡ (Generator, made) ∷ merged rest a b d) × AreSorted rest a b d
 next_generator t v a b d rest made sorted earliest (split, at) =
     let bound = is_earliest t v a b d earliest in
-    let rising : IsNonDecreasingBy clock_of (made ∷ rest) = subst (λ l. IsNonDecreasingBy clock_of l) split sorted.vector in
-    let from : (l : List Record) → From t l → From (clock_of made) l = λ l. subst (λ u. From u l) (sym at) in (
+    let rising : IsNonDecreasingBy clock_of (made ∷ rest) = subst (λ l. IsNonDecreasingBy clock_of l) split sorted.vector in (
       ap (λ l. merged l a b d) split ∙ generator_first made rest a b d (least_first clock_of made rest rising)
-          (from a (from_first t a sorted.sound1 bound.sound1)) (from b (from_first t b sorted.sound2 bound.sound2)) (from d (from_first t d sorted.board bound.board)),
+          (rw at (from_first t a sorted.sound1 bound.sound1)) (rw at (from_first t b sorted.sound2 bound.sound2)) (rw at (from_first t d sorted.board bound.board)),
       record { vector = rising_tail clock_of made rest rising; sound1 = sorted.sound1; sound2 = sorted.sound2; board = sorted.board },
     )
 
@@ -143,12 +142,10 @@ pub next_pokey1 : (t : ℕ) (v a b d v' rest : List Record) (made : Record) → 
 next_pokey1 t v a b d v' rest made sorted earliest (same, not_v) (split, at) =
     let bound = is_earliest t v a b d earliest in
     let rising : IsNonDecreasingBy clock_of (made ∷ rest) = subst (λ l. IsNonDecreasingBy clock_of l) split sorted.sound1 in
-    let from : (l : List Record) → From t l → From (clock_of made) l = λ l. subst (λ u. From u l) (sym at) in
-    let after : (l : List Record) → After t l → After (clock_of made) l = λ l. subst (λ u. After u l) (sym at) in (
-      ap (λ l. merged v l b d) split ∙ pokey1_first made v rest b d (after v (after_first t v sorted.vector bound.vector not_v))
-          (least_first clock_of made rest rising) (from b (from_first t b sorted.sound2 bound.sound2)) (from d (from_first t d sorted.board bound.board))
-          ∙ ap (λ l. (Pokey1, made) ∷ merged l rest b d) (sym same),
-      record { vector = subst (λ l. IsNonDecreasingBy clock_of l) (sym same) sorted.vector; sound1 = rising_tail clock_of made rest rising; sound2 = sorted.sound2; board = sorted.board },
+    rw same (
+      ap (λ l. merged v l b d) split ∙ pokey1_first made v rest b d (rw at (after_first t v sorted.vector bound.vector not_v))
+          (least_first clock_of made rest rising) (rw at (from_first t b sorted.sound2 bound.sound2)) (rw at (from_first t d sorted.board bound.board)),
+      record { vector = sorted.vector; sound1 = rising_tail clock_of made rest rising; sound2 = sorted.sound2; board = sorted.board },
     )
 
 pub next_pokey2 : (t : ℕ) (v a b d v' a' rest : List Record) (made : Record) → AreSorted v a b d → Some t ≡ earliest_of v a b d
@@ -157,17 +154,10 @@ pub next_pokey2 : (t : ℕ) (v a b d v' a' rest : List Record) (made : Record) �
 next_pokey2 t v a b d v' a' rest made sorted earliest (same_v, not_v) (same_a, not_a) (split, at) =
     let bound = is_earliest t v a b d earliest in
     let rising : IsNonDecreasingBy clock_of (made ∷ rest) = subst (λ l. IsNonDecreasingBy clock_of l) split sorted.sound2 in
-    let from : (l : List Record) → From t l → From (clock_of made) l = λ l. subst (λ u. From u l) (sym at) in
-    let after : (l : List Record) → After t l → After (clock_of made) l = λ l. subst (λ u. After u l) (sym at) in (
-      ap (λ l. merged v a l d) split ∙ pokey2_first made v a rest d (after v (after_first t v sorted.vector bound.vector not_v))
-          (after a (after_first t a sorted.sound1 bound.sound1 not_a)) (least_first clock_of made rest rising) (from d (from_first t d sorted.board bound.board))
-          ∙ ap (λ l. (Pokey2, made) ∷ merged l a rest d) (sym same_v) ∙ ap (λ l. (Pokey2, made) ∷ merged v' l rest d) (sym same_a),
-      record {
-        vector = subst (λ l. IsNonDecreasingBy clock_of l) (sym same_v) sorted.vector;
-        sound1 = subst (λ l. IsNonDecreasingBy clock_of l) (sym same_a) sorted.sound1;
-        sound2 = rising_tail clock_of made rest rising;
-        board = sorted.board;
-      },
+    rw (same_v, same_a) (
+      ap (λ l. merged v a l d) split ∙ pokey2_first made v a rest d (rw at (after_first t v sorted.vector bound.vector not_v))
+          (rw at (after_first t a sorted.sound1 bound.sound1 not_a)) (least_first clock_of made rest rising) (rw at (from_first t d sorted.board bound.board)),
+      record { vector = sorted.vector; sound1 = sorted.sound1; sound2 = rising_tail clock_of made rest rising; board = sorted.board },
     )
 
 pub next_board : (t : ℕ) (v a b d v' a' b' rest : List Record) (made : Record) → AreSorted v a b d → Some t ≡ earliest_of v a b d
@@ -176,17 +166,10 @@ pub next_board : (t : ℕ) (v a b d v' a' b' rest : List Record) (made : Record)
 next_board t v a b d v' a' b' rest made sorted earliest (same_v, not_v) (same_a, not_a) (same_b, not_b) (split, at) =
     let bound = is_earliest t v a b d earliest in
     let rising : IsNonDecreasingBy clock_of (made ∷ rest) = subst (λ l. IsNonDecreasingBy clock_of l) split sorted.board in
-    let after : (l : List Record) → After t l → After (clock_of made) l = λ l. subst (λ u. After u l) (sym at) in (
-      ap (λ l. merged v a b l) split ∙ board_first made v a b rest (after v (after_first t v sorted.vector bound.vector not_v))
-          (after a (after_first t a sorted.sound1 bound.sound1 not_a)) (after b (after_first t b sorted.sound2 bound.sound2 not_b)) (least_first clock_of made rest rising)
-          ∙ ap (λ l. (Board, made) ∷ merged l a b rest) (sym same_v) ∙ ap (λ l. (Board, made) ∷ merged v' l b rest) (sym same_a)
-          ∙ ap (λ l. (Board, made) ∷ merged v' a' l rest) (sym same_b),
-      record {
-        vector = subst (λ l. IsNonDecreasingBy clock_of l) (sym same_v) sorted.vector;
-        sound1 = subst (λ l. IsNonDecreasingBy clock_of l) (sym same_a) sorted.sound1;
-        sound2 = subst (λ l. IsNonDecreasingBy clock_of l) (sym same_b) sorted.sound2;
-        board = rising_tail clock_of made rest rising;
-      },
+    rw (same_v, same_a, same_b) (
+      ap (λ l. merged v a b l) split ∙ board_first made v a b rest (rw at (after_first t v sorted.vector bound.vector not_v)) (rw at (after_first t a sorted.sound1 bound.sound1 not_a))
+          (rw at (after_first t b sorted.sound2 bound.sound2 not_b)) (least_first clock_of made rest rising),
+      record { vector = sorted.vector; sound1 = sorted.sound1; sound2 = sorted.sound2; board = rising_tail clock_of made rest rising },
     )
 
 -- one record less is left

@@ -1,8 +1,5 @@
-use Rattle.std.proofs.Common.{refl, ap, ◌∙◌, get_or, arith}
+use Rattle.std.proofs.Common.{refl, ap, ◌∙◌, get_or}
 use Rattle.std.proofs.lemmas.Result.{err_from_is_err_and}
-use Rattle.lockstep_board.specs.Order.{cleared}
-use Rattle.lockstep_board.specs.Lockstep.{Board}
-use Rattle.lockstep_board.specs.Run.{to_clock}
 use Rattle.lockstep_board.specs.Peripherals.{board_of}
 use Rattle.catchup_engine.specs.EngineValue.{EngineValue}
 use Rattle.keyframes.specs.Seeking.{run_start}
@@ -48,19 +45,9 @@ loop-clock-preserved g c = record {
   along = c.go_to.ensures.along;
   reached = c.loop-clock.invariant.reached;
   done = λ room most all.
-      let entries = c.args.tape.now.entries in
-      let b = run_start c.args.keys.now.kept (g.M.Machine.value c.args.synced.now.machine.now).board in
-      let clock = get_or c.args.clocks.now c.loop-clock.clock-index 0 in
-      let inv = c.loop-clock.invariant in
-      let board = c.go_to.ensures.board ∙ ap (λ (from : Board). cleared (to_clock entries clock from)) inv.same in
-      let start = ap (λ (from : Board). from.peripherals.clock) inv.same in
-      let free =
-      reached-free entries b (g.M.Machine.value c.go_to.new.synced.machine.now).board c.keep_each.new.keys.kept clock
-      (g.M.Machine.value c.loop-clock.synced.machine.now).done (g.M.Machine.value c.go_to.new.synced.machine.now).done
-      (inv.reached room c.loop-clock.clock-index 0 c.loop-clock-test.true) board c.go_to.ensures.done
-      (λ below. c.go_to.ensures.before (omega (arith, below, start))) in
-      let old = inv.done room most all in
-      omega (arith, free, old);
+      reached-free c.args.tape.now.entries _ _ (g.M.Machine.value c.go_to.new.synced.machine.now).board c.keep_each.new.keys.kept (get_or c.args.clocks.now c.loop-clock.clock-index 0)
+      (g.M.Machine.value c.loop-clock.synced.machine.now).done (g.M.Machine.value c.go_to.new.synced.machine.now).done _ c.loop-clock.invariant.same c.go_to.ensures.board
+      (c.loop-clock.invariant.reached room c.loop-clock.clock-index 0 c.loop-clock-test.true) c.go_to.ensures.done c.go_to.ensures.before (c.loop-clock.invariant.done room most all);
 }
 
 pub returns-clause-taken : goal.returns-clause-taken
@@ -70,19 +57,9 @@ returns-clause-taken g c =
 
 pub returns-in_err-write_board-clause-done : goal.returns-in_err-write_board-clause-done
 returns-in_err-write_board-clause-done g c = λ room most all.
-    let entries = c.args.tape.now.entries in
-    let b = run_start c.args.keys.now.kept (g.M.Machine.value c.args.synced.now.machine.now).board in
-    let clock = get_or c.args.clocks.now c.loop-clock.clock-index 0 in
-    let inv = c.loop-clock.invariant in
-    let board = c.go_to.ensures.board ∙ ap (λ (from : Board). cleared (to_clock entries clock from)) inv.same in
-    let start = ap (λ (from : Board). from.peripherals.clock) inv.same in
-    let free =
-    reached-free entries b (g.M.Machine.value c.go_to.new.synced.machine.now).board c.keep_each.new.keys.kept clock
-    (g.M.Machine.value c.loop-clock.synced.machine.now).done (g.M.Machine.value c.go_to.new.synced.machine.now).done
-    (inv.reached room c.loop-clock.clock-index 0 c.loop-clock-test.true) board c.go_to.ensures.done
-    (λ below. c.go_to.ensures.before (omega (arith, below, start))) in
-    let old = inv.done room most all in
-    omega (arith, free, old)
+    reached-free c.args.tape.now.entries _ _ (g.M.Machine.value c.go_to.new.synced.machine.now).board c.keep_each.new.keys.kept (get_or c.args.clocks.now c.loop-clock.clock-index 0)
+    (g.M.Machine.value c.loop-clock.synced.machine.now).done (g.M.Machine.value c.go_to.new.synced.machine.now).done _ c.loop-clock.invariant.same c.go_to.ensures.board
+    (c.loop-clock.invariant.reached room c.loop-clock.clock-index 0 c.loop-clock-test.true) c.go_to.ensures.done c.go_to.ensures.before (c.loop-clock.invariant.done room most all)
 
 pub returns-clause-done : goal.returns-clause-done
 returns-clause-done g c = c.loop-clock.invariant.done

@@ -11,25 +11,11 @@ pub returns : goal.returns
 unfolding pokey_text
 returns c =
     let w0 = first-said _ _ c.of.ensures.text in
-    let w1 = said _ _ _ _ _ c.word.ensures.text w0 in
-    let w2 = said _ _ _ _ _ c.hex_byte.ensures.text w1 in
-    let w3 = said _ _ _ _ _ c.hex_byte-2.ensures.text w2 in
-    let w4 = said _ _ _ _ _ c.hex_byte-3.ensures.text w3 in
-    let w5 = said _ _ _ _ _ c.hex_byte-4.ensures.text w4 in
-    let w6 = said _ _ _ _ _ c.word-2.ensures.text w5 in
-    let w7 = said _ _ _ _ _ c.hex_byte-5.ensures.text w6 in
-    let w8 = said _ _ _ _ _ c.hex_byte-6.ensures.text w7 in
-    let w9 = said _ _ _ _ _ c.hex_byte-7.ensures.text w8 in
-    let w10 = said _ _ _ _ _ c.hex_byte-8.ensures.text w9 in
-    let w11 = said _ _ _ _ _ c.word-3.ensures.text w10 in
-    let w12 = said _ _ _ _ _ c.hex_byte-9.ensures.text w11 in
-    let w13 = said _ _ _ _ _ c.word-4.ensures.text w12 in
-    let w14 = said _ _ _ _ _ c.hex_byte-10.ensures.text w13 in
-    let w15 = said _ _ _ _ _ c.word-5.ensures.text w14 in
-    let w16 = said _ _ _ _ _ c.small.ensures.text w15 in
-    let w17 = said _ _ _ _ _ c.word-6.ensures.text w16 in
-    let w18 = said _ _ _ _ _ c.small-2.ensures.text w17 in
-    let w19 = said _ _ _ _ _ c.word-7.ensures.text w18 in
-    let w20 = said _ _ _ _ _ (c.hex_byte-11.ensures.text ∙ ap (λ n. c.word-7.result ++ 32 ∷ hex_byte n) (c.random.ensures
-    ∙ ap (λ (p : PokeyValue). register_read RANDOM p) (sym c.pokey.view_is))) w19 in
+    let w4 = said _ _ _ c.hex_byte-3.ensures.text (said _ _ _ c.hex_byte-2.ensures.text (said _ _ _ c.hex_byte.ensures.text (said _ _ _ c.word.ensures.text w0))) in
+    let w8 = said _ _ _ c.hex_byte-6.ensures.text (said _ _ _ c.hex_byte-5.ensures.text (said _ _ _ c.word-2.ensures.text (said _ _ _ c.hex_byte-4.ensures.text w4))) in
+    let w12 = said _ _ _ c.hex_byte-9.ensures.text (said _ _ _ c.word-3.ensures.text (said _ _ _ c.hex_byte-8.ensures.text (said _ _ _ c.hex_byte-7.ensures.text w8))) in
+    let w16 = said _ _ _ c.small.ensures.text (said _ _ _ c.word-5.ensures.text (said _ _ _ c.hex_byte-10.ensures.text (said _ _ _ c.word-4.ensures.text w12))) in
+    let w19 = said _ _ _ c.word-7.ensures.text (said _ _ _ c.small-2.ensures.text (said _ _ _ c.word-6.ensures.text w16)) in
+    let w20 = said _ _ _ (c.hex_byte-11.ensures.text ∙ ap (λ n. c.word-7.result ++ 32 ∷ hex_byte n)
+    (c.random.ensures ∙ ap (λ (p : PokeyValue). register_read RANDOM p) (sym c.pokey.view_is))) w19 in
     rw (← c.pokey.view_is) (line-said _ _ _ _ c.end.ensures w20)
