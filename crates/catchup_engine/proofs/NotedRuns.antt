@@ -67,7 +67,8 @@ module _ {T : Type 0} (next : T → TraceValue → ℕ → T) (enough : T → Bo
     pub turns : IsFresh c s elapsed t e r ⊎ HasTurns together c s elapsed t e r more
 
   pub noted-starts : (horizon : Horizon) (together : Bool) (c : CpuValue) (s : BusValue) (r : ReachedValue) → limit ≤ CLOCK_LIMIT → IsInRange c s → s.clock_open ≡ false
-      → HasRoomTo limit s → Accepts tape s → GoesOn limit no_conditions c s → IsHorizon limit horizon s → horizon.until ≡ min limit (s.event_at - 6) → r ≡ nothing_reached → AtNoted horizon together c s 0 s c r true
+      → HasRoomTo limit s → Accepts tape s → GoesOn limit no_conditions c s → IsHorizon limit horizon s → horizon.until ≡ min limit (s.event_at - 6)
+      → r ≡ nothing_reached → AtNoted horizon together c s 0 s c r true
   noted-starts horizon together c s r last range between room accepts goes known until none =
       let no_starts = ap (λ (k : ReachedValue). k.starts) none in
       let no_accesses = ap (λ (k : ReachedValue). k.accesses) none in
