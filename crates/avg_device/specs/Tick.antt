@@ -59,8 +59,8 @@ abbrev pub pen_of : ℕ → ℕ → ℕ
 pen_of z intensity = if z == 0 then 0 else if z == 1 then intensity else 2 * z
 
 -- a vector is about to be drawn
-unfoldable pub begun : ℤ → ℤ → ℕ → VgValue → VgValue
-begun dx dy z v = record v {
+unfoldable pub started : ℤ → ℤ → ℕ → VgValue → VgValue
+started dx dy z v = record v {
   phase = DRAW;
   dx = delta_of dx v.lin v.bin;
   dy = delta_of dy v.lin v.bin;
@@ -70,9 +70,9 @@ begun dx dy z v = record v {
 
 -- what a word does; a long vector takes its distance in x and its brightness from a second word
 unfoldable pub word_executed : VgWord → ℤ × ℕ → VgValue → VgValue
-word_executed (Vctr dy) second v = begun second.0 dy second.1 v
+word_executed (Vctr dy) second v = started second.0 dy second.1 v
 word_executed Halt second v = record v { halted = true }
-word_executed (Svec dx dy z) second v = begun dx dy z v
+word_executed (Svec dx dy z) second v = started dx dy z v
 word_executed (Stat colour intensity) second v = record v { colour = colour; intensity = intensity }
 word_executed (Scal bin lin) second v = record v { bin = bin; lin = lin }
 word_executed Cntr second v = record v { x = pos 0; y = pos 0 }

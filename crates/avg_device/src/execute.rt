@@ -1,6 +1,6 @@
 ghost use Rattle.std.specs.Prelude.{◌≡◌, ◌<◌, ◌+◌, ◌%◌, slice_index, slice_set};
 ghost use Rattle.avg_decode.specs.Word.{IsInRange, IsLong};
-ghost use Rattle.avg_device.specs.Tick.{begun, executed, word_executed, pen_of};
+ghost use Rattle.avg_device.specs.Tick.{started, executed, word_executed, pen_of};
 
 use avg_decode::{VgWord, second, word_kind};
 use avg_draw::{delta, draw_clocks};
@@ -22,12 +22,12 @@ fn pen(z: u8, intensity: u8) -> u8
 }
 
 /// Begins a vector.
-#[tactic(auto, unfolding(crate::specs::Tick::begun))]
+#[tactic(auto, unfolding(crate::specs::Tick::started))]
 fn begin(state: &mut VgState, dx: i16, dy: i16, z: u8)
     requires dx { IsLong dx }
     requires dy { IsLong dy }
     requires z { z < 8 }
-    ensures { state.new ≡ begun dx dy z state.old }
+    ensures { state.new ≡ started dx dy z state.old }
 {
     state.phase = DRAW;
     state.dx = delta(dx, state.lin, state.bin);

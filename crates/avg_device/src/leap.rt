@@ -18,7 +18,7 @@ const LONG_BELOW: u16 = LONG_HIGH_BELOW as u16 * 256;
 /// The clocks in which a word is read and done.
 const WORD_CLOCKS: u64 = 3;
 
-/// The clocks in which a long vector is read, with its second word, and begun.
+/// The clocks in which a long vector is read, with its second word, and started.
 const LONG_CLOCKS: u64 = 5;
 
 /// The word at a word address.

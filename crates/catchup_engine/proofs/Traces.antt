@@ -29,8 +29,8 @@ use Rattle.lockstep_board.proofs.Runs.{steps_until-is, through-reached}
 use Rattle.catchup_engine.proofs.RunsOn.{boundary-ends, boundary-starts, open-before, turn-runs}
 use Rattle.catchup_engine.proofs.Seen.{advances-seen, moves-seen, runs-seen}
 use Rattle.catchup_engine.proofs.Steps.{board_after, in_clock-between, moves-length, moves-went, paused-is, stays-of, step-access}
-use Rattle.catchup_engine.proofs.Turns.{Begins, First, HasEffects, ResetBegun, clock-some, due-clock, effects-by, fetch-first, given-some, in_clock-open}
-use Rattle.catchup_engine.proofs.Turns.{next-first, opcode-first, reset-begun, reset-first, reset-turn, resets-more, resume-first, resume-turn, standing-paused, turned-clock}
+use Rattle.catchup_engine.proofs.Turns.{Begins, First, HasEffects, ResetStarted, clock-some, due-clock, effects-by, fetch-first, given-some, in_clock-open}
+use Rattle.catchup_engine.proofs.Turns.{next-first, opcode-first, reset-started, reset-first, reset-turn, resets-more, resume-first, resume-turn, standing-paused, turned-clock}
 
 -- the access that was made is the one that the board makes
 made_by-is : (entries : List TapeEntry) (next : Next) (v : ℕ) (x : cycles.Access) (s t : BusValue) → IsAccess next v x → BusStep entries x s t
@@ -267,7 +267,7 @@ rest-observed entries c m made s t e inside middle six between a = by_more a.mor
         let all : made ≡ 7 = full (rw (append-nil (given_by m)) (place_due r m place)) in
         absurd (omega arith)
     by_more (v ∷ more) (x, k, is, did, rest) count full =
-        let given = given-some m place.begun place.short six in
+        let given = given-some m place.started place.short six in
         let short = place.short in
         let longer : length (given_by m ++ v ∷ []) ≡ length (given_by m) + 1 = length-append (given_by m) (v ∷ []) in
         let few = moves-length entries r m.sequence (given_by m ++ v ∷ []) more k.bus t.bus
@@ -328,7 +328,7 @@ reset-of : (entries : List TapeEntry) (c : CpuValue) (s b : BusValue) (m t : Tra
 reset-of entries c s b m t k e v x boundary begins due is did stands taken effects rest =
     let r = start_of Reset c in
     let between = (stays-of entries x b m.bus did.0).clock_open in
-    let started : ResetBegun entries c b m.bus k = record {
+    let started : ResetStarted entries c b m.bus k = record {
       value = v;
       moves = (x, m.bus, is, did.0, refl);
       stands = stands;
@@ -375,11 +375,11 @@ reset-observed entries c s b t e boundary begins due reset = by_more one.more on
         (subst (λ (k : TracedValue). TracedStep entries x (traced b no_trace) k) (sym same) did) (stands ∙ standing-paused r v)
         reset.taken (effects-by reset.read.bus reset.taken reset.effects) reset.rest
 
--- a reset has begun in its first clock
+-- a reset has started in its first clock
 pub reset-starts : (entries : List TapeEntry) (c k : CpuValue) (b : BusValue) (m : TracedValue)
-    → ((made : ℕ) × Advances (TracedStep entries) (start_of Reset c) Reset [] 1 made (traced b no_trace) m k) → ResetBegun entries c b m.bus k
+    → ((made : ℕ) × Advances (TracedStep entries) (start_of Reset c) Reset [] 1 made (traced b no_trace) m k) → ResetStarted entries c b m.bus k
 reset-starts entries c k b m (made, a) =
-    reset-begun entries c b m.bus k (made, bus-advances entries (start_of Reset c) Reset [] 1 made (traced b no_trace) m k a)
+    reset-started entries c b m.bus k (made, bus-advances entries (start_of Reset c) Reset [] 1 made (traced b no_trace) m k a)
 
 -- its trace has one access
 pub reset-one : (entries : List TapeEntry) (c k : CpuValue) (b : BusValue) (m : TracedValue)

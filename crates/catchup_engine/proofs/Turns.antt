@@ -15,8 +15,8 @@ use Rattle.cpu_core.specs.Places.{standing, stopped, paused, given_by, Advances,
 use Rattle.cpu_core.proofs.LengthLemmas.{six_before_end}
 use Rattle.cpu_core.proofs.PlaceLemmas.{place_due}
 use Rattle.tape_ports.specs.declared.entry.TapeEntry.{TapeEntry}
-use Rattle.lockstep_board.specs.Peripherals.{Peripherals, line_of, reset_begun, ticked}
-use Rattle.lockstep_board.specs.Lockstep.{Board, accessed, access_in, begun, clocked, due_access, at_fetch, made_by, sequence_due, step}
+use Rattle.lockstep_board.specs.Peripherals.{Peripherals, line_of, reset_started, ticked}
+use Rattle.lockstep_board.specs.Lockstep.{Board, accessed, access_in, started, clocked, due_access, at_fetch, made_by, sequence_due, step}
 use Rattle.lockstep_board.specs.Budget.{begins_reset, budget, counted, device_access, price, reaches_device, reset_count, ticks_price}
 use Rattle.catchup_engine.specs.Bus.{BusValue, BusStep, Does, Accepts, at_clock, done_clock, in_clock}
 use Rattle.tape_ports.specs.Tape.{TapeValue}
@@ -171,7 +171,7 @@ next-first r Reset end = end
 -- a fetch of a board at a boundary
 step-fetch : (entries : List TapeEntry) (c : CpuValue) (w : Peripherals) → c.mid ≡ None
     → step entries (record { cpu = c; peripherals = w })
-    ≡ clocked (begun (sequence_due c (ticked entries w)) (accessed (start_of (sequence_due c (ticked entries w)) c) (sequence_due c (ticked entries w)) [] (ticked entries w)))
+    ≡ clocked (started (sequence_due c (ticked entries w)) (accessed (start_of (sequence_due c (ticked entries w)) c) (sequence_due c (ticked entries w)) [] (ticked entries w)))
 unfolding step at_fetch
 step-fetch entries c w boundary = rw boundary refl
 
@@ -223,10 +223,10 @@ in_clock-open entries s b h =
     let e : w.clock + 1 - 1 ≡ w.clock = omega arith in
     rw (h.clock_open, h.peripherals) (ap (λ n. at_clock n w) e)
 
-begun-other : (q : Sequence) (b : Board) → q ≢ Reset → begun q b ≡ b
-begun-other Opcode b other = refl
-begun-other Interrupt b other = refl
-begun-other Reset b other = absurd (other refl)
+started-other : (q : Sequence) (b : Board) → q ≢ Reset → started q b ≡ b
+started-other Opcode b other = refl
+started-other Interrupt b other = refl
+started-other Reset b other = absurd (other refl)
 
 reset_count-other : (q : Sequence) → q ≢ Reset → reset_count q ≡ 0
 reset_count-other Opcode other = refl
@@ -254,8 +254,8 @@ fetch-first entries c q s b m v x boundary begins due other is did =
     record {
       step =
           step-fetch entries c s.peripherals boundary
-          ∙ ap (λ (p : Sequence). clocked (begun p (accessed (start_of p c) p [] w))) (sym due_then)
-          ∙ ap clocked (begun-other q (accessed (start_of q c) q [] w) other)
+          ∙ ap (λ (p : Sequence). clocked (started p (accessed (start_of p c) p [] w))) (sym due_then)
+          ∙ ap clocked (started-other q (accessed (start_of q c) q [] w) other)
           ∙ ap (λ (k : Peripherals). clocked (accessed (start_of q c) q [] k)) (sym clock)
           ∙ accessed-is entries (start_of q c) q [] v x b m is did;
       paid = omega arith;
@@ -303,14 +303,14 @@ reset-read : (r : RegistersValue) (w : Peripherals) → (accessed r Reset [] w).
 unfolding accessed next_of
 reset-read r w = refl
 
-reset_begun-clock : (w : Peripherals) → (reset_begun w).clock ≡ w.clock
-unfolding reset_begun
-reset_begun-clock w = reset_by-clock w.divider.pending w
+reset_started-clock : (w : Peripherals) → (reset_started w).clock ≡ w.clock
+unfolding reset_started
+reset_started-clock w = reset_by-clock w.divider.pending w
 
 -- the first clock of a reset: its read, and then its effects
 pub reset-first : (entries : List TapeEntry) (c : CpuValue) (s b m n : BusValue) (v : ℕ) (x : Access) → c.mid ≡ None
     → Begins entries s b → Reset ≡ sequence_due c b.peripherals → IsAccess (next_of (start_of Reset c) Reset []) v x → BusStep entries x b m
-    → n.peripherals ≡ at_clock m.peripherals.clock (reset_begun (at_clock (m.peripherals.clock - 1) m.peripherals)) → n.calls ≤ m.calls + 4 → Goes m n
+    → n.peripherals ≡ at_clock m.peripherals.clock (reset_started (at_clock (m.peripherals.clock - 1) m.peripherals)) → n.calls ≤ m.calls + 4 → Goes m n
     → First entries (record { cpu = c; peripherals = s.peripherals }) (start_of Reset c) Reset (v ∷ []) s n
 reset-first entries c s b m n v x boundary begins due is did effects few goes =
     let w = ticked entries s.peripherals in
@@ -323,10 +323,10 @@ reset-first entries c s b m n v x boundary begins due is did effects few goes =
     let read : m.peripherals ≡ done_clock w =
     sym (ap (λ (k : Board). k.peripherals) first) ∙ ap done_clock (reset-read r w) in
     let back : w.clock + 1 - 1 ≡ w.clock = omega arith in
-    let peripherals : n.peripherals ≡ at_clock (w.clock + 1) (reset_begun w) =
+    let peripherals : n.peripherals ≡ at_clock (w.clock + 1) (reset_started w) =
     effects
-    ∙ ap (λ (k : Peripherals). at_clock k.clock (reset_begun (at_clock (k.clock - 1) k))) read
-    ∙ ap (λ t. at_clock (w.clock + 1) (reset_begun (at_clock t w))) back in
+    ∙ ap (λ (k : Peripherals). at_clock k.clock (reset_started (at_clock (k.clock - 1) k))) read
+    ∙ ap (λ t. at_clock (w.clock + 1) (reset_started (at_clock t w))) back in
     let stays = stays-of entries x b m did in
     let cost = stays.calls in
     let none : (if b.clock_open then 0 else ticks_price entries b.peripherals) ≡ 0 = rw begins.clock_open refl in
@@ -341,12 +341,12 @@ reset-first entries c s b m n v x boundary begins due is did effects few goes =
     record {
       step =
           step-fetch entries c s.peripherals boundary
-          ∙ ap (λ (p : Sequence). clocked (begun p (accessed (start_of p c) p [] w))) (sym due_then)
+          ∙ ap (λ (p : Sequence). clocked (started p (accessed (start_of p c) p [] w))) (sym due_then)
           ∙ ap (λ (k : CpuValue).
-          let d : Board = record { cpu = k; peripherals = at_clock ((reset_begun (accessed r Reset [] w).peripherals).clock + 1) (reset_begun (accessed r Reset [] w).peripherals) } in d)
+          let d : Board = record { cpu = k; peripherals = at_clock ((reset_started (accessed r Reset [] w).peripherals).clock + 1) (reset_started (accessed r Reset [] w).peripherals) } in d)
           cpu
-          ∙ ap (λ (u : Peripherals). let d : Board = record { cpu = standing r Reset (v ∷ []); peripherals = at_clock ((reset_begun u).clock + 1) (reset_begun u) } in d) (reset-read r w)
-          ∙ ap (λ t. let d : Board = record { cpu = standing r Reset (v ∷ []); peripherals = at_clock (t + 1) (reset_begun w) } in d) (reset_begun-clock w)
+          ∙ ap (λ (u : Peripherals). let d : Board = record { cpu = standing r Reset (v ∷ []); peripherals = at_clock ((reset_started u).clock + 1) (reset_started u) } in d) (reset-read r w)
+          ∙ ap (λ t. let d : Board = record { cpu = standing r Reset (v ∷ []); peripherals = at_clock (t + 1) (reset_started w) } in d) (reset_started-clock w)
           ∙ ap (λ (u : Peripherals). board_after r Reset (v ∷ []) u) (sym peripherals);
       paid = omega arith;
       goes = record { more = omega arith; rooms = goes.rooms ∙ stays.rooms ∙ begins.rooms; until = omega arith; between = goes.between };
@@ -394,9 +394,9 @@ pub resume-turn : (entries : List TapeEntry) (c : CpuValue) (m : MidValue) (cloc
 resume-turn entries c m clocks made s t e inside middle six between some advances =
     let place : IsPlace (registers_of c) m = (rw inside at middle).1 in
     let advanced : Advances (BusStep entries) (registers_of c) m.sequence (given_by m) clocks made s t e = rw inside at advances in
-    let some_given = place.begun in
+    let some_given = place.started in
     let few_given = place.short in
-    let count = given-some m place.begun place.short six in
+    let count = given-some m place.started place.short six in
     let p = part entries (registers_of c) m.sequence (given_by m) clocks made s t e some (place_due (registers_of c) m place) advanced in
     let longer : length (given_by m ++ p.value ∷ []) ≡ length (given_by m) + 1 = length-append (given_by m) (p.value ∷ []) in
     let first = resume-first entries c m s p.then_s p.value p.access inside between p.is p.did in
@@ -423,7 +423,7 @@ runs-advance entries r q s t e runs boundary =
     )
 
 -- a reset after its read
-pub record ResetBegun (entries : List TapeEntry) (c : CpuValue) (s m : BusValue) (k : CpuValue) : Type 0 where
+pub record ResetStarted (entries : List TapeEntry) (c : CpuValue) (s m : BusValue) (k : CpuValue) : Type 0 where
   pub value : ℕ
   pub moves : Moves (BusStep entries) (start_of Reset c) Reset [] (value ∷ []) s m
   pub stands : k ≡ paused (start_of Reset c) Reset (value ∷ [])
@@ -438,13 +438,13 @@ pub standing-paused : (r : RegistersValue) (v : ℕ) → standing r Reset (v ∷
 unfolding next_of
 standing-paused r v = refl
 
-pub reset-begun : (entries : List TapeEntry) (c : CpuValue) (s m : BusValue) (k : CpuValue)
-    → ((made : ℕ) × Advances (BusStep entries) (start_of Reset c) Reset [] 1 made s m k) → ResetBegun entries c s m k
-reset-begun entries c s m k (made, a) = by_more a.more a.moves a.count a.full a.stands
+pub reset-started : (entries : List TapeEntry) (c : CpuValue) (s m : BusValue) (k : CpuValue)
+    → ((made : ℕ) × Advances (BusStep entries) (start_of Reset c) Reset [] 1 made s m k) → ResetStarted entries c s m k
+reset-started entries c s m k (made, a) = by_more a.more a.moves a.count a.full a.stands
   where
     by_more : (more : List ℕ) → Moves (BusStep entries) (start_of Reset c) Reset [] more s m → length more ≡ made
         → ((IsEnd (next_of (start_of Reset c) Reset more) → ⊥) → made ≡ 1) → k ≡ standing (start_of Reset c) Reset more
-        → ResetBegun entries c s m k
+        → ResetStarted entries c s m k
     by_more [] moves count full stands =
         let one : made ≡ 1 = full (next-first (start_of Reset c) Reset) in
         absurd (omega arith)
@@ -459,14 +459,14 @@ reset-begun entries c s m k (made, a) = by_more a.more a.moves a.count a.full a.
 
 -- the effects of a reset, over a bus
 pub record HasEffects (m n : BusValue) : Type 0 where
-  pub peripherals : n.peripherals ≡ at_clock m.peripherals.clock (reset_begun (at_clock (m.peripherals.clock - 1) m.peripherals))
+  pub peripherals : n.peripherals ≡ at_clock m.peripherals.clock (reset_started (at_clock (m.peripherals.clock - 1) m.peripherals))
   pub calls : n.calls ≤ m.calls + 4
   pub more : m.calls ≤ n.calls
   pub rooms : n.rooms ≡ m.rooms
   pub until : m.until ≤ n.until
   pub between : n.clock_open ≡ m.clock_open
 
-pub effects-by : (m n : BusValue) → Does m n (at_clock m.peripherals.clock (reset_begun (at_clock (m.peripherals.clock - 1) m.peripherals))) 4 → HasEffects m n
+pub effects-by : (m n : BusValue) → Does m n (at_clock m.peripherals.clock (reset_started (at_clock (m.peripherals.clock - 1) m.peripherals))) 4 → HasEffects m n
 effects-by m n does = record {
   peripherals = ap (λ (b : BusValue). b.peripherals) does.value;
   calls = does.calls;
@@ -482,7 +482,7 @@ paused-due r v end = end
 
 -- a reset that has one clock
 pub resets-one : (entries : List TapeEntry) (c : CpuValue) (clocks : ℕ) (s m n : BusValue) (k : CpuValue) → clocks ≡ 1
-    → ResetBegun entries c s m k → HasEffects m n → Resets entries c clocks s n k
+    → ResetStarted entries c s m k → HasEffects m n → Resets entries c clocks s n k
 resets-one entries c clocks s m n k one b h =
     let r = start_of Reset c in
     record {
@@ -513,12 +513,12 @@ resets-one entries c clocks s m n k one b h =
     some-none (Some p) is none = cc
 
 -- the processor is inside the reset
-pub reset-inside : (entries : List TapeEntry) (c : CpuValue) (s m : BusValue) (k : CpuValue) → ResetBegun entries c s m k → IsSome k.mid
+pub reset-inside : (entries : List TapeEntry) (c : CpuValue) (s m : BusValue) (k : CpuValue) → ResetStarted entries c s m k → IsSome k.mid
 reset-inside entries c s m k b = rw b.stands (search rules)
 
 -- a reset that goes on
 pub resets-more : (entries : List TapeEntry) (c : CpuValue) (clocks made : ℕ) (s m n t : BusValue) (k e : CpuValue)
-    → ResetBegun entries c s m k → HasEffects m n
+    → ResetStarted entries c s m k → HasEffects m n
     → IfSome k.mid (λ p. Advances (BusStep entries) (registers_of k) p.sequence (given_by p) (clocks - 1) made n t e)
     → Resets entries c clocks s t e
 resets-more entries c clocks made s m n t k e b h advances = record {
@@ -546,7 +546,7 @@ opcode-first entries c s m v x boundary between due is did =
     record {
       step =
           step-fetch entries c s.peripherals boundary
-          ∙ ap (λ (p : Sequence). clocked (begun p (accessed (start_of p c) p [] w))) (sym due)
+          ∙ ap (λ (p : Sequence). clocked (started p (accessed (start_of p c) p [] w))) (sym due)
           ∙ ap (λ (k : Peripherals). clocked (accessed (start_of Opcode c) Opcode [] k)) (sym (in_clock-between entries s between))
           ∙ accessed-is entries (start_of Opcode c) Opcode [] v x s m is did;
       paid = omega arith;

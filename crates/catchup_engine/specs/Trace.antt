@@ -13,7 +13,7 @@ use Rattle.catchup_engine.specs.declared.trace.Access.{Access}
 use Rattle.catchup_engine.specs.Bus.{BusStep, BusValue, Does, at_clock}
 use Rattle.lockstep_board.specs.Lockstep.{Board, access_in, sequence_due, step}
 use Rattle.lockstep_board.specs.Run.{boundary_steps, is_jammed}
-use Rattle.lockstep_board.specs.Peripherals.{Peripherals, reset_begun, ticked}
+use Rattle.lockstep_board.specs.Peripherals.{Peripherals, reset_started, ticked}
 
 -- the sequence, its opcode, the number of its accesses, and seven accesses of which the first are
 -- those made
@@ -126,5 +126,5 @@ pub record TracedReset (entries : List TapeEntry) (c : CpuValue) (s : BusValue) 
   pub inside : CpuValue
   pub begins : (made : ℕ) × Advances (TracedStep entries) (start_of Reset c) Reset [] 1 made (traced s no_trace) read inside
   pub taken : BusValue
-  pub effects : Does read.bus taken (at_clock read.bus.peripherals.clock (reset_begun (at_clock (read.bus.peripherals.clock - 1) read.bus.peripherals))) 4
+  pub effects : Does read.bus taken (at_clock read.bus.peripherals.clock (reset_started (at_clock (read.bus.peripherals.clock - 1) read.bus.peripherals))) 4
   pub rest : IfSome inside.mid (λ m. (made : ℕ) × Advances (TracedStep entries) (registers_of inside) m.sequence (given_by m) 6 made (traced taken read.trace) t e)

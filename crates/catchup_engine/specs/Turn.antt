@@ -9,7 +9,7 @@ use Rattle.cpu_core.specs.Sequences.{Moves, start_of}
 use Rattle.tape_ports.specs.declared.entry.TapeEntry.{TapeEntry}
 use Rattle.tape_ports.specs.Tape.{TapeValue}
 use Rattle.catchup_engine.specs.declared.bus.TheConstants.{MAX_SEQUENCE_CLOCKS}
-use Rattle.lockstep_board.specs.Peripherals.{devices_ticked, reset_begun}
+use Rattle.lockstep_board.specs.Peripherals.{devices_ticked, reset_started}
 use Rattle.lockstep_board.specs.Lockstep.{Board, sequence_due, step}
 use Rattle.lockstep_board.specs.Budget.{budget}
 use Rattle.lockstep_board.specs.Steps.{Through}
@@ -79,7 +79,7 @@ pub record Resets (entries : List TapeEntry) (c : CpuValue) (clocks : ℕ) (s t 
   pub read : BusValue
   pub moves : Moves (BusStep entries) (start_of Reset c) Reset [] (value ∷ []) s read
   pub taken : BusValue
-  pub effects : taken.peripherals ≡ at_clock read.peripherals.clock (reset_begun (at_clock (read.peripherals.clock - 1) read.peripherals))
+  pub effects : taken.peripherals ≡ at_clock read.peripherals.clock (reset_started (at_clock (read.peripherals.clock - 1) read.peripherals))
   pub calls : taken.calls ≤ read.calls + 4
   pub goes : Goes read taken
   pub made : ℕ

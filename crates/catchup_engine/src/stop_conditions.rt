@@ -101,7 +101,7 @@ impl<'a> BreakList<'a> {
 }
 
 /// What ends a run at a boundary before its limit: pc at an address, a byte that has changed, or a
-/// generator that has halted or begun to draw.
+/// generator that has halted or started to draw.
 #[derive(Drop)]
 pub struct StopConditions<'a> {
     breaks: BreakList<'a>,

@@ -20,7 +20,7 @@ after-append (finish e) (x ∷ xs) ys = sym (after-finish e ys)
 after-append (read a k) (x ∷ xs) ys = after-append (k x) xs ys
 after-append (write a v c) (x ∷ xs) ys = after-append c xs ys
 
--- the rest of a sequence, begun at s after these bytes
+-- the rest of a sequence, started at s after these bytes
 pub record Rest {S : Type 0} (step : Access → S → S → Type 0) (r : RegistersValue) (q : Sequence) (bytes : List ℕ) (s t : S) (e : CpuValue) : Type 0 where
   pub more : List ℕ
   pub moves : Moves step r q bytes more s t

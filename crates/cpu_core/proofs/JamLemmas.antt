@@ -99,12 +99,12 @@ head_ends (write a v c) e h p = absurd (cc)
 ends_running : (r : RegistersValue) (q : Sequence) (bytes : List ℕ) → 1 ≤ length bytes → (q ≡ Opcode → row_of (slice_index bytes 0) ≢ None)
     → (e : CpuValue) → next_of r q bytes ≡ End e → e.jam ≡ None
 unfolding next_of
-ends_running r q [] begun h e k = absurd (omega arith)
-ends_running r Opcode (o ∷ bytes) begun h e k =
+ends_running r q [] started h e k = absurd (omega arith)
+ends_running r Opcode (o ∷ bytes) started h e k =
     head_ends (after (row_cycles r o (row_of o)) bytes) e (after_ends _ bytes (row_ends r o (row_of o) (h refl))) k
-ends_running r Interrupt (o ∷ bytes) begun h e k =
+ends_running r Interrupt (o ∷ bytes) started h e k =
     head_ends (after (cycles_of r Interrupt) (o ∷ bytes)) e (after_ends (cycles_of r Interrupt) (o ∷ bytes) (λ _ _ _ _. refl)) k
-ends_running r Reset (o ∷ bytes) begun h e k =
+ends_running r Reset (o ∷ bytes) started h e k =
     head_ends (after (cycles_of r Reset) (o ∷ bytes)) e (after_ends (cycles_of r Reset) (o ∷ bytes) (λ _ _ _ _ _ _ _. refl)) k
 
 stopped_running : (r : RegistersValue) (q : Sequence) (bytes : List ℕ) (n : Next) → ((e : CpuValue) → n ≡ End e → e.jam ≡ None)
@@ -116,7 +116,7 @@ stopped_running r q bytes (End e) h = h e refl
 -- after a first byte that is no undocumented opcode the processor isn't jammed
 pub standing_running : (r : RegistersValue) (q : Sequence) (bytes : List ℕ) → 1 ≤ length bytes → (q ≡ Opcode → row_of (slice_index bytes 0) ≢ None)
     → (standing r q bytes).jam ≡ None
-standing_running r q bytes begun h = stopped_running r q bytes (next_of r q bytes) (ends_running r q bytes begun h)
+standing_running r q bytes started h = stopped_running r q bytes (next_of r q bytes) (ends_running r q bytes started h)
 
 first_of_taken : (n : ℕ) (bytes more : List ℕ) → 1 ≤ length (take n bytes) → slice_index (take n bytes ++ more) 0 ≡ slice_index bytes 0
 first_of_taken zero bytes more h = absurd (omega arith)
@@ -127,10 +127,10 @@ first_of_taken (suc n) (b ∷ bytes) more h = refl
 pub resumed_running : (r : RegistersValue) (m : MidValue) (more : List ℕ) → IsPlace r m → length m.bytes ≡ 6
     → (standing r m.sequence (given_by m ++ more)).jam ≡ None
 resumed_running r m more place six =
-    let begun : 1 ≤ length (take m.count m.bytes) =
+    let started : 1 ≤ length (take m.count m.bytes) =
     let short : m.count ≤ length m.bytes = omega (arith, place.short) in
-    omega (arith, length-take-le m.count m.bytes short, place.begun) in
-    let first : slice_index (given_by m ++ more) 0 ≡ slice_index m.bytes 0 = first_of_taken m.count m.bytes more begun in
+    omega (arith, length-take-le m.count m.bytes short, place.started) in
+    let first : slice_index (given_by m ++ more) 0 ≡ slice_index m.bytes 0 = first_of_taken m.count m.bytes more started in
     standing_running r m.sequence (given_by m ++ more)
     (rw length-append (omega arith))
     (λ e. subst (λ (o : ℕ). row_of o ≢ None) (sym first) (place.documented e))
@@ -186,19 +186,19 @@ at_rest c jam mid =
     ∙ ap (λ (m : Option MidValue). record (at_boundary (registers_of c)) { jam = c.jam; mid = m }) (sym mid)
 
 -- how a sequence begins from these registers
-begun_jam : {S : Type 0} (step : Access → S → S → Type 0) (q : Sequence) (r : RegistersValue) (now : List ℕ) (made : ℕ) (s t : S) (e : CpuValue)
+started_jam : {S : Type 0} (step : Access → S → S → Type 0) (q : Sequence) (r : RegistersValue) (now : List ℕ) (made : ℕ) (s t : S) (e : CpuValue)
     → 1 ≤ length now → Gone step r q [] now made s t → e ≡ standing r q now → BeginsWith step q (at_boundary r) s t e
-begun_jam step Opcode r now made s t e some g h =
+started_jam step Opcode r now made s t e some g h =
     fetches_by step r g.more s t e (subst (λ (xs : List ℕ). 1 ≤ length xs) g.seen some) g.moves (h ∙ ap (standing r Opcode) g.seen)
-begun_jam step Interrupt r now made s t e some g h =
+started_jam step Interrupt r now made s t e some g h =
     ap (λ (x : CpuValue). x.jam) h ∙ standing_running r Interrupt now some (λ h. absurd (cc))
-begun_jam step Reset r now made s t e some g h =
+started_jam step Reset r now made s t e some g h =
     ap (λ (x : CpuValue). x.jam) h ∙ standing_running r Reset now some (λ h. absurd (cc))
 
 pub begins_by : {S : Type 0} (step : Access → S → S → Type 0) (q : Sequence) (r : RegistersValue) (given now bytes : List ℕ) (made : ℕ) (s t : S) (e : CpuValue)
     → Gone step r q given now made s t → e ≡ standing r q bytes → given ≡ [] → bytes ≡ now → 1 ≤ length now → BeginsWith step q (at_boundary r) s t e
 begins_by step q r given now bytes made s t e g h eg eb some =
-    begun_jam step q r now made s t e some (subst (λ (xs : List ℕ). Gone step r q xs now made s t) eg g) (h ∙ ap (standing r q) eb)
+    started_jam step q r now made s t e some (subst (λ (xs : List ℕ). Gone step r q xs now made s t) eg g) (h ∙ ap (standing r q) eb)
 
 pub begins_at_rest : {S : Type 0} (step : Access → S → S → Type 0) (q : Sequence) (c : CpuValue) (r : RegistersValue) (s t : S) (e : CpuValue)
     → BeginsWith step q (at_boundary r) s t e → r ≡ start_of q c → c.jam ≡ None → c.mid ≡ None → BeginsWith step q c s t e

@@ -64,21 +64,21 @@ begins r Interrupt = λ h. h
 begins r Reset = λ h. h
 
 -- at its end some access has been made
-pub ended_begun : (r : RegistersValue) (q : Sequence) (now : List ℕ) (e : CpuValue) → End e ≡ next_of r q now → 1 ≤ length now
-ended_begun r q [] e h = absurd (begins r q (subst IsEnd h tt))
-ended_begun r q (v ∷ now) e h = omega arith
+pub ended_started : (r : RegistersValue) (q : Sequence) (now : List ℕ) (e : CpuValue) → End e ≡ next_of r q now → 1 ≤ length now
+ended_started r q [] e h = absurd (begins r q (subst IsEnd h tt))
+ended_started r q (v ∷ now) e h = omega arith
 
 -- where a clock is given, some access has been made
-pub gone_begun : {S : Type 0} (step : Access → S → S → Type 0) (r : RegistersValue) (q : Sequence) (given now : List ℕ) (clocks made : ℕ) (s t : S)
+pub gone_started : {S : Type 0} (step : Access → S → S → Type 0) (r : RegistersValue) (q : Sequence) (given now : List ℕ) (clocks made : ℕ) (s t : S)
     → Gone step r q given now made s t → (¬ IsEnd (next_of r q now) → made ≡ clocks) → 1 ≤ clocks → 1 ≤ length now
-gone_begun step r q given [] clocks made s t g full some =
+gone_started step r q given [] clocks made s t g full some =
     let all : made ≡ clocks = full (begins r q) in
     let none : length given + length g.more ≡ 0 = sym (length-append given g.more) ∙ sym (ap length g.seen) in
     let count : length g.more ≡ made = g.count in
     omega arith
-gone_begun step r q given (v ∷ now) clocks made s t g full some = omega arith
+gone_started step r q given (v ∷ now) clocks made s t g full some = omega arith
 
-pub ruleset gone = (gone_none, gone_on, gone_begun, ended_begun)
+pub ruleset gone = (gone_none, gone_on, gone_started, ended_started)
 
 -- what has ended has ended
 ended_stays : (c : BusCycles) (xs ys : List ℕ) → IsEnd (head_of (after c xs)) → IsEnd (head_of (after c (xs ++ ys)))
@@ -120,12 +120,12 @@ given_paused bytes = take-append_seam bytes _
 -- where an access is due after some bytes, there is a place after them
 pub paused_place : (r : RegistersValue) (q : Sequence) (bytes : List ℕ) → 1 ≤ length bytes → (q ≡ Reset → is_masked r.p ≡ true)
     → ¬ IsEnd (next_of r q bytes) → IsPlace r (record { sequence = q; count = length bytes; bytes = padded bytes })
-paused_place r q bytes begun masked due =
+paused_place r q bytes started masked due =
     record {
-      begun = begun;
+      started = started;
       short = let six : length bytes < 7 = six_before_end r q bytes due in omega arith;
       zeros = rw drop-append_seam (All-drop (λ b. b ≡ 0) (length bytes) (0 ∷ 0 ∷ 0 ∷ 0 ∷ 0 ∷ 0 ∷ []) (search rules));
-      documented = λ e. documented_first r q bytes _ e begun due;
+      documented = λ e. documented_first r q bytes _ e started due;
       masked = masked;
       unended = λ n low high over.
           due (ended_early r q bytes n (subst (λ (xs : List ℕ). IsEnd (next_of r q xs)) (take-append-le n bytes _ high) over));
@@ -133,18 +133,18 @@ paused_place r q bytes begun masked due =
 
 pub paused_processor : (r : RegistersValue) (q : Sequence) (bytes : List ℕ) → 1 ≤ length bytes → (q ≡ Reset → is_masked r.p ≡ true)
     → ¬ IsEnd (next_of r q bytes) → IsProcessor (paused r q bytes)
-paused_processor r q bytes begun masked due =
-    record { undocumented = tt; place = (refl, paused_place r q bytes begun masked due) }
+paused_processor r q bytes started masked due =
+    record { undocumented = tt; place = (refl, paused_place r q bytes started masked due) }
 
 -- the conditions of a place; of its first bytes only all together have to be looked at
 pub is_place : (r : RegistersValue) (m : MidValue) → 1 ≤ m.count → m.count ≤ 6 → length m.bytes ≡ 6 → All (λ b. b ≡ 0) (drop m.count m.bytes)
     → (m.sequence ≡ Reset → is_masked r.p ≡ true) → ¬ IsEnd (next_of r m.sequence (given_by m)) → IsPlace r m
-is_place r m begun short six zeros masked due =
+is_place r m started short six zeros masked due =
     let long : m.count ≤ length m.bytes = omega arith in
     let same : length (given_by m) ≡ m.count = length-take-le m.count m.bytes long in
     let whole : given_by m ++ drop m.count m.bytes ≡ m.bytes = take-append-drop m.count m.bytes in
     record {
-      begun = begun;
+      started = started;
       short = short;
       zeros = zeros;
       documented = λ e.
@@ -160,7 +160,7 @@ is_place r m begun short six zeros masked due =
 
 -- at a place an access is due
 pub place_due : (r : RegistersValue) (m : MidValue) → IsPlace r m → ¬ IsEnd (next_of r m.sequence (given_by m))
-place_due r m place = place.unended m.count place.begun (omega arith)
+place_due r m place = place.unended m.count place.started (omega arith)
 
 pub ruleset places = (is_place, place_due)
 
@@ -242,7 +242,7 @@ parts_join step r q clocks made made2 s m t e1 e2 a due few b =
       boundary = b.complete.1 over;
     }
 
--- a sequence that is begun and then gone on with has run as a whole
+-- a sequence that is started and then gone on with has run as a whole
 pub two_parts : {S : Type 0} (step : Access → S → S → Type 0) (r : RegistersValue) (q : Sequence) (clocks made2 : ℕ) (s m t : S) (e1 e2 : CpuValue)
     → ((made : ℕ) × Advances step r q [] clocks made s m e1) → clocks ≤ 7 → e1.mid ≢ None
     → IfSome e1.mid (λ p. Advances step (registers_of e1) p.sequence (given_by p) (7 - clocks) made2 m t e2)

@@ -444,7 +444,7 @@ padded_long bytes short = rw (length-append, length-drop) (omega arith)
 
 paused_in : (r : RegistersValue) (q : Sequence) (bytes : List ℕ) → AreRegistersInRange r → All IsByte bytes → 1 ≤ length bytes
     → (q ≡ Reset → is_masked r.p ≡ true) → ¬ IsEnd (next_of r q bytes) → IsProcessorInRange (paused r q bytes)
-paused_in r q bytes h all begun mask due =
+paused_in r q bytes h all started mask due =
     let six : length bytes < 7 = six_before_end r q bytes due in
     record {
       registers = h;
@@ -453,19 +453,19 @@ paused_in r q bytes h all begun mask due =
         place = record { count = omega arith; bytes = padded_long bytes (omega arith) };
         bytes = All-append IsByte bytes _ all (All-drop IsByte (length bytes) _ zeros_in);
       };
-      stands = paused_processor r q bytes begun mask due;
+      stands = paused_processor r q bytes started mask due;
     }
 
 stopped_in : (n : Next) (r : RegistersValue) (q : Sequence) (bytes : List ℕ) → next_of r q bytes ≡ n → AreRegistersInRange r → All IsByte bytes
     → 1 ≤ length bytes → (q ≡ Reset → is_masked r.p ≡ true) → IsProcessorInRange (stopped r q bytes n)
-stopped_in (End e) r q bytes is h all begun mask = end_in r q bytes e is h all
-stopped_in (Read a) r q bytes is h all begun mask = paused_in r q bytes h all begun mask (λ over. subst IsEnd is over)
-stopped_in (Write a v) r q bytes is h all begun mask = paused_in r q bytes h all begun mask (λ over. subst IsEnd is over)
+stopped_in (End e) r q bytes is h all started mask = end_in r q bytes e is h all
+stopped_in (Read a) r q bytes is h all started mask = paused_in r q bytes h all started mask (λ over. subst IsEnd is over)
+stopped_in (Write a v) r q bytes is h all started mask = paused_in r q bytes h all started mask (λ over. subst IsEnd is over)
 
 -- after some bytes of a sequence the processor is in range
 pub standing_in : (r : RegistersValue) (q : Sequence) (bytes : List ℕ) → AreRegistersInRange r → All IsByte bytes → 1 ≤ length bytes
     → (q ≡ Reset → is_masked r.p ≡ true) → IsProcessorInRange (standing r q bytes)
-standing_in r q bytes h all begun mask = stopped_in (next_of r q bytes) r q bytes refl h all begun mask
+standing_in r q bytes h all started mask = stopped_in (next_of r q bytes) r q bytes refl h all started mask
 
 -- the registers with which a sequence starts
 pub start_in : (q : Sequence) (c : CpuValue) → IsProcessorInRange c → AreRegistersInRange (start_of q c)

@@ -20,7 +20,7 @@ Performs step (finish c) s t e = (t ≡ s) × (e ≡ c)
 Performs {S} step (read a k) s t e = (v : ℕ) × (m : S) × step (read_of a v) s m × Performs step (k v) m t e
 Performs {S} step (write a v k) s t e = (m : S) × step (write_of a v) s m × Performs step k m t e
 
--- of the bus cycles c, begun at s, the bus cycles d are left to do at t
+-- of the bus cycles c, started at s, the bus cycles d are left to do at t
 abbrev pub Leads : {S : Type 0} → (Access → S → S → Type 0) → BusCycles → S → BusCycles → S → Type 0
 Leads {S} step c s d t = (u : S) (e : CpuValue) → Performs step d t u e → Performs step c s u e
 

@@ -20,7 +20,7 @@ given_by m = take m.count m.bytes
 -- a place inside a sequence that began with the registers r: some accesses are made, the bytes past
 -- them are 0, and none of their first bytes complete the sequence
 pub record IsPlace (r : RegistersValue) (m : MidValue) : Type 0 where
-  pub begun : 1 ≤ m.count
+  pub started : 1 ≤ m.count
   pub short : m.count ≤ 6
   pub zeros : All (λ b. b ≡ 0) (drop m.count m.bytes)
   pub documented : m.sequence ≡ Opcode → row_of (slice_index m.bytes 0) ≢ None

@@ -61,7 +61,7 @@ pub(crate) fn go_on<B: Bus>(
     requires accepts { B.accepts feed.now bus.old }
     requires room { clocks ≤ B.room bus.old }
     ensures gone { Gone (B.step feed.now) start sequence seen.old seen.new result bus.old bus.new }
-    ensures begun { 1 ≤ clocks → 1 ≤ length seen.new }
+    ensures started { 1 ≤ clocks → 1 ≤ length seen.new }
     ensures few { result ≤ clocks }
     ensures full { ¬ IsEnd (next_of start sequence seen.new) → result ≡ clocks }
     ensures accepts { B.accepts feed.now bus.new }
@@ -82,7 +82,7 @@ pub(crate) fn go_on<B: Bus>(
 #[tactic(auto, using(crate::proofs::PlaceLemmas::paused_processor))]
 fn pause(start: Registers, sequence: Sequence, seen: &[u8]) -> CpuState
     requires short { length seen.now ≤ 6 }
-    requires begun { 1 ≤ length seen.now }
+    requires started { 1 ≤ length seen.now }
     requires masked { sequence ≡ Sequence.Reset → is_masked start.p ≡ true }
     requires due { ¬ IsEnd (next_of start sequence seen.now) }
     ensures paused { result ≡ paused start sequence seen.now }
@@ -98,9 +98,9 @@ fn pause(start: Registers, sequence: Sequence, seen: &[u8]) -> CpuState
     }
 }
 
-/// The processor that has begun a sequence with these registers and has seen these bytes.
+/// The processor that has started a sequence with these registers and has seen these bytes.
 pub(crate) fn stand(start: Registers, sequence: Sequence, seen: &[u8]) -> CpuState
-    requires begun { 1 ≤ length seen.now }
+    requires started { 1 ≤ length seen.now }
     requires masked { sequence ≡ Sequence.Reset → is_masked start.p ≡ true }
     ensures stands { result ≡ standing start sequence seen.now }
     ensures complete { (result.mid ≡ None) ↔ IsEnd (next_of start sequence seen.now) }

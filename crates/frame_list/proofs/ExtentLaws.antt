@@ -15,7 +15,7 @@ use Rattle.frame_list.specs.declared.frame.Point.{Point}
 use Rattle.frame_list.specs.Bounds.{joined, of_ends, widened}
 use Rattle.frame_list.specs.Events.{stroke_of}
 use Rattle.frame_list.specs.Extents.{ends_of, IsLeast, IsGreatest, AreBounds, HasBounds, FramesCountStrokes}
-use Rattle.frame_list.specs.Frames.{FrameValue, begun, counted, under_way}
+use Rattle.frame_list.specs.Frames.{FrameValue, started, counted, under_way}
 use Rattle.frame_list.proofs.WholeLaws.{strokes-exact}
 
 trans : (a b c : ℤ) → a ≤ℤ b → b ≤ℤ c → a ≤ℤ c
@@ -106,6 +106,6 @@ bounds-all frame (made ∷ strokes) xs has =
 
 pub frames_count_strokes : (number mark : ℕ) (strokes : List Record) → FramesCountStrokes number mark strokes
 frames_count_strokes number mark strokes made = record {
-  count = strokes-exact (begun number mark) strokes made ∙ zero-add (length strokes);
-  bounds = bounds-all (begun number mark) strokes [] refl;
+  count = strokes-exact (started number mark) strokes made ∙ zero-add (length strokes);
+  bounds = bounds-all (started number mark) strokes [] refl;
 }

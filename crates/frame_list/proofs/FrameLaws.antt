@@ -5,7 +5,7 @@ use Rattle.std.proofs.lemmas.List.{map-append}
 use Rattle.board_base.specs.declared.record.Record.{Record}
 use Rattle.board_base.specs.declared.record.Record.TheVariants.{Stroke}
 use Rattle.frame_list.specs.Events.{Event, stroke_of, mark_at}
-use Rattle.frame_list.specs.Frames.{FrameValue, begun, counted, next, under_way, ended}
+use Rattle.frame_list.specs.Frames.{FrameValue, started, counted, next, under_way, ended}
 
 -- nothing happens
 pub under_way-nothing : (frame : FrameValue) → under_way frame [] ≡ frame
@@ -24,7 +24,7 @@ pub ended-append : (frame : FrameValue) (first rest : List Event)
 unfolding ended under_way
 ended-append frame [] rest = refl
 ended-append frame (stroke_of made ∷ first) rest = ended-append (counted frame made) first rest
-ended-append frame (mark_at mark ∷ first) rest = ap (λ frames. frame ∷ frames) (ended-append (begun (frame.number + 1) mark) first rest)
+ended-append frame (mark_at mark ∷ first) rest = ap (λ frames. frame ∷ frames) (ended-append (started (frame.number + 1) mark) first rest)
 
 -- no frame ends in strokes
 pub ended-strokes : (frame : FrameValue) (strokes : List Record) → ended frame (map stroke_of strokes) ≡ []

@@ -11,7 +11,7 @@ use Rattle.std.proofs.lemmas.List.Sorted.{IsNonDecreasingBy-drop}
 use Rattle.board_base.specs.declared.record.Record.{Record}
 use Rattle.board_base.specs.Records.{clock_of}
 use Rattle.frame_list.specs.Events.{stroke_of, through, by_clock}
-use Rattle.frame_list.specs.Frames.{FrameValue, begun, under_way, frames_of}
+use Rattle.frame_list.specs.Frames.{FrameValue, started, under_way, frames_of}
 use Rattle.frame_list.specs.InFrames.{first_mark, last_mark, is_above, is_up_to, strokes_in, frame_at, EachFrameHasItsStrokes}
 use Rattle.frame_list.proofs.FrameLaws.{ended-strokes, strokes-number}
 use Rattle.frame_list.proofs.WholeLaws.{frames-mark}
@@ -124,15 +124,15 @@ strokes-later mark marks strokes split k rises within =
 
 -- frame k after frame n
 abbrev frame_from : ℕ → ℕ → List Record → List ℕ → ℕ → FrameValue
-frame_from n clock strokes marks k = under_way (begun (n + k) (get_or (clock ∷ marks) k 0)) (map stroke_of (strokes_in strokes marks k))
+frame_from n clock strokes marks k = under_way (started (n + k) (get_or (clock ∷ marks) k 0)) (map stroke_of (strokes_in strokes marks k))
 
 frame-suc : (n clock mark : ℕ) (strokes : List Record) (marks : List ℕ) → AreSplit mark (through mark strokes) strokes → (i : ℕ)
     → IsNonDecreasing (mark ∷ marks) → i ≤ length marks
     → frame_from (n + 1) mark (drop (through mark strokes) strokes) marks i ≡ frame_from n clock strokes (mark ∷ marks) (suc i)
 frame-suc n clock mark strokes marks split i rises within =
     let number : n + 1 + i ≡ n + suc i = omega arith in
-    ap (λ (k : ℕ). under_way (begun k (get_or (mark ∷ marks) i 0)) (map stroke_of (strokes_in (drop (through mark strokes) strokes) marks i))) number
-    ∙ ap (λ l. under_way (begun (n + suc i) (get_or (mark ∷ marks) i 0)) (map stroke_of l)) (sym (strokes-later mark marks strokes split i rises within))
+    ap (λ (k : ℕ). under_way (started k (get_or (mark ∷ marks) i 0)) (map stroke_of (strokes_in (drop (through mark strokes) strokes) marks i))) number
+    ∙ ap (λ l. under_way (started (n + suc i) (get_or (mark ∷ marks) i 0)) (map stroke_of l)) (sym (strokes-later mark marks strokes split i rises within))
 
 frame-later : (n clock mark : ℕ) (strokes : List Record) (marks : List ℕ) → AreSplit mark (through mark strokes) strokes → (i : ℕ)
     → IsNonDecreasing (mark ∷ marks) → i ≤ length marks
@@ -146,28 +146,28 @@ frame-later n clock mark strokes marks split i rises within =
 
 -- the frames from one number on
 frames-from : (n clock : ℕ) (strokes : List Record) (marks : List ℕ) → IsNonDecreasingBy clock_of strokes → IsNonDecreasing marks
-    → frames_of (begun n clock) (by_clock strokes marks) ≡ map (frame_from n clock strokes marks) (range_with_len 0 (length marks + 1))
+    → frames_of (started n clock) (by_clock strokes marks) ≡ map (frame_from n clock strokes marks) (range_with_len 0 (length marks + 1))
 unfolding by_clock
 frames-from n clock strokes [] rises marks_rise =
     let all : strokes_in strokes [] 0 ≡ strokes = filter-every (is_in [] 0) strokes (λ k d inside. refl) in
     let zeroth : n ≡ n + 0 = omega arith in
-    rw (ended-strokes (begun n clock) strokes, all) (ap (λ (k : ℕ). under_way (begun k clock) (map stroke_of strokes) ∷ []) zeroth)
+    rw (ended-strokes (started n clock) strokes, all) (ap (λ (k : ℕ). under_way (started k clock) (map stroke_of strokes) ∷ []) zeroth)
 frames-from n clock strokes (mark ∷ marks) rises marks_rise =
     let split = split-at mark strokes rises in
     let before = take (through mark strokes) strokes in
     let after = drop (through mark strokes) strokes in
     let count : length (mark ∷ marks) + 1 ≡ suc (length marks + 1) = omega arith in
     let zeroth : n ≡ n + 0 = omega arith in
-    let next : (under_way (begun n clock) (map stroke_of before)).number + 1 ≡ n + 1 = ap (λ k. k + 1) (strokes-number (begun n clock) before) in
-    let here : under_way (begun n clock) (map stroke_of before) ≡ frame_from n clock strokes (mark ∷ marks) 0 =
-    ap (λ (k : ℕ). under_way (begun k clock) (map stroke_of before)) zeroth
-    ∙ ap (λ l. under_way (begun (n + 0) clock) (map stroke_of l)) (sym (strokes-first mark marks strokes split)) in
+    let next : (under_way (started n clock) (map stroke_of before)).number + 1 ≡ n + 1 = ap (λ k. k + 1) (strokes-number (started n clock) before) in
+    let here : under_way (started n clock) (map stroke_of before) ≡ frame_from n clock strokes (mark ∷ marks) 0 =
+    ap (λ (k : ℕ). under_way (started k clock) (map stroke_of before)) zeroth
+    ∙ ap (λ l. under_way (started (n + 0) clock) (map stroke_of l)) (sym (strokes-first mark marks strokes split)) in
     let rest = frames-from (n + 1) mark after marks (IsNonDecreasingBy-drop clock_of (through mark strokes) strokes rises) (later-rises (λ m. m) mark marks marks_rise) in
     let shifted : (i : ℕ) → i < length marks + 1 → frame_from (n + 1) mark after marks (0 + i) ≡ frame_from n clock strokes (mark ∷ marks) (1 + i) = λ i inside.
     frame-later n clock mark strokes marks split i marks_rise (omega (arith, inside)) in
-    frames-mark (begun n clock) before mark (by_clock after marks)
-    ∙ ap (λ l. under_way (begun n clock) (map stroke_of before) ∷ l)
-    (ap (λ (k : ℕ). frames_of (begun k mark) (by_clock after marks)) next ∙ rest
+    frames-mark (started n clock) before mark (by_clock after marks)
+    ∙ ap (λ l. under_way (started n clock) (map stroke_of before) ∷ l)
+    (ap (λ (k : ℕ). frames_of (started k mark) (by_clock after marks)) next ∙ rest
     ∙ map-ranges (frame_from (n + 1) mark after marks) (frame_from n clock strokes (mark ∷ marks)) 0 1 (length marks + 1) shifted)
     ∙ ap (λ (f : FrameValue). f ∷ map (frame_from n clock strokes (mark ∷ marks)) (range_with_len 1 (length marks + 1))) here
     ∙ ap (λ (k : ℕ). map (frame_from n clock strokes (mark ∷ marks)) (range_with_len 0 k)) (sym count)
@@ -176,4 +176,4 @@ pub each_frame_has_its_strokes : (clock : ℕ) (strokes : List Record) (marks : 
 each_frame_has_its_strokes clock strokes marks rises marks_rise =
     frames-from 0 clock strokes marks rises marks_rise
     ∙ map-ranges (frame_from 0 clock strokes marks) (frame_at clock strokes marks) 0 0 (length marks + 1)
-    (λ i inside. let e : 0 + (0 + i) ≡ 0 + i = omega arith in ap (λ (k : ℕ). under_way (begun k (get_or (clock ∷ marks) (0 + i) 0)) (map stroke_of (strokes_in strokes marks (0 + i)))) e)
+    (λ i inside. let e : 0 + (0 + i) ≡ 0 + i = omega arith in ap (λ (k : ℕ). under_way (started k (get_or (clock ∷ marks) (0 + i) 0)) (map stroke_of (strokes_in strokes marks (0 + i)))) e)

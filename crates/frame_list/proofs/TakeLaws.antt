@@ -10,7 +10,7 @@ use Rattle.outside_io.specs.Sink.{Takes}
 use Rattle.outside_io.proofs.KnownLaws.{grown-twice}
 use Rattle.outside_io.proofs.TakesLaws.{took_first, took_then}
 use Rattle.frame_list.specs.Events.{Event, stroke_of, mark_at, through, by_clock}
-use Rattle.frame_list.specs.Frames.{FrameValue, begun, under_way, ended, frame_text, frames_text}
+use Rattle.frame_list.specs.Frames.{FrameValue, started, under_way, ended, frame_text, frames_text}
 use Rattle.frame_list.proofs.FrameLaws.{under_way-append, ended-append, ended-strokes}
 
 -- of some marks those from one on
@@ -34,7 +34,7 @@ pub record Went (out0 out1 : Option (List ℕ)) (from : FrameValue) (all : List 
 -- the strokes up to a mark are counted, and the line of the frame that they end is written
 pub went-mark-here : (out0 out1 out2 : Option (List ℕ)) (from now counted after : FrameValue) (all : List Event) (strokes : List Record) (mark : ℕ) (marks : List ℕ)
     → Went out0 out1 from all now (by_clock strokes (mark ∷ marks)) → counted ≡ under_way now (map stroke_of (take (through mark strokes) strokes))
-    → out2 ≡ grown out1 (frame_text counted) → after ≡ begun (counted.number + 1) mark
+    → out2 ≡ grown out1 (frame_text counted) → after ≡ started (counted.number + 1) mark
     → Went out0 out2 from all after (by_clock (drop (through mark strokes) strokes) marks)
 unfolding by_clock frames_text ended under_way
 went-mark-here out0 out1 out2 from now counted after all strokes mark marks before is line begins =
@@ -54,7 +54,7 @@ went-mark-here out0 out1 out2 from now counted after all strokes mark marks befo
 pub went-mark : (out0 out1 out2 : Option (List ℕ)) (from now counted after : FrameValue) (all : List Event) (strokes first later : List Record) (n mark : ℕ)
     (these marks : List ℕ) → these ≡ mark ∷ marks → n ≡ through mark strokes → first ≡ take n strokes → later ≡ drop n strokes
     → Went out0 out1 from all now (by_clock strokes these) → counted ≡ under_way now (map stroke_of first)
-    → out2 ≡ grown out1 (frame_text counted) → after ≡ begun (counted.number + 1) mark → Went out0 out2 from all after (by_clock later marks)
+    → out2 ≡ grown out1 (frame_text counted) → after ≡ started (counted.number + 1) mark → Went out0 out2 from all after (by_clock later marks)
 went-mark out0 out1 out2 from now counted after all strokes first later n mark these marks split is_n is_first is_later before is line begins =
     rw (is_later, is_n) (went-mark-here out0 out1 out2 from now counted after all strokes mark marks (rw (← split) before)
     (is ∙ ap (λ some. under_way now (map stroke_of some)) (is_first ∙ ap (λ k. take k strokes) is_n)) line begins)
@@ -67,7 +67,7 @@ unfolding by_clock frames_text ended under_way
 went-cut-here out0 out1 out2 from now counted all strokes mark marks before is cut =
     let first = take (through mark strokes) strokes in
     let left = by_clock (drop (through mark strokes) strokes) marks in
-    let rest = ended (begun (counted.number + 1) mark) left in
+    let rest = ended (started (counted.number + 1) mark) left in
     let frames : ended now (map stroke_of first ++ mark_at mark ∷ left) ≡ counted ∷ rest
     = ended-append now (map stroke_of first) (mark_at mark ∷ left) ∙ rw (ended-strokes now first, ← is) refl in
     let whole : frames_text (ended from all) ≡ before.sent ++ (frame_text counted ++ frames_text rest)

@@ -17,7 +17,7 @@ use Rattle.board_map.specs.Map.{address_map, row_of}
 use Rattle.board_map.proofs.Rows.{passing}
 use Rattle.catchup_engine.specs.Starts.{is_go}
 use Rattle.frame_list.specs.Events.{Event, stroke_of, mark_at, through, by_clock}
-use Rattle.frame_list.specs.Frames.{FrameValue, begun, counted, under_way, ended, frame_text, frames_text, frames_of, EachStrokeInOneFrame, IsBefore, PartsMakeTheWhole}
+use Rattle.frame_list.specs.Frames.{FrameValue, started, counted, under_way, ended, frame_text, frames_text, frames_of, EachStrokeInOneFrame, IsBefore, PartsMakeTheWhole}
 use Rattle.frame_list.proofs.FrameLaws.{under_way-append, ended-append, ended-strokes}
 
 -- a stroke is counted once
@@ -36,7 +36,7 @@ strokes-exact frame (first ∷ strokes) made =
 -- the frames of strokes, a mark and others
 pub frames-mark : (frame : FrameValue) (first : List Record) (mark : ℕ) (rest : List Event)
     → frames_of frame (map stroke_of first ++ mark_at mark ∷ rest)
-    ≡ under_way frame (map stroke_of first) ∷ frames_of (begun ((under_way frame (map stroke_of first)).number + 1) mark) rest
+    ≡ under_way frame (map stroke_of first) ∷ frames_of (started ((under_way frame (map stroke_of first)).number + 1) mark) rest
 unfolding under_way ended
 frames-mark frame first mark rest =
     rw (ended-append frame (map stroke_of first) (mark_at mark ∷ rest), ended-strokes frame first, under_way-append frame (map stroke_of first) (mark_at mark ∷ rest)) refl
@@ -51,7 +51,7 @@ each_stroke_in_one_frame frame strokes (mark ∷ marks) made =
     let later = drop n strokes in
     let last = under_way frame (map stroke_of first) in
     let here : last.strokes ≡ frame.strokes + length first = strokes-exact frame first (All-take (Makes Generator) n strokes made) in
-    let next : FrameValue = begun (last.number + 1) mark in
+    let next : FrameValue = started (last.number + 1) mark in
     let there : sum_by (λ f. f.strokes) (frames_of next (by_clock later marks)) ≡ 0 + length later
     = each_stroke_in_one_frame next later marks (All-drop (Makes Generator) n strokes made) in
     let whole : length first + length later ≡ length strokes

@@ -8,7 +8,7 @@ use Rattle.board_base.specs.Records.{Makes}
 use Rattle.frame_list.specs.declared.frame.Bounds.{Bounds}
 use Rattle.frame_list.specs.declared.frame.Point.{Point}
 use Rattle.frame_list.specs.Events.{stroke_of}
-use Rattle.frame_list.specs.Frames.{FrameValue, begun, under_way}
+use Rattle.frame_list.specs.Frames.{FrameValue, started, under_way}
 
 -- both ends of a stroke
 abbrev pub ends_of : Record → List Point
@@ -41,4 +41,4 @@ pub record CountsStrokes (frame : FrameValue) (strokes : List Record) : Type 0 w
 
 abbrev pub FramesCountStrokes : ℕ → ℕ → List Record → Type 0
 FramesCountStrokes number mark strokes =
-    All (Makes Generator) strokes → CountsStrokes (under_way (begun number mark) (map stroke_of strokes)) strokes
+    All (Makes Generator) strokes → CountsStrokes (under_way (started number mark) (map stroke_of strokes)) strokes

@@ -24,8 +24,8 @@ pub record IsFrame (frame : FrameValue) : Type 0 where
   pub some : 0 < frame.strokes → IsSome frame.bounds
 
 -- a frame that begins at a mark has no strokes
-abbrev pub begun : ℕ → ℕ → FrameValue
-begun number mark = record { number = number; mark = mark; strokes = 0; bounds = None }
+abbrev pub started : ℕ → ℕ → FrameValue
+started number mark = record { number = number; mark = mark; strokes = 0; bounds = None }
 
 -- a frame with one stroke more; other records aren't strokes
 abbrev pub counted : FrameValue → Record → FrameValue
@@ -36,7 +36,7 @@ counted frame _ = frame
 -- the frame under way after an event: a stroke is counted, and a mark begins the next frame
 abbrev pub next : FrameValue → Event → FrameValue
 next frame (stroke_of made) = counted frame made
-next frame (mark_at mark) = begun (frame.number + 1) mark
+next frame (mark_at mark) = started (frame.number + 1) mark
 
 -- the frame under way after some events
 unfoldable pub under_way : FrameValue → List Event → FrameValue
@@ -47,7 +47,7 @@ under_way frame (event ∷ events) = under_way (next frame event) events
 unfoldable pub ended : FrameValue → List Event → List FrameValue
 ended frame [] = []
 ended frame (stroke_of made ∷ events) = ended (counted frame made) events
-ended frame (mark_at mark ∷ events) = frame ∷ ended (begun (frame.number + 1) mark) events
+ended frame (mark_at mark ∷ events) = frame ∷ ended (started (frame.number + 1) mark) events
 
 -- the words of the four bounds
 abbrev pub bounds_words : Option Bounds → List (List ℕ)

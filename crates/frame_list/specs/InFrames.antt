@@ -5,7 +5,7 @@ use Rattle.std.specs.List.Sorted.{IsNonDecreasing, IsNonDecreasingBy}
 use Rattle.board_base.specs.declared.record.Record.{Record}
 use Rattle.board_base.specs.Records.{clock_of}
 use Rattle.frame_list.specs.Events.{stroke_of, by_clock}
-use Rattle.frame_list.specs.Frames.{FrameValue, begun, under_way, frames_of}
+use Rattle.frame_list.specs.Frames.{FrameValue, started, under_way, frames_of}
 
 -- the write that begins a frame, which frame 0 doesn't have, and the one that ends it, which the
 -- last frame doesn't have
@@ -34,11 +34,11 @@ strokes_in strokes marks k =
 -- frame k: it begins at its mark, frame 0 at the first clock, and counts its strokes and their
 -- bounds
 abbrev pub frame_at : ℕ → List Record → List ℕ → ℕ → FrameValue
-frame_at clock strokes marks k = under_way (begun k (get_or (clock ∷ marks) k 0)) (map stroke_of (strokes_in strokes marks k))
+frame_at clock strokes marks k = under_way (started k (get_or (clock ∷ marks) k 0)) (map stroke_of (strokes_in strokes marks k))
 
 -- Where neither the clocks of the strokes nor the marks fall, there is a frame more than there are
 -- marks, and each has its own strokes.
 abbrev pub EachFrameHasItsStrokes : ℕ → List Record → List ℕ → Type 0
 EachFrameHasItsStrokes clock strokes marks =
     IsNonDecreasingBy clock_of strokes → IsNonDecreasing marks
-    → frames_of (begun 0 clock) (by_clock strokes marks) ≡ map (frame_at clock strokes marks) (range_with_len 0 (length marks + 1))
+    → frames_of (started 0 clock) (by_clock strokes marks) ≡ map (frame_at clock strokes marks) (range_with_len 0 (length marks + 1))

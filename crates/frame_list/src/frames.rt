@@ -56,11 +56,11 @@ fn put_bounds(line: Line, bounds: Bounds) -> Line
 }
 
 impl Frames {
-    ghost use Rattle.frame_list.specs.Frames.{begun, counted, ended, frame_text, frames_text, under_way};
+    ghost use Rattle.frame_list.specs.Frames.{started, counted, ended, frame_text, frames_text, under_way};
 
     /// Frame 0, which begins at this clock and has no strokes yet.
     pub fn new(clock: u64) -> Frames
-        ensures { result ≡ begun 0 clock }
+        ensures { result ≡ started 0 clock }
     {
         Frames {
             number: 0,
@@ -130,7 +130,7 @@ impl Frames {
         requires { self.old.number + 1 < 2 ^ 64 }
         ensures taken { Takes (O.taken out.old) (O.taken out.new) (frame_text self.old) result }
         ensures cause { HasCause (O.faults out.old) (O.faults out.new) result }
-        ensures frame { OnOk result (self.new ≡ begun (self.old.number + 1) clock) }
+        ensures frame { OnOk result (self.new ≡ started (self.old.number + 1) clock) }
     {
         self.end(out)?;
         self.number += 1;

@@ -19,8 +19,8 @@ use Rattle.tape_ports.specs.declared.entry.Port.{Port}
 use Rattle.tape_ports.specs.declared.entry.Port.TheVariants as port
 use Rattle.tape_ports.specs.declared.entry.TapeEntry.{TapeEntry}
 use Rattle.tape_ports.specs.Due.{due_at}
-use Rattle.lockstep_board.specs.Peripherals.{Peripherals, port_set, applied, devices_ticked, ticked, line_of, byte_in, byte_read, put_in, byte_put, reset_by, reset_begun}
-use Rattle.lockstep_board.specs.Lockstep.{Board, accessed, accessed_by, sequence_due, begun, at_fetch, after_access, step, made_by, due_access, access_in}
+use Rattle.lockstep_board.specs.Peripherals.{Peripherals, port_set, applied, devices_ticked, ticked, line_of, byte_in, byte_read, put_in, byte_put, reset_by, reset_started}
+use Rattle.lockstep_board.specs.Lockstep.{Board, accessed, accessed_by, sequence_due, started, at_fetch, after_access, step, made_by, due_access, access_in}
 use Rattle.lockstep_board.specs.Run.{stepped, steps_until, is_over, is_at, is_cut, boundary_steps, clock_steps, to_boundary, to_clock, to_cut}
 use Rattle.lockstep_board.specs.Budget.{counted, begins_reset, ticks_price, price, budget}
 use Rattle.lockstep_board.specs.Order.{cleared, Recorded, behind, records_of}
@@ -61,14 +61,16 @@ reset_by-front : (p : Pending) (l : Recorded) (w : Peripherals) → reset_by p (
 reset_by-front Watchdog l w = rw append_assoc refl
 reset_by-front _ l w = refl
 
-begun-behind : (q : Sequence) (l : Recorded) (b : Board) → begun q (behind l b) ≡ behind l (begun q b)
-unfolding reset_begun
-begun-behind Reset l b = ap (λ (w : Peripherals). record b { peripherals = w }) (reset_by-front b.peripherals.divider.pending l b.peripherals)
-begun-behind _ l b = refl
+started-behind : (q : Sequence) (l : Recorded) (b : Board) → started q (behind l b) ≡ behind l (started q b)
+unfolding reset_started
+started-behind Reset l b = ap (λ (w : Peripherals). record b { peripherals = w }) (reset_by-front b.peripherals.divider.pending l b.peripherals)
+started-behind _ l b = refl
 
 after_access-front : (mid : Option MidValue) (c : CpuValue) (l : Recorded) (w : Peripherals) → after_access mid c (front l w) ≡ behind l (after_access mid c w)
 unfolding at_fetch accessed line_of
-after_access-front None c l w = let q = sequence_due c w in ap (begun q) (accessed_by-front (next_of (start_of q c) q []) (start_of q c) q [] l w) ∙ begun-behind q l (accessed (start_of q c) q [] w)
+after_access-front None c l w =
+    let q = sequence_due c w in
+    ap (started q) (accessed_by-front (next_of (start_of q c) q []) (start_of q c) q [] l w) ∙ started-behind q l (accessed (start_of q c) q [] w)
 after_access-front (Some m) c l w = accessed_by-front (next_of (registers_of c) m.sequence (given_by m)) (registers_of c) m.sequence (given_by m) l w
 
 -- a step adds to the records made before

@@ -29,10 +29,10 @@ use Rattle.tape_ports.specs.declared.entry.Port.{Port}
 use Rattle.tape_ports.specs.declared.entry.Port.TheVariants as port
 use Rattle.tape_ports.specs.declared.entry.TapeEntry.{TapeEntry}
 use Rattle.tape_ports.specs.Due.{due_at}
-use Rattle.lockstep_board.specs.Lockstep.{Board, accessed, accessed_by, after_access, at_fetch, begun, sequence_due, step}
+use Rattle.lockstep_board.specs.Lockstep.{Board, accessed, accessed_by, after_access, at_fetch, started, sequence_due, step}
 use Rattle.lockstep_board.specs.Ranges.{ArePeripheralsInRange, IsBoardInRange, IsPokeyInRange}
 use Rattle.lockstep_board.specs.Run.{stepped}
-use Rattle.lockstep_board.specs.Peripherals.{Peripherals, applied, byte_in, byte_put, byte_read, devices_ticked, port_set, put_in, reset_begun, reset_by, ticked}
+use Rattle.lockstep_board.specs.Peripherals.{Peripherals, applied, byte_in, byte_put, byte_read, devices_ticked, port_set, put_in, reset_started, reset_by, ticked}
 use Rattle.lockstep_board.proofs.DeviceRange.{byte_at, controlled-in_range, divider_tick-in_range, earom_tick-in_range, set_bytes}
 use Rattle.lockstep_board.proofs.GeneratorRange.{vg_go-in_range, vg_reset-in_range, vg_tick-in_range}
 use Rattle.lockstep_board.proofs.Runs.{stepped-keeps}
@@ -94,10 +94,10 @@ reset_by_in : (p : Pending) (w : Peripherals) → ArePeripheralsInRange w → Ar
 reset_by_in Watchdog w h = let vg = vg_reset-in_range w.vg h.vg in search rules
 reset_by_in _ w h = search rules
 
-begun_in : (q : Sequence) (b : Board) → IsBoardInRange b → IsBoardInRange (begun q b)
-unfolding reset_begun
-begun_in Reset b h = record { cpu = h.cpu; peripherals = reset_by_in b.peripherals.divider.pending b.peripherals h.peripherals }
-begun_in _ b h = h
+started_in : (q : Sequence) (b : Board) → IsBoardInRange b → IsBoardInRange (started q b)
+unfolding reset_started
+started_in Reset b h = record { cpu = h.cpu; peripherals = reset_by_in b.peripherals.divider.pending b.peripherals h.peripherals }
+started_in _ b h = h
 
 -- the next access of a sequence, made
 accessed_by_in : (next : Next) (r : RegistersValue) (q : Sequence) (bytes : List ℕ) (w : Peripherals) → next_of r q bytes ≡ next
@@ -114,7 +114,7 @@ accessed_by_in (End e) r q bytes w is regs all mask h = record { cpu = end_in r 
 
 after_access_in : (mid : Option MidValue) (c : CpuValue) (w : Peripherals) → c.mid ≡ mid → IsProcessorInRange c → ArePeripheralsInRange w → IsBoardInRange (after_access mid c w)
 unfolding at_fetch accessed
-after_access_in None c w is cpu h = let q = sequence_due c w in begun_in q _ (accessed_by_in _ (start_of q c) q [] w refl (start_in q c cpu) (λ k d past. absurd (omega arith)) (start_masks q c) h)
+after_access_in None c w is cpu h = let q = sequence_due c w in started_in q _ (accessed_by_in _ (start_of q c) q [] w refl (start_in q c cpu) (λ k d past. absurd (omega arith)) (start_masks q c) h)
 after_access_in (Some m) c w is cpu h =
     let range : IsMidInRange m = rw is at cpu.mid in let middle : (c.jam ≡ None) × IsPlace (registers_of c) m = rw is at cpu.stands.place in let place : IsPlace (registers_of c) m = middle.1 in
     accessed_by_in _ (registers_of c) m.sequence (given_by m) w refl cpu.registers (All-take IsByte m.count m.bytes range.bytes) place.masked h

@@ -3,7 +3,7 @@ use Rattle.std.proofs.Common.{◌≡◌, ℕ, ◌+◌, ◌*◌, List, zero, suc,
 use Rattle.tape_ports.specs.declared.entry.TapeEntry.{TapeEntry}
 use Rattle.lockstep_board.specs.Lockstep.{Board, step}
 use Rattle.lockstep_board.specs.Run.{stepped}
-use Rattle.lockstep_board.specs.Budget.{device_accesses, wraps, entries_applied, requests, resets_begun, counted, ticks_price, price, budget}
+use Rattle.lockstep_board.specs.Budget.{device_accesses, wraps, entries_applied, requests, resets_started, counted, ticks_price, price, budget}
 
 -- a count over some steps and then over others
 pub counted-add : (entries : List TapeEntry) (of_clock : Board → ℕ) (n m : ℕ) (b : Board)
@@ -15,7 +15,7 @@ counted-add entries of_clock (suc n) m b = let e : suc n + m ≡ suc (n + m) = o
 -- a budget is two calls for each device access, and five for each wrap, entry, request and reset
 pub budget-parts : (entries : List TapeEntry) (n : ℕ) (b : Board) → budget entries n b ≡ 2 * counted entries (device_accesses entries) n b
     + 5 * (counted entries (λ c. wraps c.peripherals) n b + counted entries (λ c. entries_applied entries c.peripherals) n b
-    + counted entries (λ c. requests entries c.peripherals) n b + counted entries (resets_begun entries) n b)
+    + counted entries (λ c. requests entries c.peripherals) n b + counted entries (resets_started entries) n b)
 unfolding counted price ticks_price
 budget-parts entries zero b = refl
 budget-parts entries (suc n) b = let later = budget-parts entries n (step entries b) in omega arith

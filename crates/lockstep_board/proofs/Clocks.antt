@@ -26,8 +26,8 @@ use Rattle.tape_ports.specs.declared.entry.Port.{Port}
 use Rattle.tape_ports.specs.declared.entry.Port.TheVariants as port
 use Rattle.tape_ports.specs.declared.entry.TapeEntry.{TapeEntry}
 use Rattle.tape_ports.specs.Due.{due_at}
-use Rattle.lockstep_board.specs.Peripherals.{Peripherals, port_set, applied, devices_ticked, ticked, put_in, byte_put, reset_by, reset_begun}
-use Rattle.lockstep_board.specs.Lockstep.{Board, accessed, accessed_by, sequence_due, begun, at_fetch, after_access, step}
+use Rattle.lockstep_board.specs.Peripherals.{Peripherals, port_set, applied, devices_ticked, ticked, put_in, byte_put, reset_by, reset_started}
+use Rattle.lockstep_board.specs.Lockstep.{Board, accessed, accessed_by, sequence_due, started, at_fetch, after_access, step}
 use Rattle.lockstep_board.specs.Run.{stepped}
 use Rattle.lockstep_board.specs.Steps.{Through}
 
@@ -108,8 +108,8 @@ accessed_by-is (Write a v) r q bytes w is = record { at = standing-one r q bytes
 accessed_by-is (End e) r q bytes w is = record { at = rw (end-closes r q bytes e is) tt; adds = adds-none w w refl refl }
 
 -- a sequence begins with a read
-first-is : (q : Sequence) (r : RegistersValue) (w : Peripherals) → Accessed 1 w (begun q (accessed r q [] w))
-unfolding accessed next_of reset_begun
+first-is : (q : Sequence) (r : RegistersValue) (w : Peripherals) → Accessed 1 w (started q (accessed r q [] w))
+unfolding accessed next_of reset_started
 first-is Reset r w = record { at = (accessed_by-is _ r Reset [] w refl).at; adds = reset_by-adds w.divider.pending w }
 first-is q r w = record { at = (accessed_by-is _ r q [] w refl).at; adds = adds-none w w refl refl }
 

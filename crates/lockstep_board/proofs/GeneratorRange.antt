@@ -14,7 +14,7 @@ use Rattle.avg_decode.specs.Word.{IsLong, second_of, setting_of, short_distance,
 use Rattle.avg_draw.specs.Beam.{clocks_of, delta_of, held}
 use Rattle.avg_draw.proofs.Scales.{delta_high, delta_low, digits_few, power_bound, scale_bound}
 use Rattle.board_base.specs.declared.phase.TheConstants.{LOW_BYTE, HIGH_BYTE, SECOND_LOW, SECOND_HIGH, EXECUTE, DRAW}
-use Rattle.avg_device.specs.Tick.{begun, drawn, ended, executed, high_read, low_read, word_executed}
+use Rattle.avg_device.specs.Tick.{started, drawn, ended, executed, high_read, low_read, word_executed}
 use Rattle.avg_device.specs.Tick.{pen_of, phase_done, second_high_read, second_low_read, vg_go, vg_reset, vg_tick, word_at}
 use Rattle.board_base.specs.Ranges.{IsWithin}
 use Rattle.board_base.specs.Vg.{VgValue}
@@ -91,16 +91,16 @@ unread : AreBytes 4 (replicate 4 0)
 unread = record { count = refl; each = All-replicate IsByte 4 0 (omega arith) }
 
 -- Each step shows by a `let` what it changes, and `search` takes the rest of the range from h.
-begun_in : (dx dy : ℤ) (z : ℕ) (v : VgValue) → IsLong dx → IsLong dy → z < 8 → IsVgInRange v → IsVgInRange (begun dx dy z v)
-unfolding begun
-begun_in dx dy z v wide high code h =
+started_in : (dx dy : ℤ) (z : ℕ) (v : VgValue) → IsLong dx → IsLong dy → z < 8 → IsVgInRange v → IsVgInRange (started dx dy z v)
+unfolding started
+started_in dx dy z v wide high code h =
     let clocks = clocks_in dx dy v.bin wide high in let phase = drawing_in (clocks_of dx dy v.bin) clocks.0 clocks.1 in
     let pen = pen_in z v.intensity code h.device.intensity in let right = delta_in dx v.lin v.bin wide in let up = delta_in dy v.lin v.bin high in search rules
 
 obeyed_in : (word : VgWord) (second : ℤ × ℕ) (v : VgValue) → IsWord word → IsLong second.0 → second.1 < 8 → IsVgInRange v → IsVgInRange (word_executed word second v)
 unfolding word_executed
-obeyed_in (Vctr dy) second v word far code h = begun_in second.0 dy second.1 v far word code h
-obeyed_in (Svec dx dy z) second v word far code h = begun_in dx dy z v word.0 word.1 word.2 h
+obeyed_in (Vctr dy) second v word far code h = started_in second.0 dy second.1 v far word code h
+obeyed_in (Svec dx dy z) second v word far code h = started_in dx dy z v word.0 word.1 word.2 h
 obeyed_in Cntr second v word far code h = let origin = zero_within (2 ^ 30) in search rules
 obeyed_in (Jsrl to) second v word far code h =
     let sp : (v.sp + 1) % 4 < 4 = omega arith in let stack = length-set v.stack v.sp v.pc ∙ h.device.stack in

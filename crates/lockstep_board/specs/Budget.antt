@@ -71,9 +71,9 @@ abbrev pub begins_reset : Option MidValue → CpuValue → Peripherals → ℕ
 begins_reset None c w = reset_count (sequence_due c w)
 begins_reset (Some mid) c w = 0
 
--- the reset sequences begun in a board's next clock, one or none
-abbrev pub resets_begun : List TapeEntry → Board → ℕ
-resets_begun entries b = begins_reset b.cpu.mid b.cpu (ticked entries b.peripherals)
+-- the reset sequences started in a board's next clock, one or none
+abbrev pub resets_started : List TapeEntry → Board → ℕ
+resets_started entries b = begins_reset b.cpu.mid b.cpu (ticked entries b.peripherals)
 
 -- a count over the next n clocks of a board
 unfoldable pub counted : List TapeEntry → (Board → ℕ) → ℕ → Board → ℕ
@@ -87,7 +87,7 @@ ticks_price entries w = 5 * (wraps w + entries_applied entries w + requests entr
 -- the calls that a clock may cost: two for a device access, and five each for a wrap, an entry, a
 -- request of a wired POKEY and a reset
 unfoldable pub price : List TapeEntry → Board → ℕ
-price entries b = 2 * device_accesses entries b + 5 * resets_begun entries b + ticks_price entries b.peripherals
+price entries b = 2 * device_accesses entries b + 5 * resets_started entries b + ticks_price entries b.peripherals
 
 -- the calls that the next n clocks may cost
 abbrev pub budget : List TapeEntry → ℕ → Board → ℕ

@@ -14,7 +14,7 @@ use Rattle.cpu_core.specs.Registers.{RegistersValue, registers_of}
 use Rattle.cpu_core.specs.Sequences.{next_of, start_of}
 use Rattle.cpu_core.specs.Places.{standing, given_by}
 use Rattle.tape_ports.specs.declared.entry.TapeEntry.{TapeEntry}
-use Rattle.lockstep_board.specs.Peripherals.{Peripherals, ticked, line_of, byte_read, byte_put, reset_begun}
+use Rattle.lockstep_board.specs.Peripherals.{Peripherals, ticked, line_of, byte_read, byte_put, reset_started}
 
 -- the processor, and all that it is wired to
 pub record Board : Type 0 where
@@ -51,14 +51,14 @@ sequence_due c w =
     if is_reset w.divider.pending then Reset else (if line_of w && not (is_masked c.p) then Interrupt else Opcode)
 
 -- what else the first clock of a sequence does, after its access
-abbrev pub begun : Sequence → Board → Board
-begun Reset b = record b { peripherals = reset_begun b.peripherals }
-begun Interrupt b = b
-begun Opcode b = b
+abbrev pub started : Sequence → Board → Board
+started Reset b = record b { peripherals = reset_started b.peripherals }
+started Interrupt b = b
+started Opcode b = b
 
 -- a fetch, in a clock whose ticks are done
 unfoldable pub at_fetch : CpuValue → Peripherals → Board
-at_fetch c w = let q = sequence_due c w in begun q (accessed (start_of q c) q [] w)
+at_fetch c w = let q = sequence_due c w in started q (accessed (start_of q c) q [] w)
 
 -- the access of a clock whose ticks are done
 abbrev pub after_access : Option MidValue → CpuValue → Peripherals → Board

@@ -143,9 +143,9 @@ reset_by Watchdog w = record w {
 reset_by Power w = record w { divider = reset_taken w.divider }
 reset_by Nothing w = record w { divider = reset_taken w.divider }
 
--- the pending reset is begun
-unfoldable pub reset_begun : Peripherals → Peripherals
-reset_begun w = reset_by w.divider.pending w
+-- the pending reset is started
+unfoldable pub reset_started : Peripherals → Peripherals
+reset_started w = reset_by w.divider.pending w
 
 -- the peripherals of a board over an image, with no records yet: the vector ROM stands behind the
 -- vector RAM

@@ -10,7 +10,7 @@ ghost use Rattle.lockstep_board.specs.Lockstep.{Board, step, access_in};
 ghost use Rattle.lockstep_board.specs.Ranges.{IsBoardInRange};
 ghost use Rattle.lockstep_board.specs.Run.{stepped, boundary_steps, clock_steps, cut_steps, to_boundary, to_clock, to_cut, is_jammed, is_over, is_at, is_cut, IsPlaced};
 ghost use Rattle.lockstep_board.specs.Breaks.{turn, turned, TurnsTo};
-ghost use Rattle.lockstep_board.specs.Budget.{budget, counted, device_accesses, reaches_device, wraps, entries_applied, requests, resets_begun};
+ghost use Rattle.lockstep_board.specs.Budget.{budget, counted, device_accesses, reaches_device, wraps, entries_applied, requests, resets_started};
 ghost use Rattle.lockstep_board.specs.Order.{cleared, AddsOneClock, AreMadeBetween, Recorded, behind, records_of};
 ghost use Rattle.lockstep_board.specs.Uses.{devices, devices_read, devices_written};
 
@@ -108,7 +108,7 @@ pub fn budget_in_parts()
         → budget entries n b
         ≡ 2 * counted entries (device_accesses entries) n b
         + 5 * (counted entries (λ c. wraps c.peripherals) n b + counted entries (λ c. entries_applied entries c.peripherals) n b
-        + counted entries (λ c. requests entries c.peripherals) n b + counted entries (resets_begun entries) n b) }
+        + counted entries (λ c. requests entries c.peripherals) n b + counted entries (resets_started entries) n b) }
     ensures sum { (entries : List TapeEntry) → (of_clock : Board → ℕ) → (n m : ℕ) → (b : Board)
         → counted entries of_clock (n + m) b ≡ counted entries of_clock n b + counted entries of_clock m (stepped entries n b) }
     ensures more { (entries : List TapeEntry) → (n m : ℕ) → (b : Board)

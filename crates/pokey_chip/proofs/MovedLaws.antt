@@ -27,7 +27,7 @@ use Rattle.pokey_chip.proofs.RegisterLaws.{Kept, kept, pot-after}
 use Rattle.pokey_chip.proofs.VoiceLaws.{due-later, due_in, voice-in, later-test}
 use Rattle.pokey_chip.proofs.TickLaws.{next_by, IsSmall, small-after, four-same, levels-same, long-after, next-same, requests-bit, requests-fits, requests-none, three-same, two-same}
 use Rattle.pokey_chip.proofs.PlanLaws.{planned, voice_of, IsFar, IsThere, Plan, far-then, same-levels}
-use Rattle.pokey_chip.proofs.RecordLemmas.{begun-records, extended-more, quiet-trail}
+use Rattle.pokey_chip.proofs.RecordLemmas.{started-records, extended-more, quiet-trail}
 use Rattle.pokey_chip.proofs.ToneLaws.{of-each}
 use Rattle.pokey_chip.proofs.CountLaws.{tick-settled}
 
@@ -136,10 +136,10 @@ module _ {p : PokeyValue} {n : ℕ} (plan : Plan p n) (k : ℕ) (within : k ≤ 
   timed-in m h e = rw (there.same, ← e) (voice-in c p (plan.start c) (plan.voices c) m (omega (arith, plan.early))).timed
 
   timed-there : IsTimed w
-  timed-there = grind (arith, timed-in (plan.begin c - 1), timed-in k within, plan.begin_within c, plan.hidden c, there.hidden, there.begun)
+  timed-there = grind (arith, timed-in (plan.begin c - 1), timed-in k within, plan.begin_within c, plan.hidden c, there.hidden, there.started)
 
   later-there : k < w.due
-  later-there = grind (arith, there.hidden, there.begun, due-later c p (plan.start c) (plan.voices c) k (omega (arith, plan.early)))
+  later-there = grind (arith, there.hidden, there.started, due-later c p (plan.start c) (plan.voices c) k (omega (arith, plan.early)))
 
 -- a move at its first clock
 module _ (p : PokeyValue) (from n : ℕ) (x : TrailValue) (vs ws : Voices) (noise : Noise) (tones : Tones) (last : List ℕ) (some : 1 ≤ n) (early : n ≤ 2 ^ 49) (room : n ≤ x.spare)
@@ -156,12 +156,12 @@ module _ (p : PokeyValue) (from n : ℕ) (x : TrailValue) (vs ws : Voices) (nois
       ∙ requests-bit 0 p.irqen p.irqst j h
       ∙ ap (λ (u : ℕ). is_bit p.irqst j && not (has u (asker j) && is_bit p.irqen j)) (sym underflowed)
 
-  pub begun : HasMoved p from n 1 x x ws noise tones None last
+  pub started : HasMoved p from n 1 x x ws noise tones None last
   unfolding ticks
-  begun = begun-by planned-here
+  started = started-by planned-here
     where
-      begun-by : (plan : Plan p n) × ((c : Channel) → IsThere (plan.start c) (plan.begin c) 0 (voice_of ws c)) → HasMoved p from n 1 x x ws noise tones None last
-      begun-by (plan, there) = record {
+      started-by : (plan : Plan p n) × ((c : Channel) → IsThere (plan.start c) (plan.begin c) 0 (voice_of ws c)) → HasMoved p from n 1 x x ws noise tones None last
+      started-by (plan, there) = record {
         plan = plan;
         done = 0;
         is = record {
@@ -181,7 +181,7 @@ module _ (p : PokeyValue) (from n : ℕ) (x : TrailValue) (vs ws : Voices) (nois
           fits = fits;
           known = tt;
           due = λ c. later-there plan 0 (omega arith) c (voice_of ws c) (there c);
-          records = begun-records from p x;
+          records = started-records from p x;
           room = omega arith;
         };
       }
@@ -374,7 +374,7 @@ module _ {p : PokeyValue} {from n at : ℕ} {x y : TrailValue} {vs : Voices} {no
     voice-end : (c : Channel) → IsVoice c n p (voice_of vs c)
     voice-end c =
         let there : IsThere (has-moved.plan.start c) (has-moved.plan.begin c) n (voice_of vs c) = last-step.far.voice c in
-        rw (there.same, ← there.begun (has-moved.plan.begin_within c)) (voice-in c p (has-moved.plan.start c) (has-moved.plan.voices c) n has-moved.plan.early)
+        rw (there.same, ← there.started (has-moved.plan.begin_within c)) (voice-in c p (has-moved.plan.start c) (has-moved.plan.voices c) n has-moved.plan.early)
 
     pub is-left-end : (c : Channel) → IsLeft (voice_of vs c) n
     is-left-end c = is-left c n p (voice_of vs c) (voice-end c)

@@ -47,8 +47,8 @@ pub output-runs : (held : Bool) (poly : Poly) (r word k n : ℕ) → held ≡ fa
 output-runs held poly r word k n e is = ap (λ (m : ℕ). is_bit m 0) (register-runs held poly r word k n e is)
 
 -- the word of a register itself
-pub word-begun : (poly : Poly) (r s word : ℕ) → s ≡ r → IsAhead poly s (47 + width_of poly) word → word % 2 ^ width_of poly ≡ s → IsWord poly r 0 word
-word-begun poly r s word e ahead start = record {
+pub word-started : (poly : Poly) (r s word : ℕ) → s ≡ r → IsAhead poly s (47 + width_of poly) word → word % 2 ^ width_of poly ≡ s → IsWord poly r 0 word
+word-started poly r s word e ahead start = record {
   ahead = rw start ahead;
   start = start ∙ e ∙ sym (times-zero (shifted poly) r);
 }

@@ -56,7 +56,7 @@ pub record Plan (p : PokeyValue) (n : ℕ) : Type 0 where
 -- the move's channel beside the one that leaves nothing out
 pub record IsThere (start : Voice) (begin k : ℕ) (w : Voice) : Type 0 where
   pub same : w ≡ record start { due = w.due }
-  pub begun : begin ≤ k → due_in start k ≡ w.due
+  pub started : begin ≤ k → due_in start k ≡ w.due
   pub hidden : k < begin → w.due ≡ begin
 
 -- a request, by whether its channel has underflowed; the move's word says so once the channel began
@@ -91,14 +91,14 @@ module _ {p : PokeyValue} {n : ℕ} (plan : Plan p n) (k : ℕ) (inside : suc k 
   comes-is : (c : Channel) → comes q c ≡ (due_in (plan.start c) k == suc k)
   comes-is c = underflow-at c p (plan.start c) (plan.voices c) k (omega arith)
 
-  -- a channel that has begun by this clock is due as the real one is
+  -- a channel that has started by this clock is due as the real one is
   hidden-due : (c : Channel) → plan.begin c ≡ suc k → due_in (plan.start c) k ≡ suc k
   hidden-due c e =
       let place : plan.begin c - 1 ≡ k = omega arith in
       ap (due_in (plan.start c)) (sym place) ∙ (plan.hidden c (omega arith)).due ∙ e
 
   near : (c : Channel) → plan.begin c ≤ suc k → due_in (plan.start c) k ≡ (ws c).due
-  near c h = grind (arith, (far.voice c).begun, (far.voice c).hidden, hidden-due c)
+  near c h = grind (arith, (far.voice c).started, (far.voice c).hidden, hidden-due c)
 
   flag : (c : Channel) → plan.begin c ≤ suc k → ((ws c).due == suc k) ≡ comes q c
   flag c h = ap (λ (d : ℕ). d == suc k) (sym (near c h)) ∙ sym (comes-is c)
@@ -125,10 +125,10 @@ module _ {p : PokeyValue} {n : ℕ} (plan : Plan p n) (k : ℕ) (inside : suc k 
       by_test : (b : Bool) → comes q (follower j) ≡ b → is_bit new.pass j ≡ is_bit (times pokey_tick (suc k) p).pass j
       by_test true e =
           let due : due_in (plan.start (follower j)) k ≡ suc k = equal-by (due_in (plan.start (follower j)) k) (suc k) (sym (comes-is (follower j)) ∙ e) in
-          let begun : (plan.begin (leader j) ≤ suc k) × (plan.begin (follower j) ≤ suc k) = plan.after j k inside there due in
+          let started : (plan.begin (leader j) ≤ suc k) × (plan.begin (follower j) ≤ suc k) = plan.after j k inside there due in
           let tone : is_bit new.tone j ≡ is_bit (times pokey_tick (suc k) p).tone j
-          = sym (leader-place j h new.tone) ∙ tone-right (leader j) begun.0 ∙ leader-place j h (times pokey_tick (suc k) p).tone in
-          let taken : is_bit new.pass j ≡ is_bit new.tone j = rw (flag (follower j) begun.1, e) at (pass2 j h) in
+          = sym (leader-place j h new.tone) ∙ tone-right (leader j) started.0 ∙ leader-place j h (times pokey_tick (suc k) p).tone in
+          let taken : is_bit new.pass j ≡ is_bit new.tone j = rw (flag (follower j) started.1, e) at (pass2 j h) in
           taken ∙ tone ∙ sym (rw e at (pass-after p plan.small k j h))
       by_test false e =
           let stays : is_bit (times pokey_tick (suc k) p).pass j ≡ is_bit q.pass j = rw e at (pass-after p plan.small k j h) in
@@ -147,7 +147,7 @@ module _ {p : PokeyValue} {n : ℕ} (plan : Plan p n) (k : ℕ) (inside : suc k 
 
           still : (suc k < plan.begin (follower j)) ⊎ (plan.begin (follower j) ≤ suc k) → ((ws (follower j)).due == suc k) ≡ false
           still (inl hidden) = no-flag (follower j) hidden
-          still (inr begun) = flag (follower j) begun ∙ e
+          still (inr started) = flag (follower j) started ∙ e
 
   asked-then : (j : ℕ) → j < 3 → IsAsked p (times pokey_tick (suc k) p) (plan.begin (asker j)) (suc k) new.underflowed j
   asked-then j h = record {
@@ -171,7 +171,7 @@ module _ {p : PokeyValue} {n : ℕ} (plan : Plan p n) (k : ℕ) (inside : suc k 
   voice-then c = rw (voice2 c) (record {
     same = let e : ws c ≡ record (plan.start c) { due = (ws c).due } = (far.voice c).same in
         ap (λ (w : Voice). record w { due = if (ws c).due == suc k then (ws c).due + (ws c).step else (ws c).due }) e;
-    begun = λ h. due-suc (plan.start c) k ∙ rw (near c h) (ap (λ (s : ℕ). if (ws c).due == suc k then (ws c).due + s else (ws c).due) (sym (ap (λ (w : Voice). w.step) (far.voice c).same)));
+    started = λ h. due-suc (plan.start c) k ∙ rw (near c h) (ap (λ (s : ℕ). if (ws c).due == suc k then (ws c).due + s else (ws c).due) (sym (ap (λ (w : Voice). w.step) (far.voice c).same)));
     hidden = λ h. ap (λ (b : Bool). if b then (ws c).due + (ws c).step else (ws c).due) (no-flag c h) ∙ (far.voice c).hidden (omega arith);
   })
 
@@ -201,17 +201,17 @@ module _ {p : PokeyValue} {n : ℕ} (plan : Plan p n)
     ]
   ]
 
-  begun-same : (c : Channel) → plan.begin c ≡ 0 → level q c ≡ level r c
+  started-same : (c : Channel) → plan.begin c ≡ 0 → level q c ≡ level r c
   unfolding signal
-  begun-same First e =
+  started-same First e =
       filtered-same 0 (λ h. rw (tone First e, pass 0 (omega arith) h, audc, audctl, audc2, audctl2) refl) (λ h. rw (tone First e, audc, audctl, audc2, audctl2, h) refl)
-  begun-same Second e =
+  started-same Second e =
       filtered-same 1 (λ h. rw (tone Second e, pass 1 (omega arith) h, audc, audctl, audc2, audctl2) refl) (λ h. rw (tone Second e, audc, audctl, audc2, audctl2, h) refl)
-  begun-same Third e = rw (tone Third e, audc, audc2) refl
-  begun-same Fourth e = rw (tone Fourth e, audc, audc2) refl
+  started-same Third e = rw (tone Third e, audc, audc2) refl
+  started-same Fourth e = rw (tone Fourth e, audc, audc2) refl
 
   level-same : (c : Channel) → level q c ≡ level r c
-  level-same c = grind (arith, plan.hidden c, silent-same c, begun-same c)
+  level-same c = grind (arith, plan.hidden c, silent-same c, started-same c)
 
   pub same-levels : levels_of q ≡ levels_of r
   unfolding levels_of
@@ -351,7 +351,7 @@ begins {p} {c} {heard} {reach} {v} {w} small early is skipped = by_way skipped.b
       most = omega arith;
       no_later = λ taken last. omega arith;
       hidden = λ h. absurd (omega arith);
-      there = record { same = skipped.same; begun = λ h. due-zero v ∙ sym all; hidden = λ h. absurd (omega arith) };
+      there = record { same = skipped.same; started = λ h. due-zero v ∙ sym all; hidden = λ h. absurd (omega arith) };
     }
     by_way (inr later) =
         let steps : SameSteps v reach w.due = same-steps p (audc_of p c) v reach w.due later.begins in
@@ -362,7 +362,7 @@ begins {p} {c} {heard} {reach} {v} {w} small early is skipped = by_way skipped.b
           most = steps.reached;
           no_later = λ taken last. rw steps.steps (last.last steps.more (omega (arith, steps.steps, steps.reached)));
           hidden = λ h. (later.unheard, hidden.1);
-          there = record { same = skipped.same; begun = λ h. absurd (omega (arith, hidden.0)); hidden = λ h. refl };
+          there = record { same = skipped.same; started = λ h. absurd (omega (arith, hidden.0)); hidden = λ h. refl };
         }
 
 unheard-by : (on silent : Bool) → (on && not silent) ≡ false → (silent ≡ true) ⊎ (on ≡ false)

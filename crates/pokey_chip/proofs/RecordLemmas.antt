@@ -39,8 +39,8 @@ pub levels-zero : (from : ℕ) (p : PokeyValue) → levels_made from 0 p ≡ []
 levels-zero from p = made-zero (λ _. pokey_tick) pokey_gives from p
 
 -- before the first clock
-pub begun-records : (from : ℕ) (p : PokeyValue) (t : TrailValue) → Extended t t (levels_made from 0 p)
-begun-records from p t = rw (levels-zero from p) (Extended-none t)
+pub started-records : (from : ℕ) (p : PokeyValue) (t : TrailValue) → Extended t t (levels_made from 0 p)
+started-records from p t = rw (levels-zero from p) (Extended-none t)
 
 pub gives-one : (clock : ℕ) (p : PokeyValue) → length (pokey_gives clock p) ≤ 1
 unfolding pokey_gives change

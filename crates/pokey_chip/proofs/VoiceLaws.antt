@@ -100,15 +100,15 @@ near clock_source due none n few small = grind (arith, source_pulses-few)
 pub ruleset passes = (due-few, due-again)
 
 -- a channel at the start of a move
-pub begun : (c : Channel) (p : PokeyValue) (n : ℕ) → left_of c p ≡ n → left_of c (times pokey_tick 0 p) + pulses_of c 0 p ≡ n
+pub started : (c : Channel) (p : PokeyValue) (n : ℕ) → left_of c p ≡ n → left_of c (times pokey_tick 0 p) + pulses_of c 0 p ≡ n
 unfolding ticks pulses_of
-begun c p n e = omega arith
+started c p n e = omega arith
 
-pub begun-left : (c : Channel) (p : PokeyValue) → left_of c (times pokey_tick 0 p) ≡ left_of c p
+pub started-left : (c : Channel) (p : PokeyValue) → left_of c (times pokey_tick 0 p) ≡ left_of c p
 unfolding ticks
-begun-left c p = refl
+started-left c p = refl
 
-pub ruleset begins = (begun, begun-left, pulse-due)
+pub ruleset begins = (started, started-left, pulse-due)
 
 pub later-test : (due at : ℕ) → at < due → (due == at) ≡ false
 later-test due at h = grind (arith, nat_tests)

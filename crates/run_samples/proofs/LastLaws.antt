@@ -24,8 +24,8 @@ use Rattle.tape_ports.specs.declared.entry.Port.{Port}
 use Rattle.tape_ports.specs.declared.entry.Port.TheVariants as port
 use Rattle.tape_ports.specs.declared.entry.TapeEntry.{TapeEntry}
 use Rattle.tape_ports.specs.Due.{due_at}
-use Rattle.lockstep_board.specs.Peripherals.{Peripherals, applied, port_set, devices_ticked, ticked, put_in, byte_put, reset_by, reset_begun}
-use Rattle.lockstep_board.specs.Lockstep.{Board, accessed, accessed_by, sequence_due, begun, at_fetch, after_access, step}
+use Rattle.lockstep_board.specs.Peripherals.{Peripherals, applied, port_set, devices_ticked, ticked, put_in, byte_put, reset_by, reset_started}
+use Rattle.lockstep_board.specs.Lockstep.{Board, accessed, accessed_by, sequence_due, started, at_fetch, after_access, step}
 use Rattle.lockstep_board.specs.Run.{stepped}
 use Rattle.lockstep_board.specs.Order.{HasNoRecords}
 use Rattle.sound_pcm.specs.Samples as samples
@@ -66,15 +66,15 @@ reset_by-heard : (p : Pending) (w : Peripherals) → heard (reset_by p w) ≡ he
 reset_by-heard Nothing w = refl
 reset_by-heard _ w = refl
 
-begun-heard : (q : Sequence) (b : Board) → heard (begun q b).peripherals ≡ heard b.peripherals
-unfolding reset_begun
-begun-heard Reset b = reset_by-heard b.peripherals.divider.pending b.peripherals
-begun-heard _ b = refl
+started-heard : (q : Sequence) (b : Board) → heard (started q b).peripherals ≡ heard b.peripherals
+unfolding reset_started
+started-heard Reset b = reset_by-heard b.peripherals.divider.pending b.peripherals
+started-heard _ b = refl
 
 after_access-heard : (mid : Option MidValue) (c : CpuValue) (w : Peripherals) → heard (after_access mid c w).peripherals ≡ heard w
 unfolding at_fetch
 after_access-heard None c w =
-    let q = sequence_due c w in begun-heard q (accessed (start_of q c) q [] w) ∙ accessed-heard (start_of q c) q [] w
+    let q = sequence_due c w in started-heard q (accessed (start_of q c) q [] w) ∙ accessed-heard (start_of q c) q [] w
 after_access-heard (Some mid) c w = accessed-heard (registers_of c) mid.sequence (given_by mid) w
 
 -- the levels after a record of a change are those in it

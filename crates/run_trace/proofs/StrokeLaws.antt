@@ -11,7 +11,7 @@ use Rattle.lockstep_board.specs.Lockstep.{Board, access_in, step}
 use Rattle.lockstep_board.specs.Run.{boundary_steps, to_boundary}
 use Rattle.lockstep_board.proofs.Clocks.{step-clock}
 use Rattle.lockstep_board.proofs.InOrder.{to_boundary-made}
-use Rattle.frame_list.specs.Frames.{begun}
+use Rattle.frame_list.specs.Frames.{started}
 use Rattle.catchup_engine.specs.Starts.{marks_of}
 use Rattle.frame_list.proofs.InFrameLaws.{each_frame_has_its_strokes}
 use Rattle.frame_list.proofs.WholeLaws.{each_stroke_in_one_frame}
@@ -26,7 +26,7 @@ all_told entries limit b none =
     let last = to_boundary entries limit b in
     let order = to_boundary-made entries b.peripherals.clock limit b (made-none b none) in
     let made : All (Makes Generator) last.peripherals.strokes = (trail-made Generator b.peripherals.clock last.peripherals.clock last.peripherals.strokes order.strokes).kinds in
-    each_stroke_in_one_frame (begun 0 b.peripherals.clock) last.peripherals.strokes (run_marks entries limit b) made ∙ zero-add (length last.peripherals.strokes)
+    each_stroke_in_one_frame (started 0 b.peripherals.clock) last.peripherals.strokes (run_marks entries limit b) made ∙ zero-add (length last.peripherals.strokes)
 
 -- numbers that don't fall, after others that are none above them
 rising-cons : (x : ℕ) (xs : List ℕ) → All (λ y. x ≤ y) xs → IsNonDecreasing xs → IsNonDecreasing (x ∷ xs)

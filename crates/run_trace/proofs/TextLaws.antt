@@ -14,7 +14,7 @@ use Rattle.lockstep_board.proofs.Ended.{cleared-empty}
 use Rattle.catchup_engine.specs.Traced.{observed}
 use Rattle.cycle_profile.specs.Profile.{ProfileValue, after}
 use Rattle.cycle_profile.specs.Text.{profile_text}
-use Rattle.frame_list.specs.Frames.{FrameValue, begun, ended, frame_text, frames_text, under_way}
+use Rattle.frame_list.specs.Frames.{FrameValue, started, ended, frame_text, frames_text, under_way}
 use Rattle.log_text.specs.LogText.{last_text}
 use Rattle.run_trace.specs.BoardFrames.{framed_text, run_events, run_frames}
 use Rattle.run_trace.specs.BoardProfile.{no_profile, profiled_text, run_profile, run_turns}
@@ -30,13 +30,13 @@ last-cleared b = refl
 -- the frames that ended, the one under way, and the last line
 pub framed-is : (entries : List TapeEntry) (limit : ℕ) (b : Board) → HasNoRecords b
     → framed_text entries limit b
-    ≡ frames_text (ended (begun 0 b.peripherals.clock) (run_events entries limit (cleared b)))
-    ++ (frame_text (under_way (begun 0 b.peripherals.clock) (run_events entries limit (cleared b)))
+    ≡ frames_text (ended (started 0 b.peripherals.clock) (run_events entries limit (cleared b)))
+    ++ (frame_text (under_way (started 0 b.peripherals.clock) (run_events entries limit (cleared b)))
     ++ last_line (cleared (to_boundary entries limit b)))
 unfolding framed_text run_frames frames_text
 framed-is entries limit b none =
     let events = run_events entries limit b in
-    let first = begun 0 b.peripherals.clock in
+    let first = started 0 b.peripherals.clock in
     let last = to_boundary entries limit b in
     let one : frames_text (under_way first events ∷ []) ≡ frame_text (under_way first events) =
     flat_map-cons frame_text (under_way first events) [] ∙ append-nil (frame_text (under_way first events)) in
@@ -52,13 +52,13 @@ pub last-at_end : (entries : List TapeEntry) (limit : ℕ) (b now : Board) → n
     → last_line now ≡ last_line (cleared (to_boundary entries limit b))
 last-at_end entries limit b now is = ap last_line is
 
-module _ (entries : List TapeEntry) (limit : ℕ) (b : Board) (none : HasNoRecords b) (frames : FrameValue) (is : frames ≡ begun 0 b.peripherals.clock)
+module _ (entries : List TapeEntry) (limit : ℕ) (b : Board) (none : HasNoRecords b) (frames : FrameValue) (is : frames ≡ started 0 b.peripherals.clock)
     (out0 out1 : Option (List ℕ)) where
   abbrev lines : List ℕ
-  lines = frames_text (ended (begun 0 b.peripherals.clock) (run_events entries limit (cleared b)))
+  lines = frames_text (ended (started 0 b.peripherals.clock) (run_events entries limit (cleared b)))
 
   abbrev one_line : List ℕ
-  one_line = frame_text (under_way (begun 0 b.peripherals.clock) (run_events entries limit (cleared b)))
+  one_line = frame_text (under_way (started 0 b.peripherals.clock) (run_events entries limit (cleared b)))
 
   abbrev end_line : List ℕ
   end_line = last_line (cleared (to_boundary entries limit b))

@@ -8,7 +8,7 @@ use Rattle.lockstep_board.specs.Run.{boundary_steps, to_boundary}
 use Rattle.catchup_engine.specs.Trace.{accesses_of}
 use Rattle.catchup_engine.specs.Starts.{marks_of}
 use Rattle.frame_list.specs.Events.{Event, by_clock}
-use Rattle.frame_list.specs.Frames.{FrameValue, begun, frames_of, frames_text}
+use Rattle.frame_list.specs.Frames.{FrameValue, started, frames_of, frames_text}
 use Rattle.frame_list.specs.InFrames.{frame_at}
 use Rattle.log_text.specs.LogText.{last_text}
 
@@ -22,7 +22,7 @@ run_events entries limit b = by_clock (to_boundary entries limit b).peripherals.
 
 -- the frames of the run: the first begins where it begins, and each mark begins the next
 unfoldable pub run_frames : List TapeEntry → ℕ → Board → List FrameValue
-run_frames entries limit b = frames_of (begun 0 b.peripherals.clock) (run_events entries limit b)
+run_frames entries limit b = frames_of (started 0 b.peripherals.clock) (run_events entries limit b)
 
 -- their lines, and then the last line of the run
 unfoldable pub framed_text : List TapeEntry → ℕ → Board → List ℕ

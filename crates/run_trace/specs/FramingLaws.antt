@@ -22,7 +22,7 @@ use Rattle.lockstep_board.proofs.TurnLaws.{to_boundary-none}
 use Rattle.run_windows.specs.TurnObserver.{FollowsInParts, IsFollowedInParts, StandsStill}
 use Rattle.catchup_engine.specs.Starts.{marks_in, marks_of}
 use Rattle.frame_list.specs.Events.{by_clock, mark_at, stroke_of, through}
-use Rattle.frame_list.specs.Frames.{FrameValue, IsBefore, begun, ended, frames_text, under_way}
+use Rattle.frame_list.specs.Frames.{FrameValue, IsBefore, started, ended, frames_text, under_way}
 use Rattle.frame_list.proofs.FrameLaws.{strokes-most, strokes-number, under_way-append}
 use Rattle.frame_list.proofs.WholeLaws.{parts_make_the_whole}
 use Rattle.run_trace.specs.BoardFrames.{run_events, run_marks}
@@ -105,7 +105,7 @@ events-few frame strokes (mark ∷ marks) =
     let later = drop n strokes in
     let last = under_way frame (map stroke_of first) in
     let same = strokes-number frame first in
-    let rest = events-few (begun (last.number + 1) mark) later marks in
+    let rest = events-few (started (last.number + 1) mark) later marks in
     let fewer = length-drop n strokes in
     let number = rest.number in
     let few = rest.strokes in

@@ -5,7 +5,7 @@ ghost use Rattle.outside_io.specs.Sink.{Takes};
 ghost use Rattle.lockstep_board.specs.Order.{cleared};
 ghost use Rattle.lockstep_board.specs.Run.{to_boundary};
 ghost use Rattle.run_windows.specs.SyncedMachine.{loan_of, value_of};
-ghost use Rattle.frame_list.specs.Frames.{begun};
+ghost use Rattle.frame_list.specs.Frames.{started};
 ghost use Rattle.run_trace.specs.BoardFrames.{framed_text};
 ghost use Rattle.run_trace.specs.Framing.{after_part, after_run, framed_together, framer_after_plain, framer_after_turn, keeps_marks, part_framed, run_framed_text, CanFrame, HasNumbers};
 ghost use Rattle.run_trace.specs.FramingLaws.{framed_in_parts, framed_still};
@@ -103,7 +103,7 @@ impl TurnObserver for Framer {
 
 /// A framer whose first frame begins where the board of a synchronised machine stands.
 fn framer_at<M: Machine>(synced: &SyncedMachine<'_, M>) -> Framer
-    ensures frames { result.frames ≡ begun 0 (value_of synced.now).board.peripherals.clock }
+    ensures frames { result.frames ≡ started 0 (value_of synced.now).board.peripherals.clock }
     ensures marks { result.marks ≡ [] }
     ensures clock { (value_of synced.now).board.peripherals.clock ≤ CLOCK_LIMIT + 16 }
 {

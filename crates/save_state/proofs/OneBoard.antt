@@ -91,7 +91,7 @@ middle_by : (c cpu : CpuValue) (facts : Facts) (mid : Option MidValue) → c.mid
 middle_by c cpu facts None s e f range place stated = rw f (search arith)
 middle_by c cpu facts (Some m) s e f range place stated =
     let here : IsMiddle (record c { mid = Some m }) = subst (λ (x : Option MidValue). IsMiddle (record c { mid = x })) s place in
-    rw (e, here.0, f, not_zero m.sequence) ((refl, grind arith), ((refl, (here.1.begun, here.1.short)), ((range.bytes, stated), tt)))
+    rw (e, here.0, f, not_zero m.sequence) ((refl, grind arith), ((refl, (here.1.started, here.1.short)), ((range.bytes, stated), tt)))
 
 -- rows after others
 spelled_append : (cpu : CpuValue) (facts : Facts) (b : BoardValue) (xs ys : Rows) → AreSpelled cpu facts xs b → AreSpelled cpu facts ys b → AreSpelled cpu facts (xs ++ ys) b

@@ -3,7 +3,7 @@ ghost use Rattle.std.specs.Prelude.{◌≡◌, ◌&&◌, not, ◌+◌, ◌-◌, 
 ghost use Rattle.catchup_engine.specs.Bus.{Does, at_clock};
 ghost use Rattle.catchup_engine.specs.Quiet.{later};
 ghost use Rattle.irq_watchdog.specs.Tick.{reset_taken};
-ghost use Rattle.lockstep_board.specs.Peripherals.{devices_ticked, has_request, line_of, reset_begun};
+ghost use Rattle.lockstep_board.specs.Peripherals.{devices_ticked, has_request, line_of, reset_started};
 
 use crate::bus::BoardBus;
 use crate::devices::Units;
@@ -84,11 +84,11 @@ impl<S: Units> BoardBus<S> {
 
     /// Begins the pending reset, in the clock that counts as done: one by the watchdog halts the
     /// generator, clears the output latch and is recorded.
-    #[tactic(auto, using(board_base::proofs::TickLaws::level, crate::proofs::DividerLaws::lines), unfolding(lockstep_board::specs::Peripherals::reset_begun))]
+    #[tactic(auto, using(board_base::proofs::TickLaws::level, crate::proofs::DividerLaws::lines), unfolding(lockstep_board::specs::Peripherals::reset_started))]
     pub fn begin_reset(&mut self)
         requires room { length self.old.peripherals.written < self.old.rooms.board }
         requires clock_done { 1 ≤ self.old.peripherals.clock }
-        ensures does { Does self.old self.new (at_clock self.old.peripherals.clock (reset_begun (at_clock (self.old.peripherals.clock - 1) self.old.peripherals))) 4 }
+        ensures does { Does self.old self.new (at_clock self.old.peripherals.clock (reset_started (at_clock (self.old.peripherals.clock - 1) self.old.peripherals))) 4 }
         ensures few { length self.new.peripherals.written ≤ length self.old.peripherals.written + 1 }
         ensures clock { self.new.peripherals.clock ≡ self.old.peripherals.clock }
     {

@@ -15,5 +15,5 @@ some_not_none None h e = cc
 some_not_none (Some m) h e = cc
 
 pub returns-clause-done : goal.returns-clause-done
-returns-clause-done g c = λ r q clocks begun made s m t at end few a some rest.
-    (two_parts (g.B.Bus.step c.args.feed.now) r q clocks made s m t at end (begun, a) few (some_not_none at.mid some) rest).runs
+returns-clause-done g c = λ r q clocks started made s m t at end few a some rest.
+    (two_parts (g.B.Bus.step c.args.feed.now) r q clocks made s m t at end (started, a) few (some_not_none at.mid some) rest).runs

@@ -7,8 +7,8 @@ use Rattle.pokey_chip.specs.Moves.{IsLeft}
 use Rattle.pokey_chip.specs.Tick.{pokey_tick}
 use Rattle.pokey_chip.specs.Tones.{levels_on}
 use Rattle.pokey_chip.proofs.TickLaws.{IsSmall}
-use Rattle.pokey_chip.proofs.RecordLemmas.{begun-records}
-use Rattle.pokey_chip.proofs.MovedLaws.{HasMoved, begun, is-left-end, is-timed, moved, moved-records, moved-state}
+use Rattle.pokey_chip.proofs.RecordLemmas.{started-records}
+use Rattle.pokey_chip.proofs.MovedLaws.{HasMoved, started, is-left-end, is-timed, moved, moved-records, moved-state}
 use Rattle.pokey_chip.proofs.PlanLaws.{voice_of}
 use Rattle.pokey_chip.proofs.fast.ByUnderflowsMoves.run.Goals as goal
 
@@ -18,7 +18,7 @@ returns-then-n-eq0-clause-state c = sym (times-still pokey_tick c.args.n c.args.
 pub returns-then-n-eq0-clause-records : goal.returns-then-n-eq0-clause-records
 returns-then-n-eq0-clause-records c =
     let none : c.args.n ≡ 0 = omega arith in
-    rw none (begun-records c.args.from c.args.state.now c.args.trail.now)
+    rw none (started-records c.args.from c.args.state.now c.args.trail.now)
 
 pub loop-at-init : goal.loop-at-init
 loop-at-init c =
@@ -27,7 +27,7 @@ loop-at-init c =
       pass = omega (arith, ap (λ (q : PokeyValue). q.pass) c.start.view_is, c.start.invariant.pass);
       irqst = omega (arith, ap (λ (q : PokeyValue). q.irqst) c.start.view_is, c.start.invariant.irqst);
     } in
-    begun c.args.state.now c.args.from c.args.n c.args.trail.now c.of.result c.skipping-voices.result c.of-noise.result c.of-tones.result c.start.inside.last
+    started c.args.state.now c.args.from c.args.n c.args.trail.now c.of.result c.skipping-voices.result c.of-noise.result c.of-tones.result c.start.inside.last
     (omega arith) (omega arith) c.requires.room small
     c.of-noise.ensures.noise c.of-noise.ensures.since
     c.of-tones.ensures.tone c.of-tones.ensures.pass c.of-tones.ensures.underflowed
