@@ -199,15 +199,15 @@ module _ {T : Type 0} (next : T → TraceValue → ℕ → T) (enough : T → Bo
           single = λ off. (let on = has.joined on_yet in cc);
         }
 
-    pub noted-goes : (goes : Bool) → limit ≤ CLOCK_LIMIT → TakesTogether next enough after_plain plain
+    pub noted-goes : (asked goes : Bool) → limit ≤ CLOCK_LIMIT → TakesTogether next enough after_plain plain
         → (together ≡ true → (k : Peripherals) → k.ram ≡ s.peripherals.ram → k.program ≡ s.peripherals.program → plain (byte_read c.pc k) ≡ true)
         → IsCounted tape n u → KeepsLines t u → then.accesses ≤ u.peripherals.clock + n
         → (goes ≡ true → u.peripherals.divider.phase + (u.event_at - u.peripherals.clock) < DIVIDER_PERIOD)
-        → (goes ≡ true → is_before false horizon f (passed n u) ≡ true) → (goes ≡ true → then.starts ≡ [])
+        → (goes ≡ true → is_before asked horizon f (passed n u) ≡ true) → (goes ≡ true → then.starts ≡ [])
         → (goes ≡ true → together ≡ true) → (goes ≡ true → (k : Peripherals) → k.ram ≡ u.peripherals.ram → k.program ≡ u.peripherals.program → plain (byte_read f.pc k) ≡ true)
         → AtNoted horizon together c s n u f then goes
-    noted-goes goes last laws opcode counted lines few wrap before no_starts joined plain_then = record {
-      at = horizon-goes tape limit no_conditions false horizon c e f s t u elapsed n more goes on_yet last at.at bus-runs boundary counted lines wrap (λ on. and-none _ (before on));
+    noted-goes asked goes last laws opcode counted lines few wrap before no_starts joined plain_then = record {
+      at = horizon-goes tape limit no_conditions asked horizon c e f s t u elapsed n more goes on_yet last at.at bus-runs boundary counted lines wrap (λ on. and-none _ (before on));
       starts = no_starts;
       few = few;
       turns = inr (record { runs = λ w. by_turns at.turns w; joined = joined; opcode = plain_then });

@@ -24,7 +24,7 @@ ghost use Rattle.catchup_engine.specs.Traced.{NotedTurns};
 use crate::bus::{BoardBus, PROGRAM_START, is_private};
 use crate::devices::Units;
 use crate::note::{Reached, TurnNote};
-use crate::quiet::{Horizon, QuietBus, horizon_from};
+use crate::quiet::{Horizon, Loop, QuietBus, horizon_from};
 use crate::tracer::Tracer;
 use board_base::{RAM_LEN, Sequence};
 use board_map::{IN0, Row, WATCHDOG_START, Writes, row};
@@ -33,8 +33,8 @@ use lockstep_board::{devices_read, devices_written};
 use tape_ports::Tape;
 
 /// A `QuietBus` that notes what its accesses reach.
-struct NotedBus<'a, S: Units, T: Tracer> {
-    quiet: QuietBus<'a, S, T>,
+struct NotedBus<'a, S: Units, U> {
+    quiet: QuietBus<'a, S, U>,
     reached: &'a mut Reached,
 }
 
@@ -160,7 +160,7 @@ fn write_noted<S: Units>(
     }
 }
 
-impl<'a, S: Units, T: Tracer> NotedBus<'a, S, T> {
+impl<'a, S: Units, U> NotedBus<'a, S, U> {
     /// The opcode at an address of the RAM or of the program ROM, where none but the processor
     /// writes; elsewhere none is given.
     #[inline(always)]
@@ -179,37 +179,37 @@ impl<'a, S: Units, T: Tracer> NotedBus<'a, S, T> {
     fn instruction(&mut self, cpu: &mut Cpu, tape: &Tape) -> Fetched
         requires running { cpu.old.jam ≡ None }
         requires boundary { cpu.old.mid ≡ None }
-        requires accepts { ⟦<NotedBus<'a, S, T> as Bus>⟧.accepts tape.now self.old }
-        requires room { 7 ≤ ⟦<NotedBus<'a, S, T> as Bus>⟧.room self.old }
-        ensures runs { Runs (⟦<NotedBus<'a, S, T> as Bus>⟧.step tape.now) (registers_of cpu.old) Sequence.Opcode self.old self.new cpu.new }
-        ensures fetches { Fetches (⟦<NotedBus<'a, S, T> as Bus>⟧.step tape.now) cpu.old self.old self.new cpu.new }
+        requires accepts { ⟦<NotedBus<'a, S, U> as Bus>⟧.accepts tape.now self.old }
+        requires room { 7 ≤ ⟦<NotedBus<'a, S, U> as Bus>⟧.room self.old }
+        ensures runs { Runs (⟦<NotedBus<'a, S, U> as Bus>⟧.step tape.now) (registers_of cpu.old) Sequence.Opcode self.old self.new cpu.new }
+        ensures fetches { Fetches (⟦<NotedBus<'a, S, U> as Bus>⟧.step tape.now) cpu.old self.old self.new cpu.new }
         ensures boundary { cpu.new.mid ≡ None }
         ensures jammed { result ≡ fetched_of cpu.new.jam }
-        ensures accepts { ⟦<NotedBus<'a, S, T> as Bus>⟧.accepts tape.now self.new }
-        ensures room { ⟦<NotedBus<'a, S, T> as Bus>⟧.room self.old ≤ ⟦<NotedBus<'a, S, T> as Bus>⟧.room self.new + 7 }
+        ensures accepts { ⟦<NotedBus<'a, S, U> as Bus>⟧.accepts tape.now self.new }
+        ensures room { ⟦<NotedBus<'a, S, U> as Bus>⟧.room self.old ≤ ⟦<NotedBus<'a, S, U> as Bus>⟧.room self.new + 7 }
     {
         cpu.instruction_by_jump(self, tape)
     }
 
     /// Whether nothing started the generator, and the fetch at this boundary surely reads an opcode,
-    /// which the tracer takes with those before it.
+    /// which a tracer takes with those before it. With `WIRED` it asks for the interrupt line.
     #[inline(always)]
-    fn goes_on(&self, horizon: &Horizon, cpu: &Cpu) -> bool
+    fn goes_on<T: Tracer, const WIRED: bool>(&self, horizon: &Horizon, cpu: &Cpu) -> bool
         requires no_event { self.now.quiet.bus.now.peripherals.clock + self.now.quiet.elapsed ≤ self.now.quiet.bus.now.event_at }
         requires event { horizon.now.until + 6 ≤ self.now.quiet.bus.now.event_at }
         requires last { horizon.now.until ≤ CLOCK_LIMIT }
-        ensures before { result ≡ true → is_before false horizon.now cpu.now (passed self.now.quiet.elapsed self.now.quiet.bus.now) ≡ true }
+        ensures before { result ≡ true → is_before WIRED horizon.now cpu.now (passed self.now.quiet.elapsed self.now.quiet.bus.now) ≡ true }
         ensures starts { result ≡ true → self.now.reached.now.starts ≡ [] }
         ensures plain { result ≡ true → (w : Peripherals) → w.ram ≡ self.now.quiet.bus.now.peripherals.ram → w.program ≡ self.now.quiet.bus.now.peripherals.program → T.plain (byte_read cpu.now.pc w) ≡ true }
         ensures wrap { result ≡ true → self.now.quiet.bus.now.peripherals.divider.phase + (self.now.quiet.bus.now.event_at - self.now.quiet.bus.now.peripherals.clock) < DIVIDER_PERIOD }
     {
-        self.quiet.is_before::<false>(horizon, cpu)
+        self.quiet.is_before::<WIRED>(horizon, cpu)
             && self.reached.has_no_starts()
             && T::is_plain(self.opcode_at(cpu.state().pc))
     }
 }
 
-impl<'a, S: Units, T: Tracer> Bus for NotedBus<'a, S, T> {
+impl<'a, S: Units, U> Bus for NotedBus<'a, S, U> {
     ghost use Rattle.std.specs.Prelude.{◌≡◌, ◌+◌, ◌-◌, ◌≤◌, length, min};
     ghost use Rattle.catchup_engine.specs.Horizon.{KeepsLines};
     ghost use Rattle.catchup_engine.specs.Notes.{NotedStep, noting};
@@ -263,7 +263,7 @@ struct NotedEnd {
 /// Does the instruction at a boundary, and those at the boundaries after it before the horizon that
 /// a tracer takes with it, and notes what they reach. Without `together` it does the first alone.
 #[inline(always)]
-fn run_noted<S: Units, T: Tracer>(
+fn run_noted<S: Units, T: Tracer, const WIRED: bool>(
     mut cpu: Cpu,
     bus: &mut BoardBus<S>,
     tape: &Tape,
@@ -280,15 +280,15 @@ fn run_noted<S: Units, T: Tracer>(
 {
     let horizon = horizon_from(bus, limit);
     let mut noting = Reached::none();
-    let lent = QuietBus::<S, T>::new(bus);
-    let mut noted = NotedBus::<S, T> {
+    let lent = QuietBus::<S, Loop<T, WIRED>>::new(bus);
+    let mut noted = NotedBus::<S, Loop<T, WIRED>> {
         quiet: lent,
         reached: &mut noting,
     };
     let mut goes_on = true;
     while goes_on {
         let _fetched = noted.instruction(&mut cpu, tape);
-        goes_on = together && noted.goes_on(&horizon, &cpu);
+        goes_on = together && noted.goes_on::<T, WIRED>(&horizon, &cpu);
     }
     noted.quiet.flush();
     let reached = noted.reached.take();
@@ -312,7 +312,7 @@ pub(crate) struct TracedTurns {
 
 /// Does the instruction at a boundary, whose opcode is in the RAM or the program ROM, and those after
 /// it before the horizon that a tracer takes with it, and passes them to the tracer.
-pub(crate) fn trace_to_horizon<S: Units, T: Tracer>(
+pub(crate) fn trace_to_horizon<S: Units, T: Tracer, const WIRED: bool>(
     cpu: Cpu,
     bus: &mut BoardBus<S>,
     tape: &Tape,
@@ -330,7 +330,7 @@ pub(crate) fn trace_to_horizon<S: Units, T: Tracer>(
     let opcode = bus.private_byte(cpu.state().pc);
     let together = T::is_plain(Some(opcode));
     let start = bus.clock();
-    let NotedEnd { cpu, reached } = run_noted::<S, T>(cpu, bus, tape, limit, together);
+    let NotedEnd { cpu, reached } = run_noted::<S, T, WIRED>(cpu, bus, tape, limit, together);
     let clocks = bus.clock() - start;
     let enough = if together {
         tracer.plain_turns(clocks, reached.accesses(), reached.starts())

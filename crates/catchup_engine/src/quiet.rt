@@ -60,8 +60,8 @@ pub(crate) struct QuietBus<'a, S: Units, U> {
     pub(crate) user: PhantomData<U>,
 }
 
-/// The user of the bus in a loop up to breaks, which asks for the interrupt line or doesn't.
-struct Loop<B, const WIRED: bool>(PhantomData<B>);
+/// A loop, by its kind of breaks or its tracer, and by whether it asks for the interrupt line.
+pub(crate) struct Loop<U, const WIRED: bool>(PhantomData<U>);
 
 impl<'a, S: Units, U> QuietBus<'a, S, U> {
     /// A bus with no clock counted yet.

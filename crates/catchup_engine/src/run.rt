@@ -182,8 +182,9 @@ pub(crate) fn run_to_stop<S: Units>(
 }
 
 /// Does turns up to the limit, each of which is passed to a tracer, or up to one after which it has
-/// enough.
-pub(crate) fn run_traced<S: Units, T: Tracer>(
+/// enough. Boards whose POKEYs are wired have a loop of their own.
+#[inline(never)]
+fn trace_turns<S: Units, T: Tracer, const WIRED: bool>(
     mut cpu: Cpu,
     bus: &mut BoardBus<S>,
     tape: &Tape,
@@ -199,7 +200,7 @@ pub(crate) fn run_traced<S: Units, T: Tracer>(
     let mut enough = false;
     while !enough && !is_done(&cpu, bus, limit) {
         if goes_on(&cpu, bus, limit) && is_private(cpu.state().pc) {
-            let turns = trace_to_horizon(cpu, bus, tape, limit, tracer);
+            let turns = trace_to_horizon::<S, T, WIRED>(cpu, bus, tape, limit, tracer);
             cpu = turns.cpu;
             enough = turns.enough;
         } else {
@@ -209,6 +210,26 @@ pub(crate) fn run_traced<S: Units, T: Tracer>(
         }
     }
     cpu
+}
+
+/// Does turns up to the limit, each of which is passed to a tracer, or up to one after which it has
+/// enough, by the loop of the board's wiring.
+pub(crate) fn run_traced<S: Units, T: Tracer>(
+    cpu: Cpu,
+    bus: &mut BoardBus<S>,
+    tape: &Tape,
+    limit: u64,
+    tracer: &mut T,
+) -> Cpu
+    requires ready { CanRun limit limit tape.now cpu bus.old }
+    requires place { IfSome cpu.mid (λ _. IsMiddle cpu) }
+    ensures runs { TracedBusRun T.next T.has_enough tape.now.entries limit cpu bus.old bus.new result tracer.old tracer.new }
+{
+    if bus.is_wired() {
+        trace_turns::<S, T, true>(cpu, bus, tape, limit, tracer)
+    } else {
+        trace_turns::<S, T, false>(cpu, bus, tape, limit, tracer)
+    }
 }
 
 /// The clocks of a turn that isn't to go past a clock.

@@ -73,7 +73,7 @@ loop-goes_on-preserved-then-together g c =
           c.args.cpu c.loop-goes_on.cpu c.instruction-fetched.new.cpu c.args.bus.now c.loop-goes_on.noted.quiet.bus.now c.instruction-fetched.new.self.quiet.bus.now
           c.loop-goes_on.noted.quiet.elapsed c.instruction-fetched.new.self.quiet.elapsed c.loop-goes_on.noted.reached.now c.instruction-fetched.new.self.reached.now
           c.loop-goes_on.goes_on c.loop-goes_on-test.true c.loop-goes_on.invariant.at went.runs c.instruction-fetched.ensures.boundary
-          c.goes_on-goes_on.result c.requires.ready.within g.T.Tracer.together c.requires.plain c.instruction-fetched.ensures.accepts.0 went.lines c.instruction-fetched.ensures.accepts.1
+          _ c.goes_on-goes_on.result c.requires.ready.within g.T.Tracer.together c.requires.plain c.instruction-fetched.ensures.accepts.0 went.lines c.instruction-fetched.ensures.accepts.1
           c.goes_on-goes_on.ensures.wrap c.goes_on-goes_on.ensures.before c.goes_on-goes_on.ensures.starts (λ _. c.if-together.true) c.goes_on-goes_on.ensures.plain;
       bus = went.same ∙ c.loop-goes_on.invariant.bus;
       reached = went.same_then ∙ c.loop-goes_on.invariant.reached;
@@ -89,7 +89,7 @@ loop-goes_on-preserved g c =
           c.args.cpu c.loop-goes_on.cpu c.instruction-fetched.new.cpu c.args.bus.now c.loop-goes_on.noted.quiet.bus.now c.instruction-fetched.new.self.quiet.bus.now
           c.loop-goes_on.noted.quiet.elapsed c.instruction-fetched.new.self.quiet.elapsed c.loop-goes_on.noted.reached.now c.instruction-fetched.new.self.reached.now
           c.loop-goes_on.goes_on c.loop-goes_on-test.true c.loop-goes_on.invariant.at went.runs c.instruction-fetched.ensures.boundary
-          c.args.together c.requires.ready.within g.T.Tracer.together c.requires.plain c.instruction-fetched.ensures.accepts.0 went.lines c.instruction-fetched.ensures.accepts.1
+          true c.args.together c.requires.ready.within g.T.Tracer.together c.requires.plain c.instruction-fetched.ensures.accepts.0 went.lines c.instruction-fetched.ensures.accepts.1
           (λ on. absurd (never on)) (λ on. absurd (never on)) (λ on. absurd (never on)) (λ on. on) (λ on. absurd (never on));
       bus = went.same ∙ c.loop-goes_on.invariant.bus;
       reached = went.same_then ∙ c.loop-goes_on.invariant.reached;

@@ -1,7 +1,7 @@
 use Rattle.std.proofs.Common.{ap, sym, ◌∙◌, subst}
 use Rattle.board_base.specs.Cpu.{CpuValue}
 use Rattle.catchup_engine.proofs.TracedRuns.{AtTraced, traced-to-horizon, traced-goes_on, traced-starts}
-use Rattle.catchup_engine.proofs.run.run_traced.Goals as goal
+use Rattle.catchup_engine.proofs.run.trace_turns.Goals as goal
 
 pub loop-enough-init : goal.loop-enough-init
 loop-enough-init g c = record {

@@ -1,6 +1,6 @@
 use Rattle.catchup_engine.specs.Bus.{Accepts}
 use Rattle.catchup_engine.proofs.TracedRuns.{AtTraced, clocks_left}
-use Rattle.catchup_engine.proofs.run.run_traced.Given as goal
+use Rattle.catchup_engine.proofs.run.trace_turns.Given as goal
 
 abbrev pub invariant-loop-enough : goal.invariant-loop-enough
 invariant-loop-enough g l = record {
