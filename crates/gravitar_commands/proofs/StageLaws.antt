@@ -244,7 +244,7 @@ jam-failure (Absent note) status is three = omega arith
 jam-failure Outside status is three = omega arith
 jam-failure NoMemory status is three = omega arith
 
--- some number is within the budget of a run that hasn't begun
+-- some number is within the budget of a run that hasn't started
 some-calls : (said : SettingsValue) (files : Result Parts Outcome) → (calls : ℕ) × IfOk files (λ parts. RunWithinBudget said parts calls)
 some-calls said (Ok parts) =
     let limit = limit_of said.until parts.tape.end in (
@@ -602,13 +602,13 @@ show-comes (Some files) name board holds good comes = λ reading is. record { ca
 
 -- what a large run comes to, over the engine that was made for its workload
 module _ (seed : ℕ) (image : List ℕ) (tape : TapeValue) (end : ℕ) (start : BoardValue) (first : Board) (is_image : image ≡ image_of seed)
-    (is_tape : tape ≡ tape_of seed) (ends : end ≡ tape.end) (begun : start ≡ board_at_power_on)
+    (is_tape : tape ≡ tape_of seed) (ends : end ≡ tape.end) (started : start ≡ board_at_power_on)
     (made : first ≡ first_board false (record { image = image; tape = tape; board = start })) (before now : Seen) (idle : now.stores ≡ before.stores) where
   same-text : run_text tape.entries end first ≡ (let parts = workload_of seed in run_text parts.tape.entries parts.tape.end (first_board false parts))
   same-text =
       ap (λ e. run_text tape.entries e first) ends
       ∙ ap (run_text tape.entries tape.end) made
-      ∙ ap (λ b. run_text tape.entries tape.end (first_board false (record { image = image; tape = tape; board = b }))) begun
+      ∙ ap (λ b. run_text tape.entries tape.end (first_board false (record { image = image; tape = tape; board = b }))) started
       ∙ ap (λ i. run_text tape.entries tape.end (first_board false (record { image = i; tape = tape; board = board_at_power_on }))) is_image
       ∙ ap (λ (t : TapeValue). run_text t.entries t.end (first_board false (record { image = image_of seed; tape = t; board = board_at_power_on }))) is_tape
 
@@ -632,13 +632,13 @@ pub record IsMadeFor (said : SettingsValue) (parts : Parts) (limit : ℕ) (wante
 pub made-for : (kept said : SettingsValue) (parts : Parts) (end limit : ℕ) (cuts : List ℕ) (unused before : ℕ) (first : Board) → kept ≡ said
     → end ≡ parts.tape.end → limit ≡ limit_of kept.until end → cuts ≡ kept.cuts → unused ≡ 0 → before ≡ counted_on unused 5
     → first ≡ first_board kept.timers parts → IsMadeFor said parts limit (wanted_by kept) cuts before first
-made-for kept said parts end limit cuts unused before first same last is listed none counted begun =
+made-for kept said parts end limit cuts unused before first same last is listed none counted started =
     rw (sym same) (record {
       same_limit = is ∙ ap (limit_of kept.until) last;
       same_wanted = refl;
       same_cuts = listed;
       five = omega arith;
-      same_first = begun;
+      same_first = started;
     })
 
 -- the run of an engine is that of its parts
@@ -669,6 +669,6 @@ module _ (said : SettingsValue) (parts : Parts) (limit : ℕ) (wanted : Wanted) 
   }
 
 -- a run that has no memory
-pub run-unbegun : (said : SettingsValue) (parts : Parts) (before now : Seen) → RunEnds said parts before now (Err NoMemory)
-run-unbegun said parts before now =
+pub run-unstarted : (said : SettingsValue) (parts : Parts) (before now : Seen) → RunEnds said parts before now (Err NoMemory)
+run-unstarted said parts before now =
     let some = some-calls said (Ok parts) in record { calls = some.0; within_budget = some.1; ends = record { done = tt; failed = tt } }

@@ -20,9 +20,9 @@ use Rattle.tape_ports.specs.declared.entry.Port.{Port}
 use Rattle.tape_ports.specs.declared.entry.Port.TheVariants as port
 use Rattle.tape_ports.specs.declared.entry.TapeEntry.{TapeEntry}
 use Rattle.tape_ports.specs.Due.{due_at}
-use Rattle.lockstep_board.specs.Lockstep.{Board, accessed, accessed_by, after_access, at_fetch, begun, sequence_due, step}
+use Rattle.lockstep_board.specs.Lockstep.{Board, accessed, accessed_by, after_access, at_fetch, started, sequence_due, step}
 use Rattle.lockstep_board.specs.Run.{clock_steps, stepped, to_clock}
-use Rattle.lockstep_board.specs.Peripherals.{Peripherals, applied, byte_put, devices_ticked, port_set, put_in, reset_begun, reset_by, ticked}
+use Rattle.lockstep_board.specs.Peripherals.{Peripherals, applied, byte_put, devices_ticked, port_set, put_in, reset_started, reset_by, ticked}
 
 -- what a state doesn't have
 pub record Image : Type 0 where
@@ -65,15 +65,15 @@ reset_by-image : (p : Pending) (w : Peripherals) → image_of (reset_by p w) ≡
 reset_by-image Nothing w = refl
 reset_by-image _ w = refl
 
-begun-image : (q : Sequence) (b : Board) → image_of (begun q b).peripherals ≡ image_of b.peripherals
-unfolding reset_begun
-begun-image Reset b = reset_by-image b.peripherals.divider.pending b.peripherals
-begun-image _ b = refl
+started-image : (q : Sequence) (b : Board) → image_of (started q b).peripherals ≡ image_of b.peripherals
+unfolding reset_started
+started-image Reset b = reset_by-image b.peripherals.divider.pending b.peripherals
+started-image _ b = refl
 
 after_access-image : (mid : Option MidValue) (c : CpuValue) (w : Peripherals) → image_of (after_access mid c w).peripherals ≡ image_of w
 unfolding at_fetch
 after_access-image None c w =
-    begun-image (sequence_due c w) (accessed (start_of (sequence_due c w) c) (sequence_due c w) [] w) ∙ accessed-image (start_of (sequence_due c w) c) (sequence_due c w) [] w
+    started-image (sequence_due c w) (accessed (start_of (sequence_due c w) c) (sequence_due c w) [] w) ∙ accessed-image (start_of (sequence_due c w) c) (sequence_due c w) [] w
 after_access-image (Some mid) c w = accessed-image (registers_of c) mid.sequence (given_by mid) w
 
 step-image : (entries : List TapeEntry) (b : Board) → image_of (step entries b).peripherals ≡ image_of b.peripherals

@@ -6,7 +6,7 @@ use Rattle.std.specs.Option.{option_map}
 use Rattle.tape_ports.specs.declared.entry.TapeEntry.{TapeEntry}
 use Rattle.log_text.specs.LogText.{cost_text, last_text}
 use Rattle.save_state.specs.StateBytes.{state_bytes}
-use Rattle.lockstep_board.specs.Budget.{counted, device_accesses, entries_applied, requests, resets_begun, wraps}
+use Rattle.lockstep_board.specs.Budget.{counted, device_accesses, entries_applied, requests, resets_started, wraps}
 use Rattle.catchup_engine.specs.EngineValue.{counted_on}
 use Rattle.lockstep_board.specs.Lockstep.{Board}
 use Rattle.lockstep_board.specs.Run.{boundary_steps, to_clock, to_boundary}
@@ -73,7 +73,7 @@ run_budget entries limit slices b =
     let n = boundary_steps entries limit b in
     2 * counted entries (device_accesses entries) n b
     + 10 * (counted entries (λ c. wraps c.peripherals) n b + slices)
-    + 5 * (counted entries (λ c. entries_applied entries c.peripherals) n b + counted entries (resets_begun entries) n b
+    + 5 * (counted entries (λ c. entries_applied entries c.peripherals) n b + counted entries (resets_started entries) n b
     + counted entries (λ c. requests entries c.peripherals) n b)
     + 5
 

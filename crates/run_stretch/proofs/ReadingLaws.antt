@@ -86,7 +86,7 @@ placed-at : (r : RegistersValue) (mid : Option MidValue) (A : Type 0) → IfSome
 placed-at r None A place is = tt
 placed-at r (Some m) A place is =
     let size = length-take-le m.count m.bytes (let few = is.count in let all = is.bytes in omega arith) in
-    let begun = place.1.begun in
+    let started = place.1.started in
     omega arith
 
 pub first-placed : (timers : Bool) (p : Parts) → IsWhole p.board → IsPlaced (first_board timers p)

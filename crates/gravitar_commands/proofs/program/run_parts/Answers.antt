@@ -1,11 +1,11 @@
 use Rattle.std.proofs.lemmas.Result.{err_from_is_err_and}
-use Rattle.gravitar_commands.proofs.StageLaws.{made-for, run-cut, run-done, run-unbegun}
+use Rattle.gravitar_commands.proofs.StageLaws.{made-for, run-cut, run-done, run-unstarted}
 use Rattle.gravitar_commands.proofs.program.run_parts.Goals as goal
 
 pub returns-in_err-engine-clause-outcome : goal.returns-in_err-engine-clause-outcome
 returns-in_err-engine-clause-outcome g c =
     let p = err_from_is_err_and c.from_residual.result c.from_residual.ensures.1 in
-    rw (p.1, p.2) (run-unbegun c.args.settings.now c.args.parts.now _ _)
+    rw (p.1, p.2) (run-unstarted c.args.settings.now c.args.parts.now _ _)
 
 pub returns-in-Ok-clause-outcome : goal.returns-in-Ok-clause-outcome
 returns-in-Ok-clause-outcome g c =

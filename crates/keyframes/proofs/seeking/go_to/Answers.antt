@@ -13,9 +13,9 @@ returns-clause-board g c =
 
 pub returns-clause-on_run : goal.returns-clause-on_run
 returns-clause-on_run g c =
-    let begun = begins _ _ (g.M.Machine.value c.args.synced.now.machine.now).board _ _ c.requires.along c.start_index-nearest.ensures.within c.load_kept.ensures.board in
-    subst (λ (b : Board). IsOnRun c.args.tape.now.entries b (g.M.Machine.value c.run_on.new.synced.machine.now).board) begun.start
-    (c.run_on.ensures.on_run (run_start c.args.keys.now.kept (g.M.Machine.value c.load_kept.new.synced.machine.now).board) begun.on_run)
+    let started = begins _ _ (g.M.Machine.value c.args.synced.now.machine.now).board _ _ c.requires.along c.start_index-nearest.ensures.within c.load_kept.ensures.board in
+    subst (λ (b : Board). IsOnRun c.args.tape.now.entries b (g.M.Machine.value c.run_on.new.synced.machine.now).board) started.start
+    (c.run_on.ensures.on_run (run_start c.args.keys.now.kept (g.M.Machine.value c.load_kept.new.synced.machine.now).board) started.on_run)
 
 pub returns-clause-same : goal.returns-clause-same
 returns-clause-same g c =
