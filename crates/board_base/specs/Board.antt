@@ -1,29 +1,18 @@
 -- The whole board, as a plain record. The map, the ports and the power-on values are this project's
 -- own choice.
-use Rattle.std.specs.Prelude.{◌≡◌, ℕ, ◌+◌, ◌<◌, ◌≤◌, List, length, replicate, IsSome}
+use Rattle.std.specs.Prelude.{◌≡◌, ◌+◌, ◌<◌, ◌≤◌, length, replicate, IsSome}
 use Rattle.board_base.specs.declared.board.TheConstants.{RAM_LEN, CLOCK_LIMIT}
 use Rattle.board_base.specs.declared.vector_memory.TheConstants.{VECTOR_RAM_LEN}
-use Rattle.board_base.specs.Cpu.{CpuValue, cpu_at_power_on}
-use Rattle.board_base.specs.Divider.{DividerValue, divider_at_power_on}
-use Rattle.board_base.specs.Earom.{EaromValue, earom_at_power_on}
-use Rattle.board_base.specs.Pokey.{PokeyValue, pokey_at_power_on}
-use Rattle.board_base.specs.Vg.{VgValue, vg_at_power_on}
+use Rattle.board_base.specs.Cpu.{cpu_at_power_on}
+use Rattle.board_base.specs.Divider.{divider_at_power_on}
+use Rattle.board_base.specs.Earom.{earom_at_power_on}
+use Rattle.board_base.specs.Pokey.{pokey_at_power_on}
+use Rattle.board_base.specs.Vg.{vg_at_power_on}
+use Rattle.board_base.specs.declared.board.BoardState.TheInside.{Inside}
 
--- the clocks done, the processor, the output latch, the ports, the devices, and both memories
-pub record BoardValue : Type 0 where
-  pub clock : ℕ
-  pub cpu : CpuValue
-  pub out : ℕ
-  pub in0 : ℕ
-  pub in3 : ℕ
-  pub in4 : ℕ
-  pub divider : DividerValue
-  pub vg : VgValue
-  pub sound1 : PokeyValue
-  pub sound2 : PokeyValue
-  pub earom : EaromValue
-  pub ram : List ℕ
-  pub vram : List ℕ
+-- the fields of `BoardState`
+abbrev pub BoardValue : Type 0
+BoardValue = Inside
 
 -- the clock may stand up to 16 past the greatest number of a tape, and inside a sequence at that
 -- number at most; six bits of the first port; two memories in their lengths

@@ -1,16 +1,13 @@
 -- The interrupt divider and the watchdog, as a plain record. This project's own choice.
-use Rattle.std.specs.Prelude.{ℕ, ◌<◌, Bool, false}
+use Rattle.std.specs.Prelude.{ℕ, ◌<◌, false}
 use Rattle.board_base.specs.declared.divider.TheConstants.{DIVIDER_PERIOD, WATCHDOG_WRAPS}
 use Rattle.board_base.specs.declared.divider.Pending.{Pending}
 use Rattle.board_base.specs.declared.divider.Pending.TheVariants.{Nothing, Power, Watchdog}
+use Rattle.board_base.specs.declared.divider.DividerState.TheInside.{Inside}
 
--- the clocks since the last wrap, the interrupt latch, the wraps since the watchdog was cleared,
--- and the pending reset
-pub record DividerValue : Type 0 where
-  pub phase : ℕ
-  pub irq : Bool
-  pub dog : ℕ
-  pub pending : Pending
+-- the fields of `DividerState`
+abbrev pub DividerValue : Type 0
+DividerValue = Inside
 
 -- a wrap comes each time a whole period is done, and the watchdog counts wraps up to a reset
 pub record IsDivider (d : DividerValue) : Type 0 where

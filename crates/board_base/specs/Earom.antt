@@ -1,17 +1,12 @@
 -- The EAROM, as a plain record. Its behaviour is this project's own choice, after the ER2055 data
 -- sheet.
-use Rattle.std.specs.Prelude.{◌≡◌, ℕ, ◌<◌, ◌≤◌, List, length, replicate}
+use Rattle.std.specs.Prelude.{◌≡◌, ◌<◌, ◌≤◌, length, replicate}
 use Rattle.board_base.specs.declared.earom.TheConstants.{CELLS, HOLD_CLOCKS}
+use Rattle.board_base.specs.declared.earom.EaromState.TheInside.{Inside}
 
--- the address and data latches, the control bits, the clocks held so far, the output latch and the
--- cells
-pub record EaromValue : Type 0 where
-  pub addr : ℕ
-  pub value : ℕ
-  pub control : ℕ
-  pub hold : ℕ
-  pub out : ℕ
-  pub cells : List ℕ
+-- the fields of `EaromState`
+abbrev pub EaromValue : Type 0
+EaromValue = Inside
 
 -- the cells, four control bits, and a hold that stops when it is complete
 pub record IsEarom (e : EaromValue) : Type 0 where

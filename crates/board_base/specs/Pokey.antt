@@ -1,30 +1,12 @@
 -- A POKEY, as a plain record (POKEY C012294 data sheet; each definition states what is this
 -- project's own choice).
-use Rattle.std.specs.Prelude.{◌≡◌, ℕ, ◌<◌, ◌≤◌, List, length, replicate, All}
+use Rattle.std.specs.Prelude.{◌≡◌, ◌<◌, ◌≤◌, length, replicate, All}
 use Rattle.board_base.specs.declared.pokey.TheConstants.{LONGEST_PERIOD, POT_LIMIT, PRESCALER_BASE, PRESCALER_LINE}
+use Rattle.board_base.specs.declared.pokey.PokeyState.TheInside.{Inside}
 
--- the registers written, the interrupt status, the four polynomial registers, the two prescalers,
--- and of each channel the pulses left, the tone bit and the level; the high-pass bits, the pot
--- count and the pot targets
-pub record PokeyValue : Type 0 where
-  pub audf : List ℕ
-  pub audc : List ℕ
-  pub audctl : ℕ
-  pub skctl : ℕ
-  pub irqen : ℕ
-  pub irqst : ℕ
-  pub poly4 : ℕ
-  pub poly5 : ℕ
-  pub poly9 : ℕ
-  pub poly17 : ℕ
-  pub pre28 : ℕ
-  pub pre114 : ℕ
-  pub left : List ℕ
-  pub tone : ℕ
-  pub pass : ℕ
-  pub pot : ℕ
-  pub targets : List ℕ
-  pub last : List ℕ
+-- the fields of `PokeyState`
+abbrev pub PokeyValue : Type 0
+PokeyValue = Inside
 
 -- four channels, three requests, registers of 4, 5, 9 and 17 bits, two prescalers, a longest
 -- period, levels of four bits, eight pots that count to one limit

@@ -1,29 +1,13 @@
 -- The vector generator, as a plain record. Its phases and scales are this project's own choice.
-use Rattle.std.specs.Prelude.{◌≡◌, ◌≢◌, ℕ, ◌<◌, ◌≤◌, ℤ, pos, Bool, true, List, length, replicate, All}
+use Rattle.std.specs.Prelude.{◌≡◌, ◌≢◌, ◌<◌, ◌≤◌, pos, true, length, replicate, All}
 use Rattle.board_base.specs.declared.phase.TheConstants.{DRAW}
 use Rattle.board_base.specs.declared.vg.TheConstants.{BEAM_EDGE, DELTA_EDGE}
 use Rattle.board_base.specs.Ranges.{IsWithin}
+use Rattle.board_base.specs.declared.vg.VgState.TheInside.{Inside}
 
--- whether it is halted, the phase of its next tick, where it reads, its return stack, what it draws
--- with, the word under way, the beam, and the vector being drawn with the clocks that are left of
--- it
-pub record VgValue : Type 0 where
-  pub halted : Bool
-  pub phase : ℕ
-  pub pc : ℕ
-  pub sp : ℕ
-  pub colour : ℕ
-  pub intensity : ℕ
-  pub lin : ℕ
-  pub bin : ℕ
-  pub pen : ℕ
-  pub bytes : List ℕ
-  pub stack : List ℕ
-  pub x : ℤ
-  pub y : ℤ
-  pub dx : ℤ
-  pub dy : ℤ
-  pub left : ℕ
+-- the fields of `VgState`
+abbrev pub VgValue : Type 0
+VgValue = Inside
 
 -- 8,192 words, a stack of four, and a vector of 1 to 8,192 clocks in the drawing phase alone
 pub record IsVg (v : VgValue) : Type 0 where

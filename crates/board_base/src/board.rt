@@ -43,13 +43,11 @@ impl Model for BoardState {
 
     ghost Value = { BoardValue };
 
-    ghost use Rattle.board_base.specs.BoardFields.{board_view, board_fields};
+    ghost view = { λ p. p };
 
-    ghost view = { board_view };
+    ghost invariant = { IsBoard };
 
-    ghost invariant = { λ b. IsBoard (board_view b) };
-
-    ghost inverse = { board_fields };
+    ghost inverse = { λ p. p };
 }
 
 impl BoardState {

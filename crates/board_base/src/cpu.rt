@@ -24,15 +24,15 @@ pub struct Mid {
 }
 
 impl Model for Mid {
-    ghost use Rattle.board_base.specs.Cpu.{MidValue, IsMid};
+    ghost use Rattle.board_base.specs.Mid.{MidValue, IsMid};
 
     ghost Value = { MidValue };
 
-    ghost view = { λ m. record { sequence = m.sequence; count = m.count; bytes = m.bytes } };
+    ghost view = { λ p. p };
 
-    ghost invariant = { λ m. IsMid (record { sequence = m.sequence; count = m.count; bytes = m.bytes }) };
+    ghost invariant = { IsMid };
 
-    ghost inverse = { λ m. record { sequence = m.sequence; count = m.count; bytes = m.bytes } };
+    ghost inverse = { λ p. p };
 }
 
 /// The processor's registers (MCS6500 Programming Manual, chapters 1 to 3), and where it stands.
@@ -60,11 +60,11 @@ impl Model for CpuState {
 
     ghost Value = { CpuValue };
 
-    ghost view = { λ c. record { pc = c.pc; a = c.a; x = c.x; y = c.y; s = c.s; p = c.p; jam = c.jam; mid = c.mid } };
+    ghost view = { λ p. p };
 
-    ghost invariant = { λ c. IsCpu (record { pc = c.pc; a = c.a; x = c.x; y = c.y; s = c.s; p = c.p; jam = c.jam; mid = c.mid }) };
+    ghost invariant = { IsCpu };
 
-    ghost inverse = { λ c. record { pc = c.pc; a = c.a; x = c.x; y = c.y; s = c.s; p = c.p; jam = c.jam; mid = c.mid } };
+    ghost inverse = { λ p. p };
 }
 
 impl CpuState {

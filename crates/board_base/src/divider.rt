@@ -51,11 +51,11 @@ impl Model for DividerState {
 
     ghost Value = { DividerValue };
 
-    ghost view = { λ d. record { phase = d.phase; irq = d.irq; dog = d.dog; pending = d.pending } };
+    ghost view = { λ p. p };
 
-    ghost invariant = { λ d. IsDivider (record { phase = d.phase; irq = d.irq; dog = d.dog; pending = d.pending }) };
+    ghost invariant = { IsDivider };
 
-    ghost inverse = { λ d. record { phase = d.phase; irq = d.irq; dog = d.dog; pending = d.pending } };
+    ghost inverse = { λ p. p };
 }
 
 impl PowerOn for DividerState {

@@ -27,11 +27,11 @@ impl Model for EaromState {
 
     ghost Value = { EaromValue };
 
-    ghost view = { λ e. record { addr = e.addr; value = e.value; control = e.control; hold = e.hold; out = e.out; cells = e.cells } };
+    ghost view = { λ p. p };
 
-    ghost invariant = { λ e. IsEarom (record { addr = e.addr; value = e.value; control = e.control; hold = e.hold; out = e.out; cells = e.cells }) };
+    ghost invariant = { IsEarom };
 
-    ghost inverse = { λ e. record { addr = e.addr; value = e.value; control = e.control; hold = e.hold; out = e.out; cells = e.cells } };
+    ghost inverse = { λ p. p };
 }
 
 impl PowerOn for EaromState {

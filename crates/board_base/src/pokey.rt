@@ -47,13 +47,11 @@ impl Model for PokeyState {
 
     ghost Value = { PokeyValue };
 
-    ghost use Rattle.board_base.specs.PokeyFields.{pokey_view, pokey_fields};
+    ghost view = { λ p. p };
 
-    ghost view = { pokey_view };
+    ghost invariant = { IsPokey };
 
-    ghost invariant = { λ p. IsPokey (pokey_view p) };
-
-    ghost inverse = { pokey_fields };
+    ghost inverse = { λ p. p };
 }
 
 impl PowerOn for PokeyState {

@@ -37,13 +37,11 @@ impl Model for VgState {
 
     ghost Value = { VgValue };
 
-    ghost use Rattle.board_base.specs.VgFields.{vg_view, vg_fields};
+    ghost view = { λ p. p };
 
-    ghost view = { vg_view };
+    ghost invariant = { IsVg };
 
-    ghost invariant = { λ v. IsVg (vg_view v) };
-
-    ghost inverse = { vg_fields };
+    ghost inverse = { λ p. p };
 }
 
 impl PowerOn for VgState {

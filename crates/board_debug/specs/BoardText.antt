@@ -8,7 +8,8 @@ use Rattle.std.specs.List.{concat}
 use Rattle.board_base.specs.declared.cpu.Sequence.{Sequence}
 use Rattle.board_base.specs.declared.cpu.Sequence.TheVariants.{Opcode, Interrupt, Reset}
 use Rattle.board_base.specs.Board.{BoardValue}
-use Rattle.board_base.specs.Cpu.{CpuValue, MidValue}
+use Rattle.board_base.specs.Cpu.{CpuValue}
+use Rattle.board_base.specs.Mid.{MidValue}
 use Rattle.board_base.specs.Divider.{DividerValue, reset_number}
 use Rattle.board_base.specs.Earom.{EaromValue}
 use Rattle.board_base.specs.Pokey.{PokeyValue}

@@ -10,7 +10,8 @@ use Rattle.std.proofs.lemmas.List.Elements.{filter-append, filter_map-append}
 use Rattle.std.proofs.lemmas.List.Sums.{count_by-le-length, length-filter}
 use Rattle.board_base.specs.declared.cpu.Sequence.{Sequence}
 use Rattle.board_base.specs.declared.cpu.Sequence.TheVariants.{Opcode}
-use Rattle.board_base.specs.Cpu.{CpuValue, MidValue}
+use Rattle.board_base.specs.Cpu.{CpuValue}
+use Rattle.board_base.specs.Mid.{MidValue}
 use Rattle.cpu_core.specs.BusCycles as cycles
 use Rattle.cpu_core.specs.Registers.{RegistersValue, registers_of}
 use Rattle.cpu_core.specs.Sequences.{Moves, Runs, next_of, start_of}

@@ -1,7 +1,8 @@
 -- The accesses of a bus are those of what is seen of it, and its name stays.
 use Rattle.std.proofs.Common.{◌≡◌, ℕ, List, [], ◌∷◌, ◌++◌, Option, Some, None, IfSome, IsSome, ap, ◌∙◌}
 use Rattle.board_base.specs.declared.cpu.Sequence.{Sequence}
-use Rattle.board_base.specs.Cpu.{CpuValue, MidValue}
+use Rattle.board_base.specs.Cpu.{CpuValue}
+use Rattle.board_base.specs.Mid.{MidValue}
 use Rattle.cpu_core.specs.BusCycles.{Access}
 use Rattle.cpu_core.specs.Registers.{RegistersValue, registers_of}
 use Rattle.cpu_core.specs.Sequences.{Moves, Runs}

@@ -2,7 +2,8 @@
 use Rattle.std.proofs.Common.{◌≡◌, ℕ, ◌+◌, ◌-◌, ◌^◌, ◌≤◌, ◌<◌, is_some, Bool, true, false, List, Option, Some, None}
 use Rattle.std.proofs.Common.{IfSome, refl, sym, ap, ◌∙◌, subst, arith, suc, zero, zero-add, inl, inr, ◌⊎◌, if◌then◌else◌}
 use Rattle.std.proofs.lemmas.Bool.{cases_lt}
-use Rattle.board_base.specs.Cpu.{CpuValue, MidValue}
+use Rattle.board_base.specs.Cpu.{CpuValue}
+use Rattle.board_base.specs.Mid.{MidValue}
 use Rattle.cpu_core.specs.Places.{IsMiddle}
 use Rattle.tape_ports.specs.declared.entry.TapeEntry.{TapeEntry}
 use Rattle.lockstep_board.specs.Breaks.{turn, turned}

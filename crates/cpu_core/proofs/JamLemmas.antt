@@ -2,7 +2,8 @@
 use Rattle.std.proofs.Common.{◌≡◌, ◌≢◌, ◌≤◌, ◌+◌, ◌%◌, ◌/◌, ◌==◌, ◌++◌, ◌||◌, ℕ, zero, suc, Bool, true, false, nat_lt, if◌then◌else◌, List}
 use Rattle.std.proofs.Common.{[], ◌∷◌, length, take, slice_index, Option, Some, None, MatchOption, refl, sym, ap, subst, ◌∙◌, arith}
 use Rattle.std.proofs.lemmas.List.{length-append, length-take-le}
-use Rattle.board_base.specs.Cpu.{CpuValue, MidValue}
+use Rattle.board_base.specs.Cpu.{CpuValue}
+use Rattle.board_base.specs.Mid.{MidValue}
 use Rattle.board_base.specs.declared.cpu.Sequence.{Sequence}
 use Rattle.board_base.specs.declared.cpu.Sequence.TheVariants.{Opcode, Interrupt, Reset}
 use Rattle.cpu_table.specs.declared.instruction.Op.{Op}

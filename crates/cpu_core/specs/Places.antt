@@ -1,6 +1,7 @@
 -- Where a processor stands inside a sequence, and how far some clocks bring it.
 use Rattle.std.specs.Prelude.{◌≡◌, ◌≢◌, ◌≤◌, ◌↔◌, ◌++◌, ℕ, List, [], ◌∷◌, length, take, drop, slice_index, All, true, Option, Some, None, IfSome, IsSomeAnd, MatchOption}
-use Rattle.board_base.specs.Cpu.{CpuValue, MidValue}
+use Rattle.board_base.specs.Cpu.{CpuValue}
+use Rattle.board_base.specs.Mid.{MidValue}
 use Rattle.board_base.specs.declared.cpu.Sequence.{Sequence}
 use Rattle.board_base.specs.declared.cpu.Sequence.TheVariants.{Opcode, Reset}
 use Rattle.cpu_table.specs.Opcodes.{row_of}

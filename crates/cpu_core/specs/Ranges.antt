@@ -1,6 +1,7 @@
 -- A processor in range (MCS6500 Programming Manual, chapters 1 to 3: the widths of the registers).
 use Rattle.std.specs.Prelude.{ℕ, ◌<◌, All, IfSome}
-use Rattle.board_base.specs.Cpu.{CpuValue, MidValue, IsMid}
+use Rattle.board_base.specs.Cpu.{CpuValue}
+use Rattle.board_base.specs.Mid.{MidValue, IsMid}
 use Rattle.cpu_core.specs.declared.replay.Next.{Next}
 use Rattle.cpu_core.specs.declared.replay.Next.TheVariants.{Read, Write, End}
 use Rattle.cpu_core.specs.Registers.{RegistersValue, AreRegisters, registers_of}

@@ -6,7 +6,8 @@ use Rattle.board_base.specs.declared.cpu.Sequence.TheVariants.{Reset}
 use Rattle.board_base.specs.declared.divider.Pending.{Pending}
 use Rattle.board_base.specs.declared.divider.Pending.TheVariants.{Nothing}
 use Rattle.board_base.specs.declared.vector_memory.TheConstants.{VECTOR_RAM_LEN}
-use Rattle.board_base.specs.Cpu.{CpuValue, MidValue}
+use Rattle.board_base.specs.Cpu.{CpuValue}
+use Rattle.board_base.specs.Mid.{MidValue}
 use Rattle.board_map.specs.declared.map.Writes.{Writes}
 use Rattle.board_map.specs.declared.map.Writes.TheVariants as writes
 use Rattle.board_map.specs.Map.{row_of, IsWritable}

@@ -8,7 +8,8 @@ use Rattle.board_base.specs.declared.divider.Pending.TheVariants.{Watchdog}
 use Rattle.board_base.specs.declared.part.Part.TheVariants as part
 use Rattle.board_base.specs.declared.record.Record.{Record}
 use Rattle.board_base.specs.declared.record.Record.TheVariants.{Latch, WatchdogReset}
-use Rattle.board_base.specs.Cpu.{CpuValue, MidValue}
+use Rattle.board_base.specs.Cpu.{CpuValue}
+use Rattle.board_base.specs.Mid.{MidValue}
 use Rattle.board_base.specs.Divider.{DividerValue}
 use Rattle.board_base.specs.Records.{MadeBetween}
 use Rattle.board_map.specs.declared.map.Writes.{Writes}

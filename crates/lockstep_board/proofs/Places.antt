@@ -1,7 +1,7 @@
 -- Where a step leaves the processor: between two sequences, or after one access more of its
 -- sequence.
 use Rattle.std.proofs.Common.{◌≡◌, ℕ, ◌≤◌, List, length, Option, Some, None, IfSome, arith}
-use Rattle.board_base.specs.Cpu.{MidValue}
+use Rattle.board_base.specs.Mid.{MidValue}
 use Rattle.cpu_core.specs.Places.{given_by}
 use Rattle.tape_ports.specs.declared.entry.TapeEntry.{TapeEntry}
 use Rattle.lockstep_board.specs.Peripherals.{ticked}

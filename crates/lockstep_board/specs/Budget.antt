@@ -5,7 +5,8 @@ use Rattle.std.specs.Int.{from_bool}
 use Rattle.board_base.specs.declared.divider.TheConstants.{DIVIDER_PERIOD}
 use Rattle.board_base.specs.declared.cpu.Sequence.{Sequence}
 use Rattle.board_base.specs.declared.cpu.Sequence.TheVariants.{Opcode, Interrupt, Reset}
-use Rattle.board_base.specs.Cpu.{CpuValue, MidValue}
+use Rattle.board_base.specs.Cpu.{CpuValue}
+use Rattle.board_base.specs.Mid.{MidValue}
 use Rattle.board_base.specs.Pokey.{PokeyValue}
 use Rattle.board_map.specs.declared.map.Reads.{Reads}
 use Rattle.board_map.specs.declared.map.Writes.{Writes}

@@ -7,7 +7,8 @@ use Rattle.board_base.specs.declared.divider.Pending.{Pending}
 use Rattle.board_base.specs.declared.divider.Pending.TheVariants.{Nothing}
 use Rattle.board_base.specs.declared.record.Record.{Record}
 use Rattle.board_base.specs.declared.record.Record.TheVariants.{Levels}
-use Rattle.board_base.specs.Cpu.{CpuValue, MidValue}
+use Rattle.board_base.specs.Cpu.{CpuValue}
+use Rattle.board_base.specs.Mid.{MidValue}
 use Rattle.board_base.specs.Pokey.{PokeyValue}
 use Rattle.board_map.specs.declared.map.Writes.{Writes}
 use Rattle.board_map.specs.declared.map.Writes.TheVariants as writes

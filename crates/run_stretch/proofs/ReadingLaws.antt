@@ -3,7 +3,7 @@ use Rattle.std.proofs.Common.{◌≡◌, ℕ, ◌≤◌, Bool, List, length, tak
 use Rattle.std.proofs.lemmas.List.{length-take-le}
 use Rattle.board_base.specs.declared.vector_memory.TheConstants.{VECTOR_RAM_LEN, VECTOR_ROM_LEN}
 use Rattle.board_base.specs.Board.{BoardValue}
-use Rattle.board_base.specs.Cpu.{IsMid, MidValue}
+use Rattle.board_base.specs.Mid.{IsMid, MidValue}
 use Rattle.lockstep_board.specs.Order.{cleared}
 use Rattle.lockstep_board.specs.Lockstep.{Board}
 use Rattle.lockstep_board.specs.Run.{IsPlaced}

@@ -9,7 +9,8 @@ use Rattle.std.proofs.lemmas.List.Elements.{All-nil, All-cons, All-weaker}
 use Rattle.board_base.specs.declared.part.Part.TheVariants.{Generator}
 use Rattle.board_base.specs.declared.board.TheConstants.{CLOCK_LIMIT}
 use Rattle.board_base.specs.declared.record.Record.{Record}
-use Rattle.board_base.specs.Cpu.{CpuValue, MidValue}
+use Rattle.board_base.specs.Cpu.{CpuValue}
+use Rattle.board_base.specs.Mid.{MidValue}
 use Rattle.board_base.specs.Records.{clock_of, MadeBetween}
 use Rattle.cpu_core.specs.BusCycles as cycles
 use Rattle.tape_ports.specs.declared.entry.Port.{Port}

@@ -6,7 +6,7 @@ use Rattle.catchup_engine.specs.Notes.{note_of}
 use Rattle.catchup_engine.specs.Together.{TakesTogether}
 use Rattle.cycle_profile.specs.Turns.{stays}
 use Rattle.cycle_profile.proofs.NoteLaws.{charged-twice, plain-charged}
-use Rattle.board_base.specs.Cpu.{MidValue}
+use Rattle.board_base.specs.Mid.{MidValue}
 use Rattle.tape_ports.specs.declared.entry.TapeEntry.{TapeEntry}
 use Rattle.lockstep_board.specs.Breaks.{turn, turned}
 use Rattle.lockstep_board.specs.Order.{cleared, Recorded, behind, records_of}

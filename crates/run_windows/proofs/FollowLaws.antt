@@ -4,7 +4,7 @@ use Rattle.std.proofs.Common.{◌++◌, Option, Some, None, refl, sym, ap, ◌�
 use Rattle.std.proofs.lemmas.Bool.{cases_lt}
 use Rattle.std.proofs.lemmas.Bool.Decides.{nat_tests}
 use Rattle.board_base.specs.declared.divider.TheConstants.{DIVIDER_PERIOD}
-use Rattle.board_base.specs.Cpu.{MidValue}
+use Rattle.board_base.specs.Mid.{MidValue}
 use Rattle.tape_ports.specs.declared.entry.TapeEntry.{TapeEntry}
 use Rattle.outside_io.specs.Known.{grown}
 use Rattle.outside_io.proofs.KnownLaws.{grown-nothing, grown-twice}

@@ -10,7 +10,8 @@ use Rattle.std.proofs.lemmas.List.Elements.{All-cons, All-nil, All-head, All-tai
 use Rattle.std.proofs.lemmas.Bool.{and_parts}
 use Rattle.std.proofs.lemmas.Bool.Decides.{Decides-eqb, nat_tests, not_from_Decides}
 use Rattle.std.proofs.lemmas.Nat.{from_le_bytes-to_le_bytes_2, from_le_bytes-to_le_bytes_4, from_le_bytes-to_le_bytes_8}
-use Rattle.board_base.specs.Cpu.{CpuValue, MidValue, IsMid}
+use Rattle.board_base.specs.Cpu.{CpuValue}
+use Rattle.board_base.specs.Mid.{MidValue, IsMid}
 use Rattle.board_base.specs.Board.{BoardValue}
 use Rattle.board_base.specs.Divider.{DividerValue, IsDivider, reset_number}
 use Rattle.board_base.specs.Earom.{EaromValue, IsEarom}

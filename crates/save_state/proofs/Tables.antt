@@ -7,7 +7,8 @@ use Rattle.std.specs.Int.{from_le_bytes}
 use Rattle.std.proofs.lemmas.Bool.Decides.{nat_tests}
 use Rattle.std.proofs.lemmas.List.Elements.{All-map, All-cons, All-nil, All-head, All-tail, All-append, All-from_recursion, recursion_from_All}
 use Rattle.board_base.specs.Board.{BoardValue}
-use Rattle.board_base.specs.Cpu.{CpuValue, MidValue}
+use Rattle.board_base.specs.Cpu.{CpuValue}
+use Rattle.board_base.specs.Mid.{MidValue}
 use Rattle.save_state.specs.Fields.{Row, IsInFieldRange, flag, pieces_of, anything, Facts, Range, rows_of, rows_at}
 use Rattle.save_state.specs.StateBytes.{count_range, left_range, opcode_range, jam_rows, processor_of, facts_of, table, front_rows, middle_rows, zero_rows, vg_rows, pokey_rows}
 use Rattle.save_state.specs.StateBytes.{earom_rows, memory_rows, back_rows, last_clock}

@@ -4,7 +4,8 @@ use Rattle.save_state.specs.declared.TheConstants.{STATE_LEN}
 use Rattle.save_state.specs.declared.fault.StateFault.{StateFault}
 use Rattle.save_state.specs.declared.fault.StateFault.TheVariants.{Field as Broken, Length, Version}
 use Rattle.board_base.specs.Board.{BoardValue, IsBoard}
-use Rattle.board_base.specs.Cpu.{CpuValue, IsCpu, IsMid}
+use Rattle.board_base.specs.Cpu.{CpuValue, IsCpu}
+use Rattle.board_base.specs.Mid.{IsMid}
 use Rattle.board_base.specs.Divider.{IsDivider}
 use Rattle.board_base.specs.Earom.{IsEarom}
 use Rattle.board_base.specs.Pokey.{IsPokey}

@@ -4,7 +4,8 @@ use Rattle.std.specs.Option.{is_some}
 use Rattle.std.specs.List.{concat}
 use Rattle.std.specs.Int.{w16, w32, w64, from_le_bytes}
 use Rattle.board_base.specs.Board.{BoardValue}
-use Rattle.board_base.specs.Cpu.{CpuValue, MidValue, count_of}
+use Rattle.board_base.specs.Cpu.{CpuValue}
+use Rattle.board_base.specs.Mid.{MidValue, count_of}
 use Rattle.board_base.specs.Divider.{DividerValue, reset_number}
 use Rattle.board_base.specs.Earom.{EaromValue}
 use Rattle.board_base.specs.Pokey.{PokeyValue}

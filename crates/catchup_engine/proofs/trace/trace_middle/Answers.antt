@@ -1,5 +1,6 @@
 use Rattle.std.proofs.Common.{◌≡◌, length, slice_index, Some, ap, sym, ◌∙◌}
-use Rattle.board_base.specs.Cpu.{CpuValue, MidValue}
+use Rattle.board_base.specs.Cpu.{CpuValue}
+use Rattle.board_base.specs.Mid.{MidValue}
 use Rattle.catchup_engine.specs.Runs.{over_bus}
 use Rattle.catchup_engine.specs.Trace.{TraceValue, opcode_by, traced}
 use Rattle.catchup_engine.proofs.Traces.{middle-byte, middle-sequence, middle-observed, trace-named}

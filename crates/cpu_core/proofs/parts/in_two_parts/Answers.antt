@@ -1,6 +1,6 @@
 -- Both parts after one another, as the lemmas on places have it.
 use Rattle.std.proofs.Common.{◌≢◌, [], Option, Some, None, IsSome}
-use Rattle.board_base.specs.Cpu.{MidValue}
+use Rattle.board_base.specs.Mid.{MidValue}
 use Rattle.cpu_core.proofs.PlaceLemmas.{moves-join, moves-part, two_parts}
 use Rattle.cpu_core.proofs.parts.in_two_parts.Goals as goal
 

@@ -1,6 +1,6 @@
 -- A place is after a documented opcode.
 use Rattle.std.proofs.Common.{◌∙◌, sym, ap, subst}
-use Rattle.board_base.specs.Cpu.{MidValue}
+use Rattle.board_base.specs.Mid.{MidValue}
 use Rattle.cpu_core.specs.Places.{IsPlace, given_by}
 use Rattle.cpu_core.proofs.JamLemmas.{resumes_by}
 use Rattle.cpu_core.proofs.pause.resume.Goals as goal

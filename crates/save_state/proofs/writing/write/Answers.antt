@@ -1,6 +1,5 @@
 use Rattle.std.proofs.Common.{◌≡◌, ℕ, List, length, take, ◌≤◌, sym, ap, subst, ◌∙◌, arith, take_all}
 use Rattle.save_state.proofs.OneBoard.{second_has, board_parts}
-use Rattle.board_base.specs.BoardFields.{board_view}
 use Rattle.save_state.specs.StateBytes.{state_bytes}
 use Rattle.save_state.specs.Reading.{HasFields}
 use Rattle.save_state.proofs.writing.write.Goals as goal
@@ -10,10 +9,10 @@ whole n out bytes long e = sym (take_all n out long) ∙ e
 
 pub returns-clause-bytes : goal.returns-clause-bytes
 returns-clause-bytes c =
-    let e : take c.put.result c.put.new.out ≡ state_bytes (board_view c.state.inside) =
+    let e : take c.put.result c.put.new.out ≡ state_bytes c.state.inside =
     rw (c.put.ensures.bytes, c.put-at-3.ensures.bytes, c.put_earom-at.ensures.bytes, c.put_pokey-at-2.ensures.bytes, c.put_pokey-at.ensures.bytes)
     (rw (c.put_vg-at.ensures.bytes, c.put-at-2.ensures.bytes, c.put_place-at.ensures.bytes, c.put_divider-at.ensures.bytes, c.put-at.ensures.bytes, c.put_processor-at.ensures.bytes)
-    (board_parts (board_view c.state.inside))) in
+    (board_parts c.state.inside)) in
     whole c.put.result c.put.new.out _ (omega arith) (e ∙ ap state_bytes c.state.view_is)
 
 pub returns-clause-fields : goal.returns-clause-fields
