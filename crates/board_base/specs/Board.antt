@@ -9,10 +9,19 @@ use Rattle.board_base.specs.Earom.{earom_at_power_on}
 use Rattle.board_base.specs.Pokey.{pokey_at_power_on}
 use Rattle.board_base.specs.Vg.{vg_at_power_on}
 use Rattle.board_base.specs.declared.board.BoardState.TheInside.{Inside}
+use Rattle.board_base.specs.declared.board.Ports.{Ports}
 
 -- the fields of `BoardState`
 abbrev pub BoardValue : Type 0
 BoardValue = Inside
+
+-- what the board reads at its ports, and its output latch
+abbrev pub ports_of : BoardValue → Ports
+ports_of b = record { out = b.out; in0 = b.in0; in3 = b.in3; in4 = b.in4 }
+
+-- a board with other ports
+abbrev pub with_ports : Ports → BoardValue → BoardValue
+with_ports ports b = record b { out = ports.out; in0 = ports.in0; in3 = ports.in3; in4 = ports.in4 }
 
 -- the clock may stand up to 16 past the greatest number of a tape, and inside a sequence at that
 -- number at most; six bits of the first port; two memories in their lengths

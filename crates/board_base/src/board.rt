@@ -38,6 +38,17 @@ pub struct BoardState {
     pub vram: [u8; VECTOR_RAM_LEN],
 }
 
+/// The output latch and the input ports of a board.
+///
+/// `in0` has bits 0 to 5 alone.
+#[derive(Clone, Copy, Debug, PartialEq, Eq)]
+pub struct Ports {
+    pub out: u8,
+    pub in0: u8,
+    pub in3: u8,
+    pub in4: u8,
+}
+
 impl Model for BoardState {
     ghost use Rattle.board_base.specs.Board.{BoardValue, IsBoard};
 
@@ -51,8 +62,8 @@ impl Model for BoardState {
 }
 
 impl BoardState {
-    ghost use Rattle.std.specs.Prelude.{◌≡◌};
-    ghost use Rattle.board_base.specs.Board.{board_at_power_on};
+    ghost use Rattle.std.specs.Prelude.{◌≡◌, ◌<◌};
+    ghost use Rattle.board_base.specs.Board.{board_at_power_on, ports_of, with_ports};
 
     /// The board at power-on, before its first clock.
     pub fn power_on() -> BoardState
@@ -73,5 +84,30 @@ impl BoardState {
             ram: [0; RAM_LEN],
             vram: [0; VECTOR_RAM_LEN],
         }
+    }
+
+    /// Its output latch and its ports.
+    pub fn ports(&self) -> Ports
+        ensures ports { result ≡ ports_of self.now }
+        ensures range { result.in0 < 64 }
+    {
+        Ports {
+            out: self.out,
+            in0: self.in0,
+            in3: self.in3,
+            in4: self.in4,
+        }
+    }
+
+    /// Sets its output latch and its ports.
+    pub fn set_ports(&mut self, ports: Ports)
+        requires { ports.in0 < 64 }
+        ensures { self.new ≡ with_ports ports self.old }
+    {
+        let Ports { out, in0, in3, in4 } = ports;
+        self.out = out;
+        self.in0 = in0;
+        self.in3 = in3;
+        self.in4 = in4;
     }
 }

@@ -18,7 +18,7 @@ pub mod trail;
 pub mod vector_memory;
 pub mod vg;
 
-pub use board::{BoardState, CLOCK_END, CLOCK_LIMIT, RAM_LEN};
+pub use board::{BoardState, CLOCK_END, CLOCK_LIMIT, Ports, RAM_LEN};
 pub use cpu::{CpuState, Mid, Sequence};
 pub use device::{Clocked, Device, PowerOn};
 pub use divider::{DIVIDER_PERIOD, DividerState, Pending, WATCHDOG_WRAPS};

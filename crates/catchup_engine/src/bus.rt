@@ -10,7 +10,7 @@ mod regions;
 mod state;
 
 use crate::devices::Units;
-use board_base::{RAM_LEN, Trail, VectorMemory};
+use board_base::{Ports, RAM_LEN, Trail, VectorMemory};
 use catchup_devices::{CatchUp, SoundCatchUp, VectorCatchUp};
 use cpu_core::Bus;
 use rom_image::PROGRAM_ROM_START;
@@ -51,10 +51,7 @@ pub(crate) struct BoardBus<S: Units> {
     memory: VectorMemory,
     ram: Vec<u8>,
     program: Vec<u8>,
-    out: u8,
-    in0: u8,
-    in3: u8,
-    in4: u8,
+    ports: Ports,
     clock: u64,
     clock_open: bool,
     wrap_at: u64,
@@ -79,10 +76,7 @@ impl<S: Units> Model for BoardBus<S> {
       peripherals = record {
         clock = a.clock;
         wired = a.sound1.wired;
-        out = a.out;
-        in0 = a.in0;
-        in3 = a.in3;
-        in4 = a.in4;
+        ports = a.ports;
         divider = after_lag divider_tick a.divider.done a.clock (S.Divider.device a.divider.unit);
         vg = generator_after_lag a.memory a.vector.done a.clock (S.Vector.device a.vector.unit);
         sound1 = after_lag pokey_tick a.sound1.done a.clock (S.Sound.device a.sound1.unit);
@@ -105,7 +99,7 @@ impl<S: Units> Model for BoardBus<S> {
       calls = min (S.Vector.calls a.vector.unit + S.Sound.calls a.sound1.unit + S.Sound.calls a.sound2.unit + S.Cells.calls a.cells.unit + S.Divider.calls a.divider.unit) (2 ^ 64 - 1);
     } };
 
-    ghost invariant = { λ a. HoldsTheRest a.clock a.in0 a.ram.items a.program.items
+    ghost invariant = { λ a. HoldsTheRest a.clock a.ports.in0 a.ram.items a.program.items
         × IsNotAhead a.vector.done a.clock × IsNotAhead a.sound1.done a.clock × IsNotAhead a.sound2.done a.clock × IsNotAhead a.cells.done a.clock × IsNotAhead a.divider.done a.clock
         × HasNoWrapInItsLag (S.Divider.device a.divider.unit).phase a.divider.done a.clock a.wrap_at × (a.event_at < a.wrap_at)
         × (a.clock_open ≡ true → (1 ≤ a.clock) × (a.event_at ≡ 0))

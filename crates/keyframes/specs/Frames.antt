@@ -1,6 +1,6 @@
 -- How a kept board lies in its memory: its fields, and the places of its pages in a pool.
 use Rattle.std.specs.Prelude.{ℕ, ◌+◌, ◌<◌, ◌≤◌, IsSome, List, Option, None, Some, [], flat_map, take, drop}
-use Rattle.board_base.specs.Board.{BoardValue}
+use Rattle.board_base.specs.Board.{BoardValue, ports_of}
 use Rattle.board_base.specs.declared.board.TheConstants.{CLOCK_LIMIT}
 use Rattle.keyframes.specs.declared.pages.TheConstants.{RAM_PAGES}
 use Rattle.page_pool.specs.Pool.{Holding, held_at}
@@ -12,10 +12,7 @@ abbrev pub rest_of : BoardValue → Rest
 rest_of b = record {
   clock = b.clock;
   cpu = b.cpu;
-  out = b.out;
-  in0 = b.in0;
-  in3 = b.in3;
-  in4 = b.in4;
+  ports = ports_of b;
   divider = b.divider;
   vg = b.vg;
   sound1 = b.sound1;
@@ -27,17 +24,17 @@ rest_of b = record {
 pub record IsRest (rest : Rest) : Type 0 where
   pub clock : rest.clock ≤ CLOCK_LIMIT + 16
   pub middle : IsSome rest.cpu.mid → rest.clock ≤ CLOCK_LIMIT
-  pub in0 : rest.in0 < 64
+  pub in0 : rest.ports.in0 < 64
 
 -- a board with these fields and RAMs
 abbrev pub board_with : Rest → List ℕ → List ℕ → BoardValue
 board_with rest ram vram = record {
   clock = rest.clock;
   cpu = rest.cpu;
-  out = rest.out;
-  in0 = rest.in0;
-  in3 = rest.in3;
-  in4 = rest.in4;
+  out = rest.ports.out;
+  in0 = rest.ports.in0;
+  in3 = rest.ports.in3;
+  in4 = rest.ports.in4;
   divider = rest.divider;
   vg = rest.vg;
   sound1 = rest.sound1;

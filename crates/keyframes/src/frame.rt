@@ -1,4 +1,4 @@
-use board_base::{BoardState, CpuState, DividerState, EaromState, PokeyState, VgState};
+use board_base::{BoardState, CpuState, DividerState, EaromState, PokeyState, Ports, VgState};
 use page_pool::Page;
 
 /// All fields of a board but its two RAMs.
@@ -6,10 +6,7 @@ use page_pool::Page;
 pub(crate) struct Rest {
     pub clock: u64,
     pub cpu: CpuState,
-    pub out: u8,
-    pub in0: u8,
-    pub in3: u8,
-    pub in4: u8,
+    pub ports: Ports,
     pub divider: DividerState,
     pub vg: VgState,
     pub sound1: PokeyState,
@@ -37,10 +34,7 @@ impl Rest {
         Rest {
             clock: state.clock,
             cpu: state.cpu,
-            out: state.out,
-            in0: state.in0,
-            in3: state.in3,
-            in4: state.in4,
+            ports: state.ports(),
             divider: state.divider,
             vg: state.vg,
             sound1: state.sound1,
@@ -56,10 +50,7 @@ impl Rest {
     {
         into.clock = self.clock;
         into.cpu = self.cpu;
-        into.out = self.out;
-        into.in0 = self.in0;
-        into.in3 = self.in3;
-        into.in4 = self.in4;
+        into.set_ports(self.ports);
         into.divider = self.divider;
         into.vg = self.vg;
         into.sound1 = self.sound1;

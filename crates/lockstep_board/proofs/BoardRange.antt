@@ -75,9 +75,9 @@ byte_in_in reads.VectorRom k w h = byte_at w.memory (VECTOR_RAM_LEN + k) h.memor
 byte_in_in reads.Sound1 reg w h = register_read_in reg w.sound1 h.sound1
 byte_in_in reads.Sound2 reg w h = register_read_in reg w.sound2 h.sound2
 byte_in_in reads.EaromOut k w h = h.earom.out
-byte_in_in reads.In0 k w h = let low = h.in0 in grind arith
-byte_in_in reads.In3 k w h = h.in3
-byte_in_in reads.In4 k w h = h.in4
+byte_in_in reads.In0 k w h = let low = h.ports.in0 in grind arith
+byte_in_in reads.In3 k w h = h.ports.in3
+byte_in_in reads.In4 k w h = h.ports.in4
 byte_in_in reads.ProgramRom k w h = byte_at w.program k h.program.each
 byte_in_in _ k w h = omega arith
 

@@ -7,7 +7,8 @@ use Rattle.board_base.specs.declared.record.Record.{Record}
 use Rattle.board_base.specs.declared.record.Record.TheVariants.{Latch, WatchdogReset}
 use Rattle.board_base.specs.declared.divider.Pending.{Pending}
 use Rattle.board_base.specs.declared.divider.Pending.TheVariants.{Nothing, Power, Watchdog}
-use Rattle.board_base.specs.Board.{BoardValue}
+use Rattle.board_base.specs.declared.board.Ports.{Ports}
+use Rattle.board_base.specs.Board.{BoardValue, ports_of}
 use Rattle.board_base.specs.Cpu.{CpuValue}
 use Rattle.board_base.specs.Divider.{DividerValue}
 use Rattle.board_base.specs.Earom.{EaromValue}
@@ -28,15 +29,12 @@ use Rattle.tape_ports.specs.declared.entry.Port.TheVariants as port
 use Rattle.tape_ports.specs.declared.entry.TapeEntry.{TapeEntry}
 use Rattle.tape_ports.specs.Due.{due_at}
 
--- the clocks done, whether the POKEYs reach the interrupt line, the output latch and the ports, the
+-- the clocks done, whether the POKEYs reach the interrupt line, the ports with the output latch, the
 -- devices, the memories as the processor and the generator see them, and the four lists of records
 pub record Peripherals : Type 0 where
   pub clock : ℕ
   pub wired : Bool
-  pub out : ℕ
-  pub in0 : ℕ
-  pub in3 : ℕ
-  pub in4 : ℕ
+  pub ports : Ports
   pub divider : DividerValue
   pub vg : VgValue
   pub sound1 : PokeyValue
@@ -52,9 +50,9 @@ pub record Peripherals : Type 0 where
 
 -- what an entry of the tape sets: of IN0 the tape has bits 0 to 5
 abbrev pub port_set : Port → ℕ → Peripherals → Peripherals
-port_set port.In0 value w = record w { in0 = value % 64 }
-port_set port.In3 value w = record w { in3 = value }
-port_set port.In4 value w = record w { in4 = value }
+port_set port.In0 value w = record w { ports = record w.ports { in0 = value % 64 } }
+port_set port.In3 value w = record w { ports = record w.ports { in3 = value } }
+port_set port.In4 value w = record w { ports = record w.ports { in4 = value } }
 port_set (port.Pot1 which) value w = record w { sound1 = pot_set which value w.sound1 }
 port_set (port.Pot2 which) value w = record w { sound2 = pot_set which value w.sound2 }
 
@@ -91,7 +89,7 @@ line_of w = w.divider.irq || w.wired && (has_request w.sound1 || has_request w.s
 
 -- IN0: the port's bits 0 to 5, bit 6 where the generator is halted, and the 3 kHz line as bit 7
 abbrev pub in0_byte : Peripherals → ℕ
-in0_byte w = w.in0 + (if w.vg.halted then 64 else 0) + (if line_3k w.divider then 128 else 0)
+in0_byte w = w.ports.in0 + (if w.vg.halted then 64 else 0) + (if line_3k w.divider then 128 else 0)
 
 -- the byte that a read gives, by an offset in a memory or a register's number; the open bus gives
 -- FF
@@ -104,8 +102,8 @@ byte_in reads.Sound1 reg w = register_read reg w.sound1
 byte_in reads.Sound2 reg w = register_read reg w.sound2
 byte_in reads.EaromOut k w = w.earom.out
 byte_in reads.In0 k w = in0_byte w
-byte_in reads.In3 k w = w.in3
-byte_in reads.In4 k w = w.in4
+byte_in reads.In3 k w = w.ports.in3
+byte_in reads.In4 k w = w.ports.in4
 byte_in reads.Open k w = 255
 
 -- the byte that a read of an address gives
@@ -118,7 +116,7 @@ put_in writes.Ram k value w = record w { ram = slice_set w.ram k value }
 put_in writes.VectorRam k value w = record w { memory = slice_set w.memory k value }
 put_in writes.Sound1 reg value w = record w { sound1 = register_written reg value w.sound1 }
 put_in writes.Sound2 reg value w = record w { sound2 = register_written reg value w.sound2 }
-put_in writes.OutputLatch k value w = record w { out = value; written = w.written ++ Latch w.clock value ∷ [] }
+put_in writes.OutputLatch k value w = record w { ports = record w.ports { out = value }; written = w.written ++ Latch w.clock value ∷ [] }
 put_in writes.Go k value w = record w { vg = vg_go w.vg }
 put_in writes.VgReset k value w = record w { vg = vg_reset w.vg }
 put_in writes.Acknowledge k value w = record w { divider = acknowledged w.divider }
@@ -135,7 +133,7 @@ byte_put address value w = put_in (row_of address).writes (row_of address).offse
 -- clears the output latch without a record of a write to it, and is recorded itself
 abbrev pub reset_by : Pending → Peripherals → Peripherals
 reset_by Watchdog w = record w {
-  out = 0;
+  ports = record w.ports { out = 0 };
   divider = reset_taken w.divider;
   vg = vg_reset w.vg;
   written = w.written ++ WatchdogReset w.clock ∷ [];
@@ -153,10 +151,7 @@ abbrev pub peripherals_of : List ℕ → Bool → BoardValue → Peripherals
 peripherals_of image wired b = record {
   clock = b.clock;
   wired = wired;
-  out = b.out;
-  in0 = b.in0;
-  in3 = b.in3;
-  in4 = b.in4;
+  ports = ports_of b;
   divider = b.divider;
   vg = b.vg;
   sound1 = b.sound1;
@@ -176,10 +171,7 @@ abbrev pub reloaded : Peripherals → BoardValue → Peripherals
 reloaded w b = record {
   clock = b.clock;
   wired = w.wired;
-  out = b.out;
-  in0 = b.in0;
-  in3 = b.in3;
-  in4 = b.in4;
+  ports = ports_of b;
   divider = b.divider;
   vg = b.vg;
   sound1 = b.sound1;
@@ -199,10 +191,10 @@ abbrev pub board_of : CpuValue → Peripherals → BoardValue
 board_of c w = record {
   clock = w.clock;
   cpu = c;
-  out = w.out;
-  in0 = w.in0;
-  in3 = w.in3;
-  in4 = w.in4;
+  out = w.ports.out;
+  in0 = w.ports.in0;
+  in3 = w.ports.in3;
+  in4 = w.ports.in4;
   divider = w.divider;
   vg = w.vg;
   sound1 = w.sound1;

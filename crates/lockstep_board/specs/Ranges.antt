@@ -1,6 +1,7 @@
 -- A board in range: what the types of its parts keep, as facts on plain records.
 use Rattle.std.specs.Prelude.{◌≡◌, ℕ, ◌+◌, ◌<◌, ◌≤◌, List, length, All}
 use Rattle.board_base.specs.declared.board.TheConstants.{RAM_LEN}
+use Rattle.board_base.specs.declared.board.Ports.{Ports}
 use Rattle.board_base.specs.declared.vector_memory.TheConstants.{VECTOR_RAM_LEN, VECTOR_ROM_LEN}
 use Rattle.board_base.specs.Divider.{IsDivider}
 use Rattle.board_base.specs.Earom.{EaromValue, IsEarom}
@@ -85,13 +86,17 @@ pub record IsEaromInRange (e : EaromValue) : Type 0 where
   pub out : IsByte e.out
   pub cells : All IsByte e.cells
 
--- peripherals in range: the output latch and the ports are bytes, the first port of six bits, each
--- device is in range, and each memory has its bytes; of the clock nothing is said
+-- ports in range: they and the output latch are bytes, the first port of six bits
+pub record ArePortsInRange (ports : Ports) : Type 0 where
+  pub out : IsByte ports.out
+  pub in0 : ports.in0 < 64
+  pub in3 : IsByte ports.in3
+  pub in4 : IsByte ports.in4
+
+-- peripherals in range: the ports and each device are in range, and each memory has its bytes; of
+-- the clock nothing is said
 pub record ArePeripheralsInRange (w : Peripherals) : Type 0 where
-  pub out : IsByte w.out
-  pub in0 : w.in0 < 64
-  pub in3 : IsByte w.in3
-  pub in4 : IsByte w.in4
+  pub ports : ArePortsInRange w.ports
   pub divider : IsDivider w.divider
   pub vg : IsVgInRange w.vg
   pub sound1 : IsPokeyInRange w.sound1

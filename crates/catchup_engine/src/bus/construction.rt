@@ -141,10 +141,7 @@ impl<S: Units> BoardBus<S> {
             memory: bytes.memory,
             ram: bytes.ram,
             program: bytes.program,
-            out: state.out,
-            in0: state.in0,
-            in3: state.in3,
-            in4: state.in4,
+            ports: state.ports(),
             clock,
             clock_open: false,
             wrap_at,
@@ -177,10 +174,7 @@ impl<S: Units> BoardBus<S> {
         self.divider.unit.load(&state.divider);
         self.divider.done = done;
         self.wrap_at = done + self.divider.unit.quiet();
-        self.out = state.out;
-        self.in0 = state.in0;
-        self.in3 = state.in3;
-        self.in4 = state.in4;
+        self.ports = state.ports();
         self.ram.copy_from_slice(&state.ram);
         self.memory.load_ram(&state.vram);
     }

@@ -28,9 +28,9 @@ impl<S: Units> BoardBus<S> {
     {
         let value = entry.value;
         match entry.port {
-            Port::In0 => self.in0 = value % 64,
-            Port::In3 => self.in3 = value,
-            Port::In4 => self.in4 = value,
+            Port::In0 => self.ports.in0 = value % 64,
+            Port::In3 => self.ports.in3 = value,
+            Port::In4 => self.ports.in4 = value,
             Port::Pot1(which) => {
                 self.sync_sound1();
                 self.sound1.set_pot(which, value);

@@ -117,13 +117,13 @@ impl<S: Units> BoardBus<S> {
         requires clock_done { 1 ≤ self.old.peripherals.clock }
         ensures { self.new ≡ record self.old {
           peripherals = record self.old.peripherals {
-            out = 0;
+            ports = record self.old.peripherals.ports { out = 0 };
             written = self.old.peripherals.written ++ Record.WatchdogReset (self.old.peripherals.clock - 1) ∷ [];
           };
         } }
     {
         let clock = self.clock - 1;
-        self.out = 0;
+        self.ports.out = 0;
         self.written.push(Record::WatchdogReset { clock });
     }
 }

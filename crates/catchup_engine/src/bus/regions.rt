@@ -119,7 +119,7 @@ impl<S: Units> BoardBus<S> {
     {
         let halted = if self.vector.unit.halted() { 64 } else { 0 };
         let bit3k = if self.divider.unit.bit3k() { 128 } else { 0 };
-        self.in0 + halted + bit3k
+        self.ports.in0 + halted + bit3k
     }
 
     /// VGRST: halts the generator.
@@ -138,13 +138,13 @@ impl<S: Units> BoardBus<S> {
         requires clock_done { 1 ≤ self.old.peripherals.clock }
         ensures { self.new ≡ record self.old {
           peripherals = record self.old.peripherals {
-            out = value;
+            ports = record self.old.peripherals.ports { out = value };
             written = self.old.peripherals.written ++ Record.Latch (self.old.peripherals.clock - 1) value ∷ [];
           };
         } }
     {
         let clock = self.clock - 1;
-        self.out = value;
+        self.ports.out = value;
         self.written.push(Record::Latch { clock, value });
     }
 
@@ -240,8 +240,8 @@ impl<S: Units> BoardBus<S> {
             Reads::Sound2 => self.sound2.read_register(row.offset as u8),
             Reads::EaromOut => self.cells.unit.output(),
             Reads::In0 => self.read_in0(),
-            Reads::In3 => self.in3,
-            Reads::In4 => self.in4,
+            Reads::In3 => self.ports.in3,
+            Reads::In4 => self.ports.in4,
             Reads::Open => 0xFF,
         }
     }

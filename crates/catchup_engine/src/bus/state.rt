@@ -101,10 +101,7 @@ impl<S: Units> BoardBus<S> {
     {
         into.clock = self.clock;
         into.cpu = *cpu;
-        into.out = self.out;
-        into.in0 = self.in0;
-        into.in3 = self.in3;
-        into.in4 = self.in4;
+        into.set_ports(self.ports);
         into.divider = self.divider.unit.state();
         into.vg = self.vector.unit.state();
         into.sound1 = self.sound1.unit.state();
