@@ -23,7 +23,7 @@ use Rattle.pokey_chip.specs.Noise.{IsNoise, long_poly}
 use Rattle.pokey_chip.specs.Pulses.{rises_of}
 use Rattle.pokey_chip.specs.Skips.{AreSkipped}
 use Rattle.pokey_chip.specs.Tones.{asker, audc_of, follower, has, level_on, levels_on, next_tone, of_channel, requests_made, IsTuning}
-use Rattle.pokey_chip.proofs.RegisterLaws.{Kept, kept, pot-after}
+use Rattle.pokey_chip.proofs.RegisterLaws.{counted_on, audc-kept, audctl-kept, kept, pot-after}
 use Rattle.pokey_chip.proofs.VoiceLaws.{due-later, due_in, voice-in, later-test}
 use Rattle.pokey_chip.proofs.TickLaws.{next_by, IsSmall, small-after, four-same, levels-same, long-after, next-same, requests-bit, requests-fits, requests-none, three-same, two-same}
 use Rattle.pokey_chip.proofs.PlanLaws.{planned, voice_of, IsFar, IsThere, Plan, far-then, same-levels}
@@ -50,7 +50,7 @@ four-left p zero some = absurd (omega arith)
 four-left p (suc n) some = refl
 
 -- a POKEY that gets what clocks change is as after n clocks
-pub put-together : (p : PokeyValue) (n : ℕ) (q u t : PokeyValue) (tone pass irqst pot : ℕ) (last left : List ℕ) → Kept n p q
+pub put-together : (p : PokeyValue) (n : ℕ) (q u t : PokeyValue) (tone pass irqst pot : ℕ) (last left : List ℕ) → q ≡ counted_on n p q
     → tone ≡ q.tone → pass ≡ q.pass → irqst ≡ q.irqst → last ≡ q.last → left ≡ q.left → pot ≡ q.pot
     → u ≡ record p {
       poly4 = times (rolled (is_held p.skctl) Four) n p.poly4;
@@ -71,27 +71,7 @@ pub put-together : (p : PokeyValue) (n : ℕ) (q u t : PokeyValue) (tone pass ir
     → t ≡ q
 put-together p n q u t _ _ _ _ _ _ k e1 e2 e3 e4 e5 e6 put counts =
     counts
-    ∙ rw (
-      put,
-      e1,
-      e2,
-      e3,
-      e4,
-      e5,
-      e6,
-      ← k.poly4,
-      ← k.poly5,
-      ← k.poly9,
-      ← k.poly17,
-      ← k.pre28,
-      ← k.pre114,
-      ← k.audf,
-      ← k.audc,
-      ← k.audctl,
-      ← k.skctl,
-      ← k.irqen,
-      ← k.targets,
-    ) refl
+    ∙ rw (put, e1, e2, e3, e4, e5, e6) (sym k)
 
 -- a move of n clocks that has done k of them, and comes to the clock `at` next
 pub record IsMoved (p : PokeyValue) (n : ℕ) (plan : Plan p n) (from at : ℕ) (x y : TrailValue) (vs : Voices) (noise : Noise) (tones : Tones)
@@ -219,7 +199,7 @@ module _ {p : PokeyValue} {n : ℕ} {plan : Plan p n} {from at : ℕ} {x y : Tra
       levels-on : (times pokey_tick (suc k) p).last ≡ (times pokey_tick k p).last
       levels-on =
           settled-at p (suc k) (omega arith)
-          ∙ same-levels plan (times pokey_tick (suc k) p) (times pokey_tick k p) (kept (suc k) p).audc (kept (suc k) p).audctl (kept k p).audc (kept k p).audctl
+          ∙ same-levels plan (times pokey_tick (suc k) p) (times pokey_tick k p) (audc-kept (suc k) p) (audctl-kept (suc k) p) (audc-kept k p) (audctl-kept k p)
           (λ c e. sym (far-on.tone c (omega arith)) ∙ is.far.tone c (omega arith))
           (λ j h e. sym (far-on.pass j h (omega arith)) ∙ is.far.pass j h (omega arith))
           ∙ sym (is.settled before)
@@ -274,11 +254,11 @@ module _ {p : PokeyValue} {from n at : ℕ} {x y : TrailValue} {vs : Voices} {no
 
     next-here : (c : Channel) (tone : Bool) → next_tone tuning outputs c tone ≡ next_by (audc_of p c) (times pokey_tick at p) tone
     next-here c tone =
-        next-same tuning outputs p (times pokey_tick at p) c tone tuned (kept at p).audc
-        (four ∙ ap (λ (r : ℕ). is_bit r 0) (sym (kept at p).poly4))
-        (five ∙ ap (λ (r : ℕ). is_bit r 0) (sym (kept at p).poly5))
+        next-same tuning outputs p (times pokey_tick at p) c tone tuned (audc-kept at p)
+        (four ∙ ap (λ (r : ℕ). is_bit r 0) (sym (ap (λ (q : PokeyValue). q.poly4) (kept at p))))
+        (five ∙ ap (λ (r : ℕ). is_bit r 0) (sym (ap (λ (q : PokeyValue). q.poly5) (kept at p))))
         (long ∙ ap (λ (r : ℕ). is_bit r 0) (long-after at p))
-        ∙ ap (λ (audc : List ℕ). next_by (slice_index audc (place c)) (times pokey_tick at p) tone) (kept at p).audc
+        ∙ ap (λ (audc : List ℕ). next_by (slice_index audc (place c)) (times pokey_tick at p) tone) (audc-kept at p)
 
     tone-here : (c : Channel) → has tones2.tone c ≡ (if (voice_of vs c).due == at then next_by (audc_of p c) (times pokey_tick at p) (has tones.tone c) else has tones.tone c)
     tone-here c = tone2 c ∙ rw (is-due-here c, next-here c (has tones.tone c)) refl
@@ -300,8 +280,8 @@ module _ {p : PokeyValue} {from n at : ℕ} {x y : TrailValue} {vs : Voices} {no
 
     levels-there : levels_on on p.audc ≡ (times pokey_tick at p).last
     levels-there =
-        levels-same tuning p heard on tuned (kept at p).audc (kept at p).audctl is-on
-        ∙ same-levels has-moved.plan heard (times pokey_tick at p) (kept at p).audc (kept at p).audctl (kept at p).audc (kept at p).audctl
+        levels-same tuning p heard on tuned (audc-kept at p) (audctl-kept at p) is-on
+        ∙ same-levels has-moved.plan heard (times pokey_tick at p) (audc-kept at p) (audctl-kept at p) (audc-kept at p) (audctl-kept at p)
         (λ c e. far-there.tone c (omega arith)) (λ j h e. far-there.pass j h (omega arith))
         ∙ sym (settled-at p at some-at)
 

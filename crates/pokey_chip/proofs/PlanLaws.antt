@@ -279,7 +279,7 @@ module _ (c : Channel) (p : PokeyValue) (small : IsSmall p) (v : Voice) (is : Is
       → next_by (audc_of p c) (times pokey_tick at p) (tone_of c p) ≡ tone_of c (times pokey_tick at p)
   set-arrives at some early due noise sets =
       let five : (is_bit (audc_of p c) 7 || is_bit (times pokey_tick at p).poly5 0) ≡ true
-      = ap (λ (r : ℕ). is_bit (audc_of p c) 7 || is_bit r 0) (kept at p).poly5 ∙ sets in
+      = ap (λ (r : ℕ). is_bit (audc_of p c) 7 || is_bit r 0) (ap (λ (q : PokeyValue). q.poly5) (kept at p)) ∙ sets in
       next-set (audc_of p c) (times pokey_tick at p) (tone_of c p) (tone_of c (times pokey_tick (at - 1) p)) noise five ∙ sym (tone-at at some early due)
 
   module _ (pure : is_bit (audc_of p c) 5 ≡ true) (free : is_bit (audc_of p c) 7 ≡ true) where

@@ -1,6 +1,6 @@
 -- What clocks leave alone, the polynomial registers and the prescalers over clocks in which they are
 -- held or run, and how many pulses a channel gets, by its clock.
-use Rattle.std.proofs.Common.{◌≡◌, ℕ, ◌-◌, ◌^◌, ◌≤◌, rules, true, false, zero, suc, refl, ap, ◌∙◌, arith, Bool, ◌+◌, min, not, ◌&&◌, nat_lt, if◌then◌else◌, sym, add-one}
+use Rattle.std.proofs.Common.{◌≡◌, ℕ, ◌-◌, ◌^◌, ◌≤◌, true, false, zero, suc, refl, ap, ◌∙◌, arith, Bool, ◌+◌, min, not, ◌&&◌, nat_lt, if◌then◌else◌, sym, add-one}
 use Rattle.std.proofs.lemmas.Bool.Decides.{nat_tests}
 use Rattle.std.specs.Int.{from_bool}
 use Rattle.bit_words.specs.Bits.{is_bit}
@@ -42,47 +42,50 @@ prescaled-running period (suc n) count = ap (counted period) (prescaled-running 
 
 pub ruleset prescales = (prescaled-held, prescaled-running)
 
--- a POKEY after n clocks: what no clock changes, and what is counted and shifted in each
-pub record Kept (n : ℕ) (p q : PokeyValue) : Type 0 where
-  pub audf : q.audf ≡ p.audf
-  pub audc : q.audc ≡ p.audc
-  pub audctl : q.audctl ≡ p.audctl
-  pub skctl : q.skctl ≡ p.skctl
-  pub irqen : q.irqen ≡ p.irqen
-  pub targets : q.targets ≡ p.targets
-  pub poly4 : q.poly4 ≡ times (rolled (is_held p.skctl) Four) n p.poly4
-  pub poly5 : q.poly5 ≡ times (rolled (is_held p.skctl) Five) n p.poly5
-  pub poly9 : q.poly9 ≡ times (rolled (is_held p.skctl) Nine) n p.poly9
-  pub poly17 : q.poly17 ≡ times (rolled (is_held p.skctl) Seventeen) n p.poly17
-  pub pre28 : q.pre28 ≡ times (prescaled (is_held p.skctl) 28) n p.pre28
-  pub pre114 : q.pre114 ≡ times (prescaled (is_held p.skctl) 114) n p.pre114
+-- a POKEY after n clocks: the polynomial registers and the prescalers by their own steps, what the
+-- channels and the pots leave as in q, and all else as before
+abbrev pub counted_on : ℕ → PokeyValue → PokeyValue → PokeyValue
+counted_on n p q = record p {
+  poly4 = times (rolled (is_held p.skctl) Four) n p.poly4;
+  poly5 = times (rolled (is_held p.skctl) Five) n p.poly5;
+  poly9 = times (rolled (is_held p.skctl) Nine) n p.poly9;
+  poly17 = times (rolled (is_held p.skctl) Seventeen) n p.poly17;
+  pre28 = times (prescaled (is_held p.skctl) 28) n p.pre28;
+  pre114 = times (prescaled (is_held p.skctl) 114) n p.pre114;
+  left = q.left;
+  tone = q.tone;
+  pass = q.pass;
+  irqst = q.irqst;
+  pot = q.pot;
+  last = q.last;
+}
 
-pub kept : (n : ℕ) (p : PokeyValue) → Kept n p (times pokey_tick n p)
+pub kept : (n : ℕ) (p : PokeyValue) → times pokey_tick n p ≡ counted_on n p (times pokey_tick n p)
 unfolding ticks pokey_tick channels_ticked channel_ticked with_left underflow_effect pot_counted clocked
-kept zero p = search rules
-kept (suc n) p =
-    let k : Kept n p (times pokey_tick n p) = kept n p in
-    record {
-      audf = k.audf;
-      audc = k.audc;
-      audctl = k.audctl;
-      skctl = k.skctl;
-      irqen = k.irqen;
-      targets = k.targets;
-      poly4 = rw k.skctl (ap (rolled (is_held p.skctl) Four) k.poly4);
-      poly5 = rw k.skctl (ap (rolled (is_held p.skctl) Five) k.poly5);
-      poly9 = rw k.skctl (ap (rolled (is_held p.skctl) Nine) k.poly9);
-      poly17 = rw k.skctl (ap (rolled (is_held p.skctl) Seventeen) k.poly17);
-      pre28 = rw k.skctl (ap (prescaled (is_held p.skctl) 28) k.pre28);
-      pre114 = rw k.skctl (ap (prescaled (is_held p.skctl) 114) k.pre114);
-    }
+kept zero p = refl
+kept (suc n) p = ap (λ (q : PokeyValue). counted_on 1 q (times pokey_tick (suc n) p)) (kept n p)
+
+pub audf-kept : (n : ℕ) (p : PokeyValue) → (times pokey_tick n p).audf ≡ p.audf
+audf-kept n p = ap (λ (q : PokeyValue). q.audf) (kept n p)
+
+pub audc-kept : (n : ℕ) (p : PokeyValue) → (times pokey_tick n p).audc ≡ p.audc
+audc-kept n p = ap (λ (q : PokeyValue). q.audc) (kept n p)
+
+pub audctl-kept : (n : ℕ) (p : PokeyValue) → (times pokey_tick n p).audctl ≡ p.audctl
+audctl-kept n p = ap (λ (q : PokeyValue). q.audctl) (kept n p)
+
+pub skctl-kept : (n : ℕ) (p : PokeyValue) → (times pokey_tick n p).skctl ≡ p.skctl
+skctl-kept n p = ap (λ (q : PokeyValue). q.skctl) (kept n p)
+
+pub irqen-kept : (n : ℕ) (p : PokeyValue) → (times pokey_tick n p).irqen ≡ p.irqen
+irqen-kept n p = ap (λ (q : PokeyValue). q.irqen) (kept n p)
 
 -- a prescaler that isn't held
 pub pre28-runs : (n : ℕ) (p : PokeyValue) → is_held p.skctl ≡ false → (times pokey_tick n p).pre28 ≡ count_after 28 p.pre28 n
-pre28-runs n p running = rw running at (kept n p).pre28 ∙ prescaled-running 28 n p.pre28
+pre28-runs n p running = rw running at (ap (λ (q : PokeyValue). q.pre28) (kept n p)) ∙ prescaled-running 28 n p.pre28
 
 pub pre114-runs : (n : ℕ) (p : PokeyValue) → is_held p.skctl ≡ false → (times pokey_tick n p).pre114 ≡ count_after 114 p.pre114 n
-pre114-runs n p running = rw running at (kept n p).pre114 ∙ prescaled-running 114 n p.pre114
+pre114-runs n p running = rw running at (ap (λ (q : PokeyValue). q.pre114) (kept n p)) ∙ prescaled-running 114 n p.pre114
 
 -- pulses that come as a number grows
 pulses-by : (c : Channel) (p : PokeyValue) (f : ℕ → ℕ) → f 0 ≡ 0 → ((k : ℕ) → f (suc k) ≡ f k + from_bool (has_pulse c (times pokey_tick k p))) → (n : ℕ) → pulses_of c n p ≡ f n
@@ -92,48 +95,48 @@ pulses-by c p f start step (suc n) = ap (λ (m : ℕ). m + from_bool (has_pulse 
 
 -- the lower channel of a pair gets none
 pub pulses-still : (c : Channel) (n : ℕ) (p : PokeyValue) → is_still p.audctl c ≡ true → pulses_of c n p ≡ 0
-pulses-still c n p still = pulses-by c p (λ k. 0) refl (λ k. rw ((kept k p).audctl, still) refl) n
+pulses-still c n p still = pulses-by c p (λ k. 0) refl (λ k. rw (audctl-kept k p, still) refl) n
 
 -- a channel on the chip clock gets one in each clock
 pub pulses-fast : (c : Channel) (n : ℕ) (p : PokeyValue) → is_still p.audctl c ≡ false → is_on_chip_clock p.audctl c ≡ true → pulses_of c n p ≡ n
-pulses-fast c n p still fast = pulses-by c p (λ k. k) refl (λ k. rw ((kept k p).audctl, still, fast) (sym (add-one k))) n
+pulses-fast c n p still fast = pulses-by c p (λ k. k) refl (λ k. rw (audctl-kept k p, still, fast) (sym (add-one k))) n
 
 never : (b : Bool) → from_bool (b && false) ≡ 0
 never b = grind arith
 
 -- a channel on the base clock gets none while the prescalers are held
 pub pulses-held : (c : Channel) (n : ℕ) (p : PokeyValue) → is_on_chip_clock p.audctl c ≡ false → is_held p.skctl ≡ true → pulses_of c n p ≡ 0
-pulses-held c n p fast held = pulses-by c p (λ k. 0) refl (λ k. rw ((kept k p).audctl, (kept k p).skctl, fast, held, never (not (is_still p.audctl c))) refl) n
+pulses-held c n p fast held = pulses-by c p (λ k. 0) refl (λ k. rw (audctl-kept k p, skctl-kept k p, fast, held, never (not (is_still p.audctl c))) refl) n
 
 -- and else those of a prescaler
 pub pulses-line : (c : Channel) (n : ℕ) (p : PokeyValue) → is_still p.audctl c ≡ false → is_on_chip_clock p.audctl c ≡ false
     → is_held p.skctl ≡ false → is_bit p.audctl 0 ≡ true → pulses_of c n p ≡ pulses 114 p.pre114 n
 unfolding pulses
 pulses-line c n p still fast held slow =
-    pulses-by c p (pulses 114 p.pre114) refl (λ k. rw ((kept k p).audctl, (kept k p).skctl, still, fast, held, slow, pre114-runs k p held) refl) n
+    pulses-by c p (pulses 114 p.pre114) refl (λ k. rw (audctl-kept k p, skctl-kept k p, still, fast, held, slow, pre114-runs k p held) refl) n
 
 pub pulses-base : (c : Channel) (n : ℕ) (p : PokeyValue) → is_still p.audctl c ≡ false → is_on_chip_clock p.audctl c ≡ false
     → is_held p.skctl ≡ false → is_bit p.audctl 0 ≡ false → pulses_of c n p ≡ pulses 28 p.pre28 n
 unfolding pulses
 pulses-base c n p still fast held slow =
-    pulses-by c p (pulses 28 p.pre28) refl (λ k. rw ((kept k p).audctl, (kept k p).skctl, still, fast, held, slow, pre28-runs k p held) refl) n
+    pulses-by c p (pulses 28 p.pre28) refl (λ k. rw (audctl-kept k p, skctl-kept k p, still, fast, held, slow, pre28-runs k p held) refl) n
 
 -- the pots are counted in each clock of a fast scan
 pub rises-fast : (n : ℕ) (p : PokeyValue) → is_bit p.skctl 2 ≡ true → rises_of n p ≡ n
 unfolding rises_of
 rises-fast zero p fast = refl
-rises-fast (suc n) p fast = rw ((kept n p).skctl, fast, rises-fast n p fast) (add-one n)
+rises-fast (suc n) p fast = rw (skctl-kept n p, fast, rises-fast n p fast) (add-one n)
 
 pub rises-held : (n : ℕ) (p : PokeyValue) → is_bit p.skctl 2 ≡ false → is_held p.skctl ≡ true → rises_of n p ≡ 0
 unfolding rises_of
 rises-held zero p fast held = refl
-rises-held (suc n) p fast held = rw ((kept n p).skctl, fast, held, rises-held n p fast held) refl
+rises-held (suc n) p fast held = rw (skctl-kept n p, fast, held, rises-held n p fast held) refl
 
 pub rises-line : (n : ℕ) (p : PokeyValue) → is_bit p.skctl 2 ≡ false → is_held p.skctl ≡ false → rises_of n p ≡ pulses 114 p.pre114 n
 unfolding rises_of pulses
 rises-line zero p fast held = refl
 rises-line (suc n) p fast held =
-    rw ((kept n p).skctl, fast, held, pre114-runs n p held, rises-line n p fast held) refl
+    rw (skctl-kept n p, fast, held, pre114-runs n p held, rises-line n p fast held) refl
 
 -- the pot count
 risen : (b : Bool) (pot rises : ℕ) → min 228 (pot + (rises + from_bool b)) ≡ (if b && nat_lt (min 228 (pot + rises)) 228 then min 228 (pot + rises) + 1 else min 228 (pot + rises))

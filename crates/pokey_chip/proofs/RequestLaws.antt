@@ -16,7 +16,7 @@ use Rattle.pokey_chip.specs.Pulses.{has_pulse, pulses_of, asks, HasNoUnderflow, 
 use Rattle.pokey_chip.specs.Tick.{base_pulses, channel_ticked, channels_ticked, clocked, left_of, pokey_tick, pot_counted, requested, underflow_effect, underflows, with_bit, with_left}
 use Rattle.pokey_chip.specs.Quiet.{requests_after, IsEverQuiet, IsQuietBefore, AnswersEachLag}
 use Rattle.pokey_chip.proofs.BitLemmas.{lowered}
-use Rattle.pokey_chip.proofs.RegisterLaws.{kept}
+use Rattle.pokey_chip.proofs.RegisterLaws.{irqen-kept}
 use Rattle.pokey_chip.proofs.ToneLaws.{place-few}
 use Rattle.pokey_chip.proofs.CountLaws.{left-fallen, no-underflow, has-spare}
 
@@ -65,7 +65,7 @@ spare-call : (c : Channel) (p : PokeyValue) → 0 < left_of c p → calls p c �
 spare-call c p some none asked = has-spare c p some (grind arith)
 
 asks-kept : (c : Channel) (n : ℕ) (p : PokeyValue) → asks (times pokey_tick n p) c ≡ asks p c
-asks-kept c n p = grind (arith, (kept n p).irqen)
+asks-kept c n p = grind (arith, irqen-kept n p)
 
 -- a clock without a request keeps IRQST
 tick-quiet : (p : PokeyValue) → calls p First ≡ false → calls p Second ≡ false → calls p Fourth ≡ false → (pokey_tick p).irqst ≡ p.irqst

@@ -24,7 +24,7 @@ use Rattle.pokey_chip.specs.Noise.{long_poly}
 use Rattle.pokey_chip.proofs.BitLemmas.{with_bit_fits, with_bit_fits_two, with_bit_fits_three}
 use Rattle.pokey_chip.proofs.ToneLaws.{place-few, of-each, no-bits}
 use Rattle.pokey_chip.proofs.CountLaws.{counted_on, counts-first}
-use Rattle.pokey_chip.proofs.RegisterLaws.{kept}
+use Rattle.pokey_chip.proofs.RegisterLaws.{audc-kept, audctl-kept, irqen-kept, kept}
 
 -- each bit of a number with one bit made the given one
 written-by : (bit : Bool) (m : ℕ) → m < 16 → (n : ℕ) → n < 16 → is_bit (with_bit n (m / 4) bit) (m % 4) ≡ (if m / 4 == m % 4 then bit else is_bit n (m % 4))
@@ -211,7 +211,7 @@ module _ (p : PokeyValue) (small : IsSmall p) (k : ℕ) where
       tick-tone (times pokey_tick k p) (small-after k p small) c
       ∙ ap (λ (audc : List ℕ). if comes (times pokey_tick k p) c
       then next_by (slice_index audc (place c)) (pokey_tick (times pokey_tick k p)) (tone_of c (times pokey_tick k p)) else tone_of c (times pokey_tick k p))
-      (kept k p).audc
+      (audc-kept k p)
 
   pub pass-after : (j : ℕ) → j < 2 → is_bit (times pokey_tick (suc k) p).pass j
       ≡ (if comes (times pokey_tick k p) (follower j) then is_bit (times pokey_tick (suc k) p).tone j else is_bit (times pokey_tick k p).pass j)
@@ -223,7 +223,7 @@ module _ (p : PokeyValue) (small : IsSmall p) (k : ℕ) where
   unfolding ticks
   irqst-after j h =
       tick-irqst (times pokey_tick k p) (small-after k p small) j h
-      ∙ ap (λ (n : ℕ). is_bit (times pokey_tick k p).irqst j && not (comes (times pokey_tick k p) (asker j) && is_bit n j)) (kept k p).irqen
+      ∙ ap (λ (n : ℕ). is_bit (times pokey_tick k p).irqst j && not (comes (times pokey_tick k p) (asker j) && is_bit n j)) (irqen-kept k p)
 
 -- numbers of a few bits that have the same bits
 same-digit : (a b j : ℕ) → is_bit a j ≡ is_bit b j → bit_at a j ≡ bit_at b j
@@ -277,10 +277,10 @@ both standing before now enabled = grind arith
 -- the long register
 long-by : (b : Bool) (n : ℕ) (p : PokeyValue) → times (rolled (is_held p.skctl) (if b then Nine else Seventeen)) n (if b then p.poly9 else p.poly17)
     ≡ (if b then (times pokey_tick n p).poly9 else (times pokey_tick n p).poly17)
-long-by b n p = grind (arith, (kept n p).poly9, (kept n p).poly17)
+long-by b n p = grind (arith, (ap (λ (q : PokeyValue). q.poly9) (kept n p)), (ap (λ (q : PokeyValue). q.poly17) (kept n p)))
 
 pub long-after : (n : ℕ) (p : PokeyValue) → times (rolled (is_held p.skctl) (long_poly p.audctl)) n (long_register p) ≡ long_register (times pokey_tick n p)
-long-after n p = long-by (is_bit p.audctl 7) n p ∙ rw (kept n p).audctl refl
+long-after n p = long-by (is_bit p.audctl 7) n p ∙ rw (audctl-kept n p) refl
 
 -- the tone bit by the words is that of the underflow's effect
 pub next-same : (tuning : Tuning) (outputs : Outputs) (p r : PokeyValue) (c : Channel) (tone : Bool) → IsTuning p tuning → r.audc ≡ p.audc

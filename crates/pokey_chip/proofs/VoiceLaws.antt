@@ -17,7 +17,7 @@ use Rattle.pokey_chip.specs.ClockSources.{IsClockSource, source_pulses}
 use Rattle.pokey_chip.specs.Pulses.{has_pulse, pulses_of}
 use Rattle.pokey_chip.specs.Tick.{base_pulses, left_of, pokey_tick, underflows}
 use Rattle.pokey_chip.proofs.CountLaws.{left-is, underflow-is, left-tick}
-use Rattle.pokey_chip.proofs.RegisterLaws.{kept}
+use Rattle.pokey_chip.proofs.RegisterLaws.{audctl-kept, audf-kept}
 
 one-more : (b : Bool) (m n : ℕ) → m ≤ n → m + from_bool b ≤ suc n
 one-more b m n h = grind arith
@@ -139,7 +139,7 @@ module _ (c : Channel) (j : ℕ) (p : PokeyValue) (v : Voice) (is : IsVoice c j 
   left-then =
       left-tick c (times pokey_tick j p)
       ∙ left-is (base_pulses (times pokey_tick j p)) (times pokey_tick j p) c
-      ∙ rw ((kept j p).audf, (kept j p).audctl, ← is.period) refl
+      ∙ rw (audf-kept j p, audctl-kept j p, ← is.period) refl
 
   -- and so it goes on after it
   pub passes-on : (due : ℕ) → due ≡ (if v.due == suc j then v.due + v.step else v.due) → IsVoice c (suc j) p (record v { due = due })
