@@ -73,7 +73,6 @@ pub write-room : (entries : List TapeEntry) (a v : ℕ) (s m t : BusValue) → m
     → t.rooms ≡ s.rooms → s.until ≤ t.until → room_of s ≤ room_of t + 1
 write-room entries a v s m t enter put few rooms until =
     let entered = has-entered entries s m enter in
-    let here = entered.clock in
     let same : t.peripherals.clock ≡ m.peripherals.clock = ap (λ (w : Peripherals). w.clock) put in
     let none : length m.peripherals.written ≡ length s.peripherals.written = ap (λ (records : List Record). length records) entered.written in
     room-after s t (omega arith) (omega arith) rooms until
@@ -83,7 +82,6 @@ pub read-room : (entries : List TapeEntry) (s m t : BusValue) → m.peripherals 
     → t.rooms ≡ s.rooms → s.until ≤ t.until → room_of s ≤ room_of t + 1
 read-room entries s m t enter same rooms until =
     let entered = has-entered entries s m enter in
-    let here = entered.clock in
     let clock : t.peripherals.clock ≡ m.peripherals.clock = ap (λ (w : Peripherals). w.clock) same in
     let none : length t.peripherals.written ≡ length s.peripherals.written =
     ap (λ (w : Peripherals). length w.written) same ∙ ap (λ (records : List Record). length records) entered.written in

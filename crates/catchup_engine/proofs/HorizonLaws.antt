@@ -129,8 +129,6 @@ runs-keep bus keeps r q s t e runs = moves-keep bus keeps r q [] runs.bytes s t 
 -- what keeps the lines keeps the horizon
 pub are-kept : (limit : ℕ) (horizon : Horizon) (s t : BusValue) → KeepsLines s t → NothingDue limit horizon s → NothingDue limit horizon t
 are-kept limit horizon s t keeps are =
-    let event = keeps.event in
-    let no_event = are.no_event in
     record {
       before = are.before;
       no_event = omega arith;
@@ -214,8 +212,6 @@ horizon-goes_on asked limit stops horizon c s boundary is are ticks elsewhere =
     is-before-parts s.peripherals.clock horizon.until (is_none c.jam) ((horizon.irq_idle || is_masked c.p) || (asked && not line)) is in
     let early = parts.0 in
     let leaves = ticks early in
-    let before = are.before in
-    let no_event = are.no_event in
     let not_taken : line && not (is_masked c.p) ≡ false =
     masked-off line horizon.irq_idle (is_masked c.p) asked (λ e. unwired s.peripherals (are.irq_idle e).0 leaves (are.irq_idle e).1) parts.2 in
     record {

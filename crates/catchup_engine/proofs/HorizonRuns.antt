@@ -55,9 +55,6 @@ module _ (tape : TapeValue) (limit : ℕ) (stops : ConditionsValue) where
   pub room-before : (c e : CpuValue) (s t : BusValue) → limit ≤ CLOCK_LIMIT → HasRoomTo limit s → TurnsOn tape.entries limit stops c s t e
       → t.peripherals.clock < limit → MAX_SEQUENCE_CLOCKS ≤ room_of t
   room-before c e s t last room on early =
-      let clock = on.run.clock in
-      let written = on.run.written in
-      let until = on.run.goes.until in
       let rooms : t.rooms.board ≡ s.rooms.board = ap (λ r. r.board) on.run.goes.rooms in
       omega arith
 
@@ -82,7 +79,6 @@ module _ (tape : TapeValue) (limit : ℕ) (stops : ConditionsValue) where
   horizon-room horizon c e s t elapsed more on_yet last room at =
       let before = goes-before e (passed elapsed t) (at.goes on_yet) in
       let early = before.clock in
-      let no_event = before.no_event in
       let most = room-before c e s (passed elapsed t) last room at.on early in
       omega arith
 
@@ -102,7 +98,6 @@ module _ (tape : TapeValue) (limit : ℕ) (stops : ConditionsValue) where
   unfolding passed later
   tells-on asked horizon f u n more boundary counted are wrap is on_yet =
       let both = and_parts (is_before asked horizon f (passed n u)) (not (stops_at stops (over_bus f (passed n u)))) (is on_yet) in
-      let no_event = are.no_event in
       let lines = passed-lines n u counted.no_event (wrap on_yet) in
       horizon-goes_on asked limit stops horizon f (passed n u) boundary both.0 (are-kept limit horizon u (passed n u) lines are)
       (λ early. passed-leaves n u (omega arith) (wrap on_yet)) (not-true (stops_at stops (over_bus f (passed n u))) both.1)
@@ -121,8 +116,6 @@ module _ (tape : TapeValue) (limit : ℕ) (stops : ConditionsValue) where
       let goes = at.goes on_yet in
       let turned = horizon-turn horizon c e f s t u elapsed n more on_yet at runs boundary in
       let are = are-kept limit horizon t u lines at.are in
-      let so_far = at.on.run.clock in
-      let clock = turned.turned.clock in
       record {
         on = turns-go_on tape.entries limit stops c s (passed elapsed t) (passed n u) e f last at.on goes.open_yet turned;
         counted = counted;
@@ -156,9 +149,7 @@ module _ (tape : TapeValue) (limit : ℕ) (stops : ConditionsValue) where
       → limit - (passed n u).peripherals.clock < limit - (passed elapsed t).peripherals.clock
   horizon-smaller horizon c e f s t u elapsed n more on_yet at runs boundary =
       let before = goes-before e (passed elapsed t) (at.goes on_yet) in
-      let early = before.clock in
       let turned = horizon-turn horizon c e f s t u elapsed n more on_yet at runs boundary in
-      let clock = turned.turned.clock in
       omega arith
 
   -- where it goes on, no run ends and an opcode is read
@@ -175,9 +166,6 @@ module _ (tape : TapeValue) (limit : ℕ) (stops : ConditionsValue) where
   -- there is room for the rest of the run
   pub room-kept : (c e : CpuValue) (s t : BusValue) → limit ≤ CLOCK_LIMIT → HasRoomTo limit s → TurnsOn tape.entries limit stops c s t e → HasRoomTo limit t
   room-kept c e s t last room on =
-      let clock = on.run.clock in
-      let written = on.run.written in
-      let until = on.run.goes.until in
       let rooms : t.rooms.board ≡ s.rooms.board = ap (λ r. r.board) on.run.goes.rooms in
       omega arith
 

@@ -1,7 +1,9 @@
 -- A run that is under way, turn by turn.
 use Rattle.std.proofs.Common.{◌≡◌, ℕ, ◌+◌, ◌-◌, ◌^◌, ◌≤◌, ◌<◌, Bool, true, false, ◌&&◌, ◌||◌, nat_le, is_some, is_none, min, List}
 use Rattle.std.proofs.Common.{Option, Some, None, IsSome, IfSome, suc, zero, inl, inr, ◌⊎◌, refl, sym, ap, ◌∙◌, arith, rules, add-zero}
-use Rattle.std.proofs.lemmas.Bool.{leb-false, lt-leb}
+use Rattle.std.proofs.lemmas.Bool.{le-leb, leb-false, lt-leb, or_parts}
+use Rattle.std.proofs.lemmas.Bool.Decides.{nat_tests}
+use Rattle.std.proofs.Math.Bool.{and-false, or-false, or-true}
 use Rattle.board_base.specs.Cpu.{CpuValue}
 use Rattle.board_base.specs.Mid.{MidValue}
 use Rattle.cpu_core.specs.Places.{IsMiddle}
@@ -12,7 +14,7 @@ use Rattle.lockstep_board.specs.Lockstep.{Board, step}
 use Rattle.lockstep_board.specs.Run.{stepped, is_over, is_cut, boundary_steps, cut_steps}
 use Rattle.catchup_engine.specs.Runs.{over_bus, RunsOn, TurnsRun, BoundaryRun, CutRun, IsInRange}
 use Rattle.lockstep_board.specs.Steps.{StepsTo, IsInside, Through}
-use Rattle.catchup_engine.specs.StopConditions.{no_conditions, stops_at}
+use Rattle.catchup_engine.specs.StopConditions.{no_conditions}
 use Rattle.catchup_engine.specs.Turn.{TurnedBus}
 use Rattle.lockstep_board.proofs.Budgets.{budget-add}
 use Rattle.lockstep_board.proofs.Clocks.{step-clock, through-clock}
@@ -39,17 +41,9 @@ pub runs-join : (entries : List TapeEntry) (asked : Board → Bool) (looks : Boo
 runs-join entries asked looks c s t u e f run more =
     let n = run.count in
     let m = more.count in
-    let clock = run.clock in
-    let clock_then = more.clock in
-    let written = run.written in
-    let written_then = more.written in
     let here : stepped entries n (over_bus c s) ≡ over_bus e t = stepped-is entries asked n (over_bus c s) (over_bus e t) run.reached in
     let whole : budget entries (n + m) (over_bus c s) ≡ budget entries n (over_bus c s) + budget entries m (over_bus e t) =
     budget-add entries n m (over_bus c s) ∙ ap (λ (b : Board). budget entries n (over_bus c s) + budget entries m b) here in
-    let more_first = run.goes.more in
-    let more_then = more.goes.more in
-    let until_first = run.goes.until in
-    let until_then = more.goes.until in
     record {
       count = n + m;
       reached = reached-append entries asked n m (over_bus c s) (over_bus e t) (over_bus f u) run.reached more.reached;
@@ -120,19 +114,15 @@ none-of None h = refl
 none-of (Some m) h = absurd (h (search rules))
 
 pub some-of : (mid : Option MidValue) → is_some mid ≡ true → IsSome mid
-some-of None h = cc
-some-of (Some m) h = search rules
+some-of mid h = h
 
-pub none-is : (mid : Option MidValue) → is_some mid ≡ false → mid ≡ None
+pub none-is : {A : Type 0} (found : Option A) → is_some found ≡ false → found ≡ None
 none-is None h = refl
-none-is (Some m) h = cc
+none-is (Some a) h = cc
 
 -- a sequence has no more than seven clocks
-turn-ends : (entries : List TapeEntry) (e f : CpuValue) (t u : BusValue) → TurnedBus entries 7 e t u f → f.mid ≡ None
-turn-ends entries e f t u turned = none-of f.mid (λ some.
-    let stops = turned.stops some in
-    let short = turned.short some in
-    absurd (omega arith))
+pub turn-ended : (entries : List TapeEntry) (c : CpuValue) (s t : BusValue) (e : CpuValue) → TurnedBus entries 7 c s t e → e.mid ≡ None
+turn-ended entries c s t e turned = none-of e.mid (λ some. absurd (omega (arith, turned.stops some, turned.short some)))
 
 middle-running : (c : CpuValue) (mid : Option MidValue) → c.mid ≡ mid → IsSome mid → IfSome mid (λ _. IsMiddle c) → c.jam ≡ None
 middle-running c None e inside place = cc
@@ -150,13 +140,16 @@ pub record IsBefore (limit : ℕ) (b : Board) : Type 0 where
   pub running : b.cpu.jam ≡ None
 
 pub open-before : (limit : ℕ) (b : Board) → b.cpu.mid ≡ None → is_over limit b ≡ false → IsBefore limit b
-open-before limit b boundary open_yet = before b.cpu.jam b.cpu.mid refl boundary open_yet
-  where
-    before : (jam : Option ℕ) (mid : Option MidValue) → b.cpu.jam ≡ jam → mid ≡ None → is_some jam || (is_none mid && nat_le limit b.peripherals.clock) ≡ false
-        → IsBefore limit b
-    before (Some o) mid f e h = cc
-    before None None f e h = record { clock = leb-false limit b.peripherals.clock h; running = f }
-    before None (Some m) f e h = cc
+open-before limit b boundary open_yet =
+    let both = or_parts (is_some b.cpu.jam) (is_none b.cpu.mid && nat_le limit b.peripherals.clock) open_yet in
+    record { clock = leb-false limit b.peripherals.clock (rw boundary at both.1); running = none-is b.cpu.jam both.0 }
+
+-- a board that isn't jammed is before its limit where a run isn't over, and a boundary that isn't is one where it is
+pub open-at : (limit : ℕ) (b : Board) → b.cpu.jam ≡ None → b.peripherals.clock < limit → is_over limit b ≡ false
+open-at limit b running early = rw (running, lt-leb limit b.peripherals.clock early) (and-false (is_none b.cpu.mid))
+
+pub over-at : (limit : ℕ) (b : Board) → b.cpu.mid ≡ None → limit ≤ b.peripherals.clock → is_over limit b ≡ true
+over-at limit b boundary late = rw (boundary, le-leb limit b.peripherals.clock late) (or-true (is_some b.cpu.jam))
 
 -- a run from inside a sequence has ended it first
 pub boundary-resumes : (entries : List TapeEntry) (limit : ℕ) (c : CpuValue) (s u : BusValue) (f : CpuValue) → s.clock_open ≡ false → IsSome c.mid
@@ -164,11 +157,9 @@ pub boundary-resumes : (entries : List TapeEntry) (limit : ℕ) (c : CpuValue) (
 boundary-resumes entries limit c s u f between inside place range turned =
     let running = running-inside c inside place in
     let open_yet = middle-open limit (over_bus c s) inside running in
-    let ends = turn-ends entries c f s u turned in
+    let ends = turn-ended entries c s u f turned in
     let some = turned.inside inside in
-    let few = turned.turned.few in
     let early = range.middle inside in
-    let clock = turned.turned.clock in
     let one = no-budget entries (over_bus c s) in
     record {
       run =
@@ -176,36 +167,23 @@ boundary-resumes entries limit c s u f between inside place range turned =
           (through-reached entries limit turned.turned.count (step entries (over_bus c s)) (over_bus f u) turned.turned.through);
       few = omega arith;
       boundary = ends;
-      range = record { clock = omega arith; middle = λ some. none-some f.mid ends some };
+      range = record { clock = omega arith; middle = λ some. cc (rw ends at some) };
     }
-  where
-    none-some : (mid : Option MidValue) → mid ≡ None → IsSome mid → u.peripherals.clock ≤ 2 ^ 48
-    none-some None e some = cc
-    none-some (Some m) e some = cc
 
 -- a run that goes on by one turn
 pub boundary-goes_on : (entries : List TapeEntry) (limit : ℕ) (c : CpuValue) (s t u : BusValue) (e f : CpuValue) → limit ≤ 2 ^ 48
     → AtBoundary entries limit c s t e → is_over limit (over_bus e t) ≡ false → TurnedBus entries 7 e t u f → AtBoundary entries limit c s u f
 boundary-goes_on entries limit c s t u e f last at open_yet turned =
     let before = open-before limit (over_bus e t) at.boundary open_yet in
-    let early = before.clock in
-    let ends = turn-ends entries e f t u turned in
-    let few = turned.turned.few in
-    let clock = at.run.clock in
-    let clock_then = turned.turned.clock in
+    let ends = turn-ended entries e t u f turned in
     let reached = through-reached entries limit turned.turned.count (step entries (over_bus e t)) (over_bus f u) turned.turned.through in
     let run = goes_on entries (is_over limit) false 7 c s t u e f at.run open_yet turned reached in
-    let clock_now = run.clock in
     record {
       run = run;
       few = omega arith;
       boundary = ends;
-      range = record { clock = omega arith; middle = λ some. none-some f.mid ends some };
+      range = record { clock = omega arith; middle = λ some. cc (rw ends at some) };
     }
-  where
-    none-some : (mid : Option MidValue) → mid ≡ None → IsSome mid → u.peripherals.clock ≤ 2 ^ 48
-    none-some None e some = cc
-    none-some (Some m) e some = cc
 
 -- a run that is over has come to the board of its definition
 pub boundary-ends : (entries : List TapeEntry) (limit : ℕ) (c : CpuValue) (s t : BusValue) (e : CpuValue) → AtBoundary entries limit c s t e
@@ -213,7 +191,6 @@ pub boundary-ends : (entries : List TapeEntry) (limit : ℕ) (c : CpuValue) (s t
 boundary-ends entries limit c s t e at over =
     let steps : boundary_steps entries limit (over_bus c s) ≡ at.run.count =
     steps_until-is entries (is_over limit) at.run.count ((limit - s.peripherals.clock) + 6) (over_bus c s) (over_bus e t) at.run.reached over at.few in
-    let clock = at.run.clock in
     record {
       board = sym (to_boundary-is entries limit at.run.count (over_bus c s) (over_bus e t) at.run.reached over at.few);
       over = over;
@@ -229,22 +206,9 @@ pub boundary-turns : (entries : List TapeEntry) (limit : ℕ) (c : CpuValue) (s 
     → TurnsRun entries limit no_conditions f u t e → BoundaryRun entries limit c s t e
 boundary-turns entries limit c s u t f e at rest =
     let run = runs-join entries (is_over limit) false c s u t f e at.run rest.on.run in
-    let first = at.few in
-    let clock = at.run.clock in
-    let clock_then = rest.on.run.clock in
-    let few : run.count ≤ (limit - s.peripherals.clock) + 6 = elim rest.on.near [
-      | inl none ↦ omega arith
-      | inr near ↦ (let within = near.within in omega arith)
-    ] in
+    let few : run.count ≤ (limit - s.peripherals.clock) + 6 = elim rest.on.near [ inl none ↦ omega arith | inr near ↦ omega arith ] in
     boundary-ends entries limit c s t e (record { run = run; few = few; boundary = rest.on.boundary; range = rest.on.range })
-    (no-break limit (over_bus e t) rest.ends)
-  where
-    no-break : (most : ℕ) (b : Board) → is_over most b || stops_at no_conditions b ≡ true → is_over most b ≡ true
-    no-break most b ends = by_test (is_over most b) refl ends
-      where
-        by_test : (over : Bool) → is_over most b ≡ over → over || stops_at no_conditions b ≡ true → is_over most b ≡ true
-        by_test true e ends = e
-        by_test false e ends = cc
+    (rw or-false at rest.ends)
 
 -- a run to a cut
 pub record AtCut (entries : List TapeEntry) (cut wrap : ℕ) (c : CpuValue) (s t : BusValue) (e : CpuValue) : Type 0 where
@@ -262,13 +226,7 @@ cut-starts entries cut wrap c s between range = record {
 }
 
 inside-open : (cut wrap : ℕ) (b : Board) → IsInside b → b.peripherals.clock < cut → is_cut cut wrap b ≡ false
-inside-open cut wrap b inside before = by_parts b.cpu.jam b.cpu.mid inside.running inside.middle (lt-leb cut b.peripherals.clock before)
-  where
-    by_parts : (jam : Option ℕ) (mid : Option MidValue) → jam ≡ None → IsSome mid → nat_le cut b.peripherals.clock ≡ false
-        → is_some jam || (nat_le cut b.peripherals.clock || (is_none mid && nat_le wrap b.peripherals.clock)) ≡ false
-    by_parts (Some o) mid e some h = cc
-    by_parts None None e some h = cc
-    by_parts None (Some m) e some h = rw h refl
+inside-open cut wrap b inside before = grind (arith, rules, nat_tests)
 
 -- steps through the inside of a sequence, which end at the cut at the latest
 through-cut : (entries : List TapeEntry) (cut wrap n : ℕ) (b last : Board) → Through entries n b last → last.peripherals.clock ≤ cut
@@ -283,22 +241,13 @@ pub cut-goes_on : (entries : List TapeEntry) (cut wrap clocks : ℕ) (c : CpuVal
     → AtCut entries cut wrap c s t e → is_cut cut wrap (over_bus e t) ≡ false → t.peripherals.clock + clocks ≤ cut
     → (clocks ≡ 7) ⊎ (t.peripherals.clock + clocks ≡ cut) → TurnedBus entries clocks e t u f → AtCut entries cut wrap c s u f
 cut-goes_on entries cut wrap clocks c s t u e f last at open_yet within all turned =
-    let most = turned.at_most in
     let reached = through-cut entries cut wrap turned.turned.count (step entries (over_bus e t)) (over_bus f u) turned.turned.through (omega arith) in
     let run = goes_on entries (is_cut cut wrap) false clocks c s t u e f at.run open_yet turned reached in
-    let clock = run.clock in
     record {
       run = run;
       few = omega arith;
       range = record { clock = omega arith; middle = λ some. omega arith };
-      inside = λ some. (
-          let stops = turned.stops some in
-          let short = turned.short some in
-          elim all [
-            | inl whole ↦ absurd (omega arith)
-            | inr last_clock ↦ inr (omega arith)
-          ]
-          );
+      inside = λ some. inr (elim all [ inl whole ↦ omega (arith, turned.stops some, turned.short some) | inr last_clock ↦ omega (arith, turned.stops some) ]);
     }
 
 pub cut-ends : (entries : List TapeEntry) (cut wrap : ℕ) (c : CpuValue) (s t : BusValue) (e : CpuValue) → AtCut entries cut wrap c s t e
@@ -306,7 +255,6 @@ pub cut-ends : (entries : List TapeEntry) (cut wrap : ℕ) (c : CpuValue) (s t :
 cut-ends entries cut wrap c s t e at over =
     let steps : cut_steps entries cut wrap (over_bus c s) ≡ at.run.count =
     steps_until-is entries (is_cut cut wrap) at.run.count (cut - s.peripherals.clock) (over_bus c s) (over_bus e t) at.run.reached over at.few in
-    let clock = at.run.clock in
     record {
       board = sym (to_cut-is entries cut wrap at.run.count (over_bus c s) (over_bus e t) at.run.reached over at.few);
       over = over;
@@ -325,35 +273,25 @@ over-cut entries cut wrap limit (suc n) b last sooner r within =
     let clock = step-clock entries b in
     (over-open b r.0 (omega arith), over-cut entries cut wrap limit n (step entries b) last sooner r.1 (omega arith))
   where
-    by_parts : (jam : Option ℕ) (boundary : Bool) (clock : ℕ) → clock < cut → is_some jam || (boundary && nat_le limit clock) ≡ false
-        → is_some jam || (nat_le cut clock || (boundary && nat_le wrap clock)) ≡ false
-    by_parts (Some o) boundary clock before e = cc
-    by_parts None true clock before e =
-        let early = leb-false limit clock e in
-        rw (lt-leb cut clock before, lt-leb wrap clock (omega arith)) refl
-    by_parts None false clock before e = rw (lt-leb cut clock before) refl
+    by_parts : (jammed boundary : Bool) (clock : ℕ) → clock < cut → jammed || (boundary && nat_le limit clock) ≡ false
+        → jammed || (nat_le cut clock || (boundary && nat_le wrap clock)) ≡ false
+    by_parts jammed boundary clock before e = grind (arith, nat_tests)
 
     over-open : (a : Board) → is_over limit a ≡ false → a.peripherals.clock < cut → is_cut cut wrap a ≡ false
-    over-open a e before = by_parts a.cpu.jam (is_none a.cpu.mid) a.peripherals.clock before e
+    over-open a e before = by_parts (is_some a.cpu.jam) (is_none a.cpu.mid) a.peripherals.clock before e
 
 -- a run to a cut goes on by whole turns that end before it
 pub cut-turns : (entries : List TapeEntry) (cut wrap limit : ℕ) (c : CpuValue) (s t u : BusValue) (e f : CpuValue) → limit ≡ min wrap (cut - 6)
     → AtCut entries cut wrap c s t e → TurnsRun entries limit no_conditions e t u f → AtCut entries cut wrap c s u f
 cut-turns entries cut wrap limit c s t u e f least at rest =
-    let clock = at.run.clock in
-    let clock_then = rest.on.run.clock in
-    let few = at.few in
-    let made : (rest.on.run.count ≡ 0) ⊎ (t.peripherals.clock + rest.on.run.count ≤ cut) = elim rest.on.near [
-      | inl none ↦ inl (omega arith)
-      | inr near ↦ inr (let before = near.before in let within = near.within in omega arith)
-    ] in
+    let made : (rest.on.run.count ≡ 0) ⊎ (t.peripherals.clock + rest.on.run.count ≤ cut) = elim rest.on.near [ inl none ↦ inl (omega arith) | inr near ↦ inr (omega arith) ] in
     let more = runs-as entries (is_cut cut wrap) (is_over limit) false e t u f rest.on.run (by-made rest.on.run.count made rest.on.run.reached) in
     let run = runs-join entries (is_cut cut wrap) false c s t u e f at.run more in
     record {
       run = run;
       few = elim made [ inl none ↦ omega arith | inr within ↦ omega arith ];
       range = rest.on.range;
-      inside = λ some. none-some f.mid rest.on.boundary some;
+      inside = λ some. cc (rw rest.on.boundary at some);
     }
   where
     by-made : (n : ℕ) → (n ≡ 0) ⊎ (t.peripherals.clock + n ≤ cut) → StepsTo entries (is_over limit) n (over_bus e t) (over_bus f u)
@@ -361,7 +299,3 @@ cut-turns entries cut wrap limit c s t u e f least at rest =
     by-made zero made r = r
     by-made (suc n) (inl none) r = cc
     by-made (suc n) (inr within) r = over-cut entries cut wrap limit (suc n) (over_bus e t) (over_bus f u) (omega arith) r within
-
-    none-some : (mid : Option MidValue) → mid ≡ None → IsSome mid → (u.peripherals.clock ≡ s.peripherals.clock) ⊎ (cut ≤ u.peripherals.clock)
-    none-some None e some = cc
-    none-some (Some m) e some = cc

@@ -105,7 +105,6 @@ paid-access : (entries : List TapeEntry) (r : RegistersValue) (q : Sequence) (by
     → t.calls ≤ s.calls + price entries (board_after r q bytes s.peripherals)
 paid-access entries r q bytes v x s t is b between =
     let stays = stays-of entries x s t b in
-    let cost = stays.calls in
     let none = begin-level entries s between in
     let here : price entries (board_after r q bytes s.peripherals) ≡ 2 * from_bool (reaches_device x) + ticks_price entries s.peripherals =
     ap (λ (c : CpuValue). price entries (record { cpu = c; peripherals = s.peripherals })) (paused-is (next_of r q bytes) r q bytes v x is)
@@ -145,10 +144,6 @@ moves-went entries r q bytes (v ∷ more) s t (x, m, is, b, rest) between =
     let first = paid-access entries r q bytes v x s m is b between in
     let then_paid : t.calls ≤ m.calls + budget entries (length more) (step entries (board_after r q bytes s.peripherals)) = rw here later.paid in
     let whole = budget-more entries (length more) (board_after r q bytes s.peripherals) in
-    let more_first = stays.more in
-    let more_then = later.more in
-    let until_first = stays.until in
-    let until_then = later.until in
     record {
       through = (inside-access r q bytes v x s.peripherals is, rw (here, ← e) later.through);
       paid = omega arith;

@@ -45,10 +45,6 @@ pub turns-looked : (entries : List TapeEntry) (limit : ℕ) (stops : ConditionsV
     → TurnsOn entries limit stops c s t e → Looked (asks_generator stops) t u → TurnsOn entries limit stops c s u e
 turns-looked entries limit stops c s t u e on looked =
     let same = looked-board (asks_generator stops) t u looked in
-    let more = looked.more in
-    let until = looked.until in
-    let first = on.run.goes.more in
-    let first_until = on.run.goes.until in
     record {
       run = record {
         count = on.run.count;
@@ -78,10 +74,6 @@ unfolding passed later
 counted-looked asked tape n s t looked counted =
     let clock : t.peripherals.clock ≡ s.peripherals.clock + n = ap (λ w. w.clock) (looked-board asked (passed n s) t looked) in
     let event : t.event_at ≡ s.event_at = ap (λ (b : BusValue). b.event_at) looked.value in
-    let until = looked.until in
-    let no_event = counted.no_event in
-    let last = counted.last in
-    let room = counted.until in
     record {
       accepts = rw (passed-zero t) (looked-accepts asked tape (passed n s) t looked counted.accepts);
       between = ap (λ (b : BusValue). b.clock_open) looked.value ∙ counted.between;

@@ -136,12 +136,6 @@ one-applied es k d start now next inside h does =
     let peripherals : port_set (get_or es k d).port (get_or es k d).value now.peripherals ≡ applied (take (k + 1) es) start.peripherals =
     ap (λ (b : BusValue). port_set (get_or es k d).port (get_or es k d).value b.peripherals) h.value
     ∙ sym (ap (λ n. applied (take n es) start.peripherals) e ∙ applied-more k es d start.peripherals inside) in
-    let here_until = h.until in
-    let here_calls = h.calls in
-    let here_more = h.more in
-    let then_until = does.until in
-    let then_calls = does.calls in
-    let then_more = does.more in
     record {
       value =
           does.value

@@ -205,7 +205,6 @@ module _ {T : Type 0} (next : T → TraceValue → ℕ → T) where
       → NotedTurns next enough entries limit (over_bus e t) (over_bus f u) v new flag → t.peripherals.clock < u.peripherals.clock
       → AtTraced enough entries limit c s u f w new flag
   traced-to-horizon enough entries limit c s t u e f w v new flag at on turns more =
-      let clock = at.run.clock in
       let whole = turns-then enough entries limit (over_bus c s) (over_bus e t) (over_bus f u) w v new flag at.turns turns (omega arith) more in
       record {
         run = runs-join entries (is_over limit) false c s t u e f at.run on.run;
@@ -224,7 +223,6 @@ module _ {T : Type 0} (next : T → TraceValue → ℕ → T) where
       → AtTraced enough entries limit c s t e w v flag → IfSome c.mid (λ _. IsMiddle c) → (flag ≡ true) ⊎ (is_over limit (over_bus e t) ≡ true)
       → TracedBusRun next enough entries limit c s t e w v
   observed-ends enough entries limit c s t e w v flag at place ends =
-      let clock = at.run.clock in
       let steps : t.peripherals.clock - s.peripherals.clock ≡ at.run.count = omega arith in
       record {
         turns = record {

@@ -1,7 +1,7 @@
 -- The accesses of a sequence, as they are traced.
-use Rattle.std.proofs.Common.{◌≡◌, ◌≢◌, ℕ, ◌+◌, ◌-◌, ◌^◌, ◌≤◌, ◌<◌, ◌||◌, is_some, true, false, List, [], ◌∷◌, ◌++◌, length, append-nil, length-append}
-use Rattle.std.proofs.Common.{Option, Some, None, IfSome, IsSome, refl, sym, ap, ◌∙◌, subst, arith, rules, suc, slice_index, slice_set, nat_le, append_assoc, if◌then◌else◌}
-use Rattle.std.proofs.lemmas.Bool.{lt-leb, le-leb}
+use Rattle.std.proofs.Common.{◌≡◌, ◌≢◌, ℕ, ◌+◌, ◌-◌, ◌^◌, ◌≤◌, ◌<◌, ◌&&◌, is_some, is_none, true, false, List, [], ◌∷◌, ◌++◌, length, append-nil, length-append}
+use Rattle.std.proofs.Common.{Option, Some, None, IfSome, refl, sym, ap, ◌∙◌, subst, arith, rules, suc, slice_index, slice_set, nat_le, append_assoc, if◌then◌else◌}
+use Rattle.std.proofs.lemmas.Bool.{or_parts}
 use Rattle.board_base.specs.declared.cpu.Sequence.{Sequence}
 use Rattle.board_base.specs.declared.cpu.Sequence.TheVariants.{Opcode, Interrupt, Reset}
 use Rattle.board_base.specs.Cpu.{CpuValue}
@@ -27,7 +27,7 @@ use Rattle.catchup_engine.specs.Turn.{Goes, TurnedBus}
 use Rattle.lockstep_board.specs.Peripherals.{Peripherals, ticked}
 use Rattle.lockstep_board.proofs.Clocks.{step-clock}
 use Rattle.lockstep_board.proofs.Runs.{steps_until-is, through-reached}
-use Rattle.catchup_engine.proofs.RunsOn.{boundary-ends, boundary-starts, open-before, turn-runs}
+use Rattle.catchup_engine.proofs.RunsOn.{boundary-ends, boundary-starts, none-is, open-at, open-before, over-at, turn-ended, turn-runs}
 use Rattle.catchup_engine.proofs.Seen.{advances-seen, moves-seen, runs-seen}
 use Rattle.catchup_engine.proofs.Steps.{board_after, in_clock-between, moves-length, moves-went, paused-is, stays-of, step-access}
 use Rattle.catchup_engine.proofs.Turns.{Begins, First, HasEffects, ResetStarted, clock-some, due-clock, effects-by, fetch-first, given-some, in_clock-open}
@@ -120,7 +120,6 @@ observed-more entries n b next a before trace steps one rest =
     let whole : accesses_of entries (suc n) b ≡ a ∷ accesses_of entries n next =
     ap (λ (k : Board). accesses_in b.peripherals.clock (access_in entries b) ++ accesses_of entries n k) steps
     ∙ ap (λ (l : List Access). l ++ accesses_of entries n next) one in
-    let full = rest.full in
     record {
       trace_is =
           rest.trace_is
@@ -423,7 +422,6 @@ pub trace-named : (entries : List TapeEntry) (b : Board) (t : TracedValue) (q : 
 unfolding trace_of
 trace-named entries b t q o at is opcode =
     let n = at.count in
-    let clock = at.clock in
     let same : t.bus.peripherals.clock - b.peripherals.clock ≡ n = omega arith in
     let whole = λ (p : Sequence) (code k : ℕ) (l : List Access). (let r : TraceValue = record { sequence = p; opcode = code; count = k; accesses = l } in r) in
     let made = accesses_of entries n b in
@@ -455,63 +453,32 @@ pub fetch-byte : (entries : List TapeEntry) (c : CpuValue) (s : BusValue) (t : T
 fetch-byte entries c s t boundary at =
     at.byte ∙ sym (ap (λ (mid : Option MidValue). first_byte mid (access_in entries (over_bus c s))) boundary)
 
-over-after : (limit : ℕ) (b : Board) → b.cpu.mid ≡ None → limit ≤ b.peripherals.clock → is_over limit b ≡ true
-over-after limit b boundary late = rw (boundary, le-leb limit b.peripherals.clock late) (or-true b.cpu.jam)
-  where
-    or-true : (jam : Option ℕ) → is_some jam || true ≡ true
-    or-true None = refl
-    or-true (Some o) = refl
-
 -- a board at which a run isn't over: it isn't jammed, and at a boundary it is before the limit
 pub record IsRunning (limit : ℕ) (b : Board) : Type 0 where
   pub running : b.cpu.jam ≡ None
   pub before : b.cpu.mid ≡ None → b.peripherals.clock < limit
 
 pub over-running : (limit : ℕ) (b : Board) → is_over limit b ≡ false → IsRunning limit b
-over-running limit b open_yet = by_jam b.cpu.jam refl open_yet
-  where
-    before : is_over limit b ≡ false → b.cpu.mid ≡ None → b.peripherals.clock < limit
-    before off boundary = (open-before limit b boundary off).clock
-
-    by_jam : (jam : Option ℕ) → b.cpu.jam ≡ jam → is_over limit b ≡ false → IsRunning limit b
-    by_jam None is off = record { running = is; before = before off }
-    by_jam (Some o) is off = let over : is_over limit b ≡ true = rw is refl in cc
+over-running limit b open_yet = record {
+  running = none-is b.cpu.jam (or_parts (is_some b.cpu.jam) (is_none b.cpu.mid && nat_le limit b.peripherals.clock) open_yet).0;
+  before = λ boundary. (open-before limit b boundary open_yet).clock;
+}
 
 -- a turn over the bus ends where the board's does, and its trace is that of the board's
-turn-ended : (entries : List TapeEntry) (c : CpuValue) (s t : BusValue) (e : CpuValue) → TurnedBus entries 7 c s t e → e.mid ≡ None
-turn-ended entries c s t e turned = of e.mid turned.stops turned.short
-  where
-    of : (mid : Option MidValue) → (IsSome mid → t.peripherals.clock ≡ s.peripherals.clock + 7) → (IsSome mid → turned.before + t.peripherals.clock ≤ s.peripherals.clock + 6) → mid ≡ None
-    of None stops short = refl
-    of (Some m) stops short = let all = stops (search rules) in let few = short (search rules) in absurd (omega arith)
-
-turn-open : (b : Board) → b.cpu.jam ≡ None → is_over (b.peripherals.clock + 1) b ≡ false
-turn-open b running = by_mid b.cpu.mid refl
-  where
-    late : nat_le (b.peripherals.clock + 1) b.peripherals.clock ≡ false
-    late = lt-leb (b.peripherals.clock + 1) b.peripherals.clock (omega arith)
-
-    by_mid : (mid : Option MidValue) → b.cpu.mid ≡ mid → is_over (b.peripherals.clock + 1) b ≡ false
-    by_mid None is = rw (running, is, late) refl
-    by_mid (Some m) is = rw (running, is) refl
-
 turn-over : (entries : List TapeEntry) (c : CpuValue) (s t : BusValue) (e : CpuValue) → TurnedBus entries 7 c s t e
     → is_over (s.peripherals.clock + 1) (over_bus e t) ≡ true
 turn-over entries c s t e turned =
-    let clock = turned.turned.clock in
-    over-after (s.peripherals.clock + 1) (over_bus e t) (turn-ended entries c s t e turned) (omega arith)
+    over-at (s.peripherals.clock + 1) (over_bus e t) (turn-ended entries c s t e turned) (omega arith)
 
 -- a turn takes as many clocks as the run that it is
 turn-steps : (entries : List TapeEntry) (c : CpuValue) (s t : BusValue) (e : CpuValue) → c.jam ≡ None → TurnedBus entries 7 c s t e
     → boundary_steps entries (s.peripherals.clock + 1) (over_bus c s) ≡ t.peripherals.clock - s.peripherals.clock
 turn-steps entries c s t e running turned =
     let limit = s.peripherals.clock + 1 in
-    let clock = turned.turned.clock in
-    let most = turned.at_most in
     let n = turned.turned.count in
     let reached = through-reached entries limit n (step entries (over_bus c s)) (over_bus e t) turned.turned.through in
     let count : t.peripherals.clock - s.peripherals.clock ≡ suc n = omega arith in
-    steps_until-is entries (is_over limit) (suc n) ((limit - s.peripherals.clock) + 6) (over_bus c s) (over_bus e t) (turn-open (over_bus c s) running, reached)
+    steps_until-is entries (is_over limit) (suc n) ((limit - s.peripherals.clock) + 6) (over_bus c s) (over_bus e t) (open-at limit (over_bus c s) running (omega arith), reached)
     (turn-over entries c s t e turned) (omega arith)
     ∙ sym count
 
@@ -524,15 +491,11 @@ trace-observed entries c s t e trace running turned is =
     ∙ sym (ap (λ (jam : Option ℕ). if is_some jam then no_trace else trace_of entries (boundary_steps entries (s.peripherals.clock + 1) (over_bus c s)) (over_bus c s)) running)
 
 -- a turn of a processor that isn't jammed is the run that it is
-none-some : (mid : Option MidValue) (n : ℕ) → mid ≡ None → IsSome mid → n ≤ 2 ^ 48
-none-some None n is some = cc
-none-some (Some m) n is some = cc
-
 early-of : (c : CpuValue) (s : BusValue) → IsInRange c s → (c.mid ≡ None → s.peripherals.clock < 2 ^ 48) → s.peripherals.clock ≤ 2 ^ 48
 early-of c s range early = by_mid c.mid refl
   where
     by_mid : (mid : Option MidValue) → c.mid ≡ mid → s.peripherals.clock ≤ 2 ^ 48
-    by_mid None is = let h = early is in omega arith
+    by_mid None is = omega (arith, early is)
     by_mid (Some m) is = range.middle (rw is (search rules))
 
 pub trace-ends : (entries : List TapeEntry) (c : CpuValue) (s t : BusValue) (e : CpuValue) → c.jam ≡ None → IsInRange c s
@@ -540,37 +503,24 @@ pub trace-ends : (entries : List TapeEntry) (c : CpuValue) (s t : BusValue) (e :
 trace-ends entries c s t e running range early turned =
     let limit = s.peripherals.clock + 1 in
     let n = turned.turned.count in
-    let clock = turned.turned.clock in
-    let most = turned.at_most in
     let first = early-of c s range early in
     let boundary = turn-ended entries c s t e turned in
     let reached = through-reached entries limit n (step entries (over_bus c s)) (over_bus e t) turned.turned.through in
     boundary-ends entries limit c s t e
     (record {
-      run = turn-runs entries (is_over limit) false 7 c e s t (turn-open (over_bus c s) running) turned reached;
+      run = turn-runs entries (is_over limit) false 7 c e s t (open-at limit (over_bus c s) running (omega arith)) turned reached;
       few = omega arith;
       boundary = boundary;
-      range = record { clock = omega arith; middle = λ some. none-some e.mid t.peripherals.clock boundary some };
+      range = record { clock = omega arith; middle = λ some. cc (rw boundary at some) };
     })
     (turn-over entries c s t e turned)
 
 pub jammed-boundary : (c : CpuValue) → is_some c.jam ≡ true → IfSome c.mid (λ _. IsMiddle c) → c.mid ≡ None
 jammed-boundary c jammed middle = by_mid c.mid middle
   where
-    by_jam : (jam : Option ℕ) → is_some jam ≡ true → jam ≡ None → ⊥
-    by_jam None some none = cc
-    by_jam (Some o) some none = cc
-
     by_mid : (mid : Option MidValue) → IfSome mid (λ _. IsMiddle c) → mid ≡ None
     by_mid None middle = refl
-    by_mid (Some m) middle = absurd (by_jam c.jam jammed middle.0)
-
-pub none-jammed : (c : CpuValue) → is_some c.jam ≡ false → c.jam ≡ None
-none-jammed c off = of c.jam off
-  where
-    of : (jam : Option ℕ) → is_some jam ≡ false → jam ≡ None
-    of None off = refl
-    of (Some o) off = cc
+    by_mid (Some m) middle = cc (jammed, ap (λ (jam : Option ℕ). is_some jam) middle.0)
 
 -- a board that is jammed makes no access
 pub jammed-run : (entries : List TapeEntry) (c : CpuValue) (s : BusValue) → s.clock_open ≡ false → is_some c.jam ≡ true

@@ -35,10 +35,6 @@ pub record First (entries : List TapeEntry) (b : Board) (r : RegistersValue) (q 
 
 goes-on : (entries : List TapeEntry) (n : ℕ) (b last : Board) (s m t : BusValue) → Goes s m → Went entries n b last m t → Goes s t
 goes-on entries n b last s m t first rest =
-    let more_first = first.more in
-    let more_then = rest.more in
-    let until_first = first.until in
-    let until_then = rest.until in
     record { more = omega arith; rooms = rest.rooms ∙ first.rooms; until = omega arith; between = rest.between }
 
 budget-more : (entries : List TapeEntry) (n : ℕ) (b : Board) → budget entries (suc n) b ≡ price entries b + budget entries n (step entries b)
@@ -52,7 +48,6 @@ turned-by : (entries : List TapeEntry) (b : Board) (r : RegistersValue) (q : Seq
 turned-by entries b r q bytes more before s m t first rest few =
     let last = board_after r q (bytes ++ more) t.peripherals in
     let through : Through entries (length more) (step entries b) last = rw first.step rest.through in
-    let paid_first = first.paid in
     let paid_then : t.calls ≤ m.calls + budget entries (length more) (step entries b) = rw first.step rest.paid in
     let whole = budget-more entries (length more) b in
     let clock_first = step-clock entries b in
@@ -94,8 +89,6 @@ turn-bus entries c r q bytes before clocks made s m t e first inside count few a
     let turned = turned-by entries (record { cpu = c; peripherals = s.peripherals }) r q bytes more before s m t first went (omega arith) in
     let e_is : board_after r q (bytes ++ more) t.peripherals ≡ record { cpu = e; peripherals = t.peripherals } =
     ap (λ (k : CpuValue). let b : Board = record { cpu = k; peripherals = t.peripherals } in b) (sym advances.stands) in
-    let long = advances.count in
-    let short = advances.few in
     let clock : t.peripherals.clock ≡ s.peripherals.clock + suc (length more) =
     turned-clock entries (record { cpu = c; peripherals = s.peripherals }) r q bytes more s m t first went in
     record {
@@ -144,7 +137,6 @@ part entries r q given clocks made s t e some due a = by_more a.more a.moves a.c
         absurd (omega arith)
     by_more (v ∷ more) (x, m, is, did, rest) count full stands complete =
         let same : (given ++ v ∷ []) ++ more ≡ given ++ v ∷ more = append_assoc given (v ∷ []) more in
-        let few = a.few in
         record {
           value = v;
           access = x;
@@ -243,15 +235,9 @@ fetch-first entries c q s b m v x boundary begins due other is did =
     let due_then : q ≡ sequence_due c w = due ∙ ap (sequence_due c) begins.peripherals ∙ due-clock c w in
     let clock = in_clock-open entries s b begins in
     let stays = stays-of entries x b m did in
-    let cost = stays.calls in
     let none : (if b.clock_open then 0 else ticks_price entries b.peripherals) ≡ 0 = rw begins.clock_open refl in
     let whole = price-fetch entries c s.peripherals q v x boundary due_then is in
     let no_reset = reset_count-other q other in
-    let until_first = begins.until in
-    let until_then = stays.until in
-    let calls_first = begins.calls in
-    let more_first = begins.more in
-    let more_then = stays.more in
     record {
       step =
           step-fetch entries c s.peripherals boundary
@@ -287,7 +273,6 @@ pub resume-first : (entries : List TapeEntry) (c : CpuValue) (m : MidValue) (s t
     → First entries (record { cpu = c; peripherals = s.peripherals }) (registers_of c) m.sequence (given_by m ++ v ∷ []) s t
 resume-first entries c m s t v x inside between is did =
     let stays = stays-of entries x s t did in
-    let cost = stays.calls in
     let here : (if s.clock_open then 0 else ticks_price entries s.peripherals) ≡ ticks_price entries s.peripherals = rw between refl in
     let whole = price-resume entries c m s.peripherals v x inside is in
     record {
@@ -329,16 +314,8 @@ reset-first entries c s b m n v x boundary begins due is did effects few goes =
     ∙ ap (λ (k : Peripherals). at_clock k.clock (reset_started (at_clock (k.clock - 1) k))) read
     ∙ ap (λ t. at_clock (w.clock + 1) (reset_started (at_clock t w))) back in
     let stays = stays-of entries x b m did in
-    let cost = stays.calls in
     let none : (if b.clock_open then 0 else ticks_price entries b.peripherals) ≡ 0 = rw begins.clock_open refl in
     let whole = price-fetch entries c s.peripherals Reset v x boundary due_then is in
-    let until_first = begins.until in
-    let until_then = stays.until in
-    let until_last = goes.until in
-    let calls_first = begins.calls in
-    let more_first = begins.more in
-    let more_then = stays.more in
-    let more_last = goes.more in
     record {
       step =
           step-fetch entries c s.peripherals boundary
@@ -395,8 +372,6 @@ pub resume-turn : (entries : List TapeEntry) (c : CpuValue) (m : MidValue) (cloc
 resume-turn entries c m clocks made s t e inside middle six between some advances =
     let place : IsPlace (registers_of c) m = (rw inside at middle).1 in
     let advanced : Advances (BusStep entries) (registers_of c) m.sequence (given_by m) clocks made s t e = rw inside at advances in
-    let some_given = place.started in
-    let few_given = place.short in
     let count = given-some m place.started place.short six in
     let p = part entries (registers_of c) m.sequence (given_by m) clocks made s t e some (place_due (registers_of c) m place) advanced in
     let longer : length (given_by m ++ p.value ∷ []) ≡ length (given_by m) + 1 = length-append (given_by m) (p.value ∷ []) in
@@ -541,7 +516,6 @@ pub opcode-first : (entries : List TapeEntry) (c : CpuValue) (s m : BusValue) (v
 opcode-first entries c s m v x boundary between due is did =
     let w = ticked entries s.peripherals in
     let stays = stays-of entries x s m did in
-    let cost = stays.calls in
     let here : (if s.clock_open then 0 else ticks_price entries s.peripherals) ≡ ticks_price entries s.peripherals = rw between refl in
     let whole = price-fetch entries c s.peripherals Opcode v x boundary due is in
     record {

@@ -1,6 +1,7 @@
 use Rattle.std.proofs.Common.{◌≡◌, true, is_some, ap, sym, ◌∙◌}
 use Rattle.board_base.specs.Cpu.{CpuValue}
-use Rattle.catchup_engine.proofs.Traces.{jammed-run, jammed-observed, none-jammed, trace-ends, trace-observed}
+use Rattle.catchup_engine.proofs.RunsOn.{none-is}
+use Rattle.catchup_engine.proofs.Traces.{jammed-run, jammed-observed, trace-ends, trace-observed}
 use Rattle.catchup_engine.proofs.trace.trace_sequence.Goals as goal
 
 pub returns-then-is_some-clause-run : goal.returns-then-is_some-clause-run
@@ -18,13 +19,13 @@ returns-then-is_some-clause-trace g c =
 pub returns-clause-run : goal.returns-clause-run
 returns-clause-run g c =
     let state = c.behind-cpu.view_is ∙ c.state.ensures.value in
-    let running = none-jammed c.args.cpu.now (ap (λ (k : CpuValue). is_some k.jam) (sym state) ∙ sym c.is_some.ensures ∙ c.if-is_some.false) in
+    let running = none-is c.args.cpu.now.jam (ap (λ (k : CpuValue). is_some k.jam) (sym state) ∙ sym c.is_some.ensures ∙ c.if-is_some.false) in
     trace-ends c.args.tape.now.entries c.args.cpu.now c.args.bus.now c.trace_running.new.bus c.trace_running.new.cpu running c.requires.range c.requires.early
     c.trace_running.ensures.turned
 
 pub returns-clause-trace : goal.returns-clause-trace
 returns-clause-trace g c =
     let state = c.behind-cpu.view_is ∙ c.state.ensures.value in
-    let running = none-jammed c.args.cpu.now (ap (λ (k : CpuValue). is_some k.jam) (sym state) ∙ sym c.is_some.ensures ∙ c.if-is_some.false) in
+    let running = none-is c.args.cpu.now.jam (ap (λ (k : CpuValue). is_some k.jam) (sym state) ∙ sym c.is_some.ensures ∙ c.if-is_some.false) in
     trace-observed c.args.tape.now.entries c.args.cpu.now c.args.bus.now c.trace_running.new.bus c.trace_running.new.cpu c.trace_running.result running
     c.trace_running.ensures.turned c.trace_running.ensures.trace
