@@ -1,128 +1,126 @@
 -- The next record of four lists.
-use Rattle.std.proofs.Common.{◌≡◌, ◌≢◌, ℕ, ◌<◌, ◌≤◌, List, [], ◌∷◌, ◌++◌, length, refl, ap, ◌∙◌, sym, subst, arith, suc, append_assoc}
-use Rattle.std.specs.Prelude.{Option, Some, None}
+use Rattle.std.proofs.Common.{◌≡◌, ◌≢◌, ℕ, ◌<◌, ◌≤◌, List, [], ◌∷◌, ◌++◌, refl, ap, ◌∙◌, subst, arith, suc, append-nil}
+use Rattle.std.specs.Prelude.{Option, Some, None, IfSome}
+use Rattle.std.specs.List.{All}
 use Rattle.std.specs.List.Sorted.{IsNonDecreasingBy}
+use Rattle.std.proofs.lemmas.List.Elements.{All-append, All-map, All-nil, All-tail}
 use Rattle.board_base.specs.declared.record.Record.{Record}
 use Rattle.board_base.specs.declared.part.Part.{Part}
 use Rattle.board_base.specs.declared.part.Part.TheVariants.{Generator, Pokey1, Pokey2, Board}
 use Rattle.board_base.specs.Records.{clock_of}
-use Rattle.log_text.specs.LogText.{PartRecord, by_clock, from_part, merged}
+use Rattle.log_text.specs.LogText.{PartRecord, IsNotAfter, by_clock, from_part, merged, place_of, placed}
 use Rattle.board_base.specs.Sooner.{sooner_of}
 use Rattle.log_text.specs.Merging.{first_clock, earliest_of, TakesAt, AreSorted}
-use Rattle.log_text.proofs.Each.{Each, each-append, each-map, each-weaker, least_first, rising_tail}
-use Rattle.log_text.proofs.SortLaws.{clock, by_clock-first}
+use Rattle.log_text.proofs.SortLaws.{clock, by_clock-first, placed-behind}
 
--- each record of the list came at t or later
-abbrev pub From : ℕ → List Record → Type 0
-From t records = Each (λ made. t ≤ clock_of made) records
+-- a record doesn't come after those of a part
+abbrev pub IsBefore : PartRecord → Part → List Record → Type 0
+IsBefore made part records = All (λ other. IsNotAfter made (part, other)) records
 
--- each record of the list came after t
-abbrev pub After : ℕ → List Record → Type 0
-After t records = Each (λ made. t < clock_of made) records
+-- nor after any of four lists
+pub record IsUpon (made : PartRecord) (v a b d : List Record) : Type 0 where
+  pub vector : IsBefore made Generator v
+  pub sound1 : IsBefore made Pokey1 a
+  pub sound2 : IsBefore made Pokey2 b
+  pub board : IsBefore made Board d
 
-from-part : (t : ℕ) (part : Part) (records : List Record) → From t records → Each (λ made. t ≤ clock made) (from_part part records)
-from-part t part records from = each-map (λ made. t ≤ clock made) (λ made. (part, made)) records from
+later_clock : (a b p q : ℕ) → a ≤ b → (a ≡ b → p ≤ q) → q < p → a < b
+later_clock a b p q order parts earlier = grind arith
 
-after-part : (t : ℕ) (part : Part) (records : List Record) → After t records → Each (λ made. t < clock made) (from_part part records)
-after-part t part records after = each-map (λ made. t < clock made) (λ made. (part, made)) records after
+module _ (made : PartRecord) where
+  -- none of the records of a part, and of others, is sooner
+  from : (part : Part) (records : List Record) (more : List PartRecord) → IsBefore made part records → All (λ other. clock made ≤ clock other) more
+      → All (λ other. clock made ≤ clock other) (from_part part records ++ more)
+  from part records more before others =
+      All-append (λ other. clock made ≤ clock other) (from_part part records) more
+      (All-map (λ other. clock made ≤ clock other) (λ other. (part, other)) records (λ k d inside. (before k d inside).clocks)) others
 
--- the first record of a part comes first, where those of earlier parts are later, and those of
--- later parts aren't earlier
-pub generator_first : (made : Record) (v a b d : List Record) → From (clock_of made) v → From (clock_of made) a → From (clock_of made) b
-    → From (clock_of made) d → merged (made ∷ v) a b d ≡ (Generator, made) ∷ merged v a b d
+  from_board : (records : List Record) → IsBefore made Board records → All (λ other. clock made ≤ clock other) (from_part Board records)
+  from_board records before = rw append-nil at (from Board records [] before (All-nil (λ other. clock made ≤ clock other)))
+
+  -- it comes before the records of an earlier part
+  behind : (part : Part) (records : List Record) (all rest : List PartRecord) → place_of part < place_of made.0 → IsBefore made part records
+      → by_clock all ≡ made ∷ by_clock rest → by_clock (from_part part records ++ all) ≡ made ∷ by_clock (from_part part records ++ rest)
+  unfolding by_clock
+  behind part [] all rest _ _ first = first
+  behind part (r ∷ records) all rest earlier before first =
+      let here : IsNotAfter made (part, r) = before 0 r (omega arith) in
+      ap (placed (part, r)) (behind part records all rest earlier (All-tail (λ other. IsNotAfter made (part, other)) r records before) first)
+      ∙ placed-behind (part, r) made _ (later_clock (clock made) (clock_of r) _ _ here.clocks here.parts earlier)
+
+-- the first record of a part comes first
+pub generator_first : (made : Record) (v a b d : List Record) → IsUpon (Generator, made) (made ∷ v) a b d
+    → merged (made ∷ v) a b d ≡ (Generator, made) ∷ merged v a b d
 unfolding merged
-generator_first made v a b d in_v in_a in_b in_d =
-    let t = clock_of made in
-    by_clock-first (Generator, made) [] _ tt
-    (each-append (λ other. t ≤ clock other) (from_part Generator v) _ (from-part t Generator v in_v)
-    (each-append (λ other. t ≤ clock other) (from_part Pokey1 a) _ (from-part t Pokey1 a in_a)
-    (each-append (λ other. t ≤ clock other) (from_part Pokey2 b) _ (from-part t Pokey2 b in_b) (from-part t Board d in_d))))
+generator_first made v a b d upon =
+    let first : PartRecord = (Generator, made) in
+    by_clock-first first _ (from first Generator (made ∷ v) _ upon.vector
+    (from first Pokey1 a _ upon.sound1 (from first Pokey2 b _ upon.sound2 (from_board first d upon.board))))
 
-pub pokey1_first : (made : Record) (v a b d : List Record) → After (clock_of made) v → From (clock_of made) a → From (clock_of made) b
-    → From (clock_of made) d → merged v (made ∷ a) b d ≡ (Pokey1, made) ∷ merged v a b d
+pub pokey1_first : (made : Record) (v a b d : List Record) → IsUpon (Pokey1, made) v (made ∷ a) b d
+    → merged v (made ∷ a) b d ≡ (Pokey1, made) ∷ merged v a b d
 unfolding merged
-pokey1_first made v a b d in_v in_a in_b in_d =
-    let t = clock_of made in
-    by_clock-first (Pokey1, made) (from_part Generator v) _ (after-part t Generator v in_v)
-    (each-append (λ other. t ≤ clock other) (from_part Pokey1 a) _ (from-part t Pokey1 a in_a)
-    (each-append (λ other. t ≤ clock other) (from_part Pokey2 b) _ (from-part t Pokey2 b in_b) (from-part t Board d in_d)))
+pokey1_first made v a b d upon =
+    let first : PartRecord = (Pokey1, made) in
+    behind first Generator v _ _ (omega arith) upon.vector
+    (by_clock-first first _ (from first Pokey1 (made ∷ a) _ upon.sound1 (from first Pokey2 b _ upon.sound2 (from_board first d upon.board))))
 
-pub pokey2_first : (made : Record) (v a b d : List Record) → After (clock_of made) v → After (clock_of made) a → From (clock_of made) b
-    → From (clock_of made) d → merged v a (made ∷ b) d ≡ (Pokey2, made) ∷ merged v a b d
+pub pokey2_first : (made : Record) (v a b d : List Record) → IsUpon (Pokey2, made) v a (made ∷ b) d
+    → merged v a (made ∷ b) d ≡ (Pokey2, made) ∷ merged v a b d
 unfolding merged
-pokey2_first made v a b d in_v in_a in_b in_d =
-    let t = clock_of made in
-    let before = from_part Generator v ++ from_part Pokey1 a in
-    ap by_clock (sym (append_assoc (from_part Generator v) (from_part Pokey1 a) _))
-    ∙ by_clock-first (Pokey2, made) before _
-    (each-append (λ other. t < clock other) (from_part Generator v) _ (after-part t Generator v in_v) (after-part t Pokey1 a in_a))
-    (each-append (λ other. t ≤ clock other) (from_part Pokey2 b) _ (from-part t Pokey2 b in_b) (from-part t Board d in_d))
-    ∙ ap (λ records. (Pokey2, made) ∷ by_clock records) (append_assoc (from_part Generator v) (from_part Pokey1 a) _)
+pokey2_first made v a b d upon =
+    let first : PartRecord = (Pokey2, made) in
+    behind first Generator v _ _ (omega arith) upon.vector (behind first Pokey1 a _ _ (omega arith) upon.sound1
+    (by_clock-first first _ (from first Pokey2 (made ∷ b) _ upon.sound2 (from_board first d upon.board))))
 
-pub board_first : (made : Record) (v a b d : List Record) → After (clock_of made) v → After (clock_of made) a → After (clock_of made) b
-    → From (clock_of made) d → merged v a b (made ∷ d) ≡ (Board, made) ∷ merged v a b d
+pub board_first : (made : Record) (v a b d : List Record) → IsUpon (Board, made) v a b (made ∷ d)
+    → merged v a b (made ∷ d) ≡ (Board, made) ∷ merged v a b d
 unfolding merged
-board_first made v a b d in_v in_a in_b in_d =
-    let t = clock_of made in
-    let before = from_part Generator v ++ (from_part Pokey1 a ++ from_part Pokey2 b) in
-    ap by_clock (regroup (from_part Generator v) (from_part Pokey1 a) (from_part Pokey2 b) (from_part Board (made ∷ d)))
-    ∙ by_clock-first (Board, made) before _
-    (each-append (λ other. t < clock other) (from_part Generator v) _ (after-part t Generator v in_v)
-    (each-append (λ other. t < clock other) (from_part Pokey1 a) _ (after-part t Pokey1 a in_a) (after-part t Pokey2 b in_b)))
-    (from-part t Board d in_d)
-    ∙ ap (λ records. (Board, made) ∷ by_clock records) (sym (regroup (from_part Generator v) (from_part Pokey1 a) (from_part Pokey2 b) (from_part Board d)))
-  where
-    regroup : (v a b d : List PartRecord) → v ++ (a ++ (b ++ d)) ≡ (v ++ (a ++ b)) ++ d
-    regroup v a b d = sym (append_assoc v (a ++ b) d ∙ ap (λ records. v ++ records) (append_assoc a b d))
-
--- a clock isn't before t
-abbrev NotBefore : ℕ → Option ℕ → Type 0
-NotBefore t None = Unit {0}
-NotBefore t (Some u) = t ≤ u
+board_first made v a b d upon =
+    let first : PartRecord = (Board, made) in
+    behind first Generator v _ _ (omega arith) upon.vector (behind first Pokey1 a _ _ (omega arith) upon.sound1
+    (behind first Pokey2 b _ _ (omega arith) upon.sound2 (by_clock-first first _ (from_board first (made ∷ d) upon.board))))
 
 -- what isn't after the sooner clock is after neither
-sooner_bound : (t : ℕ) (x y : Option ℕ) → NotBefore t (sooner_of x y) → NotBefore t x × NotBefore t y
+sooner_bound : (t : ℕ) (x y : Option ℕ) → IfSome (sooner_of x y) (λ u. t ≤ u) → IfSome x (λ u. t ≤ u) × IfSome y (λ u. t ≤ u)
 unfolding sooner_of
 sooner_bound t None y at = (tt, at)
 sooner_bound t (Some u) None at = (at, tt)
 sooner_bound t (Some u) (Some w) at = (omega arith, omega arith)
 
-sooner_none : (x y : Option ℕ) → sooner_of x y ≡ None → (x ≡ None) × (y ≡ None)
-unfolding sooner_of
-sooner_none None y e = (refl, e)
-sooner_none (Some u) None e = cc
-sooner_none (Some u) (Some w) e = cc
+same_place : (t c p q : ℕ) → t ≤ c → c ≤ t → (q < p → c ≢ t) → p ≤ q
+same_place t c p q low high differ = grind arith
 
--- records whose clocks don't fall all come at or after a bound of the first
-from_first : (t : ℕ) (records : List Record) → IsNonDecreasingBy clock_of records → NotBefore t (first_clock records) → From t records
-from_first t [] rising at = tt
-from_first t (first ∷ others) rising at =
-    (at, each-weaker (λ other. clock_of first ≤ clock_of other) (λ other. t ≤ clock_of other) (λ other order. omega arith) others (least_first clock_of first others rising))
+-- a record of a clock that isn't after the first of a list, nor the same where the list's part is an
+-- earlier one
+upon-first : (made : PartRecord) (part : Part) (t : ℕ) (records : List Record) → clock made ≡ t → IsNonDecreasingBy clock_of records
+    → IfSome (first_clock records) (λ u. t ≤ u) → (place_of part < place_of made.0 → first_clock records ≢ Some t) → IsBefore made part records
+upon-first made part t [] at rising bound differs k d inside = absurd (omega arith)
+upon-first made part t (first ∷ others) at rising bound differs k d inside =
+    let rises = rising 0 k d (omega arith) inside in
+    record { clocks = omega arith; parts = λ same. same_place (clock made) (clock_of first) _ _ (omega arith) (omega arith) (λ earlier e. differs earlier (ap Some (e ∙ at))) }
 
-after_first : (t : ℕ) (records : List Record) → IsNonDecreasingBy clock_of records → NotBefore t (first_clock records)
-    → first_clock records ≢ Some t → After t records
-after_first t records rising at other = from_first (suc t) records rising (later (first_clock records) at other)
-  where
-    later : (x : Option ℕ) → NotBefore t x → x ≢ Some t → NotBefore (suc t) x
-    later None at other = tt
-    later (Some u) at other = let differ : u ≢ t = λ e. other (ap Some e) in omega arith
-
--- t is after the first clock of no list
-record IsEarliest (t : ℕ) (v a b d : List Record) : Type 0 where
-  vector : NotBefore t (first_clock v)
-  sound1 : NotBefore t (first_clock a)
-  sound2 : NotBefore t (first_clock b)
-  board : NotBefore t (first_clock d)
-
-is_earliest : (t : ℕ) (v a b d : List Record) → Some t ≡ earliest_of v a b d → IsEarliest t v a b d
-is_earliest t v a b d e =
-    let in_all = sooner_bound t (first_clock v) _ (subst (NotBefore t) e (least t)) in
+-- a record of the earliest clock, which no list of an earlier part begins with
+is_upon : (made : PartRecord) (t : ℕ) (v a b d : List Record) → place_of made.0 ≤ 3 → clock made ≡ t → AreSorted v a b d → Some t ≡ earliest_of v a b d
+    → (0 < place_of made.0 → first_clock v ≢ Some t) → (1 < place_of made.0 → first_clock a ≢ Some t) → (2 < place_of made.0 → first_clock b ≢ Some t)
+    → IsUpon made v a b d
+is_upon made t v a b d place at sorted earliest not_v not_a not_b =
+    let least : t ≤ t = omega arith in
+    let in_all = sooner_bound t (first_clock v) _ (subst (λ x. IfSome x (λ u. t ≤ u)) earliest least) in
     let in_three = sooner_bound t (first_clock a) _ in_all.1 in
-    let in_two = sooner_bound t (first_clock b) (first_clock d) in_three.1 in
-    record { vector = in_all.0; sound1 = in_three.0; sound2 = in_two.0; board = in_two.1 }
-  where
-    least : (t : ℕ) → NotBefore t (Some t)
-    least t = omega arith
+    let in_two = sooner_bound t (first_clock b) _ in_three.1 in
+    record {
+      vector = upon-first made Generator t v at sorted.vector in_all.0 not_v;
+      sound1 = upon-first made Pokey1 t a at sorted.sound1 in_three.0 not_a;
+      sound2 = upon-first made Pokey2 t b at sorted.sound2 in_two.0 not_b;
+      board = upon-first made Board t d at sorted.board in_two.1 (λ later. absurd (omega arith));
+    }
+
+-- the others of a list that doesn't fall don't either
+rising_rest : (made : Record) (rest records : List Record) → records ≡ made ∷ rest → IsNonDecreasingBy clock_of records → IsNonDecreasingBy clock_of rest
+rising_rest made rest records split rising i j d order inside =
+    let whole : IsNonDecreasingBy clock_of (made ∷ rest) = subst (λ l. IsNonDecreasingBy clock_of l) split rising in
+    whole (suc i) (suc j) d (omega arith) (omega arith)
 
 -- Each of these is about a call that found the earliest clock, and took a record of it from the
 -- first list that had one.
@@ -130,61 +128,50 @@ is_earliest t v a b d e =
 pub next_generator : (t : ℕ) (v a b d rest : List Record) (made : Record) → AreSorted v a b d → Some t ≡ earliest_of v a b d
     → TakesAt t v rest (Some made) → (merged v a b d ≡ (Generator, made) ∷ merged rest a b d) × AreSorted rest a b d
 next_generator t v a b d rest made sorted earliest (split, at) =
-    let bound = is_earliest t v a b d earliest in
-    let rising : IsNonDecreasingBy clock_of (made ∷ rest) = subst (λ l. IsNonDecreasingBy clock_of l) split sorted.vector in (
-      ap (λ l. merged l a b d) split ∙ generator_first made rest a b d (least_first clock_of made rest rising)
-          (rw at (from_first t a sorted.sound1 bound.sound1)) (rw at (from_first t b sorted.sound2 bound.sound2)) (rw at (from_first t d sorted.board bound.board)),
-      record { vector = rising_tail clock_of made rest rising; sound1 = sorted.sound1; sound2 = sorted.sound2; board = sorted.board },
+    let upon = is_upon (Generator, made) t v a b d (omega arith) at sorted earliest (λ e. absurd (omega arith)) (λ e. absurd (omega arith)) (λ e. absurd (omega arith)) in (
+      rw split (generator_first made rest a b d (rw split at upon)),
+      record { vector = rising_rest made rest v split sorted.vector; sound1 = sorted.sound1; sound2 = sorted.sound2; board = sorted.board },
     )
 
 pub next_pokey1 : (t : ℕ) (v a b d v' rest : List Record) (made : Record) → AreSorted v a b d → Some t ≡ earliest_of v a b d
     → TakesAt t v v' None → TakesAt t a rest (Some made) → (merged v a b d ≡ (Pokey1, made) ∷ merged v' rest b d) × AreSorted v' rest b d
 next_pokey1 t v a b d v' rest made sorted earliest (same, not_v) (split, at) =
-    let bound = is_earliest t v a b d earliest in
-    let rising : IsNonDecreasingBy clock_of (made ∷ rest) = subst (λ l. IsNonDecreasingBy clock_of l) split sorted.sound1 in
+    let upon = is_upon (Pokey1, made) t v a b d (omega arith) at sorted earliest (λ _. not_v) (λ e. absurd (omega arith)) (λ e. absurd (omega arith)) in
     rw same (
-      ap (λ l. merged v l b d) split ∙ pokey1_first made v rest b d (rw at (after_first t v sorted.vector bound.vector not_v))
-          (least_first clock_of made rest rising) (rw at (from_first t b sorted.sound2 bound.sound2)) (rw at (from_first t d sorted.board bound.board)),
-      record { vector = sorted.vector; sound1 = rising_tail clock_of made rest rising; sound2 = sorted.sound2; board = sorted.board },
+      rw split (pokey1_first made v rest b d (rw split at upon)),
+      record { vector = sorted.vector; sound1 = rising_rest made rest a split sorted.sound1; sound2 = sorted.sound2; board = sorted.board },
     )
 
 pub next_pokey2 : (t : ℕ) (v a b d v' a' rest : List Record) (made : Record) → AreSorted v a b d → Some t ≡ earliest_of v a b d
     → TakesAt t v v' None → TakesAt t a a' None → TakesAt t b rest (Some made)
     → (merged v a b d ≡ (Pokey2, made) ∷ merged v' a' rest d) × AreSorted v' a' rest d
 next_pokey2 t v a b d v' a' rest made sorted earliest (same_v, not_v) (same_a, not_a) (split, at) =
-    let bound = is_earliest t v a b d earliest in
-    let rising : IsNonDecreasingBy clock_of (made ∷ rest) = subst (λ l. IsNonDecreasingBy clock_of l) split sorted.sound2 in
+    let upon = is_upon (Pokey2, made) t v a b d (omega arith) at sorted earliest (λ _. not_v) (λ _. not_a) (λ e. absurd (omega arith)) in
     rw (same_v, same_a) (
-      ap (λ l. merged v a l d) split ∙ pokey2_first made v a rest d (rw at (after_first t v sorted.vector bound.vector not_v))
-          (rw at (after_first t a sorted.sound1 bound.sound1 not_a)) (least_first clock_of made rest rising) (rw at (from_first t d sorted.board bound.board)),
-      record { vector = sorted.vector; sound1 = sorted.sound1; sound2 = rising_tail clock_of made rest rising; board = sorted.board },
+      rw split (pokey2_first made v a rest d (rw split at upon)),
+      record { vector = sorted.vector; sound1 = sorted.sound1; sound2 = rising_rest made rest b split sorted.sound2; board = sorted.board },
     )
 
 pub next_board : (t : ℕ) (v a b d v' a' b' rest : List Record) (made : Record) → AreSorted v a b d → Some t ≡ earliest_of v a b d
     → TakesAt t v v' None → TakesAt t a a' None → TakesAt t b b' None → TakesAt t d rest (Some made)
     → (merged v a b d ≡ (Board, made) ∷ merged v' a' b' rest) × AreSorted v' a' b' rest
 next_board t v a b d v' a' b' rest made sorted earliest (same_v, not_v) (same_a, not_a) (same_b, not_b) (split, at) =
-    let bound = is_earliest t v a b d earliest in
-    let rising : IsNonDecreasingBy clock_of (made ∷ rest) = subst (λ l. IsNonDecreasingBy clock_of l) split sorted.board in
+    let upon = is_upon (Board, made) t v a b d (omega arith) at sorted earliest (λ _. not_v) (λ _. not_a) (λ _. not_b) in
     rw (same_v, same_a, same_b) (
-      ap (λ l. merged v a b l) split ∙ board_first made v a b rest (rw at (after_first t v sorted.vector bound.vector not_v)) (rw at (after_first t a sorted.sound1 bound.sound1 not_a))
-          (rw at (after_first t b sorted.sound2 bound.sound2 not_b)) (least_first clock_of made rest rising),
-      record { vector = sorted.vector; sound1 = sorted.sound1; sound2 = sorted.sound2; board = rising_tail clock_of made rest rising },
+      rw split (board_first made v a b rest (rw split at upon)),
+      record { vector = sorted.vector; sound1 = sorted.sound1; sound2 = sorted.sound2; board = rising_rest made rest d split sorted.board },
     )
 
--- one record less is left
-pub one_less : (made : PartRecord) (before after : List PartRecord) → before ≡ made ∷ after → length after < length before
-one_less made before after split = let same = ap length split in omega arith
+sooner_some : (t : ℕ) (x : Option ℕ) → None ≢ sooner_of (Some t) x
+unfolding sooner_of
+sooner_some t None = λ none. cc
+sooner_some t (Some u) = λ none. cc
 
 -- where no clock is the earliest, no record is left
 pub next_none : (v a b d : List Record) → None ≡ earliest_of v a b d → merged v a b d ≡ []
-unfolding merged by_clock
-next_none v a b d none =
-    let in_all = sooner_none (first_clock v) _ (sym none) in
-    let in_three = sooner_none (first_clock a) _ in_all.1 in
-    let in_two = sooner_none (first_clock b) (first_clock d) in_three.1 in
-    rw (empty v in_all.0, empty a in_three.0, empty b in_two.0, empty d in_two.1)
-  where
-    empty : (records : List Record) → first_clock records ≡ None → records ≡ []
-    empty [] none = refl
-    empty (first ∷ others) none = cc
+unfolding merged by_clock sooner_of
+next_none [] [] [] [] none = refl
+next_none [] [] [] (first ∷ d) none = cc
+next_none [] [] (first ∷ b) d none = absurd (sooner_some (clock_of first) _ none)
+next_none [] (first ∷ a) b d none = absurd (sooner_some (clock_of first) _ none)
+next_none (first ∷ v) a b d none = absurd (sooner_some (clock_of first) _ none)

@@ -1,21 +1,15 @@
 -- Records sorted by their clocks.
-use Rattle.std.proofs.Common.{◌≡◌, ℕ, ◌<◌, ◌≤◌, List, [], ◌∷◌, ◌++◌, true, false, if◌then◌else◌, refl, ap, ◌∙◌}
+use Rattle.std.proofs.Common.{◌≡◌, ℕ, ◌<◌, ◌≤◌, List, [], ◌∷◌, true, false, if◌then◌else◌, refl}
 use Rattle.std.specs.Prelude.{nat_lt}
+use Rattle.std.specs.List.{All, AllByRecursion as Each}
 use Rattle.std.proofs.lemmas.Bool.{lt-ltb, le-ltb}
+use Rattle.std.proofs.lemmas.List.Elements.{recursion_from_All}
 use Rattle.board_base.specs.Records.{clock_of}
 use Rattle.log_text.specs.LogText.{PartRecord, placed, by_clock}
-use Rattle.log_text.proofs.Each.{Each}
 
 -- the clock of a record and its part
 abbrev pub clock : PartRecord → ℕ
 clock made = clock_of made.1
-
--- a record comes before others that aren't earlier
-pub placed-first : (made : PartRecord) (others : List PartRecord) → Each (λ other. clock made ≤ clock other) others
-    → placed made others ≡ made ∷ others
-unfolding placed
-placed-first made [] later = refl
-placed-first made (first ∷ others) (later, _) = rw (le-ltb (clock first) (clock made) later)
 
 -- a record comes behind an earlier one
 pub placed-behind : (made first : PartRecord) (others : List PartRecord) → clock first < clock made
@@ -23,7 +17,7 @@ pub placed-behind : (made first : PartRecord) (others : List PartRecord) → clo
 unfolding placed
 placed-behind made first others earlier = rw (lt-ltb (clock first) (clock made) earlier)
 
-each-placed : (P : PartRecord → Type 0) (made : PartRecord) (others : List PartRecord) → P made → Each P others → Each P (placed made others)
+pub each-placed : (P : PartRecord → Type 0) (made : PartRecord) (others : List PartRecord) → P made → Each P others → Each P (placed made others)
 unfolding placed
 each-placed P made [] here _ = (here, tt)
 each-placed P made (first ∷ others) here (next, rest) =
@@ -33,15 +27,17 @@ each-placed P made (first ∷ others) here (next, rest) =
     ]
 
 -- sorting keeps what holds of each record
-pub each-by_clock : (P : PartRecord → Type 0) (records : List PartRecord) → Each P records → Each P (by_clock records)
+each-by_clock : (P : PartRecord → Type 0) (records : List PartRecord) → Each P records → Each P (by_clock records)
 unfolding by_clock
 each-by_clock P [] _ = tt
 each-by_clock P (made ∷ others) (here, rest) = each-placed P made (by_clock others) here (each-by_clock P others rest)
 
--- a record that is earlier than those before it, and no later than those after it, comes first
-pub by_clock-first : (made : PartRecord) (before after : List PartRecord) → Each (λ other. clock made < clock other) before
-    → Each (λ other. clock made ≤ clock other) after → by_clock (before ++ made ∷ after) ≡ made ∷ by_clock (before ++ after)
-unfolding by_clock
-by_clock-first made [] after _ later = placed-first made (by_clock after) (each-by_clock (λ other. clock made ≤ clock other) after later)
-by_clock-first made (other ∷ before) after (here, rest) later =
-    ap (placed other) (by_clock-first made before after rest later) ∙ placed-behind other made (by_clock (before ++ after)) here
+-- a record that is no later than the others stays first
+pub by_clock-first : (made : PartRecord) (others : List PartRecord) → All (λ other. clock made ≤ clock other) (made ∷ others)
+    → by_clock (made ∷ others) ≡ made ∷ by_clock others
+unfolding by_clock placed
+by_clock-first made others later = placed-first made (by_clock others) (each-by_clock _ others (recursion_from_All _ (made ∷ others) later).1)
+  where
+    placed-first : (made : PartRecord) (others : List PartRecord) → Each (λ other. clock made ≤ clock other) others → placed made others ≡ made ∷ others
+    placed-first made [] later = refl
+    placed-first made (first ∷ others) (later, _) = rw (le-ltb (clock first) (clock made) later)

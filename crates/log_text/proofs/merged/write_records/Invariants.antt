@@ -4,12 +4,12 @@ use Rattle.log_text.specs.LogText.{merged}
 use Rattle.log_text.specs.RecordBytes.{records_bytes}
 use Rattle.log_text.proofs.merged.write_records.Given as goal
 
--- the records so far and those that are left are all, the bytes of those so far were taken or stand
--- in the block, and no call failed
+-- of the bytes of all records a first part was taken, and the block and the bytes of those that are
+-- left are the rest; and no call failed
 abbrev pub invariant-loop-part : goal.invariant-loop-part
 invariant-loop-part g l = let all = l.trails in let left = l.part-iterator in record {
-  split : merged all.vector.now.records all.sound1.now.records all.sound2.now.records all.board.now.records
-      ≡ l.yielded ++ merged left.vector.now left.sound1.now left.sound2.now left.board.now;
-  gathered : IsGathered (g.O.Sink.taken l.initial.out) (g.O.Sink.taken l.out) (records_bytes l.yielded) l.block;
+  gathered : IsGathered (g.O.Sink.taken l.initial.out) (g.O.Sink.taken l.out)
+      (records_bytes (merged all.vector.now.records all.sound1.now.records all.sound2.now.records all.board.now.records))
+      (l.block ++ records_bytes (merged left.vector.now left.sound1.now left.sound2.now left.board.now));
   faults : g.O.Sink.faults l.out ≡ g.O.Sink.faults l.initial.out;
 }
