@@ -43,13 +43,11 @@ pub steady-whole : (per s c missing left w : ℕ) → c + missing ≡ per → 1 
 steady-whole per s c zero left w full some inside = absurd (omega arith)
 steady-whole per s c (suc n) left w full some inside =
     let split = replicate-append-replicate (suc n) (left - suc n) w in
-    let total = sum_by-replicate (λ x. x) (suc n) w in
     let others = whole per s c w (replicate n w) (replicate (left - suc n) w) (omega (arith, length-replicate n w)) in
-    (grind (arith, split, total, others, bytes-first), grind (arith, split, others))
+    (grind (arith, split, sum_by-replicate (λ x. x) (suc n) w, others, bytes-first), grind (arith, split, others))
 
 pub steady-short : (per s c left w : ℕ) → c + left < per
     → (bytes_of (samples per s c (replicate left w)) ≡ []) × (group_after per s c (replicate left w) ≡ (s + w * left, c + left))
 steady-short per s c left w few =
-    let total = sum_by-replicate (λ x. x) left w in
     let others = short per s c (replicate left w) (omega (arith, length-replicate left w)) in
-    (ap bytes_of others.0 ∙ bytes-none, grind (arith, total, others, length-replicate left w))
+    (ap bytes_of others.0 ∙ bytes-none, grind (arith, sum_by-replicate (λ x. x) left w, others, length-replicate left w))

@@ -1,10 +1,8 @@
 -- Levels and weights at the clocks of a run.
-use Rattle.std.proofs.Common.{◌≡◌, ℕ, zero, suc, ◌+◌, ◌≤◌, ◌<◌, List, [], ◌∷◌, ◌++◌, map, replicate, ap, sym, ◌∙◌, refl, arith, nat_le, if◌then◌else◌}
+use Rattle.std.proofs.Common.{◌≡◌, ℕ, zero, suc, add-zero, ◌+◌, ◌≤◌, ◌<◌, List, [], ◌∷◌, ◌++◌, map, replicate, ap, refl, arith, nat_le, if◌then◌else◌}
 use Rattle.std.specs.List.{range_with_len}
 use Rattle.std.proofs.lemmas.Bool.Decides.{nat_tests}
-use Rattle.std.proofs.lemmas.List.{same_lists}
 use Rattle.std.proofs.lemmas.List.Elements.{All-head, All-tail}
-use Rattle.std.proofs.lemmas.List.FromFn.{length-map-range_with_len, get_or-map-range_with_len}
 use Rattle.board_base.specs.declared.record.Record.{Record}
 use Rattle.board_base.specs.declared.record.Record.TheVariants.{Levels}
 use Rattle.board_base.specs.Records.{clock_of}
@@ -83,12 +81,12 @@ weight-by a b a' b' x y x' y' clock one two = cc
 -- the same values from two clocks on
 pub map-range-shift : {X : Type 0} (f g : ℕ → X) (a b n : ℕ) → ((k : ℕ) → k < n → f (a + k) ≡ g (b + k))
     → map f (range_with_len a n) ≡ map g (range_with_len b n)
-map-range-shift f g a b n same =
-    let left = length-map-range_with_len f a n in
-    let right = length-map-range_with_len g b n in
-    same_lists _ _ (left ∙ sym right) (λ k d h.
-    let inside : k < n = omega (arith, h, left) in
-    get_or-map-range_with_len f a n k (a + k) d inside refl ∙ same k inside ∙ sym (get_or-map-range_with_len g b n k (b + k) d inside refl))
+map-range-shift f g a b zero same = refl
+map-range-shift f g a b (suc n) same =
+    let here : f a ≡ g b = rw (add-zero a, add-zero b) at (same 0 (omega arith)) in
+    let later = map-range-shift f g (a + 1) (b + 1) n (λ k inside. (let next : (m : ℕ) → m + 1 + k ≡ m + suc k = λ m. omega arith in
+    rw (next a, next b) (same (suc k) (omega arith)))) in
+    cc
 
 pub map-range-same : {X : Type 0} (f g : ℕ → X) (a n : ℕ) → ((k : ℕ) → a ≤ k → k < a + n → f k ≡ g k)
     → map f (range_with_len a n) ≡ map g (range_with_len a n)
