@@ -1,12 +1,13 @@
 -- The bounds of some strokes, by their ends.
 use Rattle.std.proofs.Common.{◌≡◌, ℕ, List, [], ◌∷◌, ◌++◌, Option, Some, None, map, length, refl, sym, subst, ◌∙◌, ap, arith, inl, inr, append-nil, append_assoc, zero-add}
-use Rattle.std.specs.Prelude.{ℤ, ◌≤ℤ◌, Contains, ◌⊎◌}
+use Rattle.std.specs.Prelude.{ℤ, int_lt, All, ◌≤ℤ◌, Contains, ◌⊎◌}
 use Rattle.std.specs.List.{flat_map}
 use Rattle.std.specs.Int.{int_min, int_max}
 use Rattle.std.specs.Int.Signed.{≤ℤ_refl}
-use Rattle.std.proofs.lemmas.Int.{ints, fold-int_min_bounds, fold-int_min_reached, fold-int_max_bounds, fold-int_max_reached}
+use Rattle.std.proofs.lemmas.Bool.{cases_cond}
+use Rattle.std.proofs.lemmas.Int.{ints, clamps}
 use Rattle.std.proofs.lemmas.List.{map-append}
-use Rattle.std.proofs.lemmas.List.Elements.{All-nil, All-cons, All-append, All-weaker, Contains-push, Contains-push_cases, Contains-append_left, Contains-append_right}
+use Rattle.std.proofs.lemmas.List.Elements.{All-nil, All-cons, All-append, All-weaker, Contains-push, Contains-append_left, Contains-append_right}
 use Rattle.std.proofs.lemmas.List.Concat.{flat_map-cons}
 use Rattle.board_base.specs.declared.record.Record.{Record}
 use Rattle.board_base.specs.declared.record.Record.TheVariants.{Stroke}
@@ -18,53 +19,30 @@ use Rattle.frame_list.specs.Extents.{ends_of, IsLeast, IsGreatest, AreBounds, Ha
 use Rattle.frame_list.specs.Frames.{FrameValue, started, counted, under_way}
 use Rattle.frame_list.proofs.WholeLaws.{strokes-exact}
 
-trans : (a b c : ℤ) → a ≤ℤ b → b ≤ℤ c → a ≤ℤ c
-trans a b c low high = omega (arith, ints)
+-- one of some numbers that is in a relation with each of them: a number alone, and one chosen of those
+-- of two lists
+module _ (R : ℤ → ℤ → Type 0) where
+  end-one : (a : ℤ) → R a a → All (R a) (a ∷ []) × Contains (a ∷ []) a
+  end-one a same = (All-cons (R a) a [] same (All-nil (R a)), Contains-push [] a)
 
--- the lesser of two numbers is at most each, and is one of them; the greater is at least each
-min-low : (a b : ℤ) → (int_min a b ≤ℤ a) × (int_min a b ≤ℤ b)
-min-low a b = let both = fold-int_min_bounds a (b ∷ []) (int_min a b) refl in (both.0, both.1 0 b (omega arith))
-
-max-high : (a b : ℤ) → (a ≤ℤ int_max a b) × (b ≤ℤ int_max a b)
-max-high a b = let both = fold-int_max_bounds a (b ∷ []) (int_max a b) refl in (both.0, both.1 0 b (omega arith))
-
-one-of : (b r : ℤ) → Contains (b ∷ []) r → r ≡ b
-one-of b r has = elim (Contains-push_cases [] b r has) [ inl nowhere ↦ absurd (let inside = nowhere.1 in omega (arith, inside)) | inr is ↦ sym is ]
-
-min-is : (a b : ℤ) → (int_min a b ≡ a) ⊎ (int_min a b ≡ b)
-min-is a b = elim (fold-int_min_reached a (b ∷ []) (int_min a b) refl) [ inl is ↦ inl is | inr has ↦ inr (one-of b (int_min a b) has) ]
-
-max-is : (a b : ℤ) → (int_max a b ≡ a) ⊎ (int_max a b ≡ b)
-max-is a b = elim (fold-int_max_reached a (b ∷ []) (int_max a b) refl) [ inl is ↦ inl is | inr has ↦ inr (one-of b (int_max a b) has) ]
-
--- one of two lists, whose least are these, has the lesser of them
-least-one : (a : ℤ) → IsLeast a (a ∷ [])
-least-one a = (All-cons (λ x. a ≤ℤ x) a [] (≤ℤ_refl a) (All-nil (λ x. a ≤ℤ x)), Contains-push [] a)
+  end-more : (m n s : ℤ) (xs ys : List ℤ) → (m ≡ s) ⊎ (m ≡ n) → ((x : ℤ) → R n x → R m x) → ((x : ℤ) → R s x → R m x)
+      → All (R n) xs × Contains xs n → All (R s) ys × Contains ys s → All (R m) (xs ++ ys) × Contains (xs ++ ys) m
+  end-more m n s xs ys one on1 on2 first second = (
+    All-append (R m) xs ys (All-weaker (R n) (R m) on1 xs first.0) (All-weaker (R s) (R m) on2 ys second.0),
+    elim one [
+      | inl is ↦ rw is (Contains-append_right xs ys s second.1)
+      | inr is ↦ rw is (Contains-append_left xs ys n first.1)
+    ],
+  )
 
 least-more : (n s : ℤ) (xs ys : List ℤ) → IsLeast n xs → IsLeast s ys → IsLeast (int_min n s) (xs ++ ys)
-least-more n s xs ys first second = (
-  All-append (λ x. int_min n s ≤ℤ x) xs ys
-      (All-weaker (λ x. n ≤ℤ x) (λ x. int_min n s ≤ℤ x) (λ x above. trans (int_min n s) n x (min-low n s).0 above) xs first.0)
-      (All-weaker (λ x. s ≤ℤ x) (λ x. int_min n s ≤ℤ x) (λ x above. trans (int_min n s) s x (min-low n s).1 above) ys second.0),
-  elim (min-is n s) [
-    | inl is ↦ subst (Contains (xs ++ ys)) (sym is) (Contains-append_left xs ys n first.1)
-    | inr is ↦ subst (Contains (xs ++ ys)) (sym is) (Contains-append_right xs ys s second.1)
-  ],
-)
-
-greatest-one : (a : ℤ) → IsGreatest a (a ∷ [])
-greatest-one a = (All-cons (λ x. x ≤ℤ a) a [] (≤ℤ_refl a) (All-nil (λ x. x ≤ℤ a)), Contains-push [] a)
+least-more n s xs ys =
+    end-more (λ a x. a ≤ℤ x) _ n s xs ys (cases_cond (int_lt s n) s n _ refl) (λ x above. omega (arith, ints, clamps)) (λ x above. omega (arith, ints, clamps))
 
 greatest-more : (n s : ℤ) (xs ys : List ℤ) → IsGreatest n xs → IsGreatest s ys → IsGreatest (int_max n s) (xs ++ ys)
-greatest-more n s xs ys first second = (
-  All-append (λ x. x ≤ℤ int_max n s) xs ys
-      (All-weaker (λ x. x ≤ℤ n) (λ x. x ≤ℤ int_max n s) (λ x below. trans x n (int_max n s) below (max-high n s).0) xs first.0)
-      (All-weaker (λ x. x ≤ℤ s) (λ x. x ≤ℤ int_max n s) (λ x below. trans x s (int_max n s) below (max-high n s).1) ys second.0),
-  elim (max-is n s) [
-    | inl is ↦ subst (Contains (xs ++ ys)) (sym is) (Contains-append_left xs ys n first.1)
-    | inr is ↦ subst (Contains (xs ++ ys)) (sym is) (Contains-append_right xs ys s second.1)
-  ],
-)
+greatest-more n s xs ys =
+    end-more (λ a x. x ≤ℤ a) _ n s xs ys (elim (cases_cond (int_lt s n) n s _ refl) [ inl is ↦ inr is | inr is ↦ inl is ])
+    (λ x below. omega (arith, ints, clamps)) (λ x below. omega (arith, ints, clamps))
 
 -- the bounds of two groups of ends together, and those of one stroke
 bounds-joined : (b c : Bounds) (xs ys : List Point) → AreBounds b xs → AreBounds c ys → AreBounds (joined b c) (xs ++ ys)
@@ -76,12 +54,14 @@ bounds-joined b c xs ys first second = record {
 }
 
 bounds-ends : (p q : Point) → AreBounds (of_ends p q) (p ∷ q ∷ [])
-bounds-ends p q = record {
-  least_x = least-more p.x q.x (p.x ∷ []) (q.x ∷ []) (least-one p.x) (least-one q.x);
-  least_y = least-more p.y q.y (p.y ∷ []) (q.y ∷ []) (least-one p.y) (least-one q.y);
-  greatest_x = greatest-more p.x q.x (p.x ∷ []) (q.x ∷ []) (greatest-one p.x) (greatest-one q.x);
-  greatest_y = greatest-more p.y q.y (p.y ∷ []) (q.y ∷ []) (greatest-one p.y) (greatest-one q.y);
-}
+bounds-ends p q =
+    let least = λ (a : ℤ). end-one (λ a x. a ≤ℤ x) a (≤ℤ_refl a) in
+    let greatest = λ (a : ℤ). end-one (λ a x. x ≤ℤ a) a (≤ℤ_refl a) in record {
+      least_x = least-more p.x q.x (p.x ∷ []) (q.x ∷ []) (least p.x) (least q.x);
+      least_y = least-more p.y q.y (p.y ∷ []) (q.y ∷ []) (least p.y) (least q.y);
+      greatest_x = greatest-more p.x q.x (p.x ∷ []) (q.x ∷ []) (greatest p.x) (greatest q.x);
+      greatest_y = greatest-more p.y q.y (p.y ∷ []) (q.y ∷ []) (greatest p.y) (greatest q.y);
+    }
 
 bounds-widened : (o : Option Bounds) (b : Bounds) (xs ys : List Point) → HasBounds o xs → AreBounds b ys → HasBounds (widened o b) (xs ++ ys)
 bounds-widened None b xs ys none more = subst (λ l. AreBounds b (l ++ ys)) (sym none) more

@@ -7,11 +7,6 @@ use Rattle.board_base.specs.declared.record.Record.TheVariants.{Stroke}
 use Rattle.frame_list.specs.Events.{Event, stroke_of, mark_at}
 use Rattle.frame_list.specs.Frames.{FrameValue, started, counted, next, under_way, ended}
 
--- nothing happens
-pub under_way-nothing : (frame : FrameValue) → under_way frame [] ≡ frame
-unfolding under_way
-under_way-nothing frame = refl
-
 -- some events, and then others
 pub under_way-append : (frame : FrameValue) (first rest : List Event) → under_way frame (first ++ rest) ≡ under_way (under_way frame first) rest
 unfolding under_way
@@ -37,10 +32,7 @@ pub one_more : (frame : FrameValue) (strokes : List Record) (k : ℕ) (made : Re
     → under_way frame (map stroke_of (take (k + 1) strokes)) ≡ counted (under_way frame (map stroke_of (take k strokes))) (get_or strokes k made)
 unfolding under_way
 one_more frame strokes k made below =
-    ap (λ n. under_way frame (map stroke_of (take n strokes))) (add-one k)
-    ∙ ap (λ some. under_way frame (map stroke_of some)) (take-suc strokes k made below)
-    ∙ ap (under_way frame) (map-append stroke_of (take k strokes) (get_or strokes k made ∷ []))
-    ∙ under_way-append frame (map stroke_of (take k strokes)) (stroke_of (get_or strokes k made) ∷ [])
+    rw (add-one, take-suc strokes k made below, map-append stroke_of (take k strokes) (get_or strokes k made ∷ []), under_way-append) refl
 
 -- a stroke leaves the number of the frame
 pub counted-number : (frame : FrameValue) (made : Record) → (counted frame made).number ≡ frame.number

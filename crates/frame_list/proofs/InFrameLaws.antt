@@ -1,5 +1,6 @@
 -- Which strokes are in which frame.
-use Rattle.std.proofs.Common.{◌≡◌, ℕ, zero, suc, ◌+◌, ◌<◌, ◌≤◌, List, [], ◌∷◌, ◌++◌, Bool, true, false, cond, length, map, take, drop, get_or, refl, sym, ap, ◌∙◌, arith, inl, inr, append-nil, le-leb}
+use Rattle.std.proofs.Common.{◌≡◌, ℕ, zero, suc, ◌+◌, ◌<◌, ◌≤◌, List, [], ◌∷◌, ◌++◌, Bool, true, false, cond, length, map, take, drop, get_or, refl, sym, ap, ◌∙◌, arith, inl, inr, append-nil}
+use Rattle.std.proofs.Common.{le-leb, one-add}
 use Rattle.std.specs.Prelude.{All, ◌&&◌, filter, slice_get}
 use Rattle.std.specs.List.{range_with_len}
 use Rattle.std.specs.List.Sorted.{IsNonDecreasing, IsNonDecreasingBy}
@@ -32,13 +33,13 @@ filter-same p q (x ∷ xs) all =
     rw (All-head (λ x. p x ≡ q x) x xs all) (ap (λ l. cond (q x) (x ∷ l) l) rest)
 
 -- values of n numbers, from one on and from another
-map-ranges : {X : Type 0} (f g : ℕ → X) (a b n : ℕ) → ((i : ℕ) → i < n → f (a + i) ≡ g (b + i)) → map f (range_with_len a n) ≡ map g (range_with_len b n)
+map-ranges : {X : Type 0} (f g : ℕ → X) (a b n : ℕ) → ((i j k : ℕ) → i < n → a + i ≡ j → b + i ≡ k → f j ≡ g k)
+    → map f (range_with_len a n) ≡ map g (range_with_len b n)
 map-ranges f g a b zero same = refl
 map-ranges f g a b (suc n) same =
-    let here : f a ≡ g b = (let e : a ≡ a + 0 = omega arith in ap f e) ∙ same 0 (omega arith) ∙ (let e : b + 0 ≡ b = omega arith in ap g e) in
-    let later : (i : ℕ) → i < n → f (a + 1 + i) ≡ g (b + 1 + i) = λ i inside.
-    (let e : a + 1 + i ≡ a + suc i = omega arith in ap f e) ∙ same (suc i) (omega (arith, inside)) ∙ (let e : b + suc i ≡ b + 1 + i = omega arith in ap g e) in
-    ap (λ x. x ∷ map f (range_with_len (a + 1) n)) here ∙ ap (λ l. g b ∷ l) (map-ranges f g (a + 1) (b + 1) n later)
+    let here = same 0 a b (omega arith) (omega arith) (omega arith) in
+    let later = map-ranges f g (a + 1) (b + 1) n (λ i j k inside at to. same (suc i) j k (omega arith) (omega arith) (omega arith)) in
+    cc
 
 -- no later one is below the first
 later-from : {X : Type 0} (n : X → ℕ) (x : X) (xs : List X) → IsNonDecreasingBy n (x ∷ xs) → All (λ y. n x ≤ n y) xs
@@ -52,20 +53,18 @@ record AreSplit (mark n : ℕ) (strokes : List Record) : Type 0 where
   before : All (λ stroke. clock_of stroke ≤ mark) (take n strokes)
   after : All (λ stroke. mark < clock_of stroke) (drop n strokes)
 
-more-before : (mark n : ℕ) (stroke : Record) (strokes : List Record) → clock_of stroke ≤ mark → AreSplit mark n strokes → AreSplit mark (1 + n) (stroke ∷ strokes)
-more-before mark n stroke strokes low split =
-    let more : 1 + n ≡ suc n = omega arith in
-    rw more (record { before = All-cons (λ s. clock_of s ≤ mark) stroke (take n strokes) low split.before; after = split.after })
-
 split-at : (mark : ℕ) (strokes : List Record) → IsNonDecreasingBy clock_of strokes → AreSplit mark (through mark strokes) strokes
 split-at mark [] rises = record { before = All-nil (λ s. clock_of s ≤ mark); after = All-nil (λ s. mark < clock_of s) }
-split-at mark (stroke ∷ strokes) rises = elim (leb_tells (clock_of stroke) mark) [
-  | inl (pass, low) ↦ rw pass (more-before mark (through mark strokes) stroke strokes low (split-at mark strokes (later-rises clock_of stroke strokes rises)))
-  | inr (fail, high) ↦ rw fail (record {
-    before = All-nil (λ s. clock_of s ≤ mark);
-    after = All-cons (λ s. mark < clock_of s) stroke strokes high (λ k d inside. omega (arith, high, later-from clock_of stroke strokes rises k d inside));
-  })
-]
+split-at mark (stroke ∷ strokes) rises =
+    let rest = split-at mark strokes (later-rises clock_of stroke strokes rises) in
+    elim (leb_tells (clock_of stroke) mark) [
+      | inl (pass, low) ↦ rw (pass, one-add)
+          record { before = All-cons (λ s. clock_of s ≤ mark) stroke (take (through mark strokes) strokes) low rest.before; after = rest.after }
+      | inr (fail, high) ↦ rw fail record {
+        before = All-nil (λ s. clock_of s ≤ mark);
+        after = All-cons (λ s. mark < clock_of s) stroke strokes high (λ k d inside. omega (arith, later-from clock_of stroke strokes rises k d inside));
+      }
+    ]
 
 -- a clock up to a mark is above no later one
 not-above : (marks : List ℕ) (mark k clock : ℕ) → IsNonDecreasing (mark ∷ marks) → k ≤ length marks → clock ≤ mark
@@ -79,9 +78,6 @@ not-above (next ∷ marks) mark (suc k) clock rises within low =
 -- a stroke of a frame, by its clock
 abbrev is_in : List ℕ → ℕ → Record → Bool
 is_in marks k stroke = is_above (first_mark marks k) (clock_of stroke) && is_up_to (last_mark marks k) (clock_of stroke)
-
-and-no : (a b : Bool) → a ≡ false → a && b ≡ false
-and-no a b fail = rw fail refl
 
 -- a stroke above a mark is in a frame after it exactly where it is in that frame of the marks that
 -- are left
@@ -105,75 +101,50 @@ strokes-first : (mark : ℕ) (marks : List ℕ) (strokes : List Record) → AreS
     → strokes_in strokes (mark ∷ marks) 0 ≡ up_to mark strokes
 strokes-first mark marks strokes split =
     let p = is_in (mark ∷ marks) 0 in
-    let all : filter p (up_to mark strokes) ≡ up_to mark strokes =
-    filter-every p (up_to mark strokes) (λ k d inside. le-leb (clock_of (get_or (up_to mark strokes) k d)) mark (split.before k d inside)) in
-    let none : filter p (above mark strokes) ≡ [] =
-    filter-none p (above mark strokes) (λ k d inside. lt-leb (clock_of (get_or (above mark strokes) k d)) mark (split.after k d inside)) in
-    parts p mark strokes ∙ ap (λ l. l ++ filter p (above mark strokes)) all ∙ ap (λ l. up_to mark strokes ++ l) none ∙ append-nil (up_to mark strokes)
+    rw (
+      parts p mark strokes,
+      filter-every p (up_to mark strokes) (λ k d inside. le-leb _ _ (split.before k d inside)),
+      filter-none p (above mark strokes) (λ k d inside. lt-leb _ _ (split.after k d inside)),
+    )
+    (append-nil (up_to mark strokes))
 
 strokes-later : (mark : ℕ) (marks : List ℕ) (strokes : List Record) → AreSplit mark (through mark strokes) strokes → (k : ℕ)
     → IsNonDecreasing (mark ∷ marks) → k ≤ length marks → strokes_in strokes (mark ∷ marks) (suc k) ≡ strokes_in (above mark strokes) marks k
 strokes-later mark marks strokes split k rises within =
     let p = is_in (mark ∷ marks) (suc k) in
-    let none : filter p (up_to mark strokes) ≡ [] = filter-none p (up_to mark strokes)
-    (λ i d inside. and-no _ (is_up_to (last_mark (mark ∷ marks) (suc k)) (clock_of (get_or (up_to mark strokes) i d)))
-    (not-above marks mark k (clock_of (get_or (up_to mark strokes) i d)) rises within (split.before i d inside))) in
-    let same : filter p (above mark strokes) ≡ filter (is_in marks k) (above mark strokes) =
-    filter-same p (is_in marks k) (above mark strokes) (λ i d inside. same-later marks mark k (get_or (above mark strokes) i d) (split.after i d inside)) in
-    parts p mark strokes ∙ ap (λ l. l ++ filter p (above mark strokes)) none ∙ same
+    rw (
+      parts p mark strokes,
+      filter-none p (up_to mark strokes) (λ i d inside. rw (not-above marks mark k _ rises within (split.before i d inside)) refl),
+      filter-same p (is_in marks k) (above mark strokes) (λ i d inside. same-later marks mark k (get_or (above mark strokes) i d) (split.after i d inside)),
+    )
 
 -- frame k after frame n
 abbrev frame_from : ℕ → ℕ → List Record → List ℕ → ℕ → FrameValue
 frame_from n clock strokes marks k = under_way (started (n + k) (get_or (clock ∷ marks) k 0)) (map stroke_of (strokes_in strokes marks k))
-
-frame-suc : (n clock mark : ℕ) (strokes : List Record) (marks : List ℕ) → AreSplit mark (through mark strokes) strokes → (i : ℕ)
-    → IsNonDecreasing (mark ∷ marks) → i ≤ length marks
-    → frame_from (n + 1) mark (drop (through mark strokes) strokes) marks i ≡ frame_from n clock strokes (mark ∷ marks) (suc i)
-frame-suc n clock mark strokes marks split i rises within =
-    let number : n + 1 + i ≡ n + suc i = omega arith in
-    ap (λ (k : ℕ). under_way (started k (get_or (mark ∷ marks) i 0)) (map stroke_of (strokes_in (drop (through mark strokes) strokes) marks i))) number
-    ∙ ap (λ l. under_way (started (n + suc i) (get_or (mark ∷ marks) i 0)) (map stroke_of l)) (sym (strokes-later mark marks strokes split i rises within))
-
-frame-later : (n clock mark : ℕ) (strokes : List Record) (marks : List ℕ) → AreSplit mark (through mark strokes) strokes → (i : ℕ)
-    → IsNonDecreasing (mark ∷ marks) → i ≤ length marks
-    → frame_from (n + 1) mark (drop (through mark strokes) strokes) marks (0 + i) ≡ frame_from n clock strokes (mark ∷ marks) (1 + i)
-frame-later n clock mark strokes marks split i rises within =
-    let same : 0 + i ≡ i = omega arith in
-    let more : suc i ≡ 1 + i = omega arith in
-    ap (frame_from (n + 1) mark (drop (through mark strokes) strokes) marks) same
-    ∙ frame-suc n clock mark strokes marks split i rises within
-    ∙ ap (frame_from n clock strokes (mark ∷ marks)) more
 
 -- the frames from one number on
 frames-from : (n clock : ℕ) (strokes : List Record) (marks : List ℕ) → IsNonDecreasingBy clock_of strokes → IsNonDecreasing marks
     → frames_of (started n clock) (by_clock strokes marks) ≡ map (frame_from n clock strokes marks) (range_with_len 0 (length marks + 1))
 unfolding by_clock
 frames-from n clock strokes [] rises marks_rise =
-    let all : strokes_in strokes [] 0 ≡ strokes = filter-every (is_in [] 0) strokes (λ k d inside. refl) in
-    let zeroth : n ≡ n + 0 = omega arith in
-    rw (ended-strokes (started n clock) strokes, all) (ap (λ (k : ℕ). under_way (started k clock) (map stroke_of strokes) ∷ []) zeroth)
+    let zeroth : n + 0 ≡ n = omega arith in
+    rw (ended-strokes (started n clock) strokes, filter-every (is_in [] 0) strokes (λ k d inside. refl), zeroth) refl
 frames-from n clock strokes (mark ∷ marks) rises marks_rise =
     let split = split-at mark strokes rises in
-    let before = take (through mark strokes) strokes in
-    let after = drop (through mark strokes) strokes in
+    let first = up_to mark strokes in
+    let later = above mark strokes in
     let count : length (mark ∷ marks) + 1 ≡ suc (length marks + 1) = omega arith in
-    let zeroth : n ≡ n + 0 = omega arith in
-    let next : (under_way (started n clock) (map stroke_of before)).number + 1 ≡ n + 1 = ap (λ k. k + 1) (strokes-number (started n clock) before) in
-    let here : under_way (started n clock) (map stroke_of before) ≡ frame_from n clock strokes (mark ∷ marks) 0 =
-    ap (λ (k : ℕ). under_way (started k clock) (map stroke_of before)) zeroth
-    ∙ ap (λ l. under_way (started (n + 0) clock) (map stroke_of l)) (sym (strokes-first mark marks strokes split)) in
-    let rest = frames-from (n + 1) mark after marks (IsNonDecreasingBy-drop clock_of (through mark strokes) strokes rises) (later-rises (λ m. m) mark marks marks_rise) in
-    let shifted : (i : ℕ) → i < length marks + 1 → frame_from (n + 1) mark after marks (0 + i) ≡ frame_from n clock strokes (mark ∷ marks) (1 + i) = λ i inside.
-    frame-later n clock mark strokes marks split i marks_rise (omega (arith, inside)) in
-    frames-mark (started n clock) before mark (by_clock after marks)
-    ∙ ap (λ l. under_way (started n clock) (map stroke_of before) ∷ l)
-    (ap (λ (k : ℕ). frames_of (started k mark) (by_clock after marks)) next ∙ rest
-    ∙ map-ranges (frame_from (n + 1) mark after marks) (frame_from n clock strokes (mark ∷ marks)) 0 1 (length marks + 1) shifted)
-    ∙ ap (λ (f : FrameValue). f ∷ map (frame_from n clock strokes (mark ∷ marks)) (range_with_len 1 (length marks + 1))) here
-    ∙ ap (λ (k : ℕ). map (frame_from n clock strokes (mark ∷ marks)) (range_with_len 0 k)) (sym count)
+    let zeroth : n + 0 ≡ n = omega arith in
+    let last = under_way (started n clock) (map stroke_of first) in
+    let same = strokes-number (started n clock) first in
+    let rest = frames-from (last.number + 1) mark later marks (IsNonDecreasingBy-drop clock_of (through mark strokes) strokes rises) (later-rises (λ m. m) mark marks marks_rise)
+    ∙ map-ranges (frame_from (last.number + 1) mark later marks) (frame_from n clock strokes (mark ∷ marks)) 0 1 (length marks + 1)
+    (λ i j k inside at to. (let next : k ≡ suc j = omega arith in let number : n + suc j ≡ last.number + 1 + j = omega arith in
+    rw (next, number, strokes-later mark marks strokes split j marks_rise (omega arith)) refl)) in
+    rw (count, frames-mark (started n clock) first mark (by_clock later marks), zeroth, strokes-first mark marks strokes split) (ap (λ l. last ∷ l) rest)
 
 pub each_frame_has_its_strokes : (clock : ℕ) (strokes : List Record) (marks : List ℕ) → EachFrameHasItsStrokes clock strokes marks
 each_frame_has_its_strokes clock strokes marks rises marks_rise =
     frames-from 0 clock strokes marks rises marks_rise
     ∙ map-ranges (frame_from 0 clock strokes marks) (frame_at clock strokes marks) 0 0 (length marks + 1)
-    (λ i inside. let e : 0 + (0 + i) ≡ 0 + i = omega arith in ap (λ (k : ℕ). under_way (started k (get_or (clock ∷ marks) (0 + i) 0)) (map stroke_of (strokes_in strokes marks (0 + i)))) e)
+    (λ i j k inside at to. (let same : k ≡ j = omega arith in let zeroth : 0 + j ≡ j = omega arith in rw (same, zeroth) refl))

@@ -1,7 +1,7 @@
 -- Laws of all frames.
 use Rattle.std.proofs.Common.{◌≡◌, ℕ, ◌+◌, ◌<◌, ◌≤◌, List, [], ◌∷◌, ◌++◌, Bool, true, false, cond, length, map, take, drop, refl, ap, sym, ◌∙◌, arith, append_assoc, length-append, zero-add}
 use Rattle.std.specs.Prelude.{All, nat_le, ◌&&◌, ◌≢◌}
-use Rattle.std.specs.List.{prefix_len, sum_by}
+use Rattle.std.specs.List.{prefix_len}
 use Rattle.std.proofs.Math.Seq.{take-append-add, drop-append-add}
 use Rattle.std.proofs.lemmas.List.{take-append-drop, take-append-le, drop-append-le, map-append}
 use Rattle.std.proofs.lemmas.List.Elements.{All-drop, All-take, All-head, All-tail}
@@ -50,14 +50,10 @@ each_stroke_in_one_frame frame strokes (mark ∷ marks) made =
     let first = take n strokes in
     let later = drop n strokes in
     let last = under_way frame (map stroke_of first) in
-    let here : last.strokes ≡ frame.strokes + length first = strokes-exact frame first (All-take (Makes Generator) n strokes made) in
-    let next : FrameValue = started (last.number + 1) mark in
-    let there : sum_by (λ f. f.strokes) (frames_of next (by_clock later marks)) ≡ 0 + length later
-    = each_stroke_in_one_frame next later marks (All-drop (Makes Generator) n strokes made) in
-    let whole : length first + length later ≡ length strokes
-    = sym (length-append first later) ∙ ap (λ l. length l) (take-append-drop n strokes) in
-    rw (frames-mark frame first mark (by_clock later marks), sum_by-cons (λ (f : FrameValue). f.strokes) last (frames_of next (by_clock later marks)))
-    (omega (arith, here, there, whole))
+    let here = strokes-exact frame first (All-take (Makes Generator) n strokes made) in
+    let there = each_stroke_in_one_frame (started (last.number + 1) mark) later marks (All-drop (Makes Generator) n strokes made) in
+    rw (frames-mark frame first mark (by_clock later marks), sum_by-cons (λ (f : FrameValue). f.strokes) last (frames_of (started (last.number + 1) mark) (by_clock later marks)))
+    (omega (arith, here, there, simp length-append at (ap length (take-append-drop n strokes))))
 
 -- a first part that passes, and one after it that doesn't
 pub prefix-all : {X : Type 0} (p : X → Bool) (xs ys : List X) → All (λ x. p x ≡ true) xs → prefix_len p (xs ++ ys) ≡ length xs + prefix_len p ys
@@ -70,14 +66,7 @@ prefix-none p [] [] passes = refl
 prefix-none p [] (y ∷ ys) passes = rw (All-head (λ x. p x ≡ false) y ys passes) refl
 prefix-none p (x ∷ xs) ys passes = ap (λ n. cond (p x) (1 + n) 0) (prefix-none p xs ys passes)
 
--- strokes up to a mark, and after it
-pub up_to : (mark : ℕ) (marks : List ℕ) (strokes : List Record) → All (λ stroke. All (λ mark. clock_of stroke ≤ mark) (mark ∷ marks)) strokes
-    → All (λ stroke. nat_le (clock_of stroke) mark ≡ true) strokes
-up_to mark marks strokes before k d below = le-leb _ _ (before k d below 0 0 (omega arith))
-
-pub behind : (mark : ℕ) (strokes : List Record) → All (λ stroke. mark < clock_of stroke) strokes → All (λ stroke. nat_le (clock_of stroke) mark ≡ false) strokes
-behind mark strokes after k d below = lt-leb _ _ (after k d below)
-
+-- strokes and marks, none of which comes before those of a first part
 pub events-append : (strokes1 : List Record) (marks1 : List ℕ) (strokes2 : List Record) (marks2 : List ℕ) → IsBefore strokes1 marks1 strokes2 marks2
     → by_clock (strokes1 ++ strokes2) (marks1 ++ marks2) ≡ by_clock strokes1 marks1 ++ by_clock strokes2 marks2
 unfolding by_clock
@@ -85,7 +74,7 @@ events-append strokes1 [] strokes2 [] before = map-append stroke_of strokes1 str
 events-append strokes1 [] strokes2 (mark ∷ marks) before =
     let n = through mark strokes2 in
     rw (
-      prefix-all (λ stroke. nat_le (clock_of stroke) mark) strokes1 strokes2 (up_to mark marks strokes1 before.strokes),
+      prefix-all (λ stroke. nat_le (clock_of stroke) mark) strokes1 strokes2 (λ k d below. le-leb _ _ (before.strokes k d below 0 0 (omega arith))),
       take-append-add strokes1 strokes2 n,
       drop-append-add strokes1 strokes2 n,
       map-append stroke_of strokes1 (take n strokes2),
@@ -94,14 +83,12 @@ events-append strokes1 [] strokes2 (mark ∷ marks) before =
 events-append strokes1 (mark ∷ marks) strokes2 marks2 before =
     let n = through mark strokes1 in
     let within : n ≤ length strokes1 = prefix_len-le-length (λ stroke. nat_le (clock_of stroke) mark) strokes1 in
-    let here : All (λ stroke. mark < clock_of stroke) strokes2 = All-head (λ mark. All (λ stroke. mark < clock_of stroke) strokes2) mark marks before.marks in
-    let rest : by_clock (drop n strokes1 ++ strokes2) (marks ++ marks2) ≡ by_clock (drop n strokes1) marks ++ by_clock strokes2 marks2
-    = events-append (drop n strokes1) marks strokes2 marks2 (record {
+    let rest = events-append (drop n strokes1) marks strokes2 marks2 (record {
       marks = All-tail (λ mark. All (λ stroke. mark < clock_of stroke) strokes2) mark marks before.marks;
       strokes = All-drop (λ stroke. All (λ mark. clock_of stroke ≤ mark) marks2) n strokes1 before.strokes;
     }) in
     rw (
-      prefix-none (λ stroke. nat_le (clock_of stroke) mark) strokes1 strokes2 (behind mark strokes2 here),
+      prefix-none (λ stroke. nat_le (clock_of stroke) mark) strokes1 strokes2 (λ k d below. lt-leb _ _ (before.marks 0 0 (omega arith) k d below)),
       take-append-le n strokes1 strokes2 within,
       drop-append-le n strokes1 strokes2 within,
       rest,
@@ -120,10 +107,9 @@ parts_make_the_whole frame strokes1 marks1 strokes2 marks2 before =
       text = rw (whole, ended-append frame first rest) (flat_map-append frame_text (ended frame first) (ended (under_way frame first) rest));
     }
 
-pub not_there : (addr : ℕ) → addr ≢ 0x8840 → nat_le 0x8840 addr && nat_le addr 0x8840 ≡ false
-not_there addr other = grind (arith, leb_tells)
-
 -- no other address starts the generator
 pub starts_elsewhere : (addr : ℕ) → addr ≢ 0x8840 → is_go (row_of addr).writes ≡ false
 unfolding row_of
-starts_elsewhere addr other = passing (λ row. is_go row.writes) refl address_map 0 addr refl ∙ rw (not_there addr other) refl
+starts_elsewhere addr other =
+    let not_there : nat_le 0x8840 addr && nat_le addr 0x8840 ≡ false = grind (arith, leb_tells) in
+    passing (λ row. is_go row.writes) refl address_map 0 addr refl ∙ rw not_there refl
