@@ -13,7 +13,7 @@ use Rattle.lockstep_board.proofs.Ends.{boundary-clock-steps}
 use Rattle.lockstep_board.proofs.Places.{stepped-placed}
 use Rattle.lockstep_board.proofs.Runs.{stepped-add}
 use Rattle.run_windows.specs.declared.until.Until.TheVariants.{Clock, Boundary}
-use Rattle.outside_io.specs.Events.{Event, sending, storing}
+use Rattle.outside_io.specs.Events.{Event}
 use Rattle.outside_io.specs.Seen.{HostDid, HostDidFirst, NoFault, SameLoans, Seen}
 use Rattle.run_windows.specs.Synced.{IsSynced}
 use Rattle.run_windows.specs.Windows.{steps_to, window_price}
@@ -44,9 +44,7 @@ module _ (entries : List TapeEntry) where
   cut_events-cleared cut save b =
       let text : slice_text entries (Clock cut) (cleared b) ≡ slice_text entries (Clock cut) b =
       text-cleared entries (steps_to entries (Clock cut) (cleared b)) b ∙ ap (λ n. text_of_steps entries n b) (steps-cleared entries (Clock cut) b) in
-      let saved = from-behind (λ b. saved_bytes (to_clock entries cut b)) (saved-run-behind cut) b in
-      ap (λ text. sending text ++ storing save (saved_bytes (to_clock entries cut (cleared b)))) text
-      ∙ ap (λ bytes. sending (slice_text entries (Clock cut) b) ++ storing save bytes) saved
+      rw (text, from-behind (λ b. saved_bytes (to_clock entries cut b)) (saved-run-behind cut) b) refl
 
   last_events-cleared : (limit : ℕ) (wanted : Wanted) (calls : ℕ) (b : Board) → last_events entries limit wanted calls (cleared b) ≡ last_events entries limit wanted calls b
   unfolding last_events
@@ -140,19 +138,11 @@ module _ (entries : List TapeEntry) (limit : ℕ) (wanted : Wanted) (cuts : List
         ≡ u.done ++ (cut_events entries lowered wanted.save now.board ++ run_events entries limit wanted calls (drop (i + 1) cuts) (to_clock entries lowered reached))
     unfolding run_events
     events-left calls =
-        u.events calls
-        ∙ ap (λ rest. u.done ++ run_events entries limit wanted calls rest reached) left
-        ∙ ap (λ c. u.done ++ (cut_events entries c wanted.save reached ++ run_events entries limit wanted calls (drop (i + 1) cuts) (to_clock entries c reached)))
-        (sym is)
-        ∙ ap (λ events. u.done ++ (events ++ run_events entries limit wanted calls (drop (i + 1) cuts) (to_clock entries lowered reached)))
-        (sym (same-cut lowered wanted.save))
+        u.events calls ∙ rw (left, ← is, same-cut lowered wanted.save) refl
 
     last-left : last_board entries limit cuts start.board ≡ last_board entries limit (drop (i + 1) cuts) (to_clock entries lowered reached)
     unfolding last_board
-    last-left =
-        u.last
-        ∙ ap (λ rest. last_board entries limit rest reached) left
-        ∙ ap (λ c. last_board entries limit (drop (i + 1) cuts) (to_clock entries c reached)) (sym is)
+    last-left = u.last ∙ rw (left, is) refl
 
     -- one cut more
     pub cuts-on : (next : EngineValue) (later : Seen) → HostDid (cut_events entries lowered wanted.save now.board) after later
@@ -163,15 +153,11 @@ module _ (entries : List TapeEntry) (limit : ℕ) (wanted : Wanted) (cuts : List
     cuts-on next later did loans faults absences board fresh most least =
         let events = cut_events entries lowered wanted.save now.board in
         let more = clock_steps entries lowered reached in
-        let whole = u.whole in
         let most_cut : lowered ≤ limit = rw is (omega arith) in
         let split = boundary-clock-steps entries lowered limit reached most_cut (stepped-placed entries u.steps start.board u.placed) in
         let price = price-add entries u.steps more start.board in
         let own : window_price entries (clock_steps entries lowered now.board) now.board ≡ window_price entries more reached =
         ap (λ n. window_price entries n now.board) (same-steps lowered) ∙ same-price more in
-        let first = u.most in
-        let least0 = u.least in
-        let absent = u.absences in
         record {
           placed = u.placed;
           done = u.done ++ events;
@@ -200,8 +186,7 @@ module _ (entries : List TapeEntry) (limit : ℕ) (wanted : Wanted) (cuts : List
     pub cuts-stopped : (later : Seen) → HostDidFirst (cut_events entries lowered wanted.save now.board) after later
         → StopsIn entries limit wanted start.calls cuts start.board before.taken later.taken before.stores later.stores
     cuts-stopped later part =
-        let calls = counted_on start.calls (5 * length cuts) in
-        record {
+        let calls = counted_on start.calls (5 * length cuts) in record {
           calls = calls;
           within_budget = budget-least entries limit (length cuts) start.board start.calls;
           did =
@@ -218,9 +203,7 @@ module _ (entries : List TapeEntry) (limit : ℕ) (wanted : Wanted) (cuts : List
     unfolding run_events
     events-last calls =
         u.events calls
-        ∙ ap (λ rest. u.done ++ run_events entries limit wanted calls rest reached) none-left
-        ∙ ap (λ events. u.done ++ events)
-        (sym (same-of (last_events entries limit wanted calls) (last_events-cleared entries limit wanted calls) now.board reached u.board))
+        ∙ rw (none-left, same-of (last_events entries limit wanted calls) (last_events-cleared entries limit wanted calls) now.board reached u.board) refl
 
     pub cuts-ended : (calls : ℕ) (later : Seen) → HostDid (last_events entries limit wanted calls now.board) after later
         → HostDid (run_events entries limit wanted calls cuts start.board) before later
@@ -246,8 +229,6 @@ module _ (entries : List TapeEntry) (limit : ℕ) (wanted : Wanted) (cuts : List
         ≡ window_price entries u.steps start.board + window_price entries more reached =
         ap (λ n. window_price entries n start.board) u.whole ∙ price-add entries u.steps more start.board in
         let budget = budget-is entries limit (length cuts + 1) start.board in
-        let first = u.most in
-        let least0 = u.least in
         record { least = rw (sym all) (omega arith); most = omega arith }
 
     pub cuts-cut : (next : EngineValue) (later : Seen)

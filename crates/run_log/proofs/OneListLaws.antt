@@ -6,7 +6,6 @@ use Rattle.std.specs.List.{All}
 use Rattle.std.proofs.Math.Seq.{drop-append_seam}
 use Rattle.std.proofs.lemmas.List.Elements.{All-cons, filter_map-append}
 use Rattle.std.proofs.lemmas.List.Kept.{AllPairs-cons}
-use Rattle.std.proofs.lemmas.List.Concat.{flat_map-append}
 use Rattle.board_base.specs.declared.record.Record.{Record}
 use Rattle.board_base.specs.declared.part.Part.{Part}
 use Rattle.board_base.specs.declared.part.Part.TheVariants.{Generator, Pokey1, Pokey2, Board}
@@ -21,11 +20,6 @@ use Rattle.lockstep_board.proofs.Behind.{step-behind, behind-cleared}
 use Rattle.lockstep_board.proofs.Clocks.{step-clock}
 use Rattle.lockstep_board.proofs.InOrder.{adds-one}
 use Rattle.run_log.specs.OneList.{added, records_of_clock, one_list, run_list, text_of_lists}
-
--- the text of two lists
-pub log_text-append : (xs ys : List PartRecord) → log_text (xs ++ ys) ≡ log_text xs ++ log_text ys
-unfolding log_text
-log_text-append xs ys = flat_map-append _ xs ys
 
 -- the list of some clocks and then of others
 pub one_list-add : (entries : List TapeEntry) (n m : ℕ) (b : lockstep.Board)
@@ -167,17 +161,15 @@ Rising from (made ∷ records) to = (from ≤ key made) × Rising (key made) rec
 
 rising-append : (from between to : ℕ) (xs ys : List PartRecord) → Rising from xs between → Rising between ys to → Rising from (xs ++ ys) to
 rising-append from between to [] [] r s = omega arith
-rising-append from between to [] (y ∷ ys) r s = ((let a = s.0 in omega arith), s.1)
-rising-append from between to (x ∷ xs) ys r s = (r.0, rising-append (key x) between to xs ys r.1 s)
+rising-append from between to [] (y ∷ ys) r (low, more) = (omega arith, more)
+rising-append from between to (x ∷ xs) ys (low, more) s = (low, rising-append (key x) between to xs ys more s)
 
 rising-part : (part : Part) (t from to : ℕ) (records : List Record) → from ≤ 4 * t + place_of part → 4 * t + place_of part ≤ to
     → MadeBetween part t records (t + 1) → Rising from (from_part part records) to
 rising-part part t from to [] low high m = omega arith
-rising-part part t from to (r ∷ records) low high m =
-    let not_before = m.1 in
-    let not_after = m.2 in
+rising-part part t from to (r ∷ records) low high (_, since, before, more) =
     let same : clock_of r ≡ t = omega arith in
-    ((omega arith), rising-part part t (key (part, r)) to records (omega arith) high (subst (λ c. MadeBetween part c records (t + 1)) same m.3))
+    (omega arith, rising-part part t (key (part, r)) to records (omega arith) high (rw same at more))
 
 module _ (entries : List TapeEntry) where
   -- the records of a clock are in order
@@ -211,17 +203,13 @@ place_of-below Pokey2 = omega arith
 place_of-below Board = omega arith
 
 not_after-key : (first second : PartRecord) → key first ≤ key second → IsNotAfter first second
-not_after-key first second h =
-    let low = place_of-below first.0 in
-    let high = place_of-below second.0 in
-    record { clocks = omega arith; parts = λ e. omega arith }
+not_after-key first second h = record { clocks = omega (arith, place_of-below second.0); parts = λ e. omega arith }
 
 not_after-rising : (first : PartRecord) (from to : ℕ) (records : List PartRecord) → key first ≤ from → Rising from records to
     → All (IsNotAfter first) records
 not_after-rising first from to [] h r = λ k d inside. absurd (omega arith)
-not_after-rising first from to (made ∷ records) h r =
-    let low = r.0 in
-    All-cons (IsNotAfter first) made records (not_after-key first made (omega arith)) (not_after-rising first (key made) to records (omega arith) r.1)
+not_after-rising first from to (made ∷ records) h (low, more) =
+    All-cons (IsNotAfter first) made records (not_after-key first made (omega arith)) (not_after-rising first (key made) to records (omega arith) more)
 
 in_order-rising : (from to : ℕ) (records : List PartRecord) → Rising from records to → IsInOrder records
 in_order-rising from to [] r = λ i j d order inside. absurd (omega arith)

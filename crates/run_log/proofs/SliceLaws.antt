@@ -3,6 +3,7 @@ use Rattle.std.proofs.Common.{◌≡◌, ℕ, ◌+◌, List, ◌++◌, refl, sym
 use Rattle.board_base.specs.declared.part.Part.TheVariants.{Generator, Pokey1, Pokey2, Board}
 use Rattle.board_base.proofs.RecordLaws.{trail-made}
 use Rattle.log_text.specs.LogText.{log_text}
+use Rattle.log_text.proofs.PartLaws.{log_text-append}
 use Rattle.log_text.specs.RecordBytes.{records_bytes}
 use Rattle.tape_ports.specs.declared.entry.TapeEntry.{TapeEntry}
 use Rattle.lockstep_board.specs.Lockstep as lockstep
@@ -13,7 +14,7 @@ use Rattle.run_windows.specs.Windows.{end_of, steps_to}
 use Rattle.run_windows.proofs.WatchLaws.{run-made}
 use Rattle.run_log.specs.Slice.{AreTrails, bytes_of_records, slice_records, slice_text, text_of_records, text_of_steps}
 use Rattle.run_log.specs.OneList.{one_list, text_of_lists}
-use Rattle.run_log.proofs.OneListLaws.{log_text-append, one_list-add, one_list-cleared, stepped-merged, stepped-one_list}
+use Rattle.run_log.proofs.OneListLaws.{one_list-add, one_list-cleared, stepped-merged, stepped-one_list}
 
 -- what doesn't look at records is the same of two boards that differ in them alone
 pub same-of : {X : Type 0} (f : lockstep.Board → X) → ((b : lockstep.Board) → f (cleared b) ≡ f b) → (a b : lockstep.Board) → cleared a ≡ cleared b

@@ -6,9 +6,9 @@ use Rattle.lockstep_board.specs.Run.{IsPlaced, boundary_steps, clock_steps, to_c
 use Rattle.lockstep_board.proofs.Ends.{boundary-clock, boundary-clock-steps}
 use Rattle.lockstep_board.proofs.Places.{to_clock-placed}
 use Rattle.run_windows.specs.declared.until.Until.TheVariants.{Clock, Boundary}
-use Rattle.outside_io.specs.Events.{sending, text_of, storing}
+use Rattle.outside_io.specs.Events.{text_of, storing}
 use Rattle.run_log.specs.Slice.{slice_text, text_of_steps}
-use Rattle.run_log.specs.Slices.{Wanted, cut_events, ending_text, last_board, last_events, run_events, saved_bytes}
+use Rattle.run_log.specs.Slices.{Wanted, cut_events, ending_text, last_board, last_events, run_events}
 use Rattle.outside_io.proofs.EventLaws.{text_of-append, text_of-sending}
 use Rattle.run_log.proofs.SliceLaws.{text-add}
 
@@ -23,29 +23,11 @@ module _ (entries : List TapeEntry) (limit : ℕ) (wanted : Wanted) (calls : ℕ
   last-text : (b : Board) → text_of (last_events entries limit wanted calls b)
       ≡ slice_text entries (Boundary limit) b ++ ending_text wanted calls (to_boundary entries limit b)
   unfolding last_events
-  last-text b =
-      let last = to_boundary entries limit b in
-      let ending = sending (ending_text wanted calls last) in
-      let board = storing wanted.save (saved_bytes last) in
-      let cells = storing wanted.earom last.peripherals.earom.cells in
-      rw (
-        text_of-append (sending (slice_text entries (Boundary limit) b)) (ending ++ (board ++ cells)),
-        text_of-append ending (board ++ cells),
-        text_of-append board cells,
-        text_of-storing wanted.save (saved_bytes last),
-        text_of-storing wanted.earom last.peripherals.earom.cells,
-        text_of-sending (slice_text entries (Boundary limit) b),
-        text_of-sending (ending_text wanted calls last),
-      ) (ap (λ text. slice_text entries (Boundary limit) b ++ text) (append-nil (ending_text wanted calls last)))
+  last-text b = simp (text_of-append, text_of-storing, text_of-sending, append-nil)
 
   cut-text : (cut : ℕ) (b : Board) → text_of (cut_events entries cut wanted.save b) ≡ slice_text entries (Clock cut) b
   unfolding cut_events
-  cut-text cut b =
-      rw (
-        text_of-append (sending (slice_text entries (Clock cut) b)) (storing wanted.save (saved_bytes (to_clock entries cut b))),
-        text_of-storing wanted.save (saved_bytes (to_clock entries cut b)),
-        text_of-sending (slice_text entries (Clock cut) b),
-      ) (append-nil (slice_text entries (Clock cut) b))
+  cut-text cut b = simp (text_of-append, text_of-storing, text_of-sending, append-nil)
 
   -- a slice and the rest of the run are the run
   slice-and-rest : (cut : ℕ) (b : Board) → cut ≤ limit → IsPlaced b
@@ -53,17 +35,10 @@ module _ (entries : List TapeEntry) (limit : ℕ) (wanted : Wanted) (calls : ℕ
   unfolding to_clock
   slice-and-rest cut b h placed =
       let later = to_clock entries cut b in
-      let first = slice_text entries (Clock cut) b in
-      let rest = slice_text entries (Boundary limit) later in
-      let ending = ending_text wanted calls (to_boundary entries limit later) in
-      let whole : slice_text entries (Boundary limit) b ≡ first ++ rest =
+      let whole : slice_text entries (Boundary limit) b ≡ slice_text entries (Clock cut) b ++ slice_text entries (Boundary limit) later =
       ap (λ n. text_of_steps entries n b) (boundary-clock-steps entries cut limit b h placed)
       ∙ text-add entries (clock_steps entries cut b) (boundary_steps entries limit later) b in
-      let same : ending_text wanted calls (to_boundary entries limit b) ≡ ending =
-      ap (ending_text wanted calls) (boundary-clock entries cut limit b h placed) in
-      ap (λ text. first ++ text) (last-text later)
-      ∙ sym (append_assoc first rest ending)
-      ∙ sym (last-text b ∙ ap (λ text. text ++ ending_text wanted calls (to_boundary entries limit b)) whole ∙ ap (λ text. (first ++ rest) ++ text) same)
+      rw (last-text later, last-text b, whole, boundary-clock entries cut limit b h placed) (sym (append_assoc (slice_text entries (Clock cut) b) _ _))
 
   -- the text of a run is the same, wherever it is cut
   pub text-cut : (cuts : List ℕ) (b : Board) → IsPlaced b
@@ -73,10 +48,12 @@ module _ (entries : List TapeEntry) (limit : ℕ) (wanted : Wanted) (calls : ℕ
   text-cut (cut ∷ cuts) b placed =
       let c = min cut limit in
       let later = to_clock entries c b in
-      text_of-append (cut_events entries c wanted.save b) (run_events entries limit wanted calls cuts later)
-      ∙ ap (λ text. text ++ text_of (run_events entries limit wanted calls cuts later)) (cut-text c b)
-      ∙ ap (λ text. slice_text entries (Clock c) b ++ text) (text-cut cuts later (to_clock-placed entries c b placed))
-      ∙ slice-and-rest c b (omega arith) placed
+      rw (
+        text_of-append (cut_events entries c wanted.save b) (run_events entries limit wanted calls cuts later),
+        cut-text c b,
+        text-cut cuts later (to_clock-placed entries c b placed),
+      )
+      (slice-and-rest c b (omega arith) placed)
 
   -- and so is its last board
   pub board-cut : (cuts : List ℕ) (b : Board) → IsPlaced b → last_board entries limit cuts b ≡ to_boundary entries limit b

@@ -23,8 +23,7 @@ returns-in_err-store_under-clause-stopped g c =
 pub returns-clause-done : goal.returns-clause-done
 unfolding cut_events
 returns-clause-done g c =
-    let is = at-cut c.args.tape.now.entries c.args.cut (g.M.Machine.value c.args.synced.now.machine.now).board
-    (g.M.Machine.value c.run_slice.new.synced.machine.now).board c.in_ok-run_slice.ensures.board in
+    let is = at-cut _ _ _ _ c.in_ok-run_slice.ensures.board in
     let held = saved-cleared (to_clock c.args.tape.now.entries c.args.cut (g.M.Machine.value c.args.synced.now.machine.now).board) _ _ is c.save.ensures.bytes in
     did-then _ _ _ _ _ _ _ _ (did-sending _ _ _ _ _ c.in_ok-run_slice.ensures.taken refl)
     (did-storing _ _ _ _ _ _ _ held refl c.in_ok-store_under.ensures.stored)

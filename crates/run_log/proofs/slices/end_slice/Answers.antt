@@ -16,8 +16,7 @@ pub returns-in_err-write_ending-clause-stopped : goal.returns-in_err-write_endin
 unfolding last_events
 returns-in_err-write_ending-clause-stopped g c =
     let last = to_boundary c.args.tape.now.entries c.args.limit (g.M.Machine.value c.args.synced.now.machine.now).board in
-    let is = at-end c.args.tape.now.entries c.args.limit (g.M.Machine.value c.args.synced.now.machine.now).board
-    (g.M.Machine.value c.run_slice.new.synced.machine.now).board c.in_ok-run_slice.ensures.board in
+    let is = at-end _ _ _ _ c.in_ok-run_slice.ensures.board in
     let text = ending-cleared (wanted_in c.args.wanted) (g.M.Machine.value c.run_slice.new.synced.machine.now).calls last _ is in
     rw (err_from_is_err_and c.from_residual-in_err-write_ending.result c.from_residual-in_err-write_ending.ensures.1).1
     (did-then-first _ _ _ _ _ _ _ _ (did-sending _ _ _ _ _ c.in_ok-run_slice.ensures.taken refl)
@@ -27,8 +26,7 @@ pub returns-in_err-store_under-clause-stopped : goal.returns-in_err-store_under-
 unfolding last_events
 returns-in_err-store_under-clause-stopped g c =
     let last = to_boundary c.args.tape.now.entries c.args.limit (g.M.Machine.value c.args.synced.now.machine.now).board in
-    let is = at-end c.args.tape.now.entries c.args.limit (g.M.Machine.value c.args.synced.now.machine.now).board
-    (g.M.Machine.value c.run_slice.new.synced.machine.now).board c.in_ok-run_slice.ensures.board in
+    let is = at-end _ _ _ _ c.in_ok-run_slice.ensures.board in
     let text = ending-cleared (wanted_in c.args.wanted) (g.M.Machine.value c.run_slice.new.synced.machine.now).calls last _ is in
     rw (err_from_is_err_and c.from_residual-in_err-store_under.result c.from_residual-in_err-store_under.ensures.1).1
     (did-then-first _ _ _ _ _ _ _ _ (did-sending _ _ _ _ _ c.in_ok-run_slice.ensures.taken refl)
@@ -39,8 +37,7 @@ pub returns-in_err-store_under-2-clause-stopped : goal.returns-in_err-store_unde
 unfolding last_events
 returns-in_err-store_under-2-clause-stopped g c =
     let last = to_boundary c.args.tape.now.entries c.args.limit (g.M.Machine.value c.args.synced.now.machine.now).board in
-    let is = at-end c.args.tape.now.entries c.args.limit (g.M.Machine.value c.args.synced.now.machine.now).board
-    (g.M.Machine.value c.run_slice.new.synced.machine.now).board c.in_ok-run_slice.ensures.board in
+    let is = at-end _ _ _ _ c.in_ok-run_slice.ensures.board in
     let text = ending-cleared (wanted_in c.args.wanted) (g.M.Machine.value c.run_slice.new.synced.machine.now).calls last _ is in
     let held = saved-cleared last _ _ is c.of.ensures.bytes in
     rw (err_from_is_err_and c.from_residual-in_err-store_under-2.result c.from_residual-in_err-store_under-2.ensures.1).1
@@ -53,8 +50,7 @@ pub returns-clause-done : goal.returns-clause-done
 unfolding last_events
 returns-clause-done g c =
     let last = to_boundary c.args.tape.now.entries c.args.limit (g.M.Machine.value c.args.synced.now.machine.now).board in
-    let is = at-end c.args.tape.now.entries c.args.limit (g.M.Machine.value c.args.synced.now.machine.now).board
-    (g.M.Machine.value c.run_slice.new.synced.machine.now).board c.in_ok-run_slice.ensures.board in
+    let is = at-end _ _ _ _ c.in_ok-run_slice.ensures.board in
     let text = ending-cleared (wanted_in c.args.wanted) (g.M.Machine.value c.run_slice.new.synced.machine.now).calls last _ is in
     let held = saved-cleared last _ _ is c.of.ensures.bytes in
     let cells = cells-cleared last _ _ is c.cells_of.ensures in
