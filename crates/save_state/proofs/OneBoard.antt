@@ -1,9 +1,9 @@
 -- A board in range and the bytes that spell it, which spell no other board.
 use Rattle.std.proofs.Common.{zero, suc, ◌≢◌, ◌≡◌, ℕ, ℤ, ◌≤◌, ◌^◌, sym, subst, arith, ◌+◌, ◌==◌, ◌<◌, Bool, true, false, cond, List, [], ◌∷◌, ◌++◌, All, length, Option, Some, None}
-use Rattle.std.proofs.Common.{refl, ◌&&◌, take, drop, map, ap, ◌∙◌, append_assoc, get_or, inl, inr, ◌⊎◌, w32, w16, w64, IfSome, IsSome, unwrap_or, is_some, slice_index, eqb-true}
-use Rattle.std.proofs.Common.{length-take-le, length-drop, take_at, drop_at, take-append-drop, drop-drop, append-nil}
+use Rattle.std.proofs.Common.{refl, ◌&&◌, take, drop, map, ap, ◌∙◌, append_assoc, get_or, inl, inr, ◌⊎◌, w32, w16, w64, IfSome, IsSome, is_some, slice_index, eqb-true}
+use Rattle.std.proofs.Common.{◌-◌, length-take-le, length-drop, take_at, drop_at, take-append-drop, drop-drop, append-nil}
 use Rattle.std.specs.Int.{cast_signed, cast_unsigned, from_le_bytes, from_bool}
-use Rattle.std.proofs.lemmas.Int.{to_z-of_z, ints}
+use Rattle.std.proofs.lemmas.Int.{ints}
 use Rattle.board_base.specs.Ranges.{IsWithin}
 use Rattle.std.specs.List.{concat, range_with_len}
 use Rattle.std.proofs.lemmas.List.Elements.{All-cons, All-nil, All-head, All-tail, All-append}
@@ -23,20 +23,16 @@ use Rattle.board_base.specs.declared.divider.Pending.{Pending}
 use Rattle.board_base.specs.declared.divider.Pending.TheVariants.{Nothing, Power, Watchdog}
 use Rattle.cpu_table.specs.Opcodes.{row_of}
 use Rattle.cpu_core.specs.Places.{IsMiddle}
-use Rattle.save_state.specs.Fields.{Facts, IsInFieldRange, Row, u16_bytes, u32_bytes, i32_bytes, pieces_of, rows_of, letters}
-use Rattle.save_state.specs.StateBytes.{opcode_of, head_rows, clock_rows, register_rows, jam_rows, port_rows, divider_rows, sequence_rows, place_rows, zero_rows, eight_rows, zero_at}
-use Rattle.save_state.specs.StateBytes.{vg_rows, pokey_rows, earom_rows, left_range, number_of, sequence_number, table, front_rows, middle_rows, back_rows, processor_of, facts_of}
+use Rattle.save_state.specs.Fields.{Facts, IsInFieldRange, Row, u16_bytes, u32_bytes, i32_bytes, pieces_of, rows_of, rows_at, letters}
+use Rattle.save_state.specs.StateBytes.{head_rows, clock_rows, register_rows, jam_rows, port_rows, divider_rows, sequence_rows, place_rows, zero_rows, eight_rows, zero_at}
+use Rattle.save_state.specs.StateBytes.{vg_rows, pokey_rows, earom_rows, memory_rows, left_range, number_of, sequence_number, table, front_rows, middle_rows, back_rows, processor_of, facts_of}
 use Rattle.save_state.specs.StateBytes.{sequence_of, last_clock, middle_at, state_bytes, first_state_bytes, count_range, bytes_range}
 use Rattle.std.proofs.lemmas.List.{drop_all}
 use Rattle.save_state.specs.Reading.{Holds, HasFields, IsWhole, Spells}
 use Rattle.save_state.specs.Check.{pieces_in, IsDecoded}
 use Rattle.std.proofs.lemmas.List.Folds.{concat-append}
 use Rattle.std.proofs.lemmas.List.FromFn.{fill_by_all}
-use Rattle.save_state.proofs.Tables.{no_row, byte_is, not_equal, Rows, generator_rows, first_rows, second_rows, end_rows, sections_of, zeros_of}
-
--- signed numbers that are written and read
-pub signed_back : (n : ℕ) (z : ℤ) → n ≤ 2 ^ 30 → IsWithin n z → cast_signed w32 (cast_unsigned w32 z) ≡ z
-signed_back n z small h = to_z-of_z w32 z (omega (arith, ints, h.above, h.below))
+use Rattle.save_state.proofs.Tables.{no_row, byte_is, not_equal, Rows, parts, sections_of, signed_back}
 
 signed_again : (n : ℕ) (z : ℤ) → n ≤ 2 ^ 30 → IsWithin n z → cast_signed w32 (from_le_bytes w32 (i32_bytes z)) ≡ z
 signed_again n z small h = ap (λ (m : ℕ). cast_signed w32 m) (from_le_bytes-to_le_bytes_4 (cast_unsigned w32 z) (omega (arith, ints))) ∙ signed_back n z small h
@@ -106,11 +102,14 @@ front_spelled version cpu facts b h clock jammed =
 
 back_spelled : (cpu : CpuValue) (facts : Facts) (b : BoardValue) → IsWhole b → facts.drawing ≡ (b.vg.phase == 5) → AreSpelled cpu facts back_rows b
 back_spelled cpu facts b h drawing =
-    let ends : AreSpelled cpu facts end_rows b = search (arith, from_le_bytes-to_le_bytes_2, h.earom, h.board) in
-    spelled_append cpu facts b generator_rows (first_rows ++ (second_rows ++ end_rows))
+    let end : Rows = rows_of (λ b. b.earom) earom_rows ++ memory_rows in
+    let ends : AreSpelled cpu facts end b = search (arith, from_le_bytes-to_le_bytes_2, h.earom, h.board) in
+    let first : Rows = rows_at 84 (rows_of (λ b. b.sound1) pokey_rows) in
+    let second : Rows = rows_at 137 (rows_of (λ b. b.sound2) pokey_rows) in
+    spelled_append cpu facts b (rows_of (λ b. tt) zero_rows ++ rows_of (λ b. b.vg) vg_rows) (first ++ (second ++ end))
     (spelled_append cpu facts b (rows_of (λ b. tt) zero_rows) (rows_of (λ b. b.vg) vg_rows) (zeros_spelled cpu facts).0 (vg_spelled cpu facts b.vg h.vg drawing))
-    (spelled_append cpu facts b first_rows (second_rows ++ end_rows) (pokey_spelled cpu facts b.sound1 h.sound1)
-    (spelled_append cpu facts b second_rows end_rows (pokey_spelled cpu facts b.sound2 h.sound2) ends))
+    (spelled_append cpu facts b first (second ++ end) (pokey_spelled cpu facts b.sound1 h.sound1)
+    (spelled_append cpu facts b second end (pokey_spelled cpu facts b.sound2 h.sound2) ends))
 
 whole_spelled : (version : ℕ) (cpu : CpuValue) (facts : Facts) (b : BoardValue) → IsWhole b → b.clock ≤ facts.last → facts.jammed ≡ is_some b.cpu.jam
     → facts.drawing ≡ (b.vg.phase == 5) → AreSpelled cpu facts (middle_rows (version == 1)) b → AreSpelled cpu facts (table version) b
@@ -219,16 +218,8 @@ four_back back xs len same = sym (fill_by_all (λ k. back (slice_index xs k)) xs
 vg_back : (v : VgValue) → IsVg v → vg_of (pieces_of vg_rows v) ≡ v
 vg_back v h =
     let stack = four_back (λ n. from_le_bytes w16 (u16_bytes n)) v.stack h.stack (λ k d lt. from_le_bytes-to_le_bytes_2 (get_or v.stack k d) (omega (arith, h.words k d lt))) in
-    λ i. record v {
-      halted = flag_back v.halted i;
-      pc = from_le_bytes-to_le_bytes_2 v.pc (omega (arith, h.pc)) i;
-      stack = stack i;
-      x = signed_again (2 ^ 30) v.x (omega arith) h.x i;
-      y = signed_again (2 ^ 30) v.y (omega arith) h.y i;
-      dx = signed_again (2 ^ 27) v.dx (omega arith) h.dx i;
-      dy = signed_again (2 ^ 27) v.dy (omega arith) h.dy i;
-      left = from_le_bytes-to_le_bytes_2 v.left (omega (arith, h.longest)) i;
-    }
+    rw (flag_back v.halted, from_le_bytes-to_le_bytes_2 v.pc (omega (arith, h.pc)), stack, from_le_bytes-to_le_bytes_2 v.left (omega (arith, h.longest)))
+    (rw (signed_again (2 ^ 30) v.x (omega arith) h.x, signed_again (2 ^ 30) v.y (omega arith) h.y, signed_again (2 ^ 27) v.dx (omega arith) h.dx, signed_again (2 ^ 27) v.dy (omega arith) h.dy) refl)
 
 abbrev pokey_of : List (List ℕ) → PokeyValue
 pokey_of ps = record {
@@ -257,12 +248,7 @@ pokey_of ps = record {
 pokey_back : (p : PokeyValue) → IsPokey p → pokey_of (pieces_of pokey_rows p) ≡ p
 pokey_back p h =
     let left = four_back (λ n. from_le_bytes w32 (u32_bytes n)) p.left h.left (λ k d lt. from_le_bytes-to_le_bytes_4 (get_or p.left k d) (omega (arith, (h.pulses k d lt).1))) in
-    λ i. record p {
-      poly9 = from_le_bytes-to_le_bytes_2 p.poly9 (omega (arith, h.poly9)) i;
-      poly17 = from_le_bytes-to_le_bytes_4 p.poly17 (omega (arith, h.poly17)) i;
-      left = left i;
-      last = items_all 4 p.last h.last i;
-    }
+    rw (from_le_bytes-to_le_bytes_2 p.poly9 (omega (arith, h.poly9)), from_le_bytes-to_le_bytes_4 p.poly17 (omega (arith, h.poly17)), left, items_all 4 p.last h.last) refl
 
 abbrev earom_of : List (List ℕ) → EaromValue
 earom_of ps = record { addr = one ps 0; value = one ps 1; control = one ps 2; hold = u16_in ps 3; out = one ps 4; cells = piece ps 5 }
@@ -308,28 +294,23 @@ board_of ps mid back = record {
   in0 = one ps 12;
   in3 = one ps 13;
   in4 = one ps 14;
-  divider = divider_of (drop 15 ps);
+  divider = divider_of (drop (length (front_rows 2) - length divider_rows) ps);
   vg = vg_of (drop 6 back);
-  sound1 = pokey_of (drop 25 back);
-  sound2 = pokey_of (drop 49 back);
-  earom = earom_of (drop 73 back);
-  ram = piece back 79;
-  vram = piece back 80;
+  sound1 = pokey_of (drop (6 + length vg_rows) back);
+  sound2 = pokey_of (drop (6 + length vg_rows + length pokey_rows) back);
+  earom = earom_of (drop (length back_rows - 8) back);
+  ram = piece (drop (length back_rows - 2) back) 0;
+  vram = piece (drop (length back_rows - 2) back) 1;
 }
 
 board_back : (version : ℕ) (b : BoardValue) (mid : Option MidValue) → IsWhole b → mid ≡ b.cpu.mid → board_of (pieces_of (front_rows version) b) mid (pieces_of back_rows b) ≡ b
-board_back version b mid h e = λ i. record b {
-  clock = from_le_bytes-to_le_bytes_8 b.clock (omega (arith, h.board.clock)) i;
-  cpu = record b.cpu { pc = from_le_bytes-to_le_bytes_2 b.cpu.pc h.cpu.pc i; jam = jam_back b.cpu.jam i; mid = e i };
-  divider = divider_back b.divider h.divider i;
-  vg = vg_back b.vg h.vg i;
-  sound1 = pokey_back b.sound1 h.sound1 i;
-  sound2 = pokey_back b.sound2 h.sound2 i;
-  earom = earom_back b.earom h.earom i;
-}
+board_back version b mid h e =
+    rw (from_le_bytes-to_le_bytes_8 b.clock (omega (arith, h.board.clock)), from_le_bytes-to_le_bytes_2 b.cpu.pc h.cpu.pc, jam_back b.cpu.jam, e, divider_back b.divider h.divider)
+    (rw (vg_back b.vg h.vg, pokey_back b.sound1 h.sound1, pokey_back b.sound2 h.sound2, earom_back b.earom h.earom) refl)
 
 abbrev board_in : ℕ → List (List ℕ) → BoardValue
-board_in version ps = cond (version == 1) (board_of ps None (drop 27 ps)) (board_of ps (mid_of (take 3 (drop 19 ps))) (drop 22 ps))
+board_in version ps =
+    cond (version == 1) (board_of ps None (drop (length (front_rows 1) + 8) ps)) (board_of ps (mid_of (take 3 (drop (length (front_rows 2)) ps))) (drop (length (front_rows 2) + 3) ps))
 
 -- what the bytes of a processor inside a sequence state of it
 abbrev with_mid : BoardValue → MidValue → BoardValue
@@ -359,7 +340,7 @@ second_has b h =
     let facts : Facts = record { last = last_clock 2 (number_of b.cpu.mid); jammed = is_some b.cpu.jam; idle = number_of b.cpu.mid == 0; drawing = b.vg.phase == 5 } in
     let has : All (HasInRange b.cpu facts file b) (table 2) = stand b.cpu facts file b (table 2) 0 refl (offsets 2) (whole_spelled 2 b.cpu facts b h most refl refl
     (middle_by b.cpu b.cpu facts b.cpu.mid refl refl refl h.cpu.mid h.cpu.stands.place h.cpu.stands.place)) in
-    let phase : slice_index file 45 ≡ b.vg.phase = sym (byte_is file 45) ∙ ap (λ (x : List ℕ). slice_index x 0) (has 29 no_row (omega arith)).1 in
+    let phase : slice_index file 45 ≡ b.vg.phase = sym (byte_is file 45) ∙ ap (λ (x : List ℕ). slice_index x 0) (has (suc (length (front_rows 2) + 9)) no_row (omega arith)).1 in
     stand (processor_of file) (facts_of 2 file) file b (table 2) 0 refl (offsets 2)
     (whole_spelled 2 (processor_of file) (facts_of 2 file) b h most (flag_back (is_some b.cpu.jam)) (ap (λ (n : ℕ). n == 5) phase)
     (middle_by b.cpu (processor_of file) (facts_of 2 file) b.cpu.mid refl (flag_back (is_some b.cpu.jam)) refl h.cpu.mid h.cpu.stands.place (middle_told b b.cpu.mid refl h)))
@@ -466,7 +447,7 @@ decoded_by : (version : ℕ) (file : List ℕ) (b : BoardValue) → length file 
 unfolding HasFields
 decoded_by version file b len first held d middle =
     let head = head_told version file len first ((sections_of version file held).0 1 no_row (omega arith)) in
-    let six = zeros_are version file 38 6 (omega (arith, len)) (zeros_of version file held) in
+    let six = zeros_are version file 38 6 (omega (arith, len)) (parts (Holds version file) (rows_of (λ b. tt) zero_rows) (drop 6 back_rows) (sections_of version file held).2).0 in
     let front = appended head (appended d.clock (appended d.registers (appended d.jam (appended d.ports d.divider)))) in
     let back = appended six (appended d.vg (appended d.sound1 (appended d.sound2 (appended d.earom d.memory)))) in
     let all : All (Has file b) (table version) = All-append (Has file b) (front_rows version ++ middle_rows (version == 1)) back_rows (All-append (Has file b) (front_rows version)
@@ -474,18 +455,18 @@ decoded_by version file b len first held d middle =
     λ k e lt. (held k e lt, all k e lt)
 
 decoded_mid : (file : List ℕ) (b : BoardValue) → All (Holds 1 file) (table 1) → IsDecoded file b → b.cpu.mid ≡ None
-decoded_mid file b held d = d.outside (omega (arith, byte_is file 30, held 19 no_row (omega arith)))
+decoded_mid file b held d = d.outside (omega (arith, byte_is file 30, (sections_of 1 file held).1 0 no_row (omega arith)))
 
 -- and spells the file
 pub decoded_has : (file : List ℕ) (b : BoardValue) → length file ≡ 4356 → (slice_index file 0 ≡ 1) ⊎ (slice_index file 0 ≡ 2)
     → All (Holds (slice_index file 0) file) (table (slice_index file 0)) → IsDecoded file b → HasFields (slice_index file 0) file b × Spells file b
 decoded_has file b len (inl one) held d =
     let first : All (Holds 1 file) (table 1) = subst (λ (v : ℕ). All (Holds v file) (table v)) one held in
-    let has : HasFields 1 file b = decoded_by 1 file b len one first d (zeros_are 1 file 30 8 (omega (arith, len)) (sections_of 1 file first).1.0) in
+    let has : HasFields 1 file b = decoded_by 1 file b len one first d (zeros_are 1 file 30 8 (omega (arith, len)) (sections_of 1 file first).1) in
     (subst (λ (v : ℕ). HasFields v file b) (sym one) has, inr (has_bytes 1 file b len has, decoded_mid file b first d))
 decoded_has file b len (inr two) held d =
     let second : All (Holds 2 file) (table 2) = subst (λ (v : ℕ). All (Holds v file) (table v)) two held in
-    let middle : All (Holds 2 file) (middle_rows false) = (sections_of 2 file second).1.0 in
+    let middle : All (Holds 2 file) (middle_rows false) = (sections_of 2 file second).1 in
     let has : HasFields 2 file b = decoded_by 2 file b len two second d (place_by file b.cpu.mid (slice_index file 19 == 1) (slice_index file 30 == 0) len refl (middle 0 no_row (omega arith))
     (middle 1 no_row (omega arith)) (middle 2 no_row (omega arith)) d.outside (λ h. ap (λ (c : CpuValue). c.mid) (d.inside h))) in
     (subst (λ (v : ℕ). HasFields v file b) (sym two) has, inl (has_bytes 2 file b len has))
@@ -501,21 +482,12 @@ decoded_place file b (Some m) e (inr two) held d =
     let all : All (Holds 2 file) (table 2) = subst (λ (v : ℕ). All (Holds v file) (table v)) two held in
     let other : slice_index file 30 ≢ 0 = λ zero. let none : b.cpu.mid ≡ None = d.outside zero in absurd cc in
     subst (λ (c : CpuValue). IsMiddle c) (sym (d.inside other)) (subst (λ (idle
-    : Bool). IsInFieldRange (processor_of file) (bytes_range idle) (take 6 (drop 32 file))) (not_equal (slice_index file 30) 0 other) (all 21 no_row (omega arith)))
+    : Bool). IsInFieldRange (processor_of file) (bytes_range idle) (take 6 (drop 32 file))) (not_equal (slice_index file 30) 0 other) ((sections_of 2 file all).1 2 no_row (omega arith)))
 
 -- one of the two versions, as the code's tests leave them
 pub one_of_two : (version : ℕ) → ((version ≡ 1 → ⊥) × (version ≡ 2)) ⊎ (version ≡ 1) → (version ≡ 1) ⊎ (version ≡ 2)
 one_of_two version (inl h) = inr h.1
 one_of_two version (inr h) = inl h
-
--- lists that are written one after another
-abbrev pub chained : List ℕ → List (List ℕ) → List ℕ
-chained t [] = t
-chained t (p ∷ ps) = chained (t ++ p) ps
-
-pub chained-concat : (t : List ℕ) (ps : List (List ℕ)) → chained t ps ≡ t ++ concat ps
-chained-concat t [] = sym (append-nil t)
-chained-concat t (p ∷ ps) = chained-concat (t ++ p) ps ∙ append_assoc t p (concat ps)
 
 -- and the pieces of a board
 all_parts : (p o d i z v k l e : List (List ℕ)) (r s : List ℕ) → (((((((((concat p ++ concat o) ++ concat d) ++ concat i) ++ concat z) ++ concat v) ++ concat k) ++ concat l) ++ concat e) ++ r) ++ s
@@ -523,15 +495,12 @@ all_parts : (p o d i z v k l e : List (List ℕ)) (r s : List ℕ) → (((((((((
 all_parts p o d i z v k l e r s = simp (concat-append, append_assoc, append-nil)
 
 pub board_parts : (b : BoardValue) → (((((((((concat (pieces_of head_rows 2 ++ (pieces_of clock_rows b.clock ++ pieces_of register_rows b.cpu)
-    ++ pieces_of jam_rows b.cpu.jam) ++ (b.out ∷ b.in0 ∷ b.in3 ∷ b.in4 ∷ [])) ++ concat (pieces_of divider_rows b.divider))
+    ++ pieces_of jam_rows b.cpu.jam) ++ concat (pieces_of port_rows b)) ++ concat (pieces_of divider_rows b.divider))
     ++ concat (pieces_of (sequence_rows ++ place_rows) b.cpu.mid)) ++ (0 ∷ 0 ∷ 0 ∷ 0 ∷ 0 ∷ 0 ∷ []))
     ++ concat (pieces_of vg_rows b.vg)) ++ concat (pieces_of pokey_rows b.sound1)) ++ concat (pieces_of pokey_rows b.sound2))
     ++ concat (pieces_of earom_rows b.earom)) ++ b.ram) ++ b.vram ≡ state_bytes b
 board_parts b =
     all_parts (pieces_of head_rows 2 ++ (pieces_of clock_rows b.clock ++ pieces_of register_rows b.cpu)
-    ++ pieces_of jam_rows b.cpu.jam) (pieces_of port_rows (record { out = b.out; in0 = b.in0; in3 = b.in3; in4 = b.in4 }))
+    ++ pieces_of jam_rows b.cpu.jam) (pieces_of port_rows b)
     (pieces_of divider_rows b.divider) (pieces_of (sequence_rows ++ place_rows) b.cpu.mid) (pieces_of zero_rows tt)
     (pieces_of vg_rows b.vg) (pieces_of pokey_rows b.sound1) (pieces_of pokey_rows b.sound2) (pieces_of earom_rows b.earom) b.ram b.vram
-
-pub opcode_is : (jam : Option ℕ) → unwrap_or jam 0 ≡ opcode_of jam
-opcode_is jam = elim jam as (λ (jam : Option ℕ). unwrap_or jam 0 ≡ opcode_of jam) [ None ↦ refl | Some o ↦ refl ]

@@ -1,13 +1,14 @@
 -- The code's tables beside the definition's.
-use Rattle.std.specs.Prelude.{◌≡◌, ◌≢◌, ◌+◌, ℕ, if◌then◌else◌, List, ◌∷◌, ◌++◌, take, drop, map, slice_index, None, All}
+use Rattle.std.specs.Prelude.{◌≡◌, ◌≢◌, ◌+◌, ℕ, if◌then◌else◌, List, take, drop, map, slice_index, None, All, Result, MatchResult}
 use Rattle.std.specs.Int.{w16, w32, w64}
 use Rattle.board_base.specs.Board.{BoardValue}
-use Rattle.save_state.specs.declared.table.Kind.{Kind}
-use Rattle.save_state.specs.declared.table.Kind.TheVariants.{Any, Byte, Word, Long, Count, Signed, Letters, Flags, Clock, JamOpcode, SequenceNumber, ClocksDone, ClocksLeft}
-use Rattle.save_state.specs.declared.table.Field.{Field}
+use Rattle.save_state.specs.declared.bytes.Kind.{Kind}
+use Rattle.save_state.specs.declared.bytes.Kind.TheVariants.{Any, Byte, Word, Long, Count, Signed, Letters, Flags, Clock, JamOpcode, SequenceNumber, ClocksDone, ClocksLeft}
+use Rattle.save_state.specs.declared.bytes.Field.{Field}
 use Rattle.save_state.specs.Fields.{Range, anything, byte_at_most, number_at_most, number_from_1, signed_within, letters, flags, IsInFieldRange, Facts, Row, pieces_of}
 use Rattle.save_state.specs.StateBytes.{opcode_range, count_range, left_range, processor_of, facts_of, clock_rows, register_rows, jam_rows, port_rows, divider_rows, vg_rows}
 use Rattle.save_state.specs.StateBytes.{pokey_rows, earom_rows, memory_rows}
+use Rattle.save_state.specs.Reading.{Holds, IsFirstBroken}
 
 -- the number of bytes of a field
 abbrev pub width_of : Kind → ℕ
@@ -46,19 +47,24 @@ abbrev pub IsInRange : ℕ → List ℕ → ℕ → Kind → Type 0
 IsInRange version file at kind =
     IsInFieldRange (processor_of file) (range_of (facts_of version file) kind) (take (width_of kind) (drop at file))
 
--- the fields of a table that begins at this offset are in their ranges
-abbrev pub AreInRange : ℕ → List ℕ → ℕ → List Field → Type 0
-AreInRange version file base fields = All (λ f. IsInRange version file (base + f.0) f.1) fields
+-- where a field stands, how many bytes it has, and their range
+abbrev pub Spot : Type 0
+Spot = ℕ × ℕ × Range
 
--- the first of them that isn't stands at this offset
-pub record BreaksIn (version : ℕ) (file : List ℕ) (base : ℕ) (fields : List Field) (offset : ℕ) : Type 0 where
-  pub before : List Field
-  pub broken : Field
-  pub after : List Field
-  pub order : fields ≡ before ++ broken ∷ after
-  pub good : AreInRange version file base before
-  pub bad : ¬ IsInRange version file (base + broken.0) broken.1
-  pub here : offset ≡ base + broken.0
+abbrev pub spot : Facts → ℕ → Field → Spot
+spot facts base f = (base + f.0, width_of f.1, range_of facts f.1)
+
+abbrev pub spot_of : Facts → Row BoardValue → Spot
+spot_of facts r = (r.at, r.width, r.range facts)
+
+-- a table of the code that begins at this offset has the fields of these rows
+abbrev pub AreSame : Facts → ℕ → List Field → List (Row BoardValue) → Type 0
+AreSame facts base fields rows = map (spot facts base) fields ≡ map (spot_of facts) rows
+
+-- what is to be answered of the fields of these rows: that they are in their ranges, or else the
+-- offset of the first that isn't
+abbrev pub IsAnswer : {T : Type 0} → ℕ → List ℕ → List (Row BoardValue) → Result T ℕ → Type 0
+IsAnswer version file rows answer = MatchResult answer (λ _. All (Holds version file) rows) (λ at. IsFirstBroken version file rows at)
 
 -- the bytes of the fields of a table that begins at this offset
 abbrev pub pieces_in : {V : Type 0} → ℕ → List ℕ → List (Row V) → List (List ℕ)
@@ -69,7 +75,7 @@ pub record IsDecoded (file : List ℕ) (b : BoardValue) : Type 0 where
   pub clock : pieces_of clock_rows b.clock ≡ pieces_in 0 file clock_rows
   pub registers : pieces_of register_rows b.cpu ≡ pieces_in 0 file register_rows
   pub jam : pieces_of jam_rows b.cpu.jam ≡ pieces_in 0 file jam_rows
-  pub ports : pieces_of port_rows (record { out = b.out; in0 = b.in0; in3 = b.in3; in4 = b.in4 }) ≡ pieces_in 0 file port_rows
+  pub ports : pieces_of port_rows b ≡ pieces_in 0 file port_rows
   pub divider : pieces_of divider_rows b.divider ≡ pieces_in 0 file divider_rows
   pub outside : slice_index file 30 ≡ 0 → b.cpu.mid ≡ None
   pub inside : slice_index file 30 ≢ 0 → b.cpu ≡ processor_of file

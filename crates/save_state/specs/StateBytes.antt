@@ -59,13 +59,6 @@ bytes_range idle = if idle then six_zeros else place
 abbrev pub left_range : Bool → Range
 left_range drawing = if drawing then number_from_1 w16 8192 else number_at_most w16 0
 
--- the output latch and the three ports
-pub record Ports : Type 0 where
-  pub out : ℕ
-  pub in0 : ℕ
-  pub in3 : ℕ
-  pub in4 : ℕ
-
 -- a byte that is 0, whatever the board is
 abbrev pub zero_at : ℕ → Row (Unit {0})
 zero_at at = row at (byte_to 0) (λ _. 0 ∷ [])
@@ -102,12 +95,12 @@ jam_rows =
     []
 
 -- the output latch, and the three ports
-abbrev pub port_rows : List (Row Ports)
+abbrev pub port_rows : List (Row BoardValue)
 port_rows =
-    row 21 (any 1) (λ p. p.out ∷ []) ∷
-    row 22 (byte_to 63) (λ p. p.in0 ∷ []) ∷
-    row 23 (any 1) (λ p. p.in3 ∷ []) ∷
-    row 24 (any 1) (λ p. p.in4 ∷ []) ∷
+    row 21 (any 1) (λ b. b.out ∷ []) ∷
+    row 22 (byte_to 63) (λ b. b.in0 ∷ []) ∷
+    row 23 (any 1) (λ b. b.in3 ∷ []) ∷
+    row 24 (any 1) (λ b. b.in4 ∷ []) ∷
     []
 
 -- the divider and the watchdog
@@ -138,13 +131,10 @@ eight_rows = zero_at 30 ∷ zero_at 31 ∷ zero_at 32 ∷ zero_at 33 ∷ zero_at
 abbrev pub zero_rows : List (Row (Unit {0}))
 zero_rows = zero_at 38 ∷ zero_at 39 ∷ zero_at 40 ∷ zero_at 41 ∷ zero_at 42 ∷ zero_at 43 ∷ []
 
--- the vector generator: whether it is halted
-abbrev pub halted_rows : List (Row VgValue)
-halted_rows = row 44 (byte_to 1) (λ v. flag v.halted) ∷ []
-
--- its program, what it draws with, and the word under way
+-- the vector generator: whether it is halted, its program, its pen, and the word under way
 abbrev pub pen_rows : List (Row VgValue)
 pen_rows =
+    row 44 (byte_to 1) (λ v. flag v.halted) ∷
     row 45 (byte_to DRAW) (λ v. v.phase ∷ []) ∷
     row 46 (number_to w16 8191) (λ v. u16_bytes v.pc) ∷
     row 48 (byte_to 3) (λ v. v.sp ∷ []) ∷
@@ -178,7 +168,7 @@ beam_rows =
 
 -- all of it
 abbrev pub vg_rows : List (Row VgValue)
-vg_rows = halted_rows ++ pen_rows ++ rows_of (λ v. v.stack) stack_rows ++ beam_rows
+vg_rows = pen_rows ++ rows_of (λ v. v.stack) stack_rows ++ beam_rows
 
 -- a POKEY, from its own first byte: its registers, its requests, its polynomial registers and its
 -- prescalers
@@ -225,9 +215,13 @@ last_rows =
     row 52 (byte_to 15) (λ last. slice_index last 3 ∷ []) ∷
     []
 
+-- its channels and its pots
+abbrev pub channel_rows : List (Row PokeyValue)
+channel_rows = rows_of (λ p. p.left) pulse_rows ++ level_rows ++ rows_of (λ p. p.last) last_rows
+
 -- all of it
 abbrev pub pokey_rows : List (Row PokeyValue)
-pokey_rows = tone_rows ++ rows_of (λ p. p.left) pulse_rows ++ level_rows ++ rows_of (λ p. p.last) last_rows
+pokey_rows = tone_rows ++ channel_rows
 
 -- the EAROM
 abbrev pub earom_rows : List (Row EaromValue)
@@ -254,7 +248,7 @@ front_rows version =
     rows_of (λ b. b.clock) clock_rows ++
     rows_of (λ b. b.cpu) register_rows ++
     rows_of (λ b. b.cpu.jam) jam_rows ++
-    rows_of (λ b. record { out = b.out; in0 = b.in0; in3 = b.in3; in4 = b.in4 }) port_rows ++
+    port_rows ++
     rows_of (λ b. b.divider) divider_rows
 
 -- all fields after the place, where each POKEY stands at its own offset

@@ -1,12 +1,19 @@
-ghost use Rattle.std.specs.Prelude.{◌+◌, ◌≤◌, ◌↔◌, ◌==◌, IsTrue, ℕ, MatchResult, All, take, drop, slice_index};
+ghost use Rattle.std.specs.Prelude.{◌+◌, ◌≤◌, ◌↔◌, ◌==◌, IsTrue, ℕ, List, MatchResult, All, false, take, drop, slice_index};
 ghost use Rattle.save_state.specs.Fields.{IsInFieldRange};
-ghost use Rattle.save_state.specs.StateBytes.{processor_of, bytes_range, front_rows, middle_rows, table};
-ghost use Rattle.save_state.specs.Reading.{Holds, IsFirstBroken, BreaksFirst};
-ghost use Rattle.save_state.specs.Check.{width_of, IsInRange, AreInRange, BreaksIn};
+ghost use Rattle.board_base.specs.Board.{BoardValue};
+ghost use Rattle.save_state.specs.Fields.{Row};
+ghost use Rattle.save_state.specs.StateBytes.{processor_of, facts_of, bytes_range, front_rows, middle_rows, back_rows, table};
+ghost use Rattle.save_state.specs.Reading.{Holds, BreaksFirst};
+ghost use Rattle.save_state.specs.Check.{width_of, IsInRange, AreSame, IsAnswer};
 
 use crate::STATE_LEN;
-use crate::decode::{array_at, byte_at, decode_processor, i32_at, u16_at, u32_at, u64_at};
-use crate::table::{BACK, FRONT, Field, GENERATOR, Kind, NO_PLACE, PLACE, POKEY};
+use crate::board::{MEMORY, PORTS, ZEROS};
+use crate::bytes::{Field, Kind, array_at, byte_at, i32_at, u16_at, u32_at, u64_at};
+use crate::divider::DIVIDER;
+use crate::earom::EAROM;
+use crate::pokey::POKEY;
+use crate::processor::{NO_PLACE, PLACE, PROCESSOR, decode_processor};
+use crate::vg::GENERATOR;
 use board_base::board::CLOCK_LIMIT;
 use board_base::phase::DRAW;
 use cpu_core::is_middle;
@@ -43,7 +50,7 @@ fn is_in_range(version: u8, file: &[u8; STATE_LEN], at: usize, kind: Kind) -> bo
 /// Checks the fields of a table at the offset `base`. The error is the offset of the first bad one.
 fn check(version: u8, file: &[u8; STATE_LEN], base: usize, fields: &[Field]) -> Result<(), usize>
     requires { All (λ f. base + f.0 + width_of f.1 ≤ STATE_LEN) fields.now }
-    ensures { MatchResult result (λ _. AreInRange version file.now base fields.now) (λ at. BreaksIn version file.now base fields.now at) }
+    ensures { (rows : List (Row BoardValue)) → AreSame (facts_of version file.now) base fields.now rows → IsAnswer version file.now rows result }
 {
     for &Field(at, kind) in fields {
         if !is_in_range(version, file, base + at, kind) {
@@ -67,14 +74,20 @@ fn is_place(file: &[u8; STATE_LEN]) -> bool
     }
 }
 
-/// Checks the place inside a sequence, which version 1 doesn't have.
-fn check_middle(version: u8, file: &[u8; STATE_LEN]) -> Result<(), usize>
-    requires { All (Holds version file.now) (front_rows version) }
-    ensures { MatchResult result (λ _. All (Holds version file.now) (middle_rows (version == 1))) (λ at. IsFirstBroken version file.now (middle_rows (version == 1)) at) }
+/// Checks the fields up to the place inside a sequence.
+fn check_front(version: u8, file: &[u8; STATE_LEN]) -> Result<(), usize>
+    ensures { IsAnswer version file.now (front_rows version) result }
 {
-    if version == 1 {
-        return check(version, file, 0, &NO_PLACE);
-    }
+    check(version, file, 0, &PROCESSOR)
+        .and(check(version, file, 0, &PORTS))
+        .and(check(version, file, 0, &DIVIDER))
+}
+
+/// Checks the place inside a sequence.
+fn check_place(version: u8, file: &[u8; STATE_LEN]) -> Result<(), usize>
+    requires { All (Holds version file.now) (front_rows version) }
+    ensures { IsAnswer version file.now (middle_rows false) result }
+{
     check(version, file, 0, &PLACE)?;
     if !is_place(file) {
         return Err(32);
@@ -82,14 +95,34 @@ fn check_middle(version: u8, file: &[u8; STATE_LEN]) -> Result<(), usize>
     Ok(())
 }
 
+/// Checks the place inside a sequence, which version 1 doesn't have.
+fn check_middle(version: u8, file: &[u8; STATE_LEN]) -> Result<(), usize>
+    requires { All (Holds version file.now) (front_rows version) }
+    ensures { IsAnswer version file.now (middle_rows (version == 1)) result }
+{
+    if version == 1 {
+        check(version, file, 0, &NO_PLACE)
+    } else {
+        check_place(version, file)
+    }
+}
+
+/// Checks the fields after the place inside a sequence.
+fn check_back(version: u8, file: &[u8; STATE_LEN]) -> Result<(), usize>
+    ensures { IsAnswer version file.now back_rows result }
+{
+    check(version, file, 0, &ZEROS)
+        .and(check(version, file, 0, &GENERATOR))
+        .and(check(version, file, 84, &POKEY))
+        .and(check(version, file, 137, &POKEY))
+        .and(check(version, file, 0, &EAROM))
+        .and(check(version, file, 0, &MEMORY))
+}
+
 /// Checks all fields of a file. The error is the offset of the first that is out of its range.
 pub fn first_fault(version: u8, file: &[u8; STATE_LEN]) -> Result<(), usize>
     ensures { MatchResult result (λ _. All (Holds version file.now) (table version)) (λ at. BreaksFirst version file.now at) }
 {
-    check(version, file, 0, &FRONT)?;
-    check_middle(version, file)?;
-    check(version, file, 0, &GENERATOR)?;
-    check(version, file, 84, &POKEY)?;
-    check(version, file, 137, &POKEY)?;
-    check(version, file, 0, &BACK)
+    check_front(version, file)?;
+    check_middle(version, file).and(check_back(version, file))
 }

@@ -3,8 +3,8 @@ ghost use Rattle.save_state.specs.Reading.{IsWhole, Spells, ReadsState};
 ghost use Rattle.board_base.specs.Board.{BoardValue};
 
 use crate::STATE_LEN;
+use crate::board::decode;
 use crate::check::first_fault;
-use crate::decode::decode;
 use crate::fault::StateFault;
 use crate::state_laws::lemma_ranges;
 use board_base::BoardState;
